@@ -38,8 +38,8 @@ leave_entered_span span.Mark size marks = refl
 
 leave_entered : (o : Open) (marks : List Mark) → leave_open o (entered_open o marks) ≡ marks
 leave_entered (held.Span s size) marks = leave_entered_span s size marks
-leave_entered (held.Link resource) marks = refl
-leave_entered (held.Image resource) marks = refl
+leave_entered held.Link marks = refl
+leave_entered held.Image marks = refl
 
 text_of_span : (s : Span) → has_text (text_name s) ≡ true
 unfolding may_hold has_text
@@ -54,8 +54,8 @@ label_text = refl
 
 open_text : (o : Open) (marks : List Mark) → holds_text (entered_open o marks) ≡ true
 open_text (held.Span s size) marks = text_in (text_name s) (Entered (span_name s) ∷ marks) (text_of_span s)
-open_text (held.Link resource) marks = text_in n.LabelText (Entered n.Label ∷ Entered n.Link ∷ marks) label_text
-open_text (held.Image resource) marks = text_in n.LabelText (Entered n.Label ∷ Entered n.Image ∷ marks) label_text
+open_text held.Link marks = text_in n.LabelText (Entered n.Label ∷ Entered n.Link ∷ marks) label_text
+open_text held.Image marks = text_in n.LabelText (Entered n.Label ∷ Entered n.Image ∷ marks) label_text
 
 entered_last : (os : List Open) (o : Open) (marks : List Mark) → entered_all (os ++ o ∷ []) marks ≡ entered_open o (entered_all os marks)
 entered_last [] o marks = refl

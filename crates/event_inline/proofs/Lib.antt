@@ -1,2 +1,3 @@
 pub mod LeavingAll
 pub mod Held
+pub mod Runs

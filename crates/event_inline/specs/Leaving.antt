@@ -36,8 +36,8 @@ leave_label marks = closed n.Label (closed n.LabelText marks)
 -- after the end of what is open
 abbrev pub leave_open : Open → List Mark → List Mark
 leave_open (held.Span s size) marks = closed (span_name s) (closed (text_name s) marks)
-leave_open (held.Link resource) marks = closed n.Link (leave_label marks)
-leave_open (held.Image resource) marks = closed n.Image (leave_label marks)
+leave_open held.Link marks = closed n.Link (leave_label marks)
+leave_open held.Image marks = closed n.Image (leave_label marks)
 
 -- after the ends of all of these, the innermost of which is the last
 abbrev pub leave_all : List Open → List Mark → List Mark
@@ -51,8 +51,8 @@ open_around os w = leave_all os (still_open w)
 -- what was entered at the start of what is open
 abbrev pub entered_open : Open → List Mark → List Mark
 entered_open (held.Span s size) marks = Entered (text_name s) ∷ Entered (span_name s) ∷ marks
-entered_open (held.Link resource) marks = Entered n.LabelText ∷ Entered n.Label ∷ Entered n.Link ∷ marks
-entered_open (held.Image resource) marks = Entered n.LabelText ∷ Entered n.Label ∷ Entered n.Image ∷ marks
+entered_open held.Link marks = Entered n.LabelText ∷ Entered n.Label ∷ Entered n.Link ∷ marks
+entered_open held.Image marks = Entered n.LabelText ∷ Entered n.Label ∷ Entered n.Image ∷ marks
 
 -- the same of all of these, the innermost of which is the last
 abbrev pub entered_all : List Open → List Mark → List Mark

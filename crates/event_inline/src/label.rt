@@ -11,7 +11,7 @@ use crate::reading::Reading;
 use engine_events::event::Name;
 use event_lines::Walk;
 use event_links::{push_link_reference, push_resource};
-use inline_rows::LinkTarget;
+use inline_links::resource::resource;
 use markdown_options::Tables;
 use std::alloc::{AllocError, Allocator};
 
@@ -20,15 +20,13 @@ use std::alloc::{AllocError, Allocator};
 pub(crate) fn enter_link<A: Allocator>(
     walk: &mut Walk<'_, A>,
     open: &mut Vec<Open, A>,
-    target: LinkTarget<'_>,
 ) -> Result<(), AllocError>
     requires child { may_enter (still_open walk.old) Link ≡ true }
     requires held { AreHeld open.old.items (still_open walk.old) }
     ensures open { OnOk result (open_around open.new.items walk.new ≡ open_around open.old.items walk.old) }
     ensures held { OnOk result (AreHeld open.new.items (still_open walk.new)) }
 {
-    let resource = matches!(target, LinkTarget::Resource(_));
-    open.push(Open::Link { resource })?;
+    open.push(Open::Link)?;
     walk.enter(Name::Link)?;
     walk.enter(Name::Label)?;
     link_start(walk)?;
@@ -41,15 +39,13 @@ pub(crate) fn enter_link<A: Allocator>(
 pub(crate) fn enter_image<A: Allocator>(
     walk: &mut Walk<'_, A>,
     open: &mut Vec<Open, A>,
-    target: LinkTarget<'_>,
 ) -> Result<(), AllocError>
     requires child { may_enter (still_open walk.old) Image ≡ true }
     requires held { AreHeld open.old.items (still_open walk.old) }
     ensures open { OnOk result (open_around open.new.items walk.new ≡ open_around open.old.items walk.old) }
     ensures held { OnOk result (AreHeld open.new.items (still_open walk.new)) }
 {
-    let resource = matches!(target, LinkTarget::Resource(_));
-    open.push(Open::Image { resource })?;
+    open.push(Open::Image)?;
     walk.enter(Name::Image)?;
     walk.enter(Name::Label)?;
     image_start(walk)?;
@@ -80,12 +76,12 @@ fn image_start<A: Allocator>(walk: &mut Walk<'_, A>) -> Result<(), AllocError>
     walk.exit(Name::LabelImage)
 }
 
-/// The end of a link or an image, with what follows its label.
+/// The end of a link or an image, with what follows its label: a resource, where one is written, and
+/// otherwise a reference or nothing.
 pub(crate) fn leave_label<T: Tables, A: Allocator>(
     walk: &mut Walk<'_, A>,
     reading: &Reading<'_, T>,
     name: Name,
-    resource: bool,
 ) -> Result<(), AllocError>
     requires label { may_enter (closed LabelText (still_open walk.old)) LabelEnd ≡ true }
     requires resource { may_enter (leave_label (still_open walk.old)) Resource ≡ true }
@@ -94,10 +90,9 @@ pub(crate) fn leave_label<T: Tables, A: Allocator>(
 {
     label_end(walk)?;
     let rest = reading.rest(walk.place());
-    if resource {
-        push_resource(walk, reading.on, reading.tables, rest)?;
-    } else {
-        push_link_reference(walk, reading.on, reading.tables, rest)?;
+    match resource(rest.as_bytes()) {
+        Some(found) => push_resource(walk, reading.on, reading.tables, rest, &found)?,
+        None => push_link_reference(walk, reading.on, reading.tables, rest)?,
     }
     walk.exit(name)
 }

@@ -1,9 +1,10 @@
 //! Constructs that hold no other (CommonMark 2.4, 2.5, 6.1 and 6.5 to 6.8).
 ghost use Rattle.std.specs.Prelude.{◌≡◌, OnOk, true};
-ghost use Rattle.engine_events.specs.declared.event.Name.TheVariants.{Autolink, HtmlText};
-ghost use Rattle.event_output.specs.Children.{has_lines, holds_lines, holds_text, may_enter, may_hold};
+ghost use Rattle.engine_events.specs.declared.event.Name.TheVariants.{Autolink, CharacterEscape, HtmlText};
+ghost use Rattle.event_output.specs.Children.{holds_lines, holds_text, may_enter};
 ghost use Rattle.event_lines.specs.Open.{still_open};
 
+use crate::code_text::{CODE, MATH, push_raw};
 use crate::gfm_autolink_literal::literal_name;
 use crate::lines::push_lines;
 use crate::reading::Reading;
@@ -13,31 +14,9 @@ use event_lines::cut::{bytes_from, bytes_up_to};
 use event_strings::character_escape::push_escape;
 use event_strings::character_reference::{push_reference, reference_size};
 use inline_leaves::LeafPart;
+use inline_rows::SpelledLeaf;
 use std::alloc::{AllocError, Allocator};
-use text_bytes::{run, white_size};
-
-/// The names of raw text between two sequences, which it may hold.
-#[derive(Clone, Copy)]
-struct RawNames {
-    text: Name,
-    sequence: Name,
-    chunk: Name,
-    ghost holds_sequence: { may_hold text sequence ≡ true },
-    ghost holds_chunk: { may_hold text chunk ≡ true },
-    ghost may_go_on: { has_lines text ≡ true },
-}
-
-const CODE: RawNames = RawNames {
-    text: Name::CodeText,
-    sequence: Name::CodeTextSequence,
-    chunk: Name::CodeTextData,
-};
-
-const MATH: RawNames = RawNames {
-    text: Name::MathText,
-    sequence: Name::MathTextSequence,
-    chunk: Name::MathTextData,
-};
+use text_bytes::white_size;
 
 /// A construct that comes next in a content.
 #[tactic(auto, using(event_output::proofs::Classes::text_may, event_output::proofs::Classes::text_lines, crate::proofs::Held::text_child), unfolding(event_output::specs::Children::may_hold, event_output::specs::Children::has_lines))]
@@ -51,12 +30,12 @@ pub(crate) fn push_leaf<T, A: Allocator>(
 {
     let bytes = reading.rest(walk.place()).as_bytes();
     match part {
-        LeafPart::Escape(_) => push_escape(walk),
+        LeafPart::Escape(text) => push_escapes(walk, text.len()),
         LeafPart::Character(_) | LeafPart::Number { .. } => {
             push_reference(walk, bytes, reference_size(bytes))
         }
-        LeafPart::Code(text) => push_raw(walk, &CODE, bytes, run(b'`', bytes), text.len()),
-        LeafPart::Math(text) => push_raw(walk, &MATH, bytes, run(b'$', bytes), text.len()),
+        LeafPart::Code(_) => push_raw(walk, &CODE, bytes),
+        LeafPart::Math(_) => push_raw(walk, &MATH, bytes),
         LeafPart::Unclosed(text) => walk.data(text.len()),
         LeafPart::Autolink { email, text } => push_autolink(walk, email, text.len()),
         LeafPart::Literal { kind, text } => {
@@ -66,28 +45,37 @@ pub(crate) fn push_leaf<T, A: Allocator>(
         LeafPart::EscapedBreak => walk.text(Name::HardBreakEscape, 1),
         LeafPart::TrailingBreak => walk.text(Name::HardBreakTrailing, white_size(bytes)),
         LeafPart::LineEnd(ending) => push_line_end(walk, bytes, ending.as_str().len()),
-        LeafPart::Spaces => walk.text(Name::SpaceOrTab, white_size(bytes)),
+        // What ends the line writes them.
+        LeafPart::Spaces => Ok(()),
     }
 }
 
-/// Raw text of a size between two sequences of a size, at the front of these bytes (CommonMark 6.1).
-#[tactic(auto, using(event_output::proofs::Marks::same_self, event_output::proofs::Classes::enters_in, event_output::proofs::Classes::lines_in))]
-fn push_raw<A: Allocator>(
+/// A construct as a list of events spells it, which is read again like any other.
+pub(crate) fn push_spelled<T, A: Allocator>(
     walk: &mut Walk<'_, A>,
-    names: &RawNames,
-    bytes: &[u8],
-    sequence: usize,
-    size: usize,
+    reading: &Reading<'_, T>,
+    leaf: SpelledLeaf<'_>,
 ) -> Result<(), AllocError>
-    requires child { may_enter (still_open walk.old) names.now.text ≡ true }
+    requires text { holds_text (still_open walk.old) ≡ true }
     ensures open { OnOk result (still_open walk.new ≡ still_open walk.old) }
 {
-    walk.enter(names.text)?;
-    walk.text(names.sequence, sequence)?;
-    let inside = bytes_up_to(bytes_from(bytes, sequence), size);
-    push_lines(walk, names.chunk, inside, false)?;
-    walk.text(names.sequence, sequence)?;
-    walk.exit(names.text)
+    match leaf {
+        SpelledLeaf::Code(text) => push_leaf(walk, reading, LeafPart::Code(text)),
+        SpelledLeaf::Math(text) => push_leaf(walk, reading, LeafPart::Math(text)),
+        // No content has a check.
+        SpelledLeaf::Check(_) => Ok(()),
+    }
+}
+
+/// Escapes, so many.
+fn push_escapes<A: Allocator>(walk: &mut Walk<'_, A>, count: usize) -> Result<(), AllocError>
+    requires child { may_enter (still_open walk.old) CharacterEscape ≡ true }
+    ensures open { OnOk result (still_open walk.new ≡ still_open walk.old) }
+{
+    for _ in 0..count {
+        push_escape(walk)?;
+    }
+    Ok(())
 }
 
 /// An autolink of a URI or an address of a size (CommonMark 6.5).
@@ -123,8 +111,8 @@ fn push_html<A: Allocator>(walk: &mut Walk<'_, A>, bytes: &[u8]) -> Result<(), A
     walk.exit(Name::HtmlText)
 }
 
-/// A line ending of a size, with the spaces and tabs around it (CommonMark 6.8). Rows in which email
-/// addresses were looked for have no row for those before it.
+/// A line ending of a size, with the spaces and tabs around it (CommonMark 6.8). Those before it are
+/// found here, since not all rows have a row for them.
 #[tactic(auto, using(event_output::proofs::Classes::lines_may))]
 fn push_line_end<A: Allocator>(
     walk: &mut Walk<'_, A>,

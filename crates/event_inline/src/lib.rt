@@ -1,6 +1,7 @@
 //! Rows of inline structure to events.
 #![tactic(auto)]
 
+pub mod code_text;
 pub mod gfm_autolink_literal;
 pub mod gfm_footnote_call;
 pub mod gfm_task_list_item;

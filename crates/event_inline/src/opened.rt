@@ -6,8 +6,8 @@ use inline_runs::Span;
 pub enum Open {
     /// A span, with the bytes of its sequences.
     Span { span: Span, size: usize },
-    /// A link, with whether a resource follows its text.
-    Link { resource: bool },
-    /// An image, with whether a resource follows its description.
-    Image { resource: bool },
+    /// A link.
+    Link,
+    /// An image.
+    Image,
 }

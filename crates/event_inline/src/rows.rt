@@ -6,7 +6,7 @@ ghost use Rattle.event_inline.specs.Leaving.{AreHeld, entered_open, leave_open, 
 
 use crate::gfm_footnote_call::push_call;
 use crate::label::{enter_image, enter_link, leave_label};
-use crate::leaf::push_leaf;
+use crate::leaf::{push_leaf, push_spelled};
 use crate::opened::Open;
 use crate::reading::Reading;
 use crate::span::{enter_span, leave_span};
@@ -55,11 +55,10 @@ fn push_row<T: Tables, A: Allocator>(
         InlineRow::Text(text) => walk.data(text.len())?,
         InlineRow::Verbatim(verbatim) => walk.data(verbatim.text.len())?,
         InlineRow::Leaf(part) => push_leaf(walk, reading, part)?,
-        // No text has such a row.
-        InlineRow::Spelled(_) => {}
+        InlineRow::Spelled(leaf) => push_spelled(walk, reading, leaf)?,
         InlineRow::EnterSpan(span) => enter_span(walk, reading, open, span)?,
-        InlineRow::EnterLink(target) => enter_link(walk, open, target)?,
-        InlineRow::EnterImage(target) => enter_image(walk, open, target)?,
+        InlineRow::EnterLink(_) => enter_link(walk, open)?,
+        InlineRow::EnterImage(_) => enter_image(walk, open)?,
         InlineRow::Call(label) => push_call(walk, reading, label)?,
         InlineRow::Exit => leave_innermost(walk, reading, open)?,
     }
@@ -95,7 +94,7 @@ fn leave<T: Tables, A: Allocator>(
 {
     match held {
         Open::Span { span, size } => leave_span(walk, span, size),
-        Open::Link { resource } => leave_label(walk, reading, Name::Link, resource),
-        Open::Image { resource } => leave_label(walk, reading, Name::Image, resource),
+        Open::Link => leave_label(walk, reading, Name::Link),
+        Open::Image => leave_label(walk, reading, Name::Image),
     }
 }

@@ -13,19 +13,18 @@ use crate::white::push_white;
 use engine_events::event::Name;
 use event_lines::Walk;
 use event_lines::cut::{bytes_from, first, from, up_to};
-use inline_links::destination::destination;
-use inline_links::title::title;
-use markdown_options::constants::RESOURCE_DESTINATION_BALANCE_MAX;
+use inline_links::resource::LinkResource;
 use markdown_options::{Constructs, Tables};
 use std::alloc::{AllocError, Allocator};
 
-/// A resource that a text begins with.
+/// A resource that a text begins with, as it was found there.
 #[tactic(auto, using(event_output::proofs::Classes::enters_in, event_output::proofs::Classes::lines_in), unfolding(event_output::specs::Children::may_hold, event_output::specs::Children::has_lines))]
 pub fn push_resource<T: Tables, A: Allocator>(
     walk: &mut Walk<'_, A>,
     on: &Constructs,
     tables: &T,
     text: &str,
+    found: &LinkResource<'_>,
 ) -> Result<(), AllocError>
     requires child { may_enter (still_open walk.old) Resource ≡ true }
     ensures open { OnOk result (still_open walk.new ≡ still_open walk.old) }
@@ -34,7 +33,7 @@ pub fn push_resource<T: Tables, A: Allocator>(
     walk.text(Name::ResourceMarker, 1)?;
     let inside = push_white(walk, bytes_from(text.as_bytes(), 1))?;
     if first(inside) != b')' {
-        push_target(walk, on, tables, last(text, inside.len()))?;
+        push_target(walk, on, tables, last(text, inside.len()), found)?;
     }
     walk.text(Name::ResourceMarker, 1)?;
     walk.exit(Name::Resource)
@@ -47,40 +46,33 @@ fn push_target<T: Tables, A: Allocator>(
     on: &Constructs,
     tables: &T,
     text: &str,
+    found: &LinkResource<'_>,
 ) -> Result<(), AllocError>
     requires destination { may_enter (still_open walk.old) ResourceDestination ≡ true }
     requires title { may_enter (still_open walk.old) ResourceTitle ≡ true }
     requires lines { holds_lines (still_open walk.old) ≡ true }
     ensures open { OnOk result (still_open walk.new ≡ still_open walk.old) }
 {
-    let bytes = text.as_bytes();
-    let Some(part) = destination(bytes, Some(RESOURCE_DESTINATION_BALANCE_MAX)) else {
+    let size = destination_size(text.as_bytes(), found.destination.len());
+    push_destination(walk, on, tables, &RESOURCE, up_to(text, size))?;
+    let rest = push_white(walk, bytes_from(text.as_bytes(), size))?;
+    let Some(title) = found.title else {
         return Ok(());
     };
-    push_destination(
-        walk,
-        on,
-        tables,
-        &RESOURCE,
-        without_last(text, part.rest.len()),
-    )?;
-    let rest = push_white(walk, part.rest)?;
-    if first(rest) == b')' {
-        return Ok(());
-    }
-    let Some(found) = title(rest) else {
-        return Ok(());
-    };
-    let text = last(text, rest.len());
-    push_title(
-        walk,
-        on,
-        tables,
-        &RESOURCE,
-        without_last(text, found.rest.len()),
-    )?;
-    let _rest = push_white(walk, found.rest)?;
+    let size = title.len().saturating_add(2);
+    let title = up_to(last(text, rest.len()), size);
+    push_title(walk, on, tables, &RESOURCE, title)?;
+    let _rest = push_white(walk, bytes_from(rest, size))?;
     Ok(())
+}
+
+/// How many bytes a destination has that bytes begin with, by those without its brackets.
+fn destination_size(bytes: &[u8], size: usize) -> usize {
+    if first(bytes) == b'<' {
+        size.saturating_add(2)
+    } else {
+        size
+    }
 }
 
 /// The last bytes of a text, so many.

@@ -11,3 +11,5 @@ pub mod LinkedLiterals
 pub mod Scanned
 pub mod Contents
 pub mod Laid
+pub mod Forms
+pub mod Tails

@@ -1,3 +1,5 @@
 pub mod Written
+pub mod Leaves
+pub mod Tails
 pub mod Laid
 pub mod Laws

@@ -1,5 +1,5 @@
 //! Inline structure as it is written in its content.
-ghost use Rattle.laws_written.specs.Laws.{LaidLaw, WrittenFromLaw, WrittenLaw};
+ghost use Rattle.laws_written.specs.Laws.{LaidLaw, LeafLaw, TailLaw, WrittenFromLaw, WrittenLaw};
 
 /// The inline structure of a content is written in it, part by part, from its first code that is no
 /// space or tab to its end.
@@ -19,4 +19,17 @@ pub fn written_from_law()
 #[tactic(auto, using(crate::proofs::Laid::laid_law))]
 pub fn laid_law()
     ensures { LaidLaw }
+{}
+
+/// A leaf has the form of its construct where it is written: an escape is a backslash and its byte, a
+/// reference ends at the first `;`, code stands between two runs of as many backticks.
+#[tactic(auto, using(crate::proofs::Forms::leaf_law))]
+pub fn leaf_law()
+    ensures { LeafLaw }
+{}
+
+/// What follows the text of a link or an image has its form: a resource, where one is read there, and
+/// otherwise a label, where one is read, and otherwise `[]` or nothing.
+pub fn tail_law()
+    ensures { TailLaw }
 {}

@@ -10,7 +10,7 @@ use Rattle.event_inline.proofs.label.enter_link.Goals as goal
 pub returns-clause-open : goal.returns-clause-open
 returns-clause-open g c =
     ap (λ os. leave_all os (still_open c.enter-3.new.self)) c.in_ok-push.ensures.items
-    ∙ (more c.args.open.now.items (held.Link c.match-matches.matches) (still_open c.args.walk.now) (still_open c.enter-3.new.self) c.requires.held
+    ∙ (more c.args.open.now.items held.Link (still_open c.args.walk.now) (still_open c.enter-3.new.self) c.requires.held
     (c.in_ok-enter-3.ensures.open
     ∙ ap (λ ms. Entered n.LabelText ∷ ms)
     (c.in_ok-link_start.ensures.open ∙ c.in_ok-enter-2.ensures.open ∙ ap (λ ms. Entered n.Label ∷ ms) c.in_ok-enter.ensures.open))).around
@@ -18,7 +18,7 @@ returns-clause-open g c =
 pub returns-clause-held : goal.returns-clause-held
 returns-clause-held g c =
     subst (λ os. AreHeld os (still_open c.enter-3.new.self)) (sym c.in_ok-push.ensures.items)
-    (more c.args.open.now.items (held.Link c.match-matches.matches) (still_open c.args.walk.now) (still_open c.enter-3.new.self) c.requires.held
+    (more c.args.open.now.items held.Link (still_open c.args.walk.now) (still_open c.enter-3.new.self) c.requires.held
     (c.in_ok-enter-3.ensures.open
     ∙ ap (λ ms. Entered n.LabelText ∷ ms)
     (c.in_ok-link_start.ensures.open ∙ c.in_ok-enter-2.ensures.open ∙ ap (λ ms. Entered n.Label ∷ ms) c.in_ok-enter.ensures.open))).held
