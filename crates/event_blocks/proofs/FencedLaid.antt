@@ -1,5 +1,5 @@
 -- What fenced code prints, step by step.
-use Rattle.std.proofs.Common.{◌≡◌, ◌||◌, not, if◌then◌else◌, ℕ, Bool, true, false, List, [], ◌∷◌, ◌++◌, Option, Some, codes, refl, sym, ap, ◌∙◌, append_assoc}
+use Rattle.std.proofs.Common.{◌≡◌, ◌&&◌, ◌||◌, not, if◌then◌else◌, ℕ, Bool, true, false, List, [], ◌∷◌, ◌++◌, Option, Some, codes, refl, sym, ap, ◌∙◌, append_assoc}
 use Rattle.std.specs.List.{fold, flat_map}
 use Rattle.std.proofs.lemmas.List.{append-nil}
 use Rattle.std.proofs.lemmas.List.Sums.{fold-append}
@@ -24,7 +24,7 @@ use Rattle.event_blocks.specs.Raw.{has_any, lines_behind, fenced_end}
 module _ (options : CompileOptions) (default : List ℕ) where
   -- ---- lines
 
-  abbrev laid : Place → Bool → List BlockLine → LayoutState → LayoutState
+  abbrev pub laid : Place → Bool → List BlockLine → LayoutState → LayoutState
   laid place closed ls l = after_pieces options default l (fenced_pieces place closed ls)
 
   kept : (place : Place) (closed : Bool) (ls : List BlockLine) (l : LayoutState) → (place.top || closed) ≡ true → has_any ls ≡ true
@@ -45,6 +45,14 @@ module _ (options : CompileOptions) (default : List ℕ) where
   no_lines place closed [] l none = add_nil l
   no_lines place closed (line ∷ ls) l none = let wrong : true ≡ false = none in cc
 
+  or_false : (b : Bool) → (b || false) ≡ b
+  or_false false = refl
+  or_false true = refl
+
+  or_true : (b : Bool) → (b || true) ≡ true
+  or_true false = refl
+  or_true true = refl
+
   -- a line where there is none
   some_by : (part : RawPart) (parts : List RawPart) (ls : List BlockLine) → has_any (some_line (part ∷ parts) ls) ≡ true
   some_by part parts [] = refl
@@ -55,24 +63,42 @@ module _ (options : CompileOptions) (default : List ℕ) where
   some_said (part ∷ parts) [] = refl
   some_said (part ∷ parts) (line ∷ ls) = refl
 
-  module _ (place : Place) (closed : Bool) (l : LayoutState) where
+  module _ (place : Place) (closed spaced : Bool) (l : LayoutState) where
     -- the definition's pieces
     abbrev pub fence_laid : List RawPart → LayoutState
-    fence_laid parts = laid place closed (fenced_lines (not (place.top || closed)) parts) l
+    fence_laid parts = laid place closed (fenced_lines (not (place.top || closed) || spaced) parts) l
 
-    at_whole : (b : Bool) (parts : List RawPart) → (place.top || closed) ≡ b → fence_laid parts ≡ laid place closed (fenced_lines (not b) parts) l
-    at_whole b parts h = ap (λ (x : Bool). laid place closed (fenced_lines (not x) parts) l) h
+    at_whole : (b : Bool) (parts : List RawPart) → (place.top || closed) ≡ b → fence_laid parts ≡ laid place closed (fenced_lines (not b || spaced) parts) l
+    at_whole b parts h = ap (λ (x : Bool). laid place closed (fenced_lines (not x || spaced) parts) l) h
 
     -- after the lines of code
     abbrev pub code_laid : List RawPart → LayoutState
     code_laid parts = with_bytes (code_of (lines_behind true parts)) l
 
-    pub whole_some : (parts : List RawPart) → (place.top || closed) ≡ true → has_any (lines_behind true parts) ≡ true
-        → with_fresh default (code_laid parts) ≡ fence_laid parts
-    whole_some parts h some = sym (at_whole true parts h ∙ kept place closed (lines_behind true parts) l h some)
+    -- whether there is a line, also one of which nothing is left
+    abbrev pub has_line : Bool → List RawPart → Bool
+    has_line space parts = has_any (lines_behind true parts) || (space && has_any parts)
 
-    pub whole_none : (parts : List RawPart) → (place.top || closed) ≡ true → has_any (lines_behind true parts) ≡ false → code_laid parts ≡ fence_laid parts
-    whole_none parts h none = no_lines place closed (lines_behind true parts) l none ∙ sym (at_whole true parts h)
+    some_kept : (space : Bool) (parts : List RawPart) → (place.top || closed) ≡ true → has_line space parts ≡ true
+        → laid place closed (fenced_lines space parts) l ≡ with_fresh default (code_laid parts)
+    some_kept false parts h some = kept place closed (lines_behind true parts) l h (sym (or_false (has_any (lines_behind true parts))) ∙ some)
+    some_kept true [] h some = let wrong : false ≡ true = some in cc
+    some_kept true (part ∷ parts) h some =
+        let ls = raw_lines (without_first_end (part ∷ parts)) in
+        kept place closed (some_line (part ∷ parts) ls) l h (some_by part parts ls)
+        ∙ ap (λ (x : List ℕ). with_fresh default (with_bytes x l)) (some_said (part ∷ parts) ls)
+
+    none_left : (space : Bool) (parts : List RawPart) → has_line space parts ≡ false → code_laid parts ≡ laid place closed (fenced_lines space parts) l
+    none_left false parts none = no_lines place closed (lines_behind true parts) l (sym (or_false (has_any (lines_behind true parts))) ∙ none)
+    none_left true [] none = no_lines place closed [] l refl
+    none_left true (part ∷ parts) none = let wrong : true ≡ false = sym (or_true (has_any (lines_behind true (part ∷ parts)))) ∙ none in cc
+
+    pub whole_some : (parts : List RawPart) → (place.top || closed) ≡ true → has_line spaced parts ≡ true
+        → with_fresh default (code_laid parts) ≡ fence_laid parts
+    whole_some parts h some = sym (at_whole true parts h ∙ some_kept spaced parts h some)
+
+    pub whole_none : (parts : List RawPart) → (place.top || closed) ≡ true → has_line spaced parts ≡ false → code_laid parts ≡ fence_laid parts
+    whole_none parts h none = none_left spaced parts none ∙ sym (at_whole true parts h)
 
     pub cut_some : (parts : List RawPart) → (place.top || closed) ≡ false → has_any parts ≡ true
         → with_fresh default (with_bytes default (code_laid parts)) ≡ fence_laid parts

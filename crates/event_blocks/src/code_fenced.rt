@@ -1,5 +1,5 @@
 //! Fenced code (CommonMark 4.5).
-ghost use Rattle.std.specs.Prelude.{◌≡◌, ◌||◌, Bool, OnOk, Some, is_some, not};
+ghost use Rattle.std.specs.Prelude.{◌≡◌, ◌&&◌, ◌||◌, Bool, OnOk, Some, false, is_some, not};
 ghost use Rattle.std.specs.List.{flat_map};
 ghost use Rattle.markdown_options.specs.declared.configuration.CompileOptions.{CompileOptions};
 ghost use Rattle.definition_page.specs.BlockPieces.{Place, fenced_pieces, info_attributes, leaf_block_pieces};
@@ -21,7 +21,7 @@ ghost use Rattle.event_blocks.specs.Sound.{AreSound};
 use crate::printer::LeafPrinter;
 use crate::source::Source;
 use engine_events::event::{Event, Name};
-use event_levels::node::{child, kids_in};
+use event_levels::node::{child, ends_in, kids_in};
 use event_written::push_string;
 use markdown_options::Tables;
 use std::alloc::{AllocError, Allocator};
@@ -101,12 +101,16 @@ impl<A: Allocator + Clone> LeafPrinter<A> {
             AreSound source.now.checked.bytes.now ns → inside.now ≡ events_of ns →
             let after = meaning.after_child fence ns in
             let is_closed = is_some (meaning.child fence after) in
-            let parts = raw_parts source.now.checked.bytes.now (meaning.before_child fence after) in
-            OnOk result (LaysOut options self.old.page self.new.page (fenced_end place is_closed (raw.fenced_lines (not (place.top || is_closed)) parts))) }
+            let between = meaning.before_child fence after in
+            let spaced = not is_closed && meaning.ends_in names.SpaceOrTab false between in
+            let parts = raw_parts source.now.checked.bytes.now between in
+            let ls = raw.fenced_lines (not (place.top || is_closed) || spaced) parts in
+            OnOk result (LaysOut options self.old.page self.new.page (fenced_end place is_closed ls)) }
     {
         let (closed, lines) = between_fences(inside, fence);
         let whole = top || closed;
-        self.fenced_lines(source, whole, lines)?;
+        let spaced = is_spaced(closed, lines);
+        self.fenced_lines(source, whole, spaced, lines)?;
         self.page.say("</code></pre>")?;
         if closed {
             return Ok(());
@@ -115,11 +119,12 @@ impl<A: Allocator + Clone> LeafPrinter<A> {
     }
 
     /// Prints the lines of fenced code. If they aren't whole, the last ending is outside, and the
-    /// default one is printed.
+    /// default one is printed. Spaced code ends with a line of which nothing is left.
     fn fenced_lines<T>(
         &mut self,
         source: &Source<'_, T, A>,
         whole: bool,
+        spaced: bool,
         events: &[Event],
     ) -> Result<(), AllocError>
         requires { AreCounted source.now.checked.bytes.now self.old.columns }
@@ -127,12 +132,12 @@ impl<A: Allocator + Clone> LeafPrinter<A> {
         ensures counted { AreCounted source.now.checked.bytes.now self.new.columns }
         ensures printed { (options : CompileOptions) (place : Place) (is_closed : Bool) (ns : Nodes) → whole ≡ (place.top || is_closed) →
             AreSound source.now.checked.bytes.now ns → events.now ≡ events_of ns →
-            let ls = raw.fenced_lines (not (place.top || is_closed)) (raw_parts source.now.checked.bytes.now ns) in
+            let ls = raw.fenced_lines (not (place.top || is_closed) || spaced) (raw_parts source.now.checked.bytes.now ns) in
             OnOk result (LaysOut options self.old.page self.new.page (in_bytes (fenced_pieces place is_closed ls))) }
     {
         let passed = self.code(source, true, events)?;
         if whole {
-            if passed.line {
+            if passed.has_line(spaced) {
                 self.page.fresh()
             } else {
                 Ok(())
@@ -144,6 +149,13 @@ impl<A: Allocator + Clone> LeafPrinter<A> {
             Ok(())
         }
     }
+}
+
+/// Whether code that isn't closed ends with white space: that of a line of which nothing is left.
+fn is_spaced(closed: bool, events: &[Event]) -> bool
+    ensures { (ns : Nodes) → AreNodes ns → events.now ≡ events_of ns → result ≡ (not closed && meaning.ends_in names.SpaceOrTab false ns) }
+{
+    !closed && ends_in(events, Name::SpaceOrTab)
 }
 
 /// Whether a fence closes code, and the events before that, or all after the fence that opens.

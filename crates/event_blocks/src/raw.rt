@@ -1,5 +1,5 @@
 //! Raw blocks: the chunks and endings of code, math and HTML (CommonMark 4.4 to 4.6).
-ghost use Rattle.std.specs.Prelude.{◌≡◌, ◌==◌, ◌&&◌, ◌++◌, ◌∷◌, [], false, IfOk, OnOk, codes, map, not};
+ghost use Rattle.std.specs.Prelude.{◌≡◌, ◌==◌, ◌&&◌, ◌||◌, ◌++◌, ◌∷◌, [], false, IfOk, OnOk, codes, map, not};
 ghost use Rattle.std.specs.List.{repeat};
 ghost use Rattle.definition_text.specs.Columns.{code_byte};
 ghost use Rattle.definition_text.specs.Encode.{encode};
@@ -94,6 +94,13 @@ impl<A: Allocator + Clone> LeafPrinter<A> {
 }
 
 impl Passed {
+    /// Whether there was a line, also one at the end of which nothing is left.
+    pub(crate) fn has_line(self, spaced: bool) -> bool
+        ensures { result ≡ (self.line || (spaced && self.some)) }
+    {
+        self.line || spaced && self.some
+    }
+
     /// One more piece is passed.
     fn with(self, part: CodePart<'_>) -> Passed
         ensures { result ≡ passed self part.entry }

@@ -6,4 +6,3 @@ pub mod Tree
 pub mod Checked
 pub mod ItemNumbers
 pub mod Endings
-pub mod Blank

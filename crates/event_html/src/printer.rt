@@ -13,7 +13,8 @@ ghost use Rattle.event_blocks.specs.Leaf.{is_leaf};
 ghost use Rattle.event_levels.specs.Kinds.{kind_of};
 ghost use Rattle.event_levels.specs.Levels.{is_document, new_level};
 ghost use Rattle.event_levels.specs.declared.level.Holder.TheVariants as holders;
-ghost use Rattle.event_meaning.specs.Spelled.{ends_blank};
+ghost use Rattle.engine_events.specs.declared.event.Name.TheVariants.{BlankLineEnding};
+ghost use Rattle.event_meaning.specs.Children.{ends_in};
 ghost use Rattle.event_rows.specs.Columns.{AreCounted};
 ghost use Rattle.event_html.specs.Going.{GoesOn};
 ghost use Rattle.event_html.specs.Opened.{opened};
@@ -24,7 +25,7 @@ use event_blocks::printer::{LeafPlace, LeafPrinter};
 use event_blocks::source::Source;
 use event_levels::kind::{BlockKind, kind_of};
 use event_levels::level::{Holder, Level};
-use event_levels::node::node_after;
+use event_levels::node::{ends_in, node_after};
 use markdown_options::{LineEnding, Tables};
 use std::alloc::{AllocError, Allocator};
 
@@ -70,11 +71,11 @@ impl<A: Allocator + Clone> Printer<A> {
             let events = source.now.checked.events.now in
             IsMeant names source.now ds m → AreNodes ns → events ≡ events_of ns →
             GoesOn names source.now.checked.bytes.now m events whole self.old events → OnOk result (page_view self.new.leaves.page
-            ≡ layout_after m.compile self.old.leaves.page.default_ending whole (in_bytes (fresh_unless (not (ends_blank false ns))))) }
+            ≡ layout_after m.compile self.old.leaves.page.default_ending whole (in_bytes (fresh_unless (not (ends_in BlankLineEnding false ns))))) }
     {
         let events = source.checked.events();
         self.all(source, events)?;
-        if ends_blank(events) {
+        if ends_in(events, Name::BlankLineEnding) {
             self.leaves.page.fresh()?;
         }
         Ok(())
@@ -227,15 +228,5 @@ impl<A: Allocator + Clone> Printer<A> {
             tight: self.level.tight,
             silent: self.level.silent,
         }
-    }
-}
-
-/// Whether the last of these events is the ending of a blank line.
-fn ends_blank(events: &[Event]) -> bool
-    ensures { (ns : Nodes) → AreNodes ns → events.now ≡ events_of ns → result ≡ ends_blank false ns }
-{
-    match events.last() {
-        None => false,
-        Some(event) => event.name == Name::BlankLineEnding,
     }
 }

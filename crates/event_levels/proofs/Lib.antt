@@ -1,3 +1,4 @@
 pub mod SiblingLaw
 pub mod FirstLaw
 pub mod ChildLaw
+pub mod Last

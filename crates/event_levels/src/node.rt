@@ -1,5 +1,5 @@
 //! Events that are siblings, and those in them.
-ghost use Rattle.std.specs.Prelude.{◌≡◌, ◌≤◌, ◌<◌, None, drop, length, nat_lt, is_some, IfSome, MatchOption};
+ghost use Rattle.std.specs.Prelude.{◌≡◌, ◌≤◌, ◌<◌, None, drop, false, length, nat_lt, is_some, IfSome, MatchOption};
 ghost use Rattle.event_grammar.specs.Checks.{spot_of};
 ghost use Rattle.event_grammar.specs.Trees.{Nodes, Nil, AreNodes, events_of};
 ghost use Rattle.event_meaning.specs.Children as tree;
@@ -151,5 +151,15 @@ pub fn kids_in(events: &[Event], name: Name) -> &[Event]
     match child(events, name) {
         None => &[],
         Some(found) => found.node.inside,
+    }
+}
+
+/// Whether the last of these events has a name.
+pub fn ends_in(events: &[Event], name: Name) -> bool
+    ensures { (ns : Nodes) → AreNodes ns → events.now ≡ events_of ns → result ≡ tree.ends_in name false ns }
+{
+    match events.last() {
+        None => false,
+        Some(event) => event.name == name,
     }
 }

@@ -1,5 +1,5 @@
 -- Blocks: the children that events spell (CommonMark 4 and 5).
-use Rattle.std.specs.Prelude.{ℕ, Bool, true, false, not, ◌||◌, if◌then◌else◌, ◌==◌, List, [], ◌∷◌, Option, None, Some, length, slice_index, is_some}
+use Rattle.std.specs.Prelude.{ℕ, Bool, true, false, not, ◌&&◌, ◌||◌, if◌then◌else◌, ◌==◌, List, [], ◌∷◌, Option, None, Some, length, slice_index, is_some}
 use Rattle.engine_events.specs.Names.{same_name}
 use Rattle.engine_events.specs.declared.event.Name.{Name}
 use Rattle.engine_events.specs.declared.event.Name.TheVariants as n
@@ -14,7 +14,7 @@ use Rattle.event_check.specs.Loose.{is_loose_list}
 use Rattle.event_grammar.specs.InGrammar.{kids_of}
 use Rattle.event_grammar.specs.References.{label_text}
 use Rattle.event_grammar.specs.Trees.{Node, Nodes, Around, Nil, Cons}
-use Rattle.event_meaning.specs.Children.{child, children, kids_in, after_child, before_child, text_of, text_in}
+use Rattle.event_meaning.specs.Children.{child, children, kids_in, after_child, before_child, ends_in, text_of, text_in}
 use Rattle.event_meaning.specs.GfmTable.{table_of}
 use Rattle.event_meaning.specs.Raw.{ending_of, raw_parts, raw_lines, fenced_lines}
 use Rattle.event_meaning.specs.Strings.{string_of}
@@ -56,12 +56,15 @@ module _ (names : Names) (bytes : List ℕ) where
   info_of None = None
   info_of (Some node) = Some (string_of names bytes (kids_of node))
 
-  -- what stands between an opening fence and a closing one, or all after the opening one
+  -- What stands between an opening fence and a closing one, or all after the opening one. Code that isn't closed ends with a line in a container, and where
+  -- white space is last: that of a line of which nothing is left.
   abbrev pub fenced_of : Bool → Name → Option (List ℕ) → Nodes → page.PageLeaf
   fenced_of top fence info kids =
       let inside = after_child fence kids in
       let is_closed = is_some (child fence inside) in
-      page.FencedCode info is_closed (fenced_lines (not (top || is_closed)) (raw_parts bytes (before_child fence inside)))
+      let between = before_child fence inside in
+      let is_spaced = not is_closed && ends_in n.SpaceOrTab false between in
+      page.FencedCode info is_closed (fenced_lines (not (top || is_closed) || is_spaced) (raw_parts bytes between))
 
   abbrev pub code_fenced_of : Bool → Nodes → page.PageLeaf
   code_fenced_of top kids = fenced_of top n.CodeFencedFence (info_of (child n.CodeFencedFenceInfo (kids_in n.CodeFencedFence kids))) kids

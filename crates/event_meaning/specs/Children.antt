@@ -38,6 +38,11 @@ abbrev pub before_child : Name → Nodes → Nodes
 before_child name Nil = Nil
 before_child name (Cons node ns) = if same_name (node_name node) name then Nil else Cons node (before_child name ns)
 
+-- whether the last of these has a name; `before` says it of the one before them
+abbrev pub ends_in : Name → Bool → Nodes → Bool
+ends_in name before Nil = before
+ends_in name before (Cons node ns) = ends_in name (same_name (node_name node) name) ns
+
 -- ---- bytes
 
 module _ (bytes : List ℕ) where

@@ -50,7 +50,7 @@ abbrev pub some_line : List RawPart → List BlockLine → List BlockLine
 some_line (part ∷ parts) [] = spaced_line [] None ∷ []
 some_line parts ls = ls
 
--- the lines of what stands behind an opening fence; code that isn't closed in a container ends with a line, also if that is empty
+-- the lines of what stands behind an opening fence; code that ends with a line does so also if that is empty
 abbrev pub fenced_lines : Bool → List RawPart → List BlockLine
 fenced_lines ends_with_line parts =
     let ls = raw_lines (without_first_end parts) in

@@ -19,13 +19,8 @@ use Rattle.event_grammar.specs.InGrammar.{node_name, kids_of}
 use Rattle.event_grammar.specs.References.{named}
 use Rattle.event_grammar.specs.Trees.{Node, Nodes, Nil, Cons, tree}
 use Rattle.event_meaning.specs.Blocks.{label_of, blocks_of}
-use Rattle.event_meaning.specs.Children.{child, kids_in}
+use Rattle.event_meaning.specs.Children.{child, kids_in, ends_in}
 use Rattle.event_meaning.specs.Strings.{string_of, written}
-
--- whether the last of these is the ending of a blank line; `before` says it of the one before them
-abbrev pub ends_blank : Bool → Nodes → Bool
-ends_blank before Nil = before
-ends_blank before (Cons node ns) = ends_blank (same_name (node_name node) n.BlankLineEnding) ns
 
 -- the labels of footnote definitions, in the order in which these end: one ends after those in it
 abbrev pub own_label : page.PageContainer → List (List Code)
@@ -61,7 +56,7 @@ module _ (names : Names) (bytes : List ℕ) where
         blocks = bs;
         definitions = map definition_of (named n.Definition nodes);
         footnotes = footnotes bs;
-        ends_blank = ends_blank false nodes;
+        ends_blank = ends_in n.BlankLineEnding false nodes;
       }
 
 -- the page that a list of events of a text spells

@@ -16,7 +16,9 @@ use Rattle.html_bytes.proofs.SameText.{pieces_same}
 use Rattle.html_leaves.specs.Prints.{layout_after, page_view}
 use Rattle.definition_text.specs.Lines.{first_line, without_mark}
 use Rattle.event_meaning.specs.Blocks.{blocks_of}
-use Rattle.event_meaning.specs.Spelled.{default_ending, ends_blank, page_of}
+use Rattle.event_meaning.specs.Spelled.{default_ending, page_of}
+use Rattle.event_meaning.specs.Children.{ends_in}
+use Rattle.engine_events.specs.declared.event.Name.TheVariants.{BlankLineEnding}
 use Rattle.event_pieces.specs.Left.{Frame, whole_document, left_pieces}
 use Rattle.event_written.specs.List.{loose_lists}
 use Rattle.event_html.specs.Going.{page_after, GoesOn}
@@ -52,7 +54,7 @@ returns g c = λ m ds ns meant is sound lists numbers.
     let e = printer.leaves.page.default_ending in
     let after = c.events.new.self.leaves.page in
     let blocks = children_pieces m at_top None (blocks_of names bytes true ns) in
-    let last = fresh_unless (not (ends_blank false ns)) in
+    let last = fresh_unless (not (ends_in BlankLineEnding false ns)) in
     let pieces : left_pieces names bytes m frames ≡ blocks = append-nil (blocks ++ []) ∙ append-nil blocks in
     let laid : page_view after ≡ layout_after m.compile e nothing_laid (in_bytes (blocks ++ last))
     = printed

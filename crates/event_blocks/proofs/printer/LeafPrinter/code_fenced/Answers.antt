@@ -1,4 +1,4 @@
-use Rattle.std.proofs.Common.{◌≡◌, ◌||◌, ◌++◌, not, Bool, is_some, codes, sym, ap, ◌∙◌, subst}
+use Rattle.std.proofs.Common.{◌≡◌, ◌&&◌, ◌||◌, ◌++◌, not, Bool, false, is_some, codes, sym, ap, ◌∙◌, subst}
 use Rattle.std.specs.List.{flat_map}
 use Rattle.std.specs.Result.{OnOk}
 use Rattle.engine_events.specs.declared.event.Name.TheVariants as n
@@ -8,7 +8,7 @@ use Rattle.definition_page.specs.BlockPieces.{info_attributes, leaf_block_pieces
 use Rattle.definition_page.specs.Tags.{attribute_bytes}
 use Rattle.definition_page.specs.Page.{FencedCode}
 use Rattle.event_meaning.specs.Blocks.{info_of}
-use Rattle.event_meaning.specs.Children.{child, kids_in, after_child, before_child}
+use Rattle.event_meaning.specs.Children.{child, kids_in, after_child, before_child, ends_in}
 use Rattle.event_meaning.specs.Raw.{raw_parts, fenced_lines}
 use Rattle.html_bytes.specs.Layout.{LayoutState}
 use Rattle.html_bytes.specs.Pieces.{in_bytes}
@@ -29,7 +29,8 @@ returns-clause-printed g c = λ m place ns top are e.
     let after = after_child n.CodeFencedFence ns in
     let closed = is_some (child n.CodeFencedFence after) in
     let parts = raw_parts bytes (before_child n.CodeFencedFence after) in
-    let lines = fenced_lines (not (place.top || closed)) parts in
+    let spaced = not closed && ends_in n.SpaceOrTab false (before_child n.CodeFencedFence after) in
+    let lines = fenced_lines (not (place.top || closed) || spaced) parts in
     let info = info_of names bytes (child n.CodeFencedFenceInfo kids) in
     let attributes = flat_map attribute_bytes (info_attributes info) in
     let same = c.in_ok-say.ensures.default ∙ c.in_ok-info.ensures.default ∙ c.in_ok-fresh_tag.ensures.default in
@@ -43,5 +44,5 @@ returns-clause-printed g c = λ m place ns top are e.
     ∙ ap (λ (x : LayoutState). layout_after options page.default_ending x (fenced_end place closed lines)) start
     ∙ sym (fenced_laid options default m place info closed lines (page_view page))
     ∙ ap (λ (b : Bool). layout_after options page.default_ending (page_view page)
-    (in_bytes (leaf_block_pieces m place (FencedCode info closed (fenced_lines (not (b || closed)) parts))))) (sym top))
+    (in_bytes (leaf_block_pieces m place (FencedCode info closed (fenced_lines (not (b || closed) || spaced) parts))))) (sym top))
     (c.fenced.ensures.printed options place ns top are e)
