@@ -19,7 +19,7 @@ returns-then-has_line-clause-printed g c = λ options place closed ns whole are 
     ∙ ap (with_fresh default) (c.in_ok-passed.ensures.printed ns are e)
     ∙ whole_some options default place closed c.args.spaced (page_view page) parts (sym whole ∙ c.if-whole.true)
     (sym (ap (λ (b : Bool). b || (c.args.spaced && has_any parts)) (c.in_ok-passed.ensures.line ns are e))
-    ∙ sym (ap (λ (b : Bool). c.in_ok-passed.value.line || (c.args.spaced && b)) (c.in_ok-passed.ensures.some ns are e))
+    ∙ sym (ap (λ (b : Bool). c.in_ok-passed.passed.line || (c.args.spaced && b)) (c.in_ok-passed.ensures.some ns are e))
     ∙ sym c.has_line.ensures ∙ c.if-has_line.true))
     c.fresh.ensures.printed
 
@@ -29,11 +29,11 @@ returns-in_ok-eol-clause-printed g c = λ options place closed ns whole are e.
     let default = ending_bytes page.default_ending in
     let parts = raw_parts c.args.source.now.checked.bytes.now ns in
     let same = c.in_ok-passed.ensures.default in
-    subst (λ (x : LayoutState). OnOk c.fresh-then-passed-2.result (page_view c.fresh-then-passed-2.new.self ≡ x))
+    subst (λ (x : LayoutState). OnOk c.fresh-then-passed.result (page_view c.fresh-then-passed.new.self ≡ x))
     (ap (λ (d : LineEnding). with_fresh (ending_bytes d) (page_view c.eol.new.self)) (c.in_ok-eol.ensures.default ∙ same)
     ∙ ap (with_fresh default) (c.in_ok-eol.ensures.printed
     ∙ ap (λ (d : LineEnding). with_bytes (ending_bytes d) (page_view c.code.new.self.page)) same
     ∙ ap (with_bytes default) (c.in_ok-passed.ensures.printed ns are e))
     ∙ cut_some options default place closed c.args.spaced (page_view page) parts (sym whole ∙ c.if-whole.false)
-    (sym (c.in_ok-passed.ensures.some ns are e) ∙ c.if-passed-2.true))
-    c.fresh-then-passed-2.ensures.printed
+    (sym (c.in_ok-passed.ensures.some ns are e) ∙ c.if-passed.true))
+    c.fresh-then-passed.ensures.printed
