@@ -23,6 +23,13 @@ const CODE: &str = texts![
     "``` a`b\nc\n~~~ a`b\n🪐\n~~~",
     "```\r\n\ra\n```\r\n\n",
     "- a\n\n      b\n\n\n- c",
+    " ~~~\n ",
+    "  ```\n  ",
+    " ~~~\n\t",
+    " ~~~\n\n ",
+    " ~~~\na\n ",
+    "2. ~~~ a\n  ~~~\n ",
+    ">  ~~~\n>  ",
 ];
 
 /// Math as a block.
@@ -31,6 +38,7 @@ const MATH: &str = texts![
     "- $$$\n\n  a\n  $$\n  $$$ \n\n",
     "$$ a$b\nc\n$$\n\nd\n$$",
     ">  $$\n>   a\n>\n\n",
+    " $$\n ",
 ];
 
 /// Frontmatter, closed and not.
