@@ -52,10 +52,11 @@ pub fn check_events<'a, T: Tables, A: Allocator + Clone>(
     ensures events { IfOk result (λ checked. checked.events.now ≡ events.now) }
     ensures bytes { IfOk result (λ checked. checked.bytes.now ≡ bytes.now) }
 {
-    if let Some(found) = first_fault(alloc.clone()?, events, bytes, tables)? {
+    let mut marked = Vec::new(alloc.clone()?);
+    if let Some(found) = first_fault(alloc.clone()?, events, bytes, tables, &mut marked)? {
         return Err(CompileError::Events(found));
     }
-    if let Some(index) = first_lost(alloc, events, bytes)? {
+    if let Some(index) = first_lost(alloc, events, bytes, &marked)? {
         return Err(CompileError::Events(EventFault {
             kind: FaultKind::Reference,
             index,

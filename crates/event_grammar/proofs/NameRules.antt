@@ -1,13 +1,13 @@
--- What its name asks of an event.
+-- What names have in common.
 use Rattle.std.proofs.Common.{◌≡◌, Bool, true, false, ◌||◌, ◌∷◌, [], refl, subst}
 use denote.Enum.Bare.{same_true}
 use Rattle.engine_events.specs.contracts.event.Name.{the_type}
 use Rattle.engine_events.specs.Names.{same_name, is_listed}
 use Rattle.engine_events.specs.declared.event.Name.{Name}
 use Rattle.event_grammar.specs.Grammar.{space_names}
-use Rattle.event_grammar.specs.Facts.{ending_names, asks_bytes}
+use Rattle.event_grammar.specs.Facts.{ending_names}
 use Rattle.event_grammar.specs.Void.{is_void}
-use Rattle.event_grammar.specs.Voids.{void_by, void_of, is_not, asks, asks_others}
+use Rattle.event_grammar.specs.Voids.{void_by, void_of, is_not, asks_others}
 
 -- ---- names of two in a list
 
@@ -28,15 +28,5 @@ void_then : (v e o s : Bool) → is_not (void_by v e o s) ≡ false → v ≡ tr
 void_then true e o s h = refl
 void_then false e o s h = absurd (let f : true ≡ false = h in cc)
 
-asks_then : (v e o s : Bool) → v ≡ true → asks (void_by v e o s) ≡ (e || o)
-asks_then true true o s h = refl
-asks_then true false true s h = refl
-asks_then true false false true h = refl
-asks_then true false false false h = refl
-asks_then false e o s h = absurd (let f : false ≡ true = h in cc)
-
 pub void_is : (name : Name) → is_not (void_of name) ≡ false → is_void name ≡ true
 void_is name h = void_then (is_void name) (is_listed ending_names name) (asks_others name) (is_listed space_names name) h
-
-pub asks_is : (name : Name) → is_not (void_of name) ≡ false → asks (void_of name) ≡ asks_bytes name
-asks_is name h = asks_then (is_void name) (is_listed ending_names name) (asks_others name) (is_listed space_names name) (void_is name h)

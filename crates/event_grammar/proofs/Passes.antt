@@ -59,6 +59,9 @@ pair_of enter exit h =
     let q = both (not (is_enter exit.kind)) (same_name enter.name exit.name) p.1 in
     record { enter_kind = enters enter.kind p.0; exit_kind = exits exit.kind q.0; name_is = sym (same_true the_type tt enter.name exit.name q.1) }
 
+pub names_of : (enter exit : Event) → is_pair enter exit ≡ true → exit.name ≡ enter.name
+names_of enter exit h = (pair_of enter exit h).name_is
+
 same_self : (name other : Name) → same_name name other ≡ true → other ≡ name → same_name name name ≡ true
 same_self name other h e = sym (ap (same_name name) e) ∙ h
 

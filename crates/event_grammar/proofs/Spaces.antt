@@ -14,18 +14,17 @@ use Rattle.event_grammar.specs.declared.slot.Form.TheVariants.{Plain, Ordered, C
 use Rattle.event_grammar.specs.declared.slot.Slot.{Slot}
 use Rattle.event_grammar.specs.declared.slot.Slot.TheVariants.{One, Opt, Lead, Many}
 use Rattle.event_grammar.specs.declared.spot.Spot.{Spot}
-use Rattle.event_grammar.specs.Grammar.{row, document_row}
+use Rattle.event_grammar.specs.Grammar.{row}
 use Rattle.event_grammar.specs.Slots.{Taken, has, taken, take_child}
 use Rattle.event_grammar.specs.SlotViews.{child_of}
 use Rattle.event_grammar.specs.Checks.{Open, Check, check_at, opened, with_child, with_above, is_barred, entered_as, exited_to, may_exit, moved, stands_between}
 use Rattle.event_grammar.specs.CheckViews.{innermost, around_it}
 use Rattle.event_grammar.specs.Spaces.{space_or_ending, takes_none, take_none, AllTakeNone, TakesNone, is_between}
-use Rattle.event_grammar.specs.Grammar.{space_names, line_names}
+use Rattle.event_grammar.specs.Grammar.{space_names}
 use Rattle.event_grammar.specs.Facts.{ending_names}
 use Rattle.event_grammar.specs.Void.{is_void}
 use Rattle.event_grammar.specs.Voids.{void_by, void_of, asks_others}
 use Rattle.event_grammar.specs.declared.names.Void.{Void}
-use Rattle.event_grammar.specs.declared.names.Void.TheVariants.{Space, Ending}
 use Rattle.event_grammar.specs.declared.slot.Between.{Between}
 use Rattle.event_grammar.specs.declared.slot.Between.TheVariants.{Nothing, Spaces, Lines}
 use Rattle.event_grammar.proofs.NameRules.{of_two}

@@ -3,6 +3,7 @@ ghost use Rattle.std.specs.Prelude.{◌≡◌};
 ghost use Rattle.engine_events.specs.Names.{is_listed};
 ghost use Rattle.event_grammar.specs.Grammar.{block_names, string_names, text_names, line_names, one_line_names, mdx_names, link_names, cell_names};
 ghost use Rattle.event_grammar.specs.Voids.{asks, is_not, void_of};
+ghost use Rattle.event_grammar.specs.Marked.{is_marked};
 ghost use Rattle.event_grammar.specs.Spaces.{is_between};
 ghost use Rattle.event_grammar.specs.declared.slot.Between.TheVariants.{Lines};
 ghost use Rattle.event_grammar.specs.Facts.{ending_names, asks_bytes};
@@ -82,6 +83,21 @@ pub fn is_one_line(name: Name) -> bool
             | Name::Autolink
             | Name::CharacterEscape
             | Name::CharacterReference
+    )
+}
+
+/// Whether an event of this name needs a definition, or tells which label such an event has.
+pub fn is_marked(name: Name) -> bool
+    ensures { result ≡ is_marked name }
+{
+    matches!(
+        name,
+        Name::Link
+            | Name::Image
+            | Name::GfmFootnoteCall
+            | Name::Resource
+            | Name::ReferenceString
+            | Name::LabelText
     )
 }
 

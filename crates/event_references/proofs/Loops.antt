@@ -1,7 +1,8 @@
 -- Events, one after another.
-use Rattle.std.proofs.Common.{◌≡◌, ◌<◌, ℕ, ◌+◌, Bool, true, false, ◌&&◌, ◌||◌, if◌then◌else◌, List, [], ◌∷◌, ◌++◌, Option, Some, refl, sym, ap, ◌∙◌, subst, get_or, drop-cons, add-one, append_assoc, drop, take, ◌-◌, length, OnOk, arith}
+use Rattle.std.proofs.Common.{◌≡◌, ◌<◌, ℕ, ◌+◌, Bool, true, false, ◌&&◌, ◌||◌, if◌then◌else◌, List, [], ◌∷◌, ◌++◌, Option, None, Some}
+use Rattle.std.proofs.Common.{refl, zero, suc, sym, ap, ◌∙◌, subst, get_or, drop-cons, add-one, append_assoc, drop, take, ◌-◌, length, OnOk, arith}
 use Rattle.std.specs.Prelude.{Result, Ok, map, reverse}
-use Rattle.std.proofs.lemmas.List.{map-append, length-append, length-map, reverse-append, take_rest}
+use Rattle.std.proofs.lemmas.List.{map-append, length-append, length-map, reverse-append, take_rest, drop_all}
 use Rattle.definition_text.specs.Content.{content_codes}
 use Rattle.engine_events.specs.Names.{same_name, is_listed}
 use Rattle.engine_events.specs.declared.event.Event.{Event}
@@ -12,6 +13,7 @@ use Rattle.inline_labels.specs.Table.{HasLabels, AddsLabel}
 use Rattle.inline_labels.specs.declared.table.LabelTable.{LabelTable}
 use Rattle.event_grammar.specs.declared.spot.Spot.{Spot}
 use Rattle.event_grammar.specs.Checks.{spot_of}
+use Rattle.event_grammar.specs.Marked.{is_marked, marked_from}
 use Rattle.event_grammar.specs.References.{media_names, leads}
 use Rattle.event_grammar.proofs.Runs.{no_event}
 use Rattle.event_references.specs.Texts.{is_enter, text_after, text_of, texts_of}
@@ -87,53 +89,92 @@ module _ (bytes : List ℕ) (links footnotes : List (List ℕ)) (events : List E
   abbrev text_there : ℕ → List ℕ
   text_there i = text_of bytes (event_at i) (drop (i + 1) events)
 
-  by_next : (i : ℕ) (m : Media) (ms : List Media) (kind : Kind) → i < length events → (event_at i).kind ≡ kind
-      → run m ms i (drop i events)
-      ≡ lost_next bytes links footnotes kind (event_at i).name (text_there i) m ms i (λ next others. run next others (i + 1) (drop (i + 1) events))
-  by_next i m ms kind l h =
-      ap (run m ms i) (drop_next events i l)
-      ∙ ap (λ (z : Kind). lost_next bytes links footnotes z (event_at i).name (text_there i) m ms i (λ next others. run next others (i + 1) (drop (i + 1) events))) h
+  -- what an event comes to, given what those after it come to
+  abbrev next_at : Kind → ℕ → Media → List Media → (Media → List Media → Option ℕ) → Option ℕ
+  next_at kind i m ms others = lost_next bytes links footnotes kind (event_at i).name (text_there i) m ms i others
 
-  pub enter_media : (i : ℕ) (m : Media) (ms : List Media) → i < length events → (event_at i).kind ≡ Enter → is_listed media_names (event_at i).name ≡ true
-      → run m ms i (drop i events) ≡ run new_media (m ∷ ms) (i + 1) (drop (i + 1) events)
-  enter_media i m ms l h t =
-      by_next i m ms Enter l h
-      ∙ ap (λ (z : Bool). if z then run new_media (m ∷ ms) (i + 1) (drop (i + 1) events) else run (noted (event_at i).name (text_there i) m) ms (i + 1) (drop (i + 1) events)) t
+  abbrev after : ℕ → Media → List Media → Option ℕ
+  after i next others = run next others (i + 1) (drop (i + 1) events)
 
-  pub enter_other : (i : ℕ) (m : Media) (ms : List Media) → i < length events → (event_at i).kind ≡ Enter → is_listed media_names (event_at i).name ≡ false
-      → run m ms i (drop i events) ≡ run (noted (event_at i).name (text_there i) m) ms (i + 1) (drop (i + 1) events)
-  enter_other i m ms l h t =
-      by_next i m ms Enter l h
-      ∙ ap (λ (z : Bool). if z then run new_media (m ∷ ms) (i + 1) (drop (i + 1) events) else run (noted (event_at i).name (text_there i) m) ms (i + 1) (drop (i + 1) events)) t
+  by_next : (i : ℕ) (m : Media) (ms : List Media) → i < length events → run m ms i (drop i events) ≡ next_at (event_at i).kind i m ms (after i)
+  by_next i m ms l = ap (run m ms i) (drop_next events i l)
 
-  pub exit_media : (i : ℕ) (m : Media) (ms : List Media) (there : Bool) → i < length events → (event_at i).kind ≡ Exit
-      → is_listed media_names (event_at i).name ≡ true → leads links footnotes (event_at i).name (label_of m) ≡ there
-      → run m ms i (drop i events) ≡ (if there then run (around ms) (drop 1 ms) (i + 1) (drop (i + 1) events) else Some i)
-  exit_media i m ms there l h t k =
-      by_next i m ms Exit l h
-      ∙ ap (λ (z : Bool). if z then lost_exit bytes links footnotes (leads links footnotes (event_at i).name (label_of m)) ms i (λ next others. run next others (i + 1) (drop (i + 1) events))
-      else run m ms (i + 1) (drop (i + 1) events)) t
-      ∙ ap (λ (z : Bool). if z then run (around ms) (drop 1 ms) (i + 1) (drop (i + 1) events) else Some i) k
-
-  pub exit_other : (i : ℕ) (m : Media) (ms : List Media) → i < length events → (event_at i).kind ≡ Exit → is_listed media_names (event_at i).name ≡ false
-      → run m ms i (drop i events) ≡ run m ms (i + 1) (drop (i + 1) events)
-  exit_other i m ms l h t =
-      by_next i m ms Exit l h
-      ∙ ap (λ (z : Bool). if z then lost_exit bytes links footnotes (leads links footnotes (event_at i).name (label_of m)) ms i (λ next others. run next others (i + 1) (drop (i + 1) events))
-      else run m ms (i + 1) (drop (i + 1) events)) t
-
-  skip_by : (kind : Kind) (i : ℕ) (m : Media) (ms : List Media) → i < length events → (event_at i).kind ≡ kind
-      → (is_listed media_names (event_at i).name ≡ false) × (is_part (event_at i).name ≡ false)
-      → run m ms i (drop i events) ≡ run m ms (i + 1) (drop (i + 1) events)
-  skip_by Enter i m ms l h t =
-      enter_other i m ms l h t.0
-      ∙ ap (λ (z : Media). run z ms (i + 1) (drop (i + 1) events)) (noted_none (event_at i).name (text_there i) m t.1)
-  skip_by Exit i m ms l h t = exit_other i m ms l h t.0
+  other_next : (kind : Kind) (i : ℕ) (m : Media) (ms : List Media) (others : Media → List Media → Option ℕ)
+      → (is_listed media_names (event_at i).name ≡ false) × (is_part (event_at i).name ≡ false) → next_at kind i m ms others ≡ others m ms
+  other_next Enter i m ms others t =
+      ap (λ (z : Bool). if z then others new_media (m ∷ ms) else others (noted (event_at i).name (text_there i) m) ms) t.0
+      ∙ ap (λ (z : Media). others z ms) (noted_none (event_at i).name (text_there i) m t.1)
+  other_next Exit i m ms others t =
+      ap (λ (z : Bool). if z then lost_exit bytes links footnotes (leads links footnotes (event_at i).name (label_of m)) ms i others else others m ms) t.0
 
   -- what is no link, image or call, and no part of one that tells its label, changes nothing
-  pub skip : (i : ℕ) (m : Media) (ms : List Media) → i < length events → (is_listed media_names (event_at i).name || is_part (event_at i).name) ≡ false
+  skip : (i : ℕ) (m : Media) (ms : List Media) → i < length events → is_marked (event_at i).name ≡ false
       → run m ms i (drop i events) ≡ run m ms (i + 1) (drop (i + 1) events)
-  skip i m ms l h = skip_by (event_at i).kind i m ms l refl (both_no (is_listed media_names (event_at i).name) (is_part (event_at i).name) h)
+  skip i m ms l h =
+      by_next i m ms l
+      ∙ other_next (event_at i).kind i m ms (after i) (both_no (is_listed media_names (event_at i).name) (is_part (event_at i).name) h)
+
+  -- so only the marked events are asked
+  abbrev pub run_marks : Media → List Media → List ℕ → Option ℕ
+  run_marks m ms [] = None
+  run_marks m ms (i ∷ is) = next_at (event_at i).kind i m ms (λ next others. run_marks next others is)
+
+  if_same : (b : Bool) (x y z w : Option ℕ) → x ≡ z → y ≡ w → (if b then x else y) ≡ (if b then z else w)
+  if_same true x y z w h k = h
+  if_same false x y z w h k = k
+
+  next_same : (kind : Kind) (i : ℕ) (m : Media) (ms : List Media) (f g : Media → List Media → Option ℕ)
+      → ((next : Media) (others : List Media) → f next others ≡ g next others) → next_at kind i m ms f ≡ next_at kind i m ms g
+  next_same Enter i m ms f g h =
+      if_same (is_listed media_names (event_at i).name) _ _ _ _ (h new_media (m ∷ ms)) (h (noted (event_at i).name (text_there i) m) ms)
+  next_same Exit i m ms f g h =
+      if_same (is_listed media_names (event_at i).name) _ _ _ _
+      (if_same (leads links footnotes (event_at i).name (label_of m)) _ _ _ _ (h (around ms) (drop 1 ms)) refl) (h m ms)
+
+  abbrev MarksFrom : ℕ → Type 0
+  MarksFrom i = (m : Media) (ms : List Media) → run m ms i (drop i events) ≡ run_marks m ms (marked_from i (drop i events))
+
+  marks_at : (b : Bool) (i : ℕ) → i < length events → is_marked (event_at i).name ≡ b
+      → marked_from i (drop i events) ≡ (if b then i ∷ [] else []) ++ marked_from (i + 1) (drop (i + 1) events)
+  marks_at b i l h =
+      ap (marked_from i) (drop_next events i l)
+      ∙ ap (λ (z : Bool). (if z then i ∷ [] else []) ++ marked_from (i + 1) (drop (i + 1) events)) h
+
+  marks_by : (b : Bool) (i : ℕ) → i < length events → is_marked (event_at i).name ≡ b → MarksFrom (i + 1) → MarksFrom i
+  marks_by true i l h others m ms =
+      by_next i m ms l
+      ∙ (next_same (event_at i).kind i m ms _ _ others
+      ∙ sym (ap (run_marks m ms) (marks_at true i l h)))
+  marks_by false i l h others m ms = skip i m ms l h ∙ (others m ms ∙ sym (ap (run_marks m ms) (marks_at false i l h)))
+
+  marks_law : (n i : ℕ) → i + n ≡ length events → MarksFrom i
+  marks_law zero i h m ms =
+      let none = drop_all i events (omega (arith, h)) in
+      ap (run m ms i) none ∙ sym (ap (λ (z : List Event). run_marks m ms (marked_from i z)) none)
+  marks_law (suc n) i h m ms =
+      marks_by (is_marked (event_at i).name) i (omega (arith, h)) refl (λ next others. marks_law n (i + 1) (omega (arith, h)) next others) m ms
+
+  pub all_marks : (m : Media) (ms : List Media) → run m ms 0 events ≡ run_marks m ms (marked_from 0 events)
+  all_marks m ms = marks_law (length events) 0 (omega arith) m ms
+
+  -- each is the index of an event
+  abbrev pub AreBelow : ℕ → List ℕ → Type 0
+  AreBelow size [] = Unit {0}
+  AreBelow size (i ∷ is) = (i < size) × AreBelow size is
+
+  below_by : (b : Bool) (i : ℕ) (is : List ℕ) → i < length events → AreBelow (length events) is → AreBelow (length events) ((if b then i ∷ [] else []) ++ is)
+  below_by true i is l h = (l, h)
+  below_by false i is l h = h
+
+  below_law : (n i : ℕ) → i + n ≡ length events → AreBelow (length events) (marked_from i (drop i events))
+  below_law zero i h = subst (λ (z : List Event). AreBelow (length events) (marked_from i z)) (sym (drop_all i events (omega (arith, h)))) tt
+  below_law (suc n) i h =
+      let l : i < length events = omega (arith, h) in
+      subst (AreBelow (length events)) (sym (marks_at (is_marked (event_at i).name) i l refl))
+      (below_by (is_marked (event_at i).name) i (marked_from (i + 1) (drop (i + 1) events)) l (below_law n (i + 1) (omega (arith, h))))
+
+  pub all_below : AreBelow (length events) (marked_from 0 events)
+  all_below = below_law (length events) 0 (omega arith)
 
   -- ---- the same by what the code holds
 
@@ -151,28 +192,47 @@ module _ (bytes : List ℕ) (links footnotes : List (List ℕ)) (events : List E
     text_same : (i : ℕ) → i < length events → text_at bytes events i ≡ text_there i
     text_same i l = ap (text_first bytes) (drop_next events i l)
 
-    pub enter_on : (b : Bool) (i : ℕ) (inner next : M) (outer others : List M) → is_listed media_names (event_at i).name ≡ b → i < length events
-        → (event_at i).kind ≡ Enter
+    pub enter_on : (b : Bool) (i : ℕ) (inner next : M) (outer others : List M) (f : Media → List Media → Option ℕ)
+        → is_listed media_names (event_at i).name ≡ b → i < length events
         → (is_listed media_names (event_at i).name ≡ true → (v next ≡ new_media) × (others ≡ outer ++ inner ∷ []))
         → (is_listed media_names (event_at i).name ≡ false → (v next ≡ noted (event_at i).name (text_at bytes events i) (v inner)) × (others ≡ outer))
-        → run (v next) (views others) (i + 1) (drop (i + 1) events) ≡ run (v inner) (views outer) i (drop i events)
-    enter_on true i inner next outer others t l h media other =
+        → f (v next) (views others) ≡ next_at Enter i (v inner) (views outer) f
+    enter_on true i inner next outer others f t l media other =
         let k = media t in
-        ap (λ (z : Media). run z (views others) (i + 1) (drop (i + 1) events)) k.0
-        ∙ ap (λ (z : List Media). run new_media z (i + 1) (drop (i + 1) events)) (pushed outer others inner k.1)
-        ∙ sym (enter_media i (v inner) (views outer) l h t)
-    enter_on false i inner next outer others t l h media other =
+        ap (λ (z : Media). f z (views others)) k.0
+        ∙ ap (λ (z : List Media). f new_media z) (pushed outer others inner k.1)
+        ∙ sym (ap (λ (z : Bool). if z then f new_media (v inner ∷ views outer) else f (noted (event_at i).name (text_there i) (v inner)) (views outer)) t)
+    enter_on false i inner next outer others f t l media other =
         let k = other t in
-        ap (λ (z : Media). run z (views others) (i + 1) (drop (i + 1) events)) k.0
-        ∙ ap (λ (z : List ℕ). run (noted (event_at i).name z (v inner)) (views others) (i + 1) (drop (i + 1) events)) (text_same i l)
-        ∙ ap (λ (z : List M). run (noted (event_at i).name (text_there i) (v inner)) (views z) (i + 1) (drop (i + 1) events)) k.1
-        ∙ sym (enter_other i (v inner) (views outer) l h t)
+        ap (λ (z : Media). f z (views others)) k.0
+        ∙ ap (λ (z : List ℕ). f (noted (event_at i).name z (v inner)) (views others)) (text_same i l)
+        ∙ ap (λ (z : List M). f (noted (event_at i).name (text_there i) (v inner)) (views z)) k.1
+        ∙ sym (ap (λ (z : Bool). if z then f new_media (v inner ∷ views outer) else f (noted (event_at i).name (text_there i) (v inner)) (views outer)) t)
 
-    pub exit_on : (i : ℕ) (inner next : M) (outer others : List M) → i < length events → (event_at i).kind ≡ Exit
+    abbrev exit_by : ℕ → Media → List Media → (Media → List Media → Option ℕ) → Bool → Option ℕ
+    exit_by i m ms f is_media =
+        if is_media then lost_exit bytes links footnotes (leads links footnotes (event_at i).name (label_of m)) ms i f else f m ms
+
+    pub exit_media : (i : ℕ) (m : Media) (ms : List Media) (f : Media → List Media → Option ℕ) (there : Bool) → is_listed media_names (event_at i).name ≡ true
+        → leads links footnotes (event_at i).name (label_of m) ≡ there → next_at Exit i m ms f ≡ (if there then f (around ms) (drop 1 ms) else Some i)
+    exit_media i m ms f there t k =
+        ap (exit_by i m ms f) t ∙ ap (λ (z : Bool). if z then f (around ms) (drop 1 ms) else Some i) k
+
+    pub exit_other : (i : ℕ) (m : Media) (ms : List Media) (f : Media → List Media → Option ℕ) → is_listed media_names (event_at i).name ≡ false
+        → next_at Exit i m ms f ≡ f m ms
+    exit_other i m ms f t = ap (exit_by i m ms f) t
+
+    pub exit_on : (i : ℕ) (inner next : M) (outer others : List M) (f : Media → List Media → Option ℕ)
         → is_listed media_names (event_at i).name ≡ true → leads links footnotes (event_at i).name (label_of (v inner)) ≡ true
         → v next ≡ around (views outer) → reverse others ≡ drop 1 (reverse outer)
-        → run (v next) (views others) (i + 1) (drop (i + 1) events) ≡ run (v inner) (views outer) i (drop i events)
-    exit_on i inner next outer others l h t k n o =
-        ap (λ (z : Media). run z (views others) (i + 1) (drop (i + 1) events)) n
-        ∙ ap (λ (z : List Media). run (around (views outer)) z (i + 1) (drop (i + 1) events)) (ap (map v) o ∙ first_view (reverse outer))
-        ∙ sym (exit_media i (v inner) (views outer) true l h t k)
+        → f (v next) (views others) ≡ next_at Exit i (v inner) (views outer) f
+    exit_on i inner next outer others f t k n o =
+        ap (λ (z : Media). f z (views others)) n
+        ∙ ap (λ (z : List Media). f (around (views outer)) z) (ap (map v) o ∙ first_view (reverse outer))
+        ∙ sym (exit_media i (v inner) (views outer) f true t k)
+
+    -- the first of those that are left
+    pub first_mark : (kind : Kind) (i : ℕ) (is left : List ℕ) (m : Media) (ms : List Media) (all : Option ℕ) → left ≡ i ∷ is → (event_at i).kind ≡ kind
+        → run_marks m ms left ≡ all → next_at kind i m ms (λ next others. run_marks next others is) ≡ all
+    first_mark kind i is left m ms all h k e =
+        sym (ap (λ (z : Kind). next_at z i m ms (λ next others. run_marks next others is)) k) ∙ (sym (ap (run_marks m ms) h) ∙ e)

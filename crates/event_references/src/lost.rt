@@ -1,10 +1,11 @@
 //! Links, images and footnote calls whose labels have no definition.
-ghost use Rattle.std.specs.Prelude.{◌≡◌, ◌∷◌, ◌++◌, ◌||◌, [], true, false, List, ℕ, IfOk, OnOk, drop, map, reverse};
+ghost use Rattle.std.specs.Prelude.{◌≡◌, ◌∷◌, ◌++◌, [], true, false, List, ℕ, IfOk, OnOk, drop, map, reverse};
 ghost use Rattle.std.specs.Option.{option_map, option_or};
 ghost use Rattle.engine_events.specs.Names.{is_listed};
 ghost use Rattle.engine_events.specs.declared.event.Event.{Event as AnEvent};
 ghost use Rattle.engine_events.specs.declared.event.Name.TheVariants as names;
 ghost use Rattle.event_grammar.specs.References.{media_names, leads};
+ghost use Rattle.event_grammar.specs.Marked.{marked_from};
 ghost use Rattle.event_references.specs.Texts.{texts_of};
 ghost use Rattle.event_references.specs.Lost.{new_media, noted, is_part, only_if, label_of, around, lost_from};
 ghost use Rattle.event_references.specs.Views.{text_at, media_view, AreLabels};
@@ -77,21 +78,6 @@ fn is_media(name: Name) -> bool
     ensures { result ≡ is_listed media_names name }
 {
     matches!(name, Name::Link | Name::Image | Name::GfmFootnoteCall)
-}
-
-/// Whether an event of this name leads to a definition, or decides which label such an event has.
-fn is_media_or_part(name: Name) -> bool
-    ensures { result ≡ (is_listed media_names name || is_part name) }
-{
-    matches!(
-        name,
-        Name::Link
-            | Name::Image
-            | Name::GfmFootnoteCall
-            | Name::Resource
-            | Name::ReferenceString
-            | Name::LabelText
-    )
 }
 
 /// Whether an event of this name decides which label the event around it has.
@@ -202,12 +188,15 @@ impl<A: Allocator + Clone> Definitions<A> {
 }
 
 /// Returns the index of the first exit of a link, image or footnote call whose label has no
-/// definition in the list, if there is one. The only error is out of memory.
+/// definition in the list, if there is one. `marked` are the indices of events that decide that, in
+/// order (`first_fault` of `event_grammar` finds them). The only error is out of memory.
 pub fn first_lost<A: Allocator + Clone>(
     alloc: A,
     events: &[Event],
     bytes: &[u8],
+    marked: &[usize],
 ) -> Result<Option<usize>, AllocError>
+    requires { marked.now ≡ marked_from 0 events.now }
     ensures { IfOk result (λ found. found ≡ lost_from bytes.now (texts_of bytes.now names.DefinitionLabelString events.now)
         (texts_of bytes.now names.GfmFootnoteDefinitionLabelString events.now) new_media [] 0 events.now) }
 {
@@ -220,23 +209,23 @@ pub fn first_lost<A: Allocator + Clone>(
         inner: Media::new(),
         outer: Vec::new(alloc.clone()?),
     };
-    for (index, event) in events.iter().enumerate() {
-        if is_media_or_part(event.name) {
-            match event.kind {
-                Kind::Enter => open.enter(event.name, index)?,
-                Kind::Exit => {
-                    if is_media(event.name) {
-                        let label = open.inner.label();
-                        if !definitions.leads(
-                            &alloc, &mut text, events, bytes, event.name, label,
-                        )? {
-                            return Ok(Some(index));
-                        }
-                        open.leave();
+    let mut left = marked;
+    while let Some((mark, others)) = left.split_first() {
+        let index = *mark;
+        let event = &events[index];
+        match event.kind {
+            Kind::Enter => open.enter(event.name, index)?,
+            Kind::Exit => {
+                if is_media(event.name) {
+                    let label = open.inner.label();
+                    if !definitions.leads(&alloc, &mut text, events, bytes, event.name, label)? {
+                        return Ok(Some(index));
                     }
+                    open.leave();
                 }
             }
         }
+        left = others;
     }
     Ok(None)
 }

@@ -1,18 +1,25 @@
-use Rattle.std.proofs.Common.{◌≡◌, [], drop}
+use Rattle.std.proofs.Common.{◌≡◌, [], length}
 use Rattle.std.specs.Prelude.{map, reverse}
 use Rattle.engine_events.specs.declared.event.Name.TheVariants as names
 use Rattle.event_references.specs.Texts.{texts_of}
 use Rattle.event_references.specs.Lost.{new_media, lost_from}
 use Rattle.event_references.specs.Views.{media_view, AreLabels}
+use Rattle.event_references.proofs.Loops.{run_marks, AreBelow}
 use Rattle.event_references.proofs.lost.first_lost.Given as goal
 
 -- what leads nowhere first among the events that are left does so among all
-abbrev pub invariant-loop-index : goal.invariant-loop-index
-invariant-loop-index g l =
-    let run = lost_from l.bytes (texts_of l.bytes names.DefinitionLabelString l.events) (texts_of l.bytes names.GfmFootnoteDefinitionLabelString l.events) in
+abbrev pub invariant-loop-mark : goal.invariant-loop-mark
+invariant-loop-mark g l =
+    let links = texts_of l.bytes names.DefinitionLabelString l.events in
+    let footnotes = texts_of l.bytes names.GfmFootnoteDefinitionLabelString l.events in
     record {
-      rest : run (media_view l.bytes l.events l.open.inner) (map (media_view l.bytes l.events) (reverse l.open.outer.items)) l.index (drop l.index l.events)
-          ≡ run new_media [] 0 l.events;
+      rest : run_marks l.bytes links footnotes l.events (media_view l.bytes l.events l.open.inner)
+          (map (media_view l.bytes l.events) (reverse l.open.outer.items)) l.left
+          ≡ lost_from l.bytes links footnotes new_media [] 0 l.events;
+      below : AreBelow l.bytes links footnotes l.events (length l.events) l.left;
       links : AreLabels l.bytes l.events names.DefinitionLabelString l.definitions.links;
       footnotes : AreLabels l.bytes l.events names.GfmFootnoteDefinitionLabelString l.definitions.footnotes;
     }
+
+abbrev pub decreases-loop-mark : goal.decreases-loop-mark
+decreases-loop-mark g l = length l.left

@@ -58,3 +58,11 @@ returns-else-not-is_fact_between-2-clause-passed g c =
     (sym c.take_child.ensures ∙ ap (option_map taken_view) c.in-Some.is) c.take_alone.ensures
     (c.is_next.ensures.place bytes front c.requires.stands.there c.if-not-is_next.false) (c.is_place.ensures.place bytes front c.if-not-is_place.false)
     (sym c.is_fact_between-in-Some.ensures ∙ c.if-not-is_fact_between-2.false)
+
+pub returns-then-is_between-clause-void : goal.returns-then-is_between-clause-void
+returns-then-is_between-clause-void g c =
+    λ _. void_is c.args.enter.now.name (ap is_not (sym c.void_of-void.ensures) ∙ (sym c.is_not.ensures ∙ c.if-is_not.false))
+
+pub returns-else-not-is_fact_between-2-clause-void : goal.returns-else-not-is_fact_between-2-clause-void
+returns-else-not-is_fact_between-2-clause-void g c =
+    λ _. void_is c.args.enter.now.name (ap is_not (sym c.void_of-void.ensures) ∙ (sym c.is_not.ensures ∙ c.if-is_not.false))
