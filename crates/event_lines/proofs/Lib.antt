@@ -1,7 +1,13 @@
 pub mod Suffixes
 pub mod Prefixes
 pub mod Containers
+pub mod Columns
+pub mod Spots
+pub mod Ends
+pub mod Quiet
 pub mod Lines
 pub mod Steps
+pub mod Written
 pub mod Ahead
 pub mod InLine
+pub mod Next

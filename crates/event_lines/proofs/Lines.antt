@@ -1,11 +1,12 @@
 -- A text is its lines, one after another, each with its ending.
-use Rattle.std.proofs.Common.{◌≡◌, ℕ, ◌<◌, List, [], ◌∷◌, ◌++◌, Option, Some, eqb, refl, sym, ap, ◌∙◌, inl, inr, drop, length, arith, append_assoc}
-use Rattle.std.specs.List.{flat_map}
+use Rattle.std.proofs.Common.{◌≡◌, ℕ, ◌<◌, List, [], ◌∷◌, ◌++◌, Option, Some, eqb, refl, sym, ap, ◌∙◌, inl, inr, drop, length, arith, append_assoc, Bool}
+use Rattle.std.proofs.Common.{false, ◌||◌, None}
+use Rattle.std.specs.List.{flat_map, list_any}
 use Rattle.std.proofs.lemmas.Bool.{cases_Bool, cond-true, cond-false, eqb-true}
 use Rattle.markdown_options.specs.declared.line_ending.LineEnding.{LineEnding}
-use Rattle.markdown_options.specs.declared.line_ending.LineEnding.TheVariants.{LineFeed}
+use Rattle.markdown_options.specs.declared.line_ending.LineEnding.TheVariants.{CarriageReturnLineFeed, CarriageReturn, LineFeed}
 use Rattle.markdown_options.specs.declared.beside.Kind.{Kind}
-use Rattle.definition_text.specs.Lines.{TextLine, text_line, in_first_line, after_return, lines, ending_text}
+use Rattle.definition_text.specs.Lines.{first_of, ends_line, TextLine, text_line, in_first_line, after_return, lines, ending_text}
 use Rattle.laws_laid.specs.Places.{LineRest, unread}
 
 -- the bytes of lines with their endings
@@ -61,3 +62,80 @@ line_first text content after ending is =
 pub some_left : (kind : Kind) (text : List ℕ) (next : LineRest) (others : List LineRest) → next ∷ others ≡ unread kind (lines text) → 0 < length text
 some_left kind [] next others is = absurd (cc)
 some_left kind (b ∷ bs) next others is = omega arith
+
+-- ---- endings
+
+first_in : (b : ℕ) (ls : List TextLine) → (first_of (in_first_line b ls)).content ≡ b ∷ (first_of ls).content
+first_in b [] = refl
+first_in b (line ∷ others) = refl
+
+dark_return : (bs : List ℕ) (ls : List TextLine) → (first_of (after_return bs ls)).content ≡ []
+dark_return [] ls = refl
+dark_return (c ∷ cs) ls =
+    elim (cases_Bool (eqb c 10)) [
+      | inl e ↦ ap (λ (l : List TextLine). (first_of l).content) (cond-true (eqb c 10) _ _ e)
+      | inr e ↦ ap (λ (l : List TextLine). (first_of l).content) (cond-false (eqb c 10) _ _ e)
+    ]
+
+-- the first line of a text holds no byte that begins an ending
+dark_first : (text : List ℕ) → list_any ends_line (first_of (lines text)).content ≡ false
+dark_first [] = refl
+dark_first (b ∷ bs) =
+    elim (cases_Bool (eqb b 10)) [
+      | inl e ↦ ap (λ (l : List TextLine). list_any ends_line (first_of l).content) (cond-true (eqb b 10) _ _ e)
+      | inr e ↦ ap (λ (l : List TextLine). list_any ends_line (first_of l).content) (cond-false (eqb b 10) _ _ e) ∙ (elim (cases_Bool (eqb b 13)) [
+        | inl f ↦
+            ap (λ (l : List TextLine). list_any ends_line (first_of l).content) (cond-true (eqb b 13) _ _ f)
+            ∙ ap (list_any ends_line) (dark_return bs (lines bs))
+        | inr f ↦
+            ap (λ (l : List TextLine). list_any ends_line (first_of l).content) (cond-false (eqb b 13) _ _ f)
+            ∙ ap (list_any ends_line) (first_in b (lines bs))
+            ∙ ap (λ (x : Bool). (x || eqb b 13) || list_any ends_line (first_of (lines bs)).content) e
+            ∙ ap (λ (x : Bool). x || list_any ends_line (first_of (lines bs)).content) f
+            ∙ dark_first bs
+      ])
+    ]
+
+pub dark_line : (text content after : List ℕ) (ending : Option LineEnding) → lines text ≡ text_line content ending ∷ lines after
+    → list_any ends_line content ≡ false
+dark_line text content after ending is = sym (ap (λ (l : List TextLine). list_any ends_line (first_of l).content) is) ∙ dark_first text
+
+last_in : (b : ℕ) (ls : List TextLine) → (first_of (in_first_line b ls)).ending ≡ None → ((first_of ls).ending ≡ None → drop 1 ls ≡ [])
+    → drop 1 (in_first_line b ls) ≡ []
+last_in b [] none h = refl
+last_in b (line ∷ others) none h = h none
+
+some_return : (bs : List ℕ) (ls : List TextLine) → (first_of (after_return bs ls)).ending ≡ None → ⊥
+some_return [] ls none = cc
+some_return (c ∷ cs) ls none =
+    elim (cases_Bool (eqb c 10)) [
+      | inl e ↦
+          let f : Some CarriageReturnLineFeed ≡ None = sym (ap (λ (l : List TextLine). (first_of l).ending) (cond-true (eqb c 10) _ _ e)) ∙ none in cc
+      | inr e ↦ let f : Some CarriageReturn ≡ None = sym (ap (λ (l : List TextLine). (first_of l).ending) (cond-false (eqb c 10) _ _ e)) ∙ none in cc
+    ]
+
+-- only the last line has no ending
+last_first : (text : List ℕ) → (first_of (lines text)).ending ≡ None → drop 1 (lines text) ≡ []
+last_first [] none = refl
+last_first (b ∷ bs) none =
+    elim (cases_Bool (eqb b 10)) [
+      | inl e ↦
+          let f : Some LineFeed ≡ None = sym (ap (λ (l : List TextLine). (first_of l).ending) (cond-true (eqb b 10) _ _ e)) ∙ none in absurd (cc)
+      | inr e ↦
+          elim (cases_Bool (eqb b 13)) [
+            | inl f ↦
+                absurd (some_return bs (lines bs) (
+                sym (ap (λ (l : List TextLine). (first_of l).ending) (cond-false (eqb b 10) _ _ e ∙ cond-true (eqb b 13) _ _ f)) ∙ none
+                ))
+            | inr f ↦
+                let is : lines (b ∷ bs) ≡ in_first_line b (lines bs) = cond-false (eqb b 10) _ _ e ∙ cond-false (eqb b 13) _ _ f in
+                ap (drop 1) is ∙ last_in b (lines bs) (sym (ap (λ (l : List TextLine). (first_of l).ending) is) ∙ none) (last_first bs)
+          ]
+    ]
+
+pub last_line : (text content after : List ℕ) (ending : Option LineEnding) → lines text ≡ text_line content ending ∷ lines after → ending ≡ None
+    → after ≡ []
+last_line text content after ending is none =
+    let others : lines after ≡ [] =
+    ap (drop 1) (sym is) ∙ last_first text (ap (λ (l : List TextLine). (first_of l).ending) is ∙ none) in
+    sym (lines_joined after) ∙ ap joined others

@@ -1,5 +1,6 @@
 -- From one place of a text to the next.
-use Rattle.std.proofs.Common.{◌≡◌, ℕ, ◌+◌, ◌-◌, ◌<◌, ◌≤◌, Bool, true, false, List, [], ◌∷◌, ◌++◌, Option, Some, refl, sym, ap, ◌∙◌, subst, drop, length, arith, length-append, append_assoc}
+use Rattle.std.proofs.Common.{◌≡◌, ℕ, ◌+◌, ◌-◌, ◌<◌, ◌≤◌, Bool, true, false, List, [], ◌∷◌, ◌++◌, Option, Some, refl, sym, ap, ◌∙◌, subst, drop, length}
+use Rattle.std.proofs.Common.{arith, length-append, append_assoc, get_or, None}
 use Rattle.std.specs.Prelude.{reverse, Result, Ok, Err, OnOk}
 use Rattle.std.specs.List.{list_any}
 use Rattle.std.proofs.Math.Seq.{drop-nil}
@@ -16,15 +17,34 @@ use Rattle.definition_block.specs.ContainerStart.{ContainerStart, container_star
 use Rattle.definition_block.specs.Containers.{starts}
 use Rattle.definition_block.specs.Tree.{beside_in, beside_line}
 use Rattle.laws_laid.specs.Places.{LineRest, line_rest, Place, Between, Within, AtEnding, line_left, prefixed, unread}
-use Rattle.event_lines.specs.Standing.{Standing, IsOver, IsInLine, IsWithin, StandsAt, AreQuotesWithin, TEXT_MAX, around}
+use Rattle.event_lines.specs.Standing.{Standing, IsLineOf, IsLineStart, IsBetween, IsOver, IsInLine, IsWithin, StandsAt, AreQuotesWithin, TEXT_MAX, around}
 use Rattle.event_lines.specs.Steps.{with_rest, BeginsAt, BeginsLine, EndsLine, IsBegun, Leaves, PassesLine, ReadsPrefixes, StartsOf}
 use Rattle.event_lines.proofs.Suffixes.{ends_in, prefixed_follows, starts_end}
 use Rattle.event_lines.proofs.Containers.{quotes_fewer}
-use Rattle.event_lines.proofs.Lines.{line_first, some_left}
+use Rattle.event_output.specs.Ends.{index_spot}
+use Rattle.event_lines.proofs.Spots.{bytes_after, bytes_before, column_after_ending}
+use Rattle.event_lines.proofs.Lines.{dark_line, last_line, line_first, some_left}
 
 -- a line is begun, of which this is left
 abbrev pub at_line : Standing → List ℕ → ℕ → Option LineEnding → Rest → Standing
 at_line s after end ending rest = record s { left = after; is_in_line = true; rest = rest; line_end = end; ending = ending }
+
+-- the first line of what is left
+pub line_of : (old : Standing) (text : List ℕ) (left : List LineRest) (content after : List ℕ) (ending : Option LineEnding)
+    → (st : IsBetween text left old) → 0 < length old.left → lines old.left ≡ text_line content ending ∷ lines after
+    → IsLineOf text st.before content (ending_text ending ++ after)
+line_of old text left content after ending st some is =
+    let parts : text ≡ st.before ++ (content ++ (ending_text ending ++ after)) =
+    st.parts ∙ ap (λ (xs : List ℕ). st.before ++ xs) (line_first old.left content after ending is) in
+    record {
+      parts = parts;
+      fits = st.over.fits;
+      first = st.first some;
+      dark = dark_line old.left content after ending is;
+      bytes = bytes_before content (ending_text ending ++ after) (
+          bytes_after st.before (content ++ (ending_text ending ++ after)) (subst (λ (xs : List ℕ). (k : ℕ) → get_or xs k 0 < 256) parts st.over.bytes)
+          );
+    }
 
 -- its prefixes are read, up to this rest
 line_begins : (old : Standing) (content after : List ℕ) (end : ℕ) (ending : Option LineEnding) (start rest : Rest)
@@ -34,11 +54,12 @@ line_begins : (old : Standing) (content after : List ℕ) (end : ℕ) (ending : 
     → ((line : LineRest) → AreQuotesWithin old.quotes_end old.outermost → line.rest ≡ start → rest ≡ (line_left (prefixed old.on (around old) line)).rest)
     → BeginsLine old (at_line old after end ending rest)
 line_begins old content after end ending start rest first fresh ends reads text next others st =
-    let e = first (some_left st.kind old.left next others st.unread) in
+    let some = some_left st.kind old.left next others st.unread in
+    let e = first some in
+    let line = line_of old text (next ∷ others) content after ending st some e in
     let is : next ∷ others ≡ line_rest (whole content) (beside_line st.kind (text_line content ending)) ∷ unread Whitespace (lines after) =
     st.unread ∙ ap (unread st.kind) e in
-    let left = line_first old.left content after ending e in
-    let parts : text ≡ st.before ++ (content ++ (ending_text ending ++ after)) = st.parts ∙ ap (λ (xs : List ℕ). st.before ++ xs) left in
+    let parts = line.parts in
     let sizes : length text ≡ length st.before + (length content + (length (ending_text ending) + length after)) =
     ap length parts ∙ length-append st.before _ ∙ ap (λ (n : ℕ). length st.before + n) (
     length-append content _ ∙ ap (λ (n : ℕ). length content + n) (length-append (ending_text ending) after)
@@ -53,11 +74,12 @@ line_begins old content after end ending start rest first fresh ends reads text 
     let suffix = here.end in
     record {
       line = record {
-        over = record { fits = st.over.fits; size = st.over.size; quotes = st.over.quotes };
+        over = record { fits = st.over.fits; size = st.over.size; bytes = st.over.bytes; quotes = st.over.quotes };
         begun = refl;
         before = st.before;
         content = content;
-        parts = parts;
+        parts = line;
+        last = last_line old.left content after ending e;
         end = omega arith;
       };
       columns = suffix.0;
@@ -81,27 +103,52 @@ pub both_ok : {T E P Q R : Type 0} (r : Result T E) → (P → Q → R) → OnOk
 both_ok (Ok x) f p q = f p q
 both_ok (Err e) f p q = tt
 
+-- a line begins after the ending of another
+after_line : (text before content left : List ℕ) (ending : Option LineEnding) → (ending ≡ None → left ≡ [])
+    → text ≡ before ++ (content ++ (ending_text ending ++ left)) → IsLineStart text (length before) → 0 < length left
+    → IsLineStart text (length (before ++ (content ++ ending_text ending)))
+after_line text before content left None last parts first some = let none = ap length (last refl) in absurd (omega arith)
+after_line text before content left (Some ending) last parts first some =
+    let mark = first.mark in
+    let size = length-append before content in
+    let split : text ≡ (before ++ content) ++ (ending_text (Some ending) ++ left) =
+    parts ∙ sym (append_assoc before content (ending_text (Some ending) ++ left)) in
+    let whole : length (before ++ content) + length (ending_text (Some ending)) ≡ length (before ++ (content ++ ending_text (Some ending))) =
+    sym (length-append (before ++ content) (ending_text (Some ending))) ∙ ap length (append_assoc before content (ending_text (Some ending))) in
+    let column = column_after_ending text (before ++ content) left ending split (omega arith) in
+    record {
+      column = ap (λ (n : ℕ). (index_spot text n).column) (sym whole) ∙ column;
+      mark = omega arith;
+    }
+
 -- the line's ending is passed
 pub line_ends : (old : Standing) → EndsLine old (record old { is_in_line = false })
 line_ends old text ending left st =
     record {
-      over = record { fits = st.line.over.fits; size = st.line.over.size; quotes = st.line.over.quotes };
+      over = record { fits = st.line.over.fits; size = st.line.over.size; bytes = st.line.over.bytes; quotes = st.line.over.quotes };
       begun = refl;
       before = st.line.before ++ (st.line.content ++ ending_text old.ending);
-      parts = st.line.parts ∙ sym (append_assoc st.line.before (st.line.content ++ ending_text old.ending) old.left
+      parts = st.line.parts.parts ∙ sym (append_assoc st.line.before (st.line.content ++ ending_text old.ending) old.left
           ∙ ap (λ (xs : List ℕ). st.line.before ++ xs) (append_assoc st.line.content (ending_text old.ending) old.left));
+      first = after_line text st.line.before st.line.content old.left old.ending st.line.last st.line.parts.parts st.line.parts.first;
       kind = Whitespace;
       unread = st.unread;
     }
 
 -- the walk begins
 pub walk_begins : (s : Standing) (size : ℕ) (rest : List ℕ) → s.size ≡ size → s.left ≡ rest → s.is_in_line ≡ false → s.outermost ≡ [] → BeginsAt size rest s
-walk_begins s size rest is_size is_left out none text before kind fits all parts =
+walk_begins s size rest is_size is_left out none text before kind fits all bytes parts first =
     record {
-      over = record { fits = fits; size = is_size ∙ all; quotes = ap (λ (cs : List Container). list_any is_quote (drop s.quotes_end cs)) none ∙ ap (list_any is_quote) (drop-nil s.quotes_end) };
+      over = record {
+        fits = fits;
+        size = is_size ∙ all;
+        bytes = bytes;
+        quotes = ap (λ (cs : List Container). list_any is_quote (drop s.quotes_end cs)) none ∙ ap (list_any is_quote) (drop-nil s.quotes_end);
+      };
       begun = out;
       before = before;
       parts = parts ∙ ap (λ (xs : List ℕ). before ++ xs) (sym is_left);
+      first = λ some. first;
       kind = kind;
       unread = ap (λ (xs : List ℕ). unread kind (lines xs)) (sym is_left);
     }
@@ -142,6 +189,7 @@ in_line_over old xs n text over line =
       before = line.before;
       content = line.content;
       parts = line.parts;
+      last = line.last;
       end = line.end;
     }
 
@@ -151,7 +199,7 @@ stands_over : (old : Standing) (xs : List Container) (n : ℕ) (text : List ℕ)
     → StandsAt text p (record old { outermost = xs; quotes_end = n })
 unfolding in_line_over
 stands_over old xs n text (Between left) over st =
-    record { over = over st.over; begun = st.begun; before = st.before; parts = st.parts; kind = st.kind; unread = st.unread }
+    record { over = over st.over; begun = st.begun; before = st.before; parts = st.parts; first = st.first; kind = st.kind; unread = st.unread }
 stands_over old xs n text (Within here left) over st =
     record {
       line = in_line_over old xs n text over st.line;
@@ -172,6 +220,7 @@ leaves old c xs n is quotes =
     record {
       fits = o.fits;
       size = o.size;
+      bytes = o.bytes;
       quotes = quotes (quotes_fewer old.quotes_end xs c (subst (AreQuotesWithin old.quotes_end) is o.quotes));
     } in
     (ap reverse is ∙ reverse-append xs (c ∷ []), refl, λ text p st. stands_over old xs n text p (over text) st)
@@ -194,11 +243,12 @@ container_starts is_kind old k rest before n found quotes text c here left to ki
     let within : IsWithin text (line_rest rest (beside_in before s.0.beside)) s.1 new =
     record {
       line = record {
-        over = record { fits = st.line.over.fits; size = st.line.over.size; quotes = quotes st.line.over.quotes };
+        over = record { fits = st.line.over.fits; size = st.line.over.size; bytes = st.line.over.bytes; quotes = quotes st.line.over.quotes };
         begun = st.line.begun;
         before = st.line.before;
         content = st.line.content;
         parts = st.line.parts;
+        last = st.line.last;
         end = st.line.end;
       };
       columns = ends.0;
@@ -214,3 +264,8 @@ container_starts is_kind old k rest before n found quotes text c here left to ki
       reverse-append old.outermost (k ∷ []) ∙ ap (λ (x : Container). x ∷ around old) (sym is_k),
       refl,
     )
+
+-- within a line, the walk is also at its ending
+pub at_ending : (text : List ℕ) (here : LineRest) (left : List LineRest) (s : Standing) → StandsAt text (Within here left) s
+    → StandsAt text (AtEnding here.beside.ending left) s
+at_ending text here left s st = record { line = st.line; ending = st.ending; unread = st.unread }

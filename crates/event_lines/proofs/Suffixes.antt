@@ -1,9 +1,10 @@
 -- What containers leave of a line is its end, from a column on.
-use Rattle.std.proofs.Common.{◌≡◌, ℕ, ◌+◌, Bool, false, ◌&&◌, ◌||◌, not, List, [], ◌∷◌, Option, None, Some, eqb, refl, sym, ap, ◌∙◌, inl, inr, drop, take, leb}
+use Rattle.std.proofs.Common.{◌≡◌, ℕ, ◌+◌, Bool, false, ◌&&◌, ◌||◌, not, List, [], ◌∷◌, Option, None, Some, eqb, refl, sym, ap, ◌∙◌, inl, inr, drop, take}
+use Rattle.std.proofs.Common.{leb, ap₂}
 use Rattle.std.specs.Prelude.{min, ◌==◌}
 use Rattle.std.specs.List.{prefix_len}
 use Rattle.definition_text.specs.Ascii.{right_parenthesis, asterisk, plus, hyphen, dot, colon, left_bracket, right_bracket, caret}
-use Rattle.std.proofs.lemmas.Bool.{cases_Bool, cond-true, cond-false}
+use Rattle.std.proofs.lemmas.Bool.{cases_Bool, cond-true, cond-false, eqb-true, false≢true}
 use Rattle.std.proofs.lemmas.List.{drop-drop}
 use Rattle.markdown_options.specs.declared.configuration.Constructs.{Constructs}
 use Rattle.definition_text.specs.Columns.{Rest, bare, indent}
@@ -12,11 +13,15 @@ use Rattle.definition_text.specs.Indents.{outdent, small_indent}
 use Rattle.definition_inline.specs.Label.{label_end, ends_label}
 use Rattle.definition_text.specs.Content.{may_escape}
 use Rattle.definition_block.specs.Container.{Container, Quote, Item, Footnote}
-use Rattle.definition_block.specs.ContainerLine.{ContainerLine}
-use Rattle.definition_block.specs.ContainerStart.{ContainerStart}
+use Rattle.definition_block.specs.ContainerLine.{ContainerLine, container_line}
+use Rattle.definition_block.specs.ContainerStart.{ContainerStart, container_start}
 use Rattle.definition_block.specs.BlockQuote.{after_byte, after_mark, quote_prefix}
+use Rattle.markdown_options.specs.declared.beside.Kind.{Kind}
+use Rattle.markdown_options.specs.declared.beside.Kind.TheVariants.{Whitespace}
+use Rattle.laws_laid.specs.EmptyRests.{is_quote}
 use Rattle.definition_block.specs.ThematicBreak.{is_break}
-use Rattle.definition_block.specs.ListItem.{Marker, marker_of, is_digit, number_of, bullet, after_number, ordered_marker, marker, gap, is_item, item, item_after}
+use Rattle.definition_block.specs.ListItem.{Marker, marker_of, is_digit, number_of, bullet, after_number, ordered_marker, marker, gap, is_item, item}
+use Rattle.definition_block.specs.ListItem.{item_after}
 use Rattle.definition_block.specs.ListItem.{item_start, is_inside, item_continues}
 use Rattle.definition_block.specs.GfmFootnoteDefinition.{is_footnote_label, label_before, with_colon, after_open, after_bracket, footnote_mark}
 use Rattle.definition_block.specs.GfmFootnoteDefinition.{footnote_of, footnote_start}
@@ -60,9 +65,40 @@ quote_end : (on : Constructs) (rest : Rest) (line : ContainerLine) → quote_pre
 quote_end on rest line is =
     elim (cases_Bool (on.block_quote && small_indent on rest)) [
       | inl h ↦
-          after_mark_end (after_byte 62 (bare rest)) rest line (λ found e. ends_in found (bare rest) rest (after_byte_end 62 (bare rest) found e) (indent rest, refl))
+          after_mark_end (after_byte 62 (bare rest)) rest line
+          (λ found e. ends_in found (bare rest) rest (after_byte_end 62 (bare rest) found e) (indent rest, refl))
           (sym (cond-true (on.block_quote && small_indent on rest) _ _ h) ∙ is)
       | inr h ↦ let e : None ≡ Some line = sym (cond-false (on.block_quote && small_indent on rest) _ _ h) ∙ is in absurd (cc)
+    ]
+
+-- the parts of a quote's prefix: white space, the mark, and what belongs to it
+pub record QuoteParts (start rest : Rest) : Type 0 where
+  pub codes : Rest
+  pub mark : bare start ≡ 62 ∷ codes
+  pub end : IsEnd rest codes
+
+after_byte_is : (byte : ℕ) (rest found : Rest) → after_byte byte rest ≡ Some found → rest ≡ byte ∷ found
+after_byte_is byte [] found is = absurd (cc)
+after_byte_is byte (code ∷ codes) found is =
+    elim (cases_Bool (eqb code byte)) [
+      | inl h ↦ let e : Some codes ≡ Some found = sym (cond-true (eqb code byte) _ _ h) ∙ is in let same = eqb-true code byte h in cc
+      | inr h ↦ let e : None ≡ Some found = sym (cond-false (eqb code byte) _ _ h) ∙ is in absurd (cc)
+    ]
+
+mark_parts : (start : Rest) (o : Option Rest) (line : ContainerLine) → ((found : Rest) → o ≡ Some found → bare start ≡ 62 ∷ found)
+    → after_mark o ≡ Some line → QuoteParts start line.rest
+mark_parts start None line h is = absurd (cc)
+mark_parts start (Some found) line h is =
+    let e : line.rest ≡ outdent 1 found = cc in
+    record { codes = found; mark = h found refl; end = (min 1 (indent found), e) }
+
+pub quote_parts : (on : Constructs) (start : Rest) (line : ContainerLine) → quote_prefix on start ≡ Some line → QuoteParts start line.rest
+quote_parts on start line is =
+    elim (cases_Bool (on.block_quote && small_indent on start)) [
+      | inl h ↦
+          mark_parts start (after_byte 62 (bare start)) line (λ found e. after_byte_is 62 (bare start) found e)
+          (sym (cond-true (on.block_quote && small_indent on start) _ _ h) ∙ is)
+      | inr h ↦ let e : None ≡ Some line = sym (cond-false (on.block_quote && small_indent on start) _ _ h) ∙ is in absurd (cc)
     ]
 
 item_end : (size : ℕ) (blank : Bool) (rest : Rest) (line : ContainerLine) → item_continues size blank rest ≡ Some line → IsEnd line.rest rest
@@ -172,7 +208,8 @@ with_colon_end (Some label) whole p h is =
     elim (cases_Bool (is_footnote_label label.text)) [
       | inl t ↦
           let e = sym (cond-true (is_footnote_label label.text) _ _ t) ∙ is in
-          ends_in p.rest label.rest whole (after_byte_end colon label.rest p.rest (label_before_end label.text (after_byte colon label.rest) p e)) (h label refl)
+          ends_in p.rest label.rest whole (after_byte_end colon label.rest p.rest (label_before_end label.text (after_byte colon label.rest) p e))
+          (h label refl)
       | inr t ↦ let e : None ≡ Some p = sym (cond-false (is_footnote_label label.text) _ _ t) ∙ is in absurd (cc)
     ]
 
@@ -226,6 +263,60 @@ pub starts_end : (on : Constructs) (rest : Rest) (found : ContainerStart) → st
 starts_end on rest found is =
     quote_or_end (footnote_or (item_start on false rest) (footnote_start on rest)) (quote_prefix on rest) rest found (quote_end on rest)
     (footnote_or_end (item_start on false rest) (footnote_start on rest) rest found (footnote_end on rest found) (item_start_end on rest found))
+    is
+
+-- ---- a quote starts where its prefix is
+
+abbrev quote_in : Option ContainerStart → Bool
+quote_in None = false
+quote_in (Some found) = is_quote found.container
+
+abbrev before_in : Option ContainerStart → Kind
+before_in None = Whitespace
+before_in (Some found) = found.before
+
+item_after_other : (columns : ℕ) (o : Option Marker) → quote_in (item_after columns false o) ≡ false
+item_after_other columns None = refl
+item_after_other columns (Some m) =
+    elim (cases_Bool (is_item false m)) [
+      | inl t ↦ ap quote_in (cond-true (is_item false m) _ _ t)
+      | inr t ↦ ap quote_in (cond-false (is_item false m) _ _ t)
+    ]
+
+item_other : (on : Constructs) (rest : Rest) → quote_in (item_start on false rest) ≡ false
+item_other on rest =
+    elim (cases_Bool (on.list_item && small_indent on rest && not (is_break on rest))) [
+      | inl h ↦
+          ap quote_in (cond-true (on.list_item && small_indent on rest && not (is_break on rest)) _ _ h)
+          ∙ item_after_other (indent rest) (marker (bare rest))
+      | inr h ↦ ap quote_in (cond-false (on.list_item && small_indent on rest && not (is_break on rest)) _ _ h)
+    ]
+
+footnote_of_other : (o : Option Part) → quote_in (footnote_of o) ≡ false
+footnote_of_other None = refl
+footnote_of_other (Some mark) = refl
+
+footnote_other : (on : Constructs) (rest : Rest) → quote_in (footnote_start on rest) ≡ false
+footnote_other on rest =
+    elim (cases_Bool (on.gfm_footnote_definition && small_indent on rest)) [
+      | inl h ↦ ap quote_in (cond-true (on.gfm_footnote_definition && small_indent on rest) _ _ h) ∙ footnote_of_other (footnote_mark (bare rest))
+      | inr h ↦ ap quote_in (cond-false (on.gfm_footnote_definition && small_indent on rest) _ _ h)
+    ]
+
+footnote_or_other : (other o : Option ContainerStart) → quote_in other ≡ false → quote_in o ≡ false → quote_in (footnote_or other o) ≡ false
+footnote_or_other other None h k = h
+footnote_or_other other (Some footnote) h k = k
+
+prefix_of_quote : (other : Option ContainerStart) (o : Option ContainerLine) (rest : Rest) (before : Kind) → quote_in other ≡ false
+    → quote_or other o ≡ Some (container_start Quote rest before) → o ≡ Some (container_line rest before)
+prefix_of_quote other None rest before h is = absurd (false≢true (sym h ∙ ap quote_in is))
+prefix_of_quote other (Some line) rest before h is = ap Some (ap₂ container_line (ap rest_in is) (ap before_in is))
+
+pub quote_starts : (on : Constructs) (start rest : Rest) (before : Kind) → starts on false start ≡ Some (container_start Quote rest before)
+    → quote_prefix on start ≡ Some (container_line rest before)
+quote_starts on start rest before is =
+    prefix_of_quote (footnote_or (item_start on false start) (footnote_start on start)) (quote_prefix on start) rest before
+    (footnote_or_other (item_start on false start) (footnote_start on start) (item_other on start) (footnote_other on start))
     is
 
 -- ---- all open containers

@@ -1,12 +1,14 @@
 -- Where a walk stands in the lines of a text (CommonMark 2.1 and 5).
-use Rattle.std.specs.Prelude.{◌≡◌, ℕ, ◌+◌, ◌^◌, ◌≤◌, Bool, true, false, List, ◌++◌, Option, length, drop, reverse}
+use Rattle.std.specs.Prelude.{◌≡◌, ℕ, ◌+◌, ◌^◌, ◌≤◌, Bool, true, false, List, ◌++◌, [], Option, None, ◌<◌, get_or, length, drop, reverse}
 use Rattle.std.specs.List.{list_any}
 use Rattle.markdown_options.specs.declared.line_ending.LineEnding.{LineEnding}
 use Rattle.markdown_options.specs.declared.configuration.Constructs.{Constructs}
 use Rattle.markdown_options.specs.declared.beside.Kind.{Kind}
 use Rattle.markdown_options.specs.declared.beside.Kind.TheVariants.{Whitespace}
 use Rattle.definition_text.specs.Columns.{Rest, whole}
-use Rattle.definition_text.specs.Lines.{lines, ending_text}
+use Rattle.definition_text.specs.Lines.{lines, ends_line, ending_text}
+use Rattle.engine_events.specs.Columns.{mark_size}
+use Rattle.event_output.specs.Ends.{index_spot}
 use Rattle.definition_block.specs.Container.{Container}
 use Rattle.block_starts.specs.View.{rest_of, container_views}
 use Rattle.laws_laid.specs.Places.{LineRest, Place, Between, Within, AtEnding, unread}
@@ -55,10 +57,24 @@ AreQuotesWithin depth outermost = list_any is_quote (drop depth outermost) ≡ f
 abbrev pub TEXT_MAX : ℕ
 TEXT_MAX = 2 ^ 60
 
+-- A line begins at an index, in its first column. A byte order mark has no columns (CommonMark 2.1 and 2.2).
+pub record IsLineStart (text : List ℕ) (index : ℕ) : Type 0 where
+  pub column : (index_spot text index).column ≡ 1
+  pub mark : mark_size text ≤ index
+
+-- These are parts of a text: what is before a line, what the line holds before its ending, and what is after that.
+pub record IsLineOf (text before content after : List ℕ) : Type 0 where
+  pub parts : text ≡ before ++ (content ++ after)
+  pub fits : length text ≤ TEXT_MAX
+  pub first : IsLineStart text (length before)
+  pub dark : list_any ends_line content ≡ false
+  pub bytes : (k : ℕ) → get_or content k 0 < 256
+
 -- it walks over this text
 pub record IsOver (text : List ℕ) (s : Standing) : Type 0 where
   pub fits : length text ≤ TEXT_MAX
   pub size : s.size ≡ length text
+  pub bytes : (k : ℕ) → get_or text k 0 < 256
   pub quotes : AreQuotesWithin s.quotes_end s.outermost
 
 -- a line of this text is begun: what is before it, and what it holds before its ending
@@ -67,7 +83,8 @@ pub record IsInLine (text : List ℕ) (s : Standing) : Type 0 where
   pub begun : s.is_in_line ≡ true
   pub before : List ℕ
   pub content : List ℕ
-  pub parts : text ≡ before ++ (content ++ (ending_text s.ending ++ s.left))
+  pub parts : IsLineOf text before content (ending_text s.ending ++ s.left)
+  pub last : s.ending ≡ None → s.left ≡ []
   pub end : s.line_end ≡ length before + length content
 
 -- No line is begun, and these are the lines of what is left of the text.
@@ -76,6 +93,7 @@ pub record IsBetween (text : List ℕ) (left : List LineRest) (s : Standing) : T
   pub begun : s.is_in_line ≡ false
   pub before : List ℕ
   pub parts : text ≡ before ++ s.left
+  pub first : 0 < length s.left → IsLineStart text (length before)
   pub kind : Kind
   pub unread : left ≡ unread kind (lines s.left)
 

@@ -1,5 +1,5 @@
 -- From one place of a text to the next (CommonMark 2.1 and 5).
-use Rattle.std.specs.Prelude.{◌≡◌, ◌≤◌, ℕ, Bool, true, false, List, ◌∷◌, ◌++◌, Option, length, []}
+use Rattle.std.specs.Prelude.{◌≡◌, ◌≤◌, ℕ, Bool, true, false, List, ◌∷◌, ◌++◌, Option, ◌<◌, get_or, length, []}
 use Rattle.markdown_options.specs.declared.line_ending.LineEnding.{LineEnding}
 use Rattle.markdown_options.specs.declared.beside.Kind.{Kind}
 use Rattle.definition_text.specs.Columns.{Rest}
@@ -7,7 +7,7 @@ use Rattle.definition_text.specs.Lines.{lines}
 use Rattle.definition_block.specs.Container.{Container}
 use Rattle.laws_laid.specs.Places.{LineRest, Place, Between, Within, AtEnding, line_left, prefixed, unread, Starts}
 use Rattle.laws_laid.specs.Begun.{begun, is_in_line}
-use Rattle.event_lines.specs.Standing.{Standing, StandsAt, AreQuotesWithin, TEXT_MAX, around}
+use Rattle.event_lines.specs.Standing.{Standing, StandsAt, IsLineStart, AreQuotesWithin, TEXT_MAX, around}
 
 -- the same, where this is left of the line
 abbrev pub with_rest : Standing → Rest → Standing
@@ -28,7 +28,8 @@ HasSameOpen old new = (new.on ≡ old.on) × (new.outermost ≡ old.outermost)
 -- The walk begins at the last bytes of a text.
 abbrev pub BeginsAt : ℕ → List ℕ → Standing → Type 0
 BeginsAt size rest new =
-    (text before : List ℕ) (kind : Kind) → length text ≤ TEXT_MAX → size ≡ length text → text ≡ before ++ rest
+    (text before : List ℕ) (kind : Kind) → length text ≤ TEXT_MAX → size ≡ length text → ((k : ℕ) → get_or text k 0 < 256) → text ≡ before ++ rest
+    → IsLineStart text (length before)
     → StandsAt text (Between (unread kind (lines rest))) new
 
 -- of the line, this is left after the prefixes of the open containers
@@ -51,7 +52,9 @@ IsBegun old new =
 
 -- from the ending of a line to the place after it
 abbrev pub EndsLine : Standing → Standing → Type 0
-EndsLine old new = (text : List ℕ) (ending : Option LineEnding) (left : List LineRest) → StandsAt text (AtEnding ending left) old → StandsAt text (Between left) new
+EndsLine old new =
+    (text : List ℕ) (ending : Option LineEnding) (left : List LineRest) → StandsAt text (AtEnding ending left) old
+    → StandsAt text (Between left) new
 
 -- from the ending of a line into the next one
 abbrev pub PassesLine : Standing → Standing → Type 0

@@ -1,13 +1,15 @@
 //! The prefixes of containers (CommonMark 5.1 and 5.2).
 ghost use Rattle.std.specs.Prelude.{◌≡◌, IfOk, MatchOption, OnOk, length, true, ◌≤◌};
-ghost use Rattle.engine_events.specs.declared.event.Name.TheVariants.{BlockQuote, GfmFootnoteDefinition, GfmFootnoteDefinitionLabel};
+ghost use Rattle.engine_events.specs.declared.event.Name.TheVariants.{BlockQuote, BlockQuotePrefix, GfmFootnoteDefinition, GfmFootnoteDefinitionLabel};
 ghost use Rattle.engine_events.specs.declared.event.Name.TheVariants.{GfmFootnoteDefinitionPrefix, ListItem, ListItemPrefix, SpaceOrTab};
 ghost use Rattle.event_output.specs.Children.{holds_lines, may_enter};
 ghost use Rattle.definition_text.specs.Columns.{whole};
 ghost use Rattle.block_starts.specs.View.{container_view, container_views, rest_of};
 ghost use Rattle.laws_laid.specs.EmptyRests.{is_quote};
 ghost use Rattle.event_lines.specs.Kinds.{is_footnote, is_item};
+ghost use Rattle.event_lines.specs.Ends.{WritesMark, WritesPrefix, WritesPrefixes, WritesStartOf};
 ghost use Rattle.event_lines.specs.Open.{still_open, with_entered};
+ghost use Rattle.definition_block.specs.Container.{Quote};
 ghost use Rattle.event_lines.specs.Standing.{AreQuotesWithin, TEXT_MAX, standing};
 ghost use Rattle.event_lines.specs.Steps.{Leaves, ReadsPrefixes, StartsOf, with_container, with_rest};
 
@@ -41,6 +43,7 @@ impl<'a, A: Allocator> Walk<'a, A> {
         ensures open { OnOk result (still_open self.new ≡ still_open self.old) }
         ensures reads { OnOk result (ReadsPrefixes (standing self.old) (standing self.new)) }
         ensures stays { OnOk result (standing self.new ≡ with_rest (standing self.old) (rest_of self.new.rest)) }
+        ensures written { OnOk result (WritesPrefixes self.old self.new) }
     {
         for depth in 0..self.open.len() {
             if depth >= self.quotes_end && self.rest.is_blank() && self.rest.indent() == 0 {
@@ -63,6 +66,7 @@ impl<'a, A: Allocator> Walk<'a, A> {
         requires lines { holds_lines (still_open self.old) ≡ true }
         ensures open { OnOk result (still_open self.new ≡ still_open self.old) }
         ensures stays { OnOk result (standing self.new ≡ with_rest (standing self.old) (rest_of after.entry)) }
+        ensures written { OnOk result (WritesPrefix (container_view container.entry) (rest_of after.entry) self.old self.new) }
     {
         match container {
             Container::Quote => self.quote_prefix(after)?,
@@ -78,6 +82,8 @@ impl<'a, A: Allocator> Walk<'a, A> {
         requires lines { holds_lines (still_open self.old) ≡ true }
         ensures open { OnOk result (still_open self.new ≡ still_open self.old) }
         ensures stays { OnOk result (standing self.new ≡ standing self.old) }
+        ensures written { OnOk result (WritesPrefix Quote (rest_of after.entry) self.old self.new) }
+        ensures marked { OnOk result (WritesMark (rest_of after.entry) self.old self.new) }
     {
         let _bare = self.white()?;
         self.enter(Name::BlockQuotePrefix)?;
@@ -93,6 +99,7 @@ impl<'a, A: Allocator> Walk<'a, A> {
         requires space { may_enter (still_open self.old) SpaceOrTab ≡ true }
         ensures open { IfOk result (λ starts. still_open self.new ≡ with_entered starts BlockQuote (still_open self.old)) }
         ensures starts { IfOk result (λ starts. StartsOf is_quote (standing self.old) starts (standing self.new)) }
+        ensures written { OnOk result (WritesStartOf is_quote BlockQuote BlockQuotePrefix self.old self.new) }
     {
         let Some((Container::Quote, line)) = starts(self.on, false, self.rest) else {
             return Ok(false);
@@ -145,6 +152,7 @@ impl<'a, A: Allocator> Walk<'a, A> {
     fn start(&mut self, container: Container<'a>, after: Cursor<'a>) -> Result<(), AllocError>
         ensures open { still_open self.new ≡ still_open self.old }
         ensures stays { OnOk result (standing self.new ≡ with_container (standing self.old) (container_view container.entry) (rest_of after.entry)) }
+        ensures out { OnOk result (self.new.out ≡ self.old.out) }
     {
         self.open.push(container)?;
         self.rest = after;
@@ -201,6 +209,7 @@ impl<'a, A: Allocator> Walk<'a, A> {
     /// The innermost container doesn't go on. Returns which.
     pub fn leave(&mut self) -> Option<Container<'a>>
         ensures open { still_open self.new ≡ still_open self.old }
+        ensures written { self.new.out ≡ self.old.out }
         ensures leaves { MatchOption result (standing self.new ≡ standing self.old) (λ c. Leaves (container_view c) (standing self.old) (standing self.new)) }
     {
         let container = self.open.pop()?;

@@ -1,14 +1,18 @@
 //! The lines of a text (CommonMark 2.1), one after another, each after the prefixes of its containers.
-ghost use Rattle.std.specs.Prelude.{◌≡◌, ◌∷◌, [], IfOk, List, OnOk, length, true, ℕ};
+ghost use Rattle.std.specs.Prelude.{◌≡◌, ◌∷◌, [], ◌+◌, ◌-◌, ◌<◌, ◌^◌, IfOk, List, OnOk, length, true, ℕ};
+ghost use Rattle.definition_text.specs.Columns.{bare, bytes_of};
 ghost use Rattle.definition_text.specs.Lines.{ending_text};
+ghost use Rattle.block_starts.specs.View.{rest_of};
 ghost use Rattle.engine_events.specs.declared.event.Name.TheVariants.{SpaceOrTab};
 ghost use Rattle.event_output.specs.Open.{Entered, closed};
-ghost use Rattle.event_output.specs.Written.{open_in};
+ghost use Rattle.event_output.specs.Ends.{end_at, first_end};
+ghost use Rattle.event_output.specs.Written.{Enters, Exits, IsInOrder, open_in};
 ghost use Rattle.event_output.specs.Children.{holds_lines, may_enter};
+ghost use Rattle.event_lines.specs.Ends.{WritesEnding, WritesLine, WritesNextLine, WritesUpTo, rest_start, written_to};
 ghost use Rattle.event_lines.specs.Content.{EntersInLine, ExitsInLine, StandsInLine};
 ghost use Rattle.event_lines.specs.Open.{still_open};
 ghost use Rattle.event_lines.specs.Standing.{standing};
-ghost use Rattle.event_lines.specs.Steps.{BeginsAt, BeginsLine, EndsLine, HasSameOpen, IsBegun, PassesLine, with_rest};
+ghost use Rattle.event_lines.specs.Steps.{BeginsAt, BeginsLine, EndsLine, HasSameOpen, IsBegun, PassesLine};
 
 use crate::prefix::line_rest;
 use block_starts::Cursor;
@@ -56,6 +60,8 @@ impl<'a, A: Allocator + Clone> Walk<'a, A> {
     ) -> Result<Walk<'a, A>, AllocError>
         ensures open { IfOk result (λ walk. still_open walk ≡ []) }
         ensures begins { IfOk result (λ walk. BeginsAt size lines.now (standing walk)) }
+        ensures written { IfOk result (λ walk. written_to walk ≡ first_end) }
+        ensures order { IfOk result (λ walk. (text : List ℕ) → IsInOrder text walk.out) }
         ensures outside { IfOk result (λ walk. walk.open.items ≡ []) }
     {
         Ok(Walk {
@@ -100,6 +106,7 @@ impl<'a, A: Allocator> Walk<'a, A> {
         requires lines { holds_lines (still_open self.old) ≡ true }
         ensures open { OnOk result (still_open self.new ≡ still_open self.old) }
         ensures begun { OnOk result (IsBegun (standing self.old) (standing self.new)) }
+        ensures written { OnOk result (WritesLine self.old self.new) }
         ensures around { OnOk result (HasSameOpen (standing self.old) (standing self.new)) }
     {
         if self.is_in_line {
@@ -114,6 +121,7 @@ impl<'a, A: Allocator> Walk<'a, A> {
         requires lines { holds_lines (still_open self.old) ≡ true }
         ensures open { OnOk result (still_open self.new ≡ still_open self.old) }
         ensures begins { OnOk result (BeginsLine (standing self.old) (standing self.new)) }
+        ensures written { OnOk result (WritesLine self.old self.new) }
         ensures around { OnOk result (HasSameOpen (standing self.old) (standing self.new)) }
     {
         let (content, ending, after) = next_line(self.left);
@@ -134,6 +142,7 @@ impl<'a, A: Allocator> Walk<'a, A> {
         requires lines { holds_lines (still_open self.old) ≡ true }
         ensures open { OnOk result (still_open self.new ≡ still_open self.old) }
         ensures passes { OnOk result (PassesLine (standing self.old) (standing self.new)) }
+        ensures written { OnOk result (WritesNextLine self.old self.new) }
         ensures around { OnOk result (HasSameOpen (standing self.old) (standing self.new)) }
     {
         self.ending(Name::LineEnding)?;
@@ -145,6 +154,7 @@ impl<'a, A: Allocator> Walk<'a, A> {
         requires child { may_enter (still_open self.old) name ≡ true }
         ensures open { OnOk result (still_open self.new ≡ still_open self.old) }
         ensures ends { OnOk result (EndsLine (standing self.old) (standing self.new)) }
+        ensures written { OnOk result (WritesEnding name self.old self.new) }
         ensures around { OnOk result (HasSameOpen (standing self.old) (standing self.new)) }
     {
         self.is_in_line = false;
@@ -158,6 +168,8 @@ impl<'a, A: Allocator> Walk<'a, A> {
         ensures open { OnOk result (still_open self.new ≡ Entered name ∷ still_open self.old) }
         ensures written { OnOk result ((text line : List ℕ) → StandsInLine text line self.old → EntersInLine text name line self.old self.new) }
         ensures stays { OnOk result (standing self.new ≡ standing self.old) }
+        ensures end { OnOk result (written_to self.new ≡ written_to self.old) }
+        ensures enters { OnOk result ((text : List ℕ) → IsInOrder text self.old.out → Enters text name self.old.out self.new.out) }
     {
         self.out.enter(name)
     }
@@ -167,6 +179,8 @@ impl<'a, A: Allocator> Walk<'a, A> {
         ensures open { OnOk result (still_open self.new ≡ closed name (still_open self.old)) }
         ensures written { OnOk result ((text line : List ℕ) → StandsInLine text line self.old → ExitsInLine text name line self.old self.new) }
         ensures stays { OnOk result (standing self.new ≡ standing self.old) }
+        ensures end { OnOk result (written_to self.new ≡ written_to self.old) }
+        ensures exits { OnOk result ((text : List ℕ) → IsInOrder text self.old.out → Exits text name self.old.out self.new.out) }
     {
         self.out.exit(name)
     }
@@ -176,6 +190,10 @@ impl<'a, A: Allocator> Walk<'a, A> {
         requires child { may_enter (still_open self.old) name ≡ true }
         ensures open { OnOk result (still_open self.new ≡ still_open self.old) }
         ensures stays { OnOk result (standing self.new ≡ standing self.old) }
+        ensures end { OnOk result ((written_to self.old).index + size < 2 ^ 64
+            → written_to self.new ≡ end_at ((written_to self.old).index + size) 0) }
+        ensures written { OnOk result ((written_to self.old).index + size < 2 ^ 64
+            → WritesUpTo name (end_at ((written_to self.old).index + size) 0) self.old self.new) }
     {
         let end = self.out.end().after(size);
         self.out.token(name, end)
@@ -186,6 +204,8 @@ impl<'a, A: Allocator> Walk<'a, A> {
         requires child { may_enter (still_open self.old) name ≡ true }
         ensures open { OnOk result (still_open self.new ≡ still_open self.old) }
         ensures stays { OnOk result (standing self.new ≡ standing self.old) }
+        ensures end { OnOk result (written_to self.new ≡ end_at index 0) }
+        ensures written { OnOk result (WritesUpTo name (end_at index 0) self.old self.new) }
     {
         self.out.token(name, at(index))
     }
@@ -195,6 +215,8 @@ impl<'a, A: Allocator> Walk<'a, A> {
         requires space { may_enter (still_open self.old) SpaceOrTab ≡ true }
         ensures open { OnOk result (still_open self.new ≡ still_open self.old) }
         ensures stays { OnOk result (standing self.new ≡ standing self.old) }
+        ensures end { OnOk result (written_to self.new ≡ rest_start self.old.line_end (rest_of rest.now)) }
+        ensures written { OnOk result (WritesUpTo SpaceOrTab (rest_start self.old.line_end (rest_of rest.now)) self.old self.new) }
     {
         let end = self.start_of(rest);
         self.out.token(Name::SpaceOrTab, end)
@@ -205,6 +227,10 @@ impl<'a, A: Allocator> Walk<'a, A> {
         requires space { may_enter (still_open self.old) SpaceOrTab ≡ true }
         ensures open { OnOk result (still_open self.new ≡ still_open self.old) }
         ensures stays { OnOk result (standing self.new ≡ standing self.old) }
+        ensures end { OnOk result (written_to self.new ≡ end_at (self.old.line_end - length (bytes_of (bare (rest_of self.old.rest)))) 0) }
+        ensures written { OnOk result (WritesUpTo SpaceOrTab (end_at (self.old.line_end - length (bytes_of (bare (rest_of self.old.rest)))) 0)
+            self.old self.new) }
+        ensures bare { IfOk result (λ text. text.now ≡ bytes_of (bare (rest_of self.old.rest))) }
     {
         let bare = self.rest.bare_text();
         self.to(Name::SpaceOrTab, self.index_of(bare.len()))?;
@@ -216,12 +242,16 @@ impl<'a, A: Allocator> Walk<'a, A> {
         requires child { may_enter (still_open self.old) name ≡ true }
         ensures open { OnOk result (still_open self.new ≡ still_open self.old) }
         ensures stays { OnOk result (standing self.new ≡ standing self.old) }
+        ensures end { OnOk result (written_to self.new ≡ end_at self.old.line_end 0) }
+        ensures written { OnOk result (WritesUpTo name (end_at self.old.line_end 0) self.old self.new) }
     {
         self.to(name, self.line_end)
     }
 
     /// Where a rest of the line begins.
-    pub fn start_of(&self, rest: &Cursor<'a>) -> End {
+    pub fn start_of(&self, rest: &Cursor<'a>) -> End
+        ensures { result ≡ rest_start self.now.line_end (rest_of rest.now) }
+    {
         let index = self.index_of(rest.text().len());
         let owed = rest.tab_columns();
         if owed > 0 {
@@ -235,7 +265,9 @@ impl<'a, A: Allocator> Walk<'a, A> {
     }
 
     /// Where the last bytes of the line's content begin, so many.
-    pub fn index_of(&self, count: usize) -> usize {
+    pub fn index_of(&self, count: usize) -> usize
+        ensures { result ≡ self.now.line_end - count }
+    {
         self.line_end.saturating_sub(count)
     }
 }

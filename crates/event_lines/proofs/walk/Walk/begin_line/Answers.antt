@@ -1,7 +1,11 @@
-use Rattle.std.proofs.Common.{ℕ, ◌-◌, ap, ◌∙◌, length}
+use Rattle.std.proofs.Common.{ℕ, ◌++◌, ◌-◌, ap, ◌∙◌, length}
 use Rattle.block_starts.specs.View.{rest_of}
 use Rattle.event_lines.specs.Standing.{standing}
 use Rattle.event_lines.proofs.Steps.{begins_line, both_ok}
+use Rattle.std.proofs.lemmas.Result.{on_ok_weaker}
+use Rattle.definition_text.specs.Lines.{ending_text}
+use Rattle.event_lines.specs.Ends.{written_to}
+use Rattle.event_lines.proofs.Written.{line_ready}
 use Rattle.event_lines.proofs.walk.Walk.begin_line.Goals as goal
 
 pub returns-clause-begins : goal.returns-clause-begins
@@ -15,3 +19,20 @@ returns-clause-begins g c =
     begins_line (standing c.args.self.now) (standing c.prefixes.new.self) line.0.now line.2.now c.saturating_sub-self.result line.1
     (rest_of c.line_rest-self.result) c.next_line-ending.ensures.rest c.line_rest-self.ensures ends reads stays)
     c.prefixes.ensures.reads c.prefixes.ensures.stays
+
+pub returns-clause-written : goal.returns-clause-written
+returns-clause-written g c =
+    let old = c.args.self.now in
+    let line = c.next_line-ending.result in
+    let ends = c.saturating_sub-self.ensures
+    ∙ ap (λ (n : ℕ). n - c.ending_size.result) c.saturating_sub.ensures
+    ∙ ap (λ (n : ℕ). (old.size - length line.2.now) - n) c.ending_size.ensures in
+    on_ok_weaker c.prefixes.result
+    (λ writes. λ text next others st written order.
+    let ready = line_ready (standing old) text next others line.0.now line.2.now line.1 c.saturating_sub-self.result (rest_of c.line_rest-self.result)
+    (written_to old) st c.next_line-ending.ensures.rest c.line_rest-self.ensures ends written in
+    let done = writes text st.before line.0.now (ending_text line.1 ++ line.2.now) 0 (
+    record { line = ready.0; end = ready.1; rest = ready.2; written = ready.3; order = order }
+    ) in
+    (done.0, done.1.1.written))
+    c.prefixes.ensures.written

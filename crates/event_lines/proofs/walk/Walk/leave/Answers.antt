@@ -11,5 +11,6 @@ returns-clause-leaves g c =
     let popped = c.in_ok-container.ensures in
     leaves (standing c.args.self.now) (container_view c.in_ok-container.container) (container_views c.pop.new.self.items) c.quotes_end-self.result
     (ap container_views popped.items ∙ views_more c.pop.new.self.items c.in_ok-container.container)
-    (subst (λ (xs : List CodeContainer). AreQuotesWithin c.args.self.now.quotes_end (container_views xs) → AreQuotesWithin c.quotes_end-self.result (container_views xs))
+    (subst (λ (xs : List CodeContainer). AreQuotesWithin c.args.self.now.quotes_end (container_views xs)
+    → AreQuotesWithin c.quotes_end-self.result (container_views xs))
     c.deref.ensures.value c.quotes_end-self.ensures)
