@@ -45,6 +45,12 @@ pub record StandsInLine {A : Type 0} (text line : List ℕ) (w : Walk A) : Type 
   pub fits : w.place + length line < 2 ^ 64
   pub size : length text < 2 ^ 61
 
+-- A line of a content begins where the walk is, and nothing is written.
+abbrev pub BeginsLineHere : {A : Type 0} → Walk A → Walk A → Type 0
+BeginsLineHere old new =
+    (text line : List ℕ) → IsInOrder text old.out → AreNext text (end_in old.out) line → length text < 2 ^ 61 → length line < 2 ^ 64
+    → StandsInLine text line new × (end_in new.out ≡ end_in old.out)
+
 -- nodes are written, for the first of these bytes, and the others are next
 pub record WritesInLine {A : Type 0} (text front : List ℕ) (ns : Nodes) (line : List ℕ) (old new : Walk A) : Type 0 where
   pub writes : Writes text old.out new.out ns

@@ -2,9 +2,10 @@
 ghost use Rattle.std.specs.Prelude.{◌≡◌, ◌<◌, ◌++◌, ◌^◌, List, OnOk, length, true, ℕ};
 ghost use Rattle.engine_events.specs.declared.event.Name.TheVariants.{Data};
 ghost use Rattle.event_output.specs.Children.{holds_lines, may_enter};
+ghost use Rattle.event_output.specs.Ends.{end_at};
 ghost use Rattle.event_output.specs.Forest.{data_nodes, void_nodes};
 ghost use Rattle.event_output.specs.Written.{end_in};
-ghost use Rattle.event_lines.specs.Content.{StandsInLine, WritesInLine, content_end_in, end_after};
+ghost use Rattle.event_lines.specs.Content.{BeginsLineHere, StandsInLine, WritesInLine, content_end_in, end_after};
 ghost use Rattle.event_lines.specs.Open.{still_open};
 
 use crate::walk::Walk;
@@ -25,6 +26,7 @@ impl<'a, A: Allocator> Walk<'a, A> {
     /// A content begins, which is a part of the line, from an index on.
     pub fn begin_part(&mut self, index: usize)
         ensures open { still_open self.new ≡ still_open self.old }
+        ensures begun { end_in self.old.out ≡ end_at index 0 → BeginsLineHere self.old self.new }
     {
         self.place = 0;
         self.line_place = 0;
@@ -34,6 +36,7 @@ impl<'a, A: Allocator> Walk<'a, A> {
     /// A content begins here, which is a part of the line.
     pub fn begin_here(&mut self)
         ensures open { still_open self.new ≡ still_open self.old }
+        ensures begun { BeginsLineHere self.old self.new }
     {
         self.place = 0;
         self.line_place = 0;

@@ -1,5 +1,5 @@
 //! Where a text is cut. A cut inside of a character or beyond the end gives nothing.
-ghost use Rattle.std.specs.Prelude.{◌-◌, ◌≤◌, IsTrue, length};
+ghost use Rattle.std.specs.Prelude.{◌≡◌, ◌-◌, ◌≤◌, IsTrue, drop, length, slice_index};
 ghost use Rattle.std.specs.Str.{IsCharBoundary};
 
 /// The text from a place on.
@@ -25,6 +25,7 @@ pub fn up_to(text: &str, end: usize) -> &str {
 /// Bytes from a place on.
 pub fn bytes_from(bytes: &[u8], start: usize) -> &[u8]
     ensures shorter { length result.now ≤ length bytes.now - start }
+    ensures rest { result.now ≡ drop start bytes.now }
 {
     if start <= bytes.len() {
         &bytes[start..]
@@ -43,7 +44,9 @@ pub fn bytes_up_to(bytes: &[u8], end: usize) -> &[u8] {
 }
 
 /// The first byte, or 0 if there is none.
-pub fn first(bytes: &[u8]) -> u8 {
+pub fn first(bytes: &[u8]) -> u8
+    ensures { result ≡ slice_index bytes.now 0 }
+{
     if bytes.is_empty() { 0 } else { bytes[0] }
 }
 

@@ -1,2 +1,4 @@
 pub mod Spelled
 pub mod Strings
+pub mod References
+pub mod ReferenceSteps

@@ -8,18 +8,15 @@ use Rattle.engine_events.specs.declared.event.Name.{Name}
 use Rattle.engine_events.specs.declared.event.Name.TheVariants as n
 use Rattle.definition_inline.specs.CharacterReference.{Names}
 use Rattle.event_grammar.specs.InGrammar.{node_name, kids_of}
-use Rattle.event_grammar.specs.Trees.{Node, Nodes, Around, Nil, Cons}
+use Rattle.event_grammar.specs.Trees.{Nodes, Nil, Cons}
 use Rattle.event_output.specs.declared.end.End.{End}
-use Rattle.event_output.specs.Ends.{end_at, enter_at, exit_at}
+use Rattle.event_output.specs.Ends.{end_at}
 use Rattle.event_output.specs.Forest.{append, byte_nodes, cut, data_nodes, one, void_nodes}
 use Rattle.event_meaning.specs.Children.{text_of}
 use Rattle.event_meaning.specs.Strings.{string_of, string_part}
 use Rattle.event_lines.specs.Content.{AreNext, end_after}
+use Rattle.event_strings.specs.References.{token}
 use Rattle.event_lines.proofs.Ahead.{after_bytes}
-
--- what holds no other, from an index on, of so many bytes
-abbrev pub token : List ℕ → Name → ℕ → ℕ → Node
-token text name index size = Around (enter_at text name (end_at index 0)) Nil (exit_at text name (end_at (index + size) 0))
 
 -- an end at which no tab owes columns
 pub whole_end : (e : End) → e.owed ≡ 0 → e ≡ end_at e.index 0

@@ -13,7 +13,8 @@ use Rattle.event_lines.specs.declared.walk.Walk.{Walk}
 use Rattle.event_lines.specs.Content.{AreNext, EntersInLine, ExitsInLine, StandsInLine, WritesInLine, end_after}
 use Rattle.event_lines.proofs.InLine.{lines_around, lines_both}
 use Rattle.event_strings.specs.Strings.{StandsInString, WritesString}
-use Rattle.event_strings.proofs.Spelled.{data_string, still_whole, string_append, token, token_text, void_one, whole_end}
+use Rattle.event_strings.specs.References.{token}
+use Rattle.event_strings.proofs.Spelled.{data_string, still_whole, string_append, token_text, void_one, whole_end}
 
 -- an escape spells its byte
 escape_string : (names : Names) (text line : List ℕ) (byte index later : ℕ) (a b : End) (marker value : Nodes)
@@ -25,7 +26,7 @@ escape_string names text line byte index later a b marker value is_marker is_val
     ∙ ap (λ bytes. bytes ++ []) (token_text text n.CharacterEscapeValue later (byte ∷ []) line next)
 
 module _ {A : Type 0} (names : Names) (text : List ℕ) where
-  next_here : (line : List ℕ) (w : Walk A) → StandsInLine text line w → (end_in w.out).owed ≡ 0 → AreNext text (end_at (end_in w.out).index 0) line
+  pub next_here : (line : List ℕ) (w : Walk A) → StandsInLine text line w → (end_in w.out).owed ≡ 0 → AreNext text (end_at (end_in w.out).index 0) line
   next_here line w st whole = subst (λ e. AreNext text e line) (sym st.at ∙ whole_end (end_in w.out) whole) st.next
 
   -- some bytes, and then others

@@ -1,8 +1,12 @@
 //! Character references (CommonMark 2.5).
-ghost use Rattle.std.specs.Prelude.{◌≡◌, OnOk, true};
+ghost use Rattle.std.specs.Prelude.{◌≡◌, ◌+◌, ◌<◌, ◌∷◌, ◌++◌, [], IfOk, List, OnOk, length, slice_index, true, ℕ};
 ghost use Rattle.engine_events.specs.declared.event.Name.TheVariants.{CharacterReference, CharacterReferenceMarkerHexadecimal, CharacterReferenceMarkerNumeric};
+ghost use Rattle.definition_text.specs.Ascii.{ampersand, semicolon};
+ghost use Rattle.definition_inline.specs.CharacterReference.{Names};
 ghost use Rattle.event_output.specs.Children.{may_enter};
 ghost use Rattle.event_lines.specs.Open.{still_open};
+ghost use Rattle.event_strings.specs.References.{AreMarks, WritesMarks, marked_text};
+ghost use Rattle.event_strings.specs.Strings.{StandsInString, WritesString};
 
 use engine_events::event::Name;
 use event_lines::Walk;
@@ -18,6 +22,10 @@ pub fn push_reference<A: Allocator>(
 ) -> Result<(), AllocError>
     requires child { may_enter (still_open walk.old) CharacterReference ≡ true }
     ensures open { OnOk result (still_open walk.new ≡ still_open walk.old) }
+    ensures written { OnOk result ((names : Names) (text marks value after line : List ℕ) (first : ℕ) → bytes.now ≡ ampersand ∷ (marks ++ first ∷ after)
+        → AreMarks marks first → 0 < length value → size ≡ length marks + length value + 2
+        → StandsInString text (ampersand ∷ ((marks ++ (value ++ semicolon ∷ [])) ++ line)) walk.old
+        → WritesString names text (ampersand ∷ (marks ++ (value ++ semicolon ∷ []))) (marked_text names marks value) line walk.old walk.new) }
 {
     walk.enter(Name::CharacterReference)?;
     walk.text(Name::CharacterReferenceMarker, 1)?;
@@ -35,6 +43,9 @@ fn push_markers<A: Allocator>(walk: &mut Walk<'_, A>, bytes: &[u8]) -> Result<us
     requires numeric { may_enter (still_open walk.old) CharacterReferenceMarkerNumeric ≡ true }
     requires hexadecimal { may_enter (still_open walk.old) CharacterReferenceMarkerHexadecimal ≡ true }
     ensures open { OnOk result (still_open walk.new ≡ still_open walk.old) }
+    ensures size { IfOk result (λ size. (marks after : List ℕ) → bytes.now ≡ marks ++ after → AreMarks marks (slice_index after 0) → size ≡ length marks) }
+    ensures written { OnOk result ((text marks after line : List ℕ) → bytes.now ≡ marks ++ after → AreMarks marks (slice_index after 0)
+        → StandsInString text (marks ++ line) walk.old → WritesMarks text marks line walk.old walk.new) }
 {
     if first(bytes) != b'#' {
         return Ok(0);
