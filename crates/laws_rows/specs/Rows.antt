@@ -33,7 +33,7 @@ IsPartLaid context (Unclosed text) from to = IsData text.now from to
 IsPartLaid context part from to = AreLeavesLaid context (parts_of part) from to
 
 -- the start of a span (CommonMark 6.2 and GFM 6.5)
-pub record EntersSpan (context : InlineContext) (span : Span) (before : List Open) (from : List InlineCode) (after : List Open) (to : List InlineCode)
+pub record IsSpanStart (context : InlineContext) (span : Span) (before : List Open) (from : List InlineCode) (after : List Open) (to : List InlineCode)
     : Type 0 where
   pub marker : ℕ
   pub size : ℕ
@@ -41,16 +41,16 @@ pub record EntersSpan (context : InlineContext) (span : Span) (before : List Ope
   pub opened : after ≡ OpenSpan marker size ∷ before
 
 -- the start of a link or an image (CommonMark 6.3 and 6.4)
-pub record EntersLinked (kind : LinkedKind) (before : List Open) (from : List InlineCode) (after : List Open) (to : List InlineCode) : Type 0 where
+pub record IsLinkedStart (kind : LinkedKind) (before : List Open) (from : List InlineCode) (after : List Open) (to : List InlineCode) : Type 0 where
   pub target : Target
   pub codes : AreCodes (linked_start kind) from to
   pub opened : after ≡ OpenLinked target to ∷ before
 
 -- the end of the innermost that is open: its sequence, or the `]` and what follows it
-abbrev pub LeavesInnermost : InlineContext → List Open → List InlineCode → List Open → List InlineCode → Type 0
-LeavesInnermost context [] from after to = ⊥
-LeavesInnermost context (OpenSpan marker size ∷ others) from after to = (after ≡ others) × AreCodes (replicate size marker) from to
-LeavesInnermost context (OpenLinked target inside ∷ others) from after to = (after ≡ others) × EndsLinked context target inside from to
+abbrev pub IsInnermostEnd : InlineContext → List Open → List InlineCode → List Open → List InlineCode → Type 0
+IsInnermostEnd context [] from after to = ⊥
+IsInnermostEnd context (OpenSpan marker size ∷ others) from after to = (after ≡ others) × AreCodes (replicate size marker) from to
+IsInnermostEnd context (OpenLinked target inside ∷ others) from after to = (after ≡ others) × EndsLinked context target inside from to
 
 -- a row: what is open before it, and from which place, to what is open after it, and which place
 abbrev pub IsRowLaid : InlineContext → InlineRow → List Open → List InlineCode → List Open → List InlineCode → Type 0
@@ -58,11 +58,11 @@ IsRowLaid context (Text text) before from after to = (after ≡ before) × IsDat
 IsRowLaid context (Verbatim verbatim) before from after to = (after ≡ before) × IsData verbatim.text.now from to
 IsRowLaid context (Leaf part) before from after to = (after ≡ before) × IsPartLaid context part from to
 IsRowLaid context (Spelled leaf) before from after to = (after ≡ before) × IsLeafLaid context (spelled_view leaf) from to
-IsRowLaid context (EnterSpan span) before from after to = EntersSpan context span before from after to
-IsRowLaid context (EnterLink target) before from after to = EntersLinked inline.Link before from after to
-IsRowLaid context (EnterImage target) before from after to = EntersLinked inline.Image before from after to
+IsRowLaid context (EnterSpan span) before from after to = IsSpanStart context span before from after to
+IsRowLaid context (EnterLink target) before from after to = IsLinkedStart inline.Link before from after to
+IsRowLaid context (EnterImage target) before from after to = IsLinkedStart inline.Image before from after to
 IsRowLaid context (Call label) before from after to = (after ≡ before) × AreCodes (call_codes (content_codes label.now)) from to
-IsRowLaid context Exit before from after to = LeavesInnermost context before from after to
+IsRowLaid context Exit before from after to = IsInnermostEnd context before from after to
 
 -- at the end of rows all are closed, and spaces that aren't printed may be left
 abbrev pub IsEnd : InlineContext → List Open → List InlineCode → List InlineCode → Type 0
