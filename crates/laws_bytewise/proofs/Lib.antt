@@ -1,3 +1,5 @@
 pub mod Nodes
 pub mod Children
 pub mod Strings
+pub mod Labels
+pub mod Texts
