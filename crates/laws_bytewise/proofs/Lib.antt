@@ -3,3 +3,5 @@ pub mod Children
 pub mod Strings
 pub mod Labels
 pub mod Texts
+pub mod Tables
+pub mod Blocks

@@ -3,6 +3,7 @@ use Rattle.std.specs.Prelude.{◌≡◌, ℕ, Bool, List}
 use Rattle.definition_inline.specs.CharacterReference.{Names}
 use Rattle.event_grammar.specs.References.{own_label}
 use Rattle.event_grammar.specs.Trees.{Nodes}
+use Rattle.event_meaning.specs.Spelled.{page_of}
 use Rattle.event_meaning.specs.Strings.{string_of}
 use Rattle.event_meaning.specs.Texts.{inlines_of}
 use Rattle.event_output.specs.Forest.{bytewise}
@@ -21,3 +22,7 @@ abbrev pub TextsSpellTheSame : Type 0
 TextsSpellTheSame =
     (names : Names) (bytes : List ℕ) (linked : Bool) (ns : Nodes) → AreFilled ns
     → inlines_of names bytes linked (bytewise ns) ≡ inlines_of names bytes linked ns
+
+-- Nodes spell the same page with their data cut into bytes.
+abbrev pub PagesSpellTheSame : Type 0
+PagesSpellTheSame = (names : Names) (bytes : List ℕ) (ns : Nodes) → AreFilled ns → page_of names bytes (bytewise ns) ≡ page_of names bytes ns

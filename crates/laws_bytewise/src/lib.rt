@@ -1,7 +1,7 @@
 //! Data that is cut into bytes spells the same.
 #![tactic(auto)]
 
-ghost use Rattle.laws_bytewise.specs.Laws.{LabelsAreTheSame, StringsSpellTheSame, TextsSpellTheSame};
+ghost use Rattle.laws_bytewise.specs.Laws.{LabelsAreTheSame, PagesSpellTheSame, StringsSpellTheSame, TextsSpellTheSame};
 
 /// A string spells the same with its data cut into bytes.
 #[tactic(auto, using(crate::proofs::Strings::strings_spell_the_same))]
@@ -19,4 +19,10 @@ pub fn labels_law()
 #[tactic(auto, using(crate::proofs::Texts::texts_spell_the_same))]
 pub fn texts_law()
     ensures { TextsSpellTheSame }
+{}
+
+/// Nodes spell the same page with their data cut into bytes.
+#[tactic(auto, using(crate::proofs::Blocks::pages_spell_the_same))]
+pub fn pages_law()
+    ensures { PagesSpellTheSame }
 {}
