@@ -5,3 +5,4 @@ pub mod Labels
 pub mod Texts
 pub mod Tables
 pub mod Blocks
+pub mod Events
