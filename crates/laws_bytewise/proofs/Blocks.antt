@@ -1,9 +1,8 @@
 -- Blocks and the page, with their data cut into bytes.
-use Rattle.std.proofs.Common.{◌≡◌, ℕ, zero, suc, ◌+◌, ◌||◌, ◌&&◌, not, Bool, true, false, List, [], ◌∷◌, ◌++◌, map, length, Option, None, Some, refl, sym, ap, ap₂, subst, ◌∙◌}
+use Rattle.std.proofs.Common.{◌≡◌, ℕ, suc, ◌||◌, ◌&&◌, not, Bool, true, false, List, [], ◌++◌, map, length, Option, None, Some, refl, sym, ap, ap₂, ◌∙◌}
 use Rattle.std.specs.Prelude.{is_some, if◌then◌else◌}
 use Rattle.std.specs.Option.{option_map}
 use Rattle.engine_events.specs.Names.{same_name}
-use Rattle.engine_events.specs.declared.event.Event.{Event}
 use Rattle.engine_events.specs.declared.event.Name.{Name}
 use Rattle.engine_events.specs.declared.event.Name.TheVariants as n
 use Rattle.definition_text.specs.Columns.{Code}
@@ -21,12 +20,11 @@ use Rattle.event_grammar.specs.declared.spot.Spot.{Spot}
 use Rattle.event_grammar.specs.Slots.{has}
 use Rattle.event_grammar.specs.References.{named}
 use Rattle.event_grammar.specs.Trees.{Node, Nodes, Around, Nil, Cons}
-use Rattle.event_meaning.specs.Blocks.{join, one, leaf, start_of, underline_rank, heading_setext_of, heading_atx_of, info_of, fenced_of, code_fenced_of, math_flow_of, label_of, footnote_label, list_number, block_of, blocks_of, blocks_from}
+use Rattle.event_meaning.specs.Blocks.{join, one, leaf, start_of, underline_rank, heading_setext_of, heading_atx_of, info_of, fenced_of, label_of, footnote_label, list_number, block_of, blocks_of, blocks_from}
 use Rattle.event_meaning.specs.Children.{child, kids_in, after_child, before_child, ends_in, text_of, text_in}
 use Rattle.event_meaning.specs.Raw.{RawPart, raw_parts, raw_lines, fenced_lines}
 use Rattle.event_meaning.specs.Spelled.{footnotes, definition_of, page_of}
 use Rattle.event_meaning.specs.Strings.{string_of, written}
-use Rattle.event_meaning.specs.Texts.{text_within}
 use Rattle.event_output.specs.Forest.{bytewise}
 use Rattle.laws_bytewise.specs.Filled.{IsFilled, AreFilled}
 use Rattle.laws_bytewise.specs.Laws.{PagesSpellTheSame}

@@ -1,17 +1,15 @@
 -- Children by their names, with their data cut into bytes: a name of another event finds the same.
-use Rattle.std.proofs.Common.{◌≡◌, ℕ, zero, suc, ◌+◌, Bool, true, false, List, [], ◌∷◌, ◌++◌, map, Option, None, Some, refl, sym, ap, subst, ◌∙◌}
+use Rattle.std.proofs.Common.{◌≡◌, ℕ, zero, suc, ◌+◌, Bool, true, false, List, [], ◌∷◌, map, Option, None, Some, refl, sym, ap, subst, ◌∙◌}
 use Rattle.std.specs.Prelude.{is_some, if◌then◌else◌}
 use Rattle.std.specs.Option.{option_map}
 use Rattle.std.proofs.lemmas.Bool.{cond_both}
 use Rattle.engine_events.specs.Names.{same_name}
-use Rattle.engine_events.specs.declared.event.Event.{Event}
 use Rattle.engine_events.specs.declared.event.Name.{Name}
 use Rattle.engine_events.specs.declared.event.Name.TheVariants as n
 use Rattle.event_grammar.specs.Checks.{spot_of}
 use Rattle.event_grammar.specs.Points.{edge}
-use Rattle.event_grammar.specs.InGrammar.{node_name, kids_of}
 use Rattle.event_grammar.specs.Trees.{Node, Nodes, Around, Nil, Cons}
-use Rattle.event_meaning.specs.Children.{child, children, inside_of, kids_in, after_child, before_child, ends_in, text_of, text_or_none, text_in}
+use Rattle.event_meaning.specs.Children.{child, children, inside_of, kids_in, after_child, before_child, ends_in, text_or_none, text_in}
 use Rattle.event_output.specs.Forest.{append, byte_node, byte_nodes, bytewise}
 use Rattle.laws_bytewise.specs.Filled.{IsFilled, AreFilled}
 use Rattle.laws_bytewise.proofs.Nodes.{kept, by_cut, by_cases, skipped}

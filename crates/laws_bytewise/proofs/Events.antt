@@ -1,5 +1,5 @@
 -- Lists of events, with their data cut into bytes, and those of drafts.
-use Rattle.std.proofs.Common.{◌≡◌, ◌<◌, ℕ, true, false, List, [], ◌∷◌, ◌++◌, refl, sym, ap, subst, ◌∙◌}
+use Rattle.std.proofs.Common.{◌≡◌, ℕ, List, [], ◌∷◌, sym, ap, subst, ◌∙◌}
 use Rattle.std.specs.List.{fold}
 use Rattle.std.proofs.lemmas.Bool.{true≢false}
 use Rattle.std.proofs.lemmas.List.Sums.{fold-append}
@@ -12,7 +12,7 @@ use Rattle.event_output.specs.declared.draft.Draft.TheVariants as draft
 use Rattle.event_output.specs.declared.end.End.{End}
 use Rattle.event_output.specs.Ends.{first_end}
 use Rattle.event_output.specs.Forest.{draft_end, draft_events, drafts_events}
-use Rattle.laws_bytewise.specs.Examples.{EmptyDataSpells}
+use Rattle.laws_bytewise.specs.Examples.{RefusedExample}
 use Rattle.laws_bytewise.specs.Filled.{IsFilled, AreFilled, IsNoEmptyData, HaveNoEmptyData}
 use Rattle.laws_bytewise.specs.Laws.{EventsSpellTheSame, DraftsAreFilled}
 use Rattle.laws_bytewise.proofs.Blocks.{page_same}
@@ -20,8 +20,8 @@ use Rattle.laws_bytewise.proofs.Blocks.{page_same}
 pub events_spell_the_same : EventsSpellTheSame
 events_spell_the_same = λ names bytes events ns f is. sym (page_same names bytes (tree events) f) ∙ ap (page_of names bytes) is
 
-pub empty_data_spells : EmptyDataSpells
-empty_data_spells = λ names bytes same. true≢false (ap (λ p. p.ends_blank) same)
+pub refused_example : RefusedExample
+refused_example = λ names bytes same. true≢false (ap (λ p. p.ends_blank) same)
 
 -- ---- drafts
 

@@ -1,5 +1,5 @@
 -- Nodes by their names at any depth, and labels, with their data cut into bytes.
-use Rattle.std.proofs.Common.{◌≡◌, ℕ, zero, suc, ◌+◌, ◌-◌, Bool, true, false, List, [], ◌∷◌, ◌++◌, map, Option, None, Some, take, drop, refl, sym, ap, ap₂, subst, ◌∙◌, append_assoc, arith}
+use Rattle.std.proofs.Common.{◌≡◌, ℕ, zero, suc, ◌+◌, List, [], ◌∷◌, ◌++◌, map, Option, None, Some, take, drop, refl, sym, ap, ap₂, ◌∙◌, append_assoc, arith}
 use Rattle.std.specs.Prelude.{is_some, if◌then◌else◌}
 use Rattle.std.specs.Option.{option_map, option_or}
 use Rattle.std.proofs.Math.Nat.{sub_self}
@@ -12,8 +12,8 @@ use Rattle.engine_events.specs.declared.event.Name.{Name}
 use Rattle.engine_events.specs.declared.event.Name.TheVariants as n
 use Rattle.event_grammar.specs.Checks.{spot_of}
 use Rattle.event_grammar.specs.declared.spot.Spot.{Spot}
-use Rattle.event_grammar.specs.Points.{edge, spot, bytes_between}
-use Rattle.event_grammar.specs.References.{media_names, named_in, named, own_in, own, nodes_text, node_text, label_text, own_label}
+use Rattle.event_grammar.specs.Points.{edge, spot}
+use Rattle.event_grammar.specs.References.{media_names, named, own_in, own, nodes_text, node_text, label_text, own_label}
 use Rattle.event_grammar.specs.Trees.{Node, Nodes, Around, Nil, Cons}
 use Rattle.event_output.specs.Forest.{append, byte_node, byte_nodes, bytewise}
 use Rattle.laws_bytewise.specs.Filled.{IsFilled, AreFilled}

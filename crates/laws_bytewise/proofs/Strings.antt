@@ -1,17 +1,16 @@
 -- Strings, with their data cut into bytes.
-use Rattle.std.proofs.Common.{◌≡◌, ℕ, zero, suc, ◌+◌, ◌-◌, Bool, true, false, List, [], ◌∷◌, ◌++◌, take, drop, refl, sym, ap, ap₂, subst, ◌∙◌, append_assoc, append-nil, arith}
+use Rattle.std.proofs.Common.{◌≡◌, ℕ, zero, suc, ◌+◌, ◌-◌, List, [], ◌∷◌, ◌++◌, take, drop, refl, sym, ap, ap₂, ◌∙◌, append_assoc, arith}
 use Rattle.std.specs.Prelude.{is_some, if◌then◌else◌, unwrap_or}
 use Rattle.engine_events.specs.Columns.{between}
-use Rattle.engine_events.specs.declared.event.Event.{Event}
 use Rattle.engine_events.specs.declared.event.Name.{Name}
 use Rattle.engine_events.specs.declared.event.Name.TheVariants as n
 use Rattle.definition_inline.specs.CharacterReference.{Names, number_of, numbered_text}
 use Rattle.event_grammar.specs.Checks.{spot_of}
 use Rattle.event_grammar.specs.Points.{edge}
-use Rattle.event_grammar.specs.Trees.{Node, Nodes, Around, Nil, Cons}
+use Rattle.event_grammar.specs.Trees.{Nodes, Around, Nil, Cons}
 use Rattle.event_meaning.specs.Children.{child, text_of, text_in}
 use Rattle.event_meaning.specs.Strings.{reference_text_of, string_part, string_of}
-use Rattle.event_output.specs.Forest.{append, byte_node, byte_nodes, bytewise}
+use Rattle.event_output.specs.Forest.{append, byte_nodes, bytewise}
 use Rattle.laws_bytewise.specs.Filled.{AreFilled}
 use Rattle.laws_bytewise.specs.Laws.{StringsSpellTheSame}
 use Rattle.laws_bytewise.proofs.Nodes.{by_cases}

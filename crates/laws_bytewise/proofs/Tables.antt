@@ -1,6 +1,6 @@
 -- Tables and raw blocks, with their data cut into bytes.
-use Rattle.std.proofs.Common.{◌≡◌, ℕ, zero, suc, ◌+◌, ◌||◌, Bool, true, false, List, [], ◌∷◌, ◌++◌, map, Option, None, Some, refl, sym, ap, ap₂, subst, ◌∙◌}
-use Rattle.std.specs.Prelude.{is_some, if◌then◌else◌}
+use Rattle.std.proofs.Common.{◌≡◌, ℕ, suc, false, List, [], ◌∷◌, ◌++◌, map, refl, sym, ap, ap₂, ◌∙◌}
+use Rattle.std.specs.Prelude.{if◌then◌else◌}
 use Rattle.markdown_options.specs.declared.line_ending.LineEnding.{LineEnding}
 use Rattle.engine_events.specs.Names.{same_name}
 use Rattle.engine_events.specs.declared.event.Event.{Event}
@@ -11,16 +11,15 @@ use Rattle.definition_inline.specs.Inline.{Inlines}
 use Rattle.definition_page.specs.GfmTable.{Table, TableRow, in_cell}
 use Rattle.event_check.specs.Align.{marks, mark, align_of, marks_in, value_align, table_align}
 use Rattle.event_check.specs.declared.align.Marks.{Marks}
-use Rattle.event_grammar.specs.InGrammar.{node_name, kids_of}
 use Rattle.event_grammar.specs.References.{named}
 use Rattle.event_grammar.specs.Trees.{Node, Nodes, Around, Nil, Cons}
-use Rattle.event_meaning.specs.Children.{child, children, kids_in, after_child, before_child, text_of}
+use Rattle.event_meaning.specs.Children.{children, kids_in, after_child, before_child, text_of}
 use Rattle.event_meaning.specs.GfmTable.{cell_of, row_of, endings_in, endings_before_row, rows_of, table_of}
 use Rattle.event_meaning.specs.Raw.{ending_of, raw_part, raw_parts}
-use Rattle.event_output.specs.Forest.{byte_nodes, bytewise}
+use Rattle.event_output.specs.Forest.{bytewise}
 use Rattle.laws_bytewise.specs.Filled.{IsFilled, AreFilled}
 use Rattle.laws_bytewise.proofs.Nodes.{kept, by_cases, skipped}
-use Rattle.laws_bytewise.proofs.Children.{IsOther, if_same, not_data, has_same, kids_same, kids_filled, after_same, after_filled, before_same, before_filled, children_same, children_filled, AllFilled}
+use Rattle.laws_bytewise.proofs.Children.{IsOther, not_data, has_same, kids_same, kids_filled, after_same, after_filled, before_same, before_filled, children_same, children_filled, AllFilled}
 use Rattle.laws_bytewise.proofs.Labels.{named_same, named_filled}
 use Rattle.laws_bytewise.proofs.Texts.{within_same}
 

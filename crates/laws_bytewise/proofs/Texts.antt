@@ -1,5 +1,5 @@
 -- Texts, with their data cut into bytes.
-use Rattle.std.proofs.Common.{◌≡◌, ℕ, zero, suc, ◌+◌, ◌-◌, ◌||◌, Bool, true, false, List, [], ◌∷◌, ◌++◌, map, Option, None, Some, refl, sym, ap, ap₂, subst, ◌∙◌}
+use Rattle.std.proofs.Common.{◌≡◌, ℕ, zero, suc, ◌+◌, ◌||◌, Bool, true, false, List, [], ◌∷◌, ◌++◌, map, Option, None, Some, refl, sym, ap, ap₂, ◌∙◌}
 use Rattle.std.specs.Prelude.{is_some, if◌then◌else◌}
 use Rattle.std.specs.Option.{option_map}
 use Rattle.engine_events.specs.Columns.{between}
@@ -15,12 +15,12 @@ use Rattle.event_grammar.specs.Checks.{spot_of}
 use Rattle.event_grammar.specs.Points.{edge}
 use Rattle.event_grammar.specs.References.{own}
 use Rattle.event_grammar.specs.Trees.{Node, Nodes, Around, Nil, Cons}
-use Rattle.event_meaning.specs.Children.{child, inside_of, after_child, before_child, text_of, text_in}
+use Rattle.event_meaning.specs.Children.{child, after_child, before_child, text_of, text_in}
 use Rattle.event_meaning.specs.Strings.{written}
 use Rattle.event_meaning.specs.Texts.{append, part, leaves, text_names, code_part, code_parts, code_of, html_part, html_parts, autolink_of, written_string, resource_of, label_or_none, label_codes, target_of, text_part, inlines_of, text_within}
 use Rattle.event_output.specs.Forest as forest
 use Rattle.event_output.specs.Forest.{byte_nodes, bytewise}
-use Rattle.laws_bytewise.specs.Filled.{IsFilled, AreFilled}
+use Rattle.laws_bytewise.specs.Filled.{AreFilled}
 use Rattle.laws_bytewise.specs.Laws.{TextsSpellTheSame}
 use Rattle.laws_bytewise.proofs.Nodes.{kept, by_cases, skipped}
 use Rattle.laws_bytewise.proofs.Children.{IsOther, has_same, after_same, after_filled, before_same, before_filled, text_same, IsFoundFilled}

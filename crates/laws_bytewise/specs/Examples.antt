@@ -18,5 +18,5 @@ abbrev pub empty_data : Nodes
 empty_data = Cons (void n.BlankLineEnding 0 1) (Cons (void n.Data 1 1) Nil)
 
 -- The page ends in a blank line only without the data.
-abbrev pub EmptyDataSpells : Type 0
-EmptyDataSpells = (names : Names) (bytes : List ℕ) → page_of names bytes (bytewise empty_data) ≡ page_of names bytes empty_data → ⊥
+abbrev pub RefusedExample : Type 0
+RefusedExample = (names : Names) (bytes : List ℕ) → page_of names bytes (bytewise empty_data) ≡ page_of names bytes empty_data → ⊥
