@@ -20,7 +20,8 @@ use Rattle.event_grammar.specs.declared.spot.Spot.{Spot}
 use Rattle.event_grammar.specs.Slots.{has}
 use Rattle.event_grammar.specs.References.{named}
 use Rattle.event_grammar.specs.Trees.{Node, Nodes, Around, Nil, Cons}
-use Rattle.event_meaning.specs.Blocks.{join, one, leaf, start_of, underline_rank, heading_setext_of, heading_atx_of, info_of, fenced_of, label_of, footnote_label, list_number, block_of, blocks_of, blocks_from}
+use Rattle.event_meaning.specs.Blocks.{join, one, leaf, start_of, underline_rank, heading_setext_of, heading_atx_of, info_of, fenced_of, label_of}
+use Rattle.event_meaning.specs.Blocks.{footnote_label, list_number, block_of, blocks_of, blocks_from}
 use Rattle.event_meaning.specs.Children.{child, kids_in, after_child, before_child, ends_in, text_of, text_in}
 use Rattle.event_meaning.specs.Raw.{RawPart, raw_parts, raw_lines, fenced_lines}
 use Rattle.event_meaning.specs.Spelled.{footnotes, definition_of, page_of}
@@ -29,7 +30,8 @@ use Rattle.event_output.specs.Forest.{bytewise}
 use Rattle.laws_bytewise.specs.Filled.{IsFilled, AreFilled}
 use Rattle.laws_bytewise.specs.Laws.{PagesSpellTheSame}
 use Rattle.laws_bytewise.proofs.Nodes.{kept, by_cases, skipped}
-use Rattle.laws_bytewise.proofs.Children.{IsOther, IsFoundFilled, if_no, has_same, child_same, child_filled, kids_same, kids_filled, after_same, after_filled, before_same, before_filled, ends_same, text_same}
+use Rattle.laws_bytewise.proofs.Children.{IsOther, IsFoundFilled, if_no, has_same, child_same, child_filled, kids_same, kids_filled, after_same}
+use Rattle.laws_bytewise.proofs.Children.{after_filled, before_same, before_filled, ends_same, text_same}
 use Rattle.laws_bytewise.proofs.Labels.{named_same, named_filled, label_same}
 use Rattle.laws_bytewise.proofs.Strings.{string_same}
 use Rattle.laws_bytewise.proofs.Tables.{mapped, inner_same, inner_filled, raw_parts_same, table_same}
@@ -44,7 +46,8 @@ start_other name = refl
 module _ (bytes : List ℕ) where
   -- ---- looseness
 
-  apart_same : (c : Child) → has c n.Data ≡ false → (last : Option Spot) (ns : Nodes) → AreFilled ns → are_apart bytes c last (bytewise ns) ≡ are_apart bytes c last ns
+  apart_same : (c : Child) → has c n.Data ≡ false → (last : Option Spot) (ns : Nodes) → AreFilled ns
+      → are_apart bytes c last (bytewise ns) ≡ are_apart bytes c last ns
   apart_same c other last Nil f = refl
   apart_same c other last (Cons (Around enter kids exit) ns) f =
       let there = is_far bytes last (spot_of enter) || are_apart bytes c (Some (spot_of exit)) ns in
@@ -52,7 +55,8 @@ module _ (bytes : List ℕ) where
       (λ k is none far. skipped (are_apart bytes c last) (λ i ms. if_no (has c n.Data) _ (are_apart bytes c last ms) other) _ (suc k) (bytewise ns)
       ∙ apart_same c other last ns f.1
       ∙ sym (if_no (has c enter.name) there (are_apart bytes c last ns) (ap (has c) is ∙ other)))
-      (ap₂ (λ a b. if has c enter.name then is_far bytes last (spot_of enter) || a else b) (apart_same c other (Some (spot_of exit)) ns f.1) (apart_same c other last ns f.1))
+      (ap₂ (λ a b. if has c enter.name then is_far bytes last (spot_of enter) || a else b)
+      (apart_same c other (Some (spot_of exit)) ns f.1) (apart_same c other last ns f.1))
 
   loose_items : (ns : Nodes) → AreFilled ns → has_loose_item bytes (bytewise ns) ≡ has_loose_item bytes ns
   loose_items Nil f = refl
@@ -149,7 +153,8 @@ module _ (names : Names) (bytes : List ℕ) where
   block_same top n.GfmTable text kids inner f = ap (λ t. leaf (page.Table t)) (table_same names bytes kids f)
   block_same top n.GfmFootnoteDefinition text kids inner f = ap (λ label. one (page.Holds (page.Footnote label) inner)) (footnote_same kids f)
   block_same top n.ListUnordered text kids inner f = ap (λ loose. one (page.ItemList None loose inner)) (loose_same bytes kids f)
-  block_same top n.ListOrdered text kids inner f = ap₂ (λ number loose. one (page.ItemList (Some number) loose inner)) (number_same kids f) (loose_same bytes kids f)
+  block_same top n.ListOrdered text kids inner f = ap₂ (λ number loose. one (page.ItemList (Some number) loose inner))
+      (number_same kids f) (loose_same bytes kids f)
   block_same top name text kids inner f = refl
 
   mutual
@@ -174,7 +179,8 @@ module _ (names : Names) (bytes : List ℕ) where
         let inner = blocks_from names bytes (start_of enter.name) kids in
         let here = join (block_of names bytes false enter.name text kids inner) (blocks_of names bytes false ns) in
         by_cases (λ ms. blocks_from names bytes start ms ≡ blocks_from names bytes start (Cons (Around enter kids exit) ns)) enter kids exit ns f.0
-        (λ k is none far. skipped (blocks_from names bytes start) (λ i ms. if_no (same_name n.Data start) _ (blocks_from names bytes start ms) other) _ (suc k) (bytewise ns)
+        (λ k is none far. skipped (blocks_from names bytes start) (λ i ms. if_no (same_name n.Data start) _ (blocks_from names bytes start ms) other)
+        _ (suc k) (bytewise ns)
         ∙ from_same start other ns f.1
         ∙ sym (if_no (same_name enter.name start) here (blocks_from names bytes start ns) (ap (λ a. same_name a start) is ∙ other)))
         (ap₂ (λ found others. if same_name enter.name start then found else others)
@@ -188,7 +194,8 @@ module _ (names : Names) (bytes : List ℕ) where
 
   -- the string in a child of a child
   string_in : (outer inner string : Name) → IsOther outer → IsOther inner → IsOther string → (ns : Nodes) → AreFilled ns
-      → string_of names bytes (kids_in string (kids_in inner (kids_in outer (bytewise ns)))) ≡ string_of names bytes (kids_in string (kids_in inner (kids_in outer ns)))
+      → string_of names bytes (kids_in string (kids_in inner (kids_in outer (bytewise ns))))
+      ≡ string_of names bytes (kids_in string (kids_in inner (kids_in outer ns)))
   string_in outer inner string o i s ns f =
       let kids = kids_in inner (kids_in outer ns) in
       let filled = inner_filled outer inner ns f in

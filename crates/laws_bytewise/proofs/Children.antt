@@ -50,7 +50,7 @@ inside_kept (Some (Around enter kids exit)) = refl
 pub kids_same : (name : Name) → IsOther name → (ns : Nodes) → AreFilled ns → kids_in name (bytewise ns) ≡ bytewise (kids_in name ns)
 kids_same name other ns f = ap inside_of (child_same name other ns f) ∙ inside_kept (child name ns)
 
-some_kept : (found : Option Node) → is_some (option_map kept found) ≡ is_some found
+pub some_kept : (found : Option Node) → is_some (option_map kept found) ≡ is_some found
 some_kept None = refl
 some_kept (Some node) = refl
 
@@ -92,7 +92,8 @@ pub children_same : (name : Name) → IsOther name → (ns : Nodes) → AreFille
 children_same name other Nil f = refl
 children_same name other (Cons (Around enter kids exit) ns) f =
     by_cases (λ ms. children name ms ≡ map kept (children name (Cons (Around enter kids exit) ns))) enter kids exit ns f.0
-    (λ k is none far. skipped (children name) (λ i ms. if_no (same_name n.Data name) (byte_node i ∷ children name ms) (children name ms) other) _ (suc k) (bytewise ns)
+    (λ k is none far. skipped (children name) (λ i ms. if_no (same_name n.Data name) (byte_node i ∷ children name ms) (children name ms) other)
+    _ (suc k) (bytewise ns)
     ∙ children_same name other ns f.1
     ∙ sym (ap (map kept) (not_data name enter.name (Around enter kids exit ∷ children name ns) (children name ns) is other)))
     (if_same (map kept) (same_name enter.name name) (Around enter (bytewise kids) exit ∷ children name (bytewise ns)) (children name (bytewise ns))
@@ -101,7 +102,8 @@ children_same name other (Cons (Around enter kids exit) ns) f =
 
 -- ---- the last child
 
-ends_by_data : (name : Name) → IsOther name → (before : Bool) (i k : ℕ) (ns : Nodes) → ends_in name before (append (byte_nodes i (suc k)) ns) ≡ ends_in name false ns
+ends_by_data : (name : Name) → IsOther name → (before : Bool) (i k : ℕ) (ns : Nodes)
+    → ends_in name before (append (byte_nodes i (suc k)) ns) ≡ ends_in name false ns
 ends_by_data name other before i zero ns = ap (λ b. ends_in name b ns) other
 ends_by_data name other before i (suc k) ns = ends_by_data name other (same_name n.Data name) (i + 1) k ns
 

@@ -19,7 +19,7 @@ use Rattle.event_output.specs.Forest.{append, byte_node, byte_nodes, bytewise}
 use Rattle.laws_bytewise.specs.Filled.{IsFilled, AreFilled}
 use Rattle.laws_bytewise.specs.Laws.{LabelsAreTheSame}
 use Rattle.laws_bytewise.proofs.Nodes.{kept, by_cases, skipped}
-use Rattle.laws_bytewise.proofs.Children.{IsOther, if_no, if_same, not_data, AllFilled, IsFoundFilled}
+use Rattle.laws_bytewise.proofs.Children.{some_kept, IsOther, if_no, if_same, not_data, AllFilled, IsFoundFilled}
 use Rattle.laws_bytewise.proofs.Strings.{bytes_on, next_byte, data_bytes}
 
 -- ---- all nodes of a name
@@ -29,7 +29,8 @@ named_same name other Nil f = refl
 named_same name other (Cons (Around enter kids exit) ns) f =
     let here = if same_name enter.name name then Around enter kids exit ∷ named name kids else named name kids in
     by_cases (λ ms. named name ms ≡ map kept (here ++ named name ns)) enter kids exit ns f.0
-    (λ k is none far. skipped (named name) (λ i ms. ap (λ found. found ++ named name ms) (if_no (same_name n.Data name) (byte_node i ∷ []) [] other)) _ (suc k) (bytewise ns)
+    (λ k is none far. skipped (named name) (λ i ms. ap (λ found. found ++ named name ms) (if_no (same_name n.Data name) (byte_node i ∷ []) [] other))
+    _ (suc k) (bytewise ns)
     ∙ named_same name other ns f.1
     ∙ sym (ap (λ found. map kept (found ++ named name ns))
     (not_data name enter.name (Around enter kids exit ∷ named name kids) (named name kids) is other ∙ ap (named name) none)))
@@ -63,7 +64,8 @@ own_same name other Nil f = refl
 own_same name other (Cons (Around enter kids exit) ns) f =
     let found = if same_name enter.name name then Some (Around enter kids exit) else own name kids in
     by_cases (λ ms. own name ms ≡ option_map kept (own name (Cons (Around enter kids exit) ns))) enter kids exit ns f.0
-    (λ k is none far. skipped (own name) (λ i ms. ap (λ o. option_or o (own name ms)) (if_no (same_name n.Data name) (Some (byte_node i)) None other)) _ (suc k) (bytewise ns)
+    (λ k is none far. skipped (own name) (λ i ms. ap (λ o. option_or o (own name ms)) (if_no (same_name n.Data name) (Some (byte_node i)) None other))
+    _ (suc k) (bytewise ns)
     ∙ own_same name other ns f.1
     ∙ sym (ap (λ o. option_map kept (option_or o (own name ns)))
     (ap (λ a. if is_listed media_names a then None else found) is
@@ -84,13 +86,10 @@ pub own_filled : (name : Name) (ns : Nodes) → AreFilled ns → IsFoundFilled (
 own_filled name Nil f = tt
 own_filled name (Cons (Around enter kids exit) ns) f =
     or_filled (own_in name (Around enter kids exit)) (own name ns)
-    (cond_both (is_listed media_names enter.name) None (if same_name enter.name name then Some (Around enter kids exit) else own name kids) IsFoundFilled (λ _. tt)
+    (cond_both (is_listed media_names enter.name) None (if same_name enter.name name then Some (Around enter kids exit) else own name kids)
+    IsFoundFilled (λ _. tt)
     (λ _. cond_both (same_name enter.name name) (Some (Around enter kids exit)) (own name kids) IsFoundFilled (λ _. f.0) (λ _. own_filled name kids f.0.1)))
     (own_filled name ns f.1)
-
-pub some_same : (found : Option Node) → is_some (option_map kept found) ≡ is_some found
-some_same None = refl
-some_same (Some node) = refl
 
 -- ---- the text of a label
 
@@ -104,7 +103,8 @@ module _ (bytes : List ℕ) where
   none_between i = ap (λ k. take k (drop i bytes)) (sub_self i)
 
   -- the bytes of data, and what comes after these
-  text_bytes : (i k : ℕ) (ns : Nodes) (to : Spot) → nodes_text bytes (spot i 0) (append (byte_nodes i k) ns) to ≡ bytes_on bytes i k ++ nodes_text bytes (spot (i + k) 0) ns to
+  text_bytes : (i k : ℕ) (ns : Nodes) (to : Spot)
+      → nodes_text bytes (spot i 0) (append (byte_nodes i k) ns) to ≡ bytes_on bytes i k ++ nodes_text bytes (spot (i + k) 0) ns to
   text_bytes i zero ns to = let here : i ≡ i + 0 = omega arith in ap (λ j. nodes_text bytes (spot j 0) ns to) here
   text_bytes i (suc k) ns to =
       let here : (i + 1) + k ≡ i + suc k = omega arith in
@@ -114,7 +114,8 @@ module _ (bytes : List ℕ) where
 
   -- these bytes, from a spot before them
   text_from : (from : Spot) (i k : ℕ) (ns : Nodes) (to : Spot)
-      → nodes_text bytes from (append (byte_nodes i (suc k)) ns) to ≡ between (edge from) i bytes ++ (bytes_on bytes i (suc k) ++ nodes_text bytes (spot (i + suc k) 0) ns to)
+      → nodes_text bytes from (append (byte_nodes i (suc k)) ns) to
+      ≡ between (edge from) i bytes ++ (bytes_on bytes i (suc k) ++ nodes_text bytes (spot (i + suc k) 0) ns to)
   text_from from i k ns to =
       let others = between i (i + 1) bytes ++ nodes_text bytes (spot (i + 1) 0) (append (byte_nodes (i + 1) k) ns) to in
       ap (λ text. between (edge from) i bytes ++ text)
@@ -148,9 +149,11 @@ module _ (bytes : List ℕ) where
   -- the label of a link, an image or a call
   pub own_label_same : (ns : Nodes) → AreFilled ns → own_label bytes (bytewise ns) ≡ own_label bytes ns
   own_label_same ns f =
-      let label = λ (name : Name) (other : IsOther name). ap (option_map (label_text bytes)) (own_same name other ns f) ∙ label_found (own name ns) (own_filled name ns f) in
-      ap (λ b. if b then None else option_or (option_map (label_text bytes) (own n.ReferenceString (bytewise ns))) (option_map (label_text bytes) (own n.LabelText (bytewise ns))))
-      (ap is_some (own_same n.Resource refl ns f) ∙ some_same (own n.Resource ns))
+      let label = λ (name : Name) (other : IsOther name). ap (option_map (label_text bytes)) (own_same name other ns f)
+      ∙ label_found (own name ns) (own_filled name ns f) in
+      ap (λ b. if b then None else option_or (option_map (label_text bytes) (own n.ReferenceString (bytewise ns)))
+      (option_map (label_text bytes) (own n.LabelText (bytewise ns))))
+      (ap is_some (own_same n.Resource refl ns f) ∙ some_kept (own n.Resource ns))
       ∙ ap₂ (λ first second. if is_some (own n.Resource ns) then None else option_or first second) (label n.ReferenceString refl) (label n.LabelText refl)
 
 pub labels_are_the_same : LabelsAreTheSame

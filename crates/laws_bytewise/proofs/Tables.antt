@@ -19,7 +19,8 @@ use Rattle.event_meaning.specs.Raw.{ending_of, raw_part, raw_parts}
 use Rattle.event_output.specs.Forest.{bytewise}
 use Rattle.laws_bytewise.specs.Filled.{IsFilled, AreFilled}
 use Rattle.laws_bytewise.proofs.Nodes.{kept, by_cases, skipped}
-use Rattle.laws_bytewise.proofs.Children.{IsOther, not_data, has_same, kids_same, kids_filled, after_same, after_filled, before_same, before_filled, children_same, children_filled, AllFilled}
+use Rattle.laws_bytewise.proofs.Children.{IsOther, not_data, has_same, kids_same, kids_filled, after_same, after_filled, before_same, before_filled}
+use Rattle.laws_bytewise.proofs.Children.{children_same, children_filled, AllFilled}
 use Rattle.laws_bytewise.proofs.Labels.{named_same, named_filled}
 use Rattle.laws_bytewise.proofs.Texts.{within_same}
 
@@ -127,7 +128,8 @@ module _ (names : Names) (bytes : List ℕ) where
       (row_same kids (endings_before_row names bytes (bytewise ns)) (endings_before_row names bytes ns) f.0.1 (row_endings_same ns f.1)) (rows_same ns f.1))
 
   head_same : (ns : Nodes) → AreFilled ns
-      → row_of names bytes (kids_in n.GfmTableRow (bytewise ns)) (endings_in names bytes (before_child n.GfmTableDelimiterRow (after_child n.GfmTableRow (bytewise ns))))
+      → row_of names bytes (kids_in n.GfmTableRow (bytewise ns))
+      (endings_in names bytes (before_child n.GfmTableDelimiterRow (after_child n.GfmTableRow (bytewise ns))))
       ≡ row_of names bytes (kids_in n.GfmTableRow ns) (endings_in names bytes (before_child n.GfmTableDelimiterRow (after_child n.GfmTableRow ns)))
   head_same ns f =
       let ends : Nodes → List LineEnding = λ ms. endings_in names bytes (before_child n.GfmTableDelimiterRow (after_child n.GfmTableRow ms)) in

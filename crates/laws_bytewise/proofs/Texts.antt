@@ -9,7 +9,8 @@ use Rattle.engine_events.specs.declared.event.Name.{Name}
 use Rattle.engine_events.specs.declared.event.Name.TheVariants as n
 use Rattle.definition_inline.specs.CharacterReference.{Names}
 use Rattle.definition_inline.specs.CodeText.{without_padding}
-use Rattle.definition_inline.specs.Inline.{Resource, Reference, Data, Escape, Character, Code, Math, Autolink, TaskCheck, Link, Image, Leaf, Linked, Call, Inlines}
+use Rattle.definition_inline.specs.Inline.{Resource, Reference, Data, Escape, Character, Code, Math, Autolink, TaskCheck, Link, Image, Leaf, Linked}
+use Rattle.definition_inline.specs.Inline.{Call, Inlines}
 use Rattle.definition_inline.specs.Inline as inline
 use Rattle.event_grammar.specs.Checks.{spot_of}
 use Rattle.event_grammar.specs.Points.{edge}
@@ -17,17 +18,19 @@ use Rattle.event_grammar.specs.References.{own}
 use Rattle.event_grammar.specs.Trees.{Node, Nodes, Around, Nil, Cons}
 use Rattle.event_meaning.specs.Children.{child, after_child, before_child, text_of, text_in}
 use Rattle.event_meaning.specs.Strings.{written}
-use Rattle.event_meaning.specs.Texts.{append, part, leaves, text_names, code_part, code_parts, code_of, html_part, html_parts, autolink_of, written_string, resource_of, label_or_none, label_codes, target_of, text_part, inlines_of, text_within}
+use Rattle.event_meaning.specs.Texts.{append, part, leaves, text_names, code_part, code_parts, code_of, html_part, html_parts, autolink_of}
+use Rattle.event_meaning.specs.Texts.{written_string, resource_of, label_or_none, label_codes, target_of, text_part, inlines_of, text_within}
 use Rattle.event_output.specs.Forest as forest
 use Rattle.event_output.specs.Forest.{byte_nodes, bytewise}
 use Rattle.laws_bytewise.specs.Filled.{AreFilled}
 use Rattle.laws_bytewise.specs.Laws.{TextsSpellTheSame}
 use Rattle.laws_bytewise.proofs.Nodes.{kept, by_cases, skipped}
-use Rattle.laws_bytewise.proofs.Children.{IsOther, has_same, after_same, after_filled, before_same, before_filled, text_same, IsFoundFilled}
-use Rattle.laws_bytewise.proofs.Labels.{own_same, own_filled, some_same, own_label_same}
+use Rattle.laws_bytewise.proofs.Children.{some_kept, IsOther, has_same, after_same, after_filled, before_same, before_filled, text_same, IsFoundFilled}
+use Rattle.laws_bytewise.proofs.Labels.{own_same, own_filled, own_label_same}
 use Rattle.laws_bytewise.proofs.Strings.{bytes_on, next_byte, data_bytes, reference_same, string_same}
 
-leaves_both : (front back : List ℕ) (is : Inlines) → append (leaves (map Data front)) (append (leaves (map Data back)) is) ≡ append (leaves (map Data (front ++ back))) is
+leaves_both : (front back : List ℕ) (is : Inlines)
+    → append (leaves (map Data front)) (append (leaves (map Data back)) is) ≡ append (leaves (map Data (front ++ back))) is
 leaves_both [] back is = refl
 leaves_both (b ∷ front) back is = ap (inline.Cons (Leaf (Data b))) (leaves_both front back is)
 
@@ -54,7 +57,8 @@ module _ (names : Names) (bytes : List ℕ) where
   code_same sequence other ns f =
       let after = after_child sequence ns in
       let filled = after_filled sequence ns f in
-      ap (λ ms. without_padding (code_parts names bytes ms)) (ap (before_child sequence) (after_same sequence other ns f) ∙ before_same sequence other after filled)
+      ap (λ ms. without_padding (code_parts names bytes ms))
+      (ap (before_child sequence) (after_same sequence other ns f) ∙ before_same sequence other after filled)
       ∙ ap without_padding (code_parts_same (before_child sequence after) (before_filled sequence after filled))
 
   -- ---- raw HTML
@@ -81,12 +85,14 @@ module _ (names : Names) (bytes : List ℕ) where
   written_found None f = refl
   written_found (Some (Around enter kids exit)) f = ap written (string_same names bytes kids f.1)
 
-  own_string : (name : Name) → IsOther name → (ns : Nodes) → AreFilled ns → written_string names bytes (own name (bytewise ns)) ≡ written_string names bytes (own name ns)
+  own_string : (name : Name) → IsOther name → (ns : Nodes) → AreFilled ns
+      → written_string names bytes (own name (bytewise ns)) ≡ written_string names bytes (own name ns)
   own_string name other ns f = ap (written_string names bytes) (own_same name other ns f) ∙ written_found (own name ns) (own_filled name ns f)
 
   resource_same : (ns : Nodes) → AreFilled ns → resource_of names bytes (bytewise ns) ≡ resource_of names bytes ns
   resource_same ns f =
-      ap₂ (λ destination title. Resource destination (Some title)) (own_string n.ResourceDestinationString refl ns f) (own_string n.ResourceTitleString refl ns f)
+      ap₂ (λ destination title. Resource destination (Some title)) (own_string n.ResourceDestinationString refl ns f)
+      (own_string n.ResourceTitleString refl ns f)
 
   label_codes_same : (ns : Nodes) → AreFilled ns → label_codes names bytes (bytewise ns) ≡ label_codes names bytes ns
   label_codes_same ns f = ap (label_or_none names bytes) (own_label_same bytes ns f)
@@ -94,7 +100,7 @@ module _ (names : Names) (bytes : List ℕ) where
   target_same : (ns : Nodes) → AreFilled ns → target_of names bytes (bytewise ns) ≡ target_of names bytes ns
   target_same ns f =
       ap (λ b. if b then resource_of names bytes (bytewise ns) else Reference (label_codes names bytes (bytewise ns)))
-      (ap is_some (own_same n.Resource refl ns f) ∙ some_same (own n.Resource ns))
+      (ap is_some (own_same n.Resource refl ns f) ∙ some_kept (own n.Resource ns))
       ∙ ap₂ (λ resource label. if is_some (own n.Resource ns) then resource else Reference label) (resource_same ns f) (label_codes_same ns f)
 
   -- ---- parts
@@ -129,7 +135,8 @@ module _ (names : Names) (bytes : List ℕ) where
         let inside = linked || same_name enter.name n.Link in
         by_cases (λ ms. inlines_of names bytes linked ms ≡ inlines_of names bytes linked (Cons (Around enter kids exit) ns)) enter kids exit ns f.0
         (λ k is none far. inlines_bytes linked (edge (spot_of enter)) (suc k) (bytewise ns)
-        ∙ ap₂ (λ t is. append (leaves (map Data t)) is) (sym (data_bytes bytes (edge (spot_of enter)) (edge (spot_of exit)) (suc k) far)) (inlines_same linked ns f.1)
+        ∙ ap₂ (λ t is. append (leaves (map Data t)) is) (sym (data_bytes bytes (edge (spot_of enter)) (edge (spot_of exit)) (suc k) far))
+        (inlines_same linked ns f.1)
         ∙ sym (ap (λ a. append (text_part names bytes linked a text kids (text_within names bytes inside kids)) (inlines_of names bytes linked ns)) is))
         (ap₂ append
         (ap (text_part names bytes linked enter.name text (bytewise kids)) (within_same inside kids f.0.1)

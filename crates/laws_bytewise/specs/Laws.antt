@@ -39,4 +39,5 @@ EventsSpellTheSame =
 -- The events of drafts have no empty data if the drafts make none.
 abbrev pub DraftsAreFilled : Type 0
 DraftsAreFilled =
-    (text : List ℕ) (ds : List Draft) (events : List Event) → events ≡ drafts_events text first_end ds → HaveNoEmptyData text first_end ds → AreFilled (tree events)
+    (text : List ℕ) (ds : List Draft) (events : List Event) → events ≡ drafts_events text first_end ds
+    → HaveNoEmptyData text first_end ds → AreFilled (tree events)
