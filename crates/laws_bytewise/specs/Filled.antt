@@ -1,4 +1,4 @@
--- Nodes in which no data is empty, as those of the events of a text are.
+-- Nodes in which no data is empty. Data that is some columns of one tab has no byte.
 use Rattle.std.specs.Prelude.{◌≡◌, ◌<◌, ℕ, List, [], ◌∷◌}
 use Rattle.engine_events.specs.declared.event.Name.TheVariants as n
 use Rattle.event_grammar.specs.Checks.{spot_of}
