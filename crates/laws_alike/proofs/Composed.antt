@@ -1,19 +1,23 @@
 -- Parts of texts and blocks, one after another, are alike if each is.
-use Rattle.std.proofs.Common.{◌≡◌, Bool, false, ◌&&◌, not, if◌then◌else◌, List, [], ◌∷◌, None, Some, refl, sym, ap, ◌∙◌, subst}
+use Rattle.std.proofs.Common.{◌≡◌, Bool, true, false, ◌++◌, ◌&&◌, not, if◌then◌else◌, List, [], ◌∷◌, None, Some, refl, sym, ap, ◌∙◌, subst}
 use Rattle.definition_text.proofs.Each.{Each}
 use Rattle.definition_block.specs.Blocks as tree
+use Rattle.definition_block.specs.Lists.{is_loose}
+use Rattle.definition_inline.specs.Definition.{Definition}
 use Rattle.definition_inline.specs.Inline.{InlineLeaf, Html, Inline, Leaf, Span, Linked, Call, Inlines, Nil, Cons}
 use Rattle.definition_page.specs.GfmTable.{leaf_in_cell, part_in_cell, in_cell}
 use Rattle.definition_page.specs.InlinePieces.{Meaning}
 use Rattle.definition_page.specs.Page.{Blocks}
 use Rattle.definition_page.specs.Page as page
-use Rattle.definition_page.specs.Read.{Reading, Standing, next_standing, without_ending, after_leaf, read_leaf, read_block, read_blocks}
+use Rattle.definition_page.specs.Read.{Reading, Standing, in_container, list_number, next_standing, standing_in, read_container, without_ending}
+use Rattle.definition_page.specs.Read.{after_leaf, read_leaf, read_block, read_blocks}
 use Rattle.event_meaning.specs.Blocks.{join}
 use Rattle.event_meaning.specs.Texts.{append, leaves}
-use Rattle.laws_alike.specs.Composed.{standing_after, AlikePartsCompose, AlikeBlocksCompose}
+use Rattle.laws_alike.specs.Composed.{is_unclosed, ends_unclosed, after_unclosed, standing_after, AlikePartsCompose, AlikeBlocksCompose}
 use Rattle.laws_alike.specs.HtmlText.{html_leaves}
 use Rattle.laws_alike.specs.Inline.{leaf_parts, IsPartAlike, ArePartsAlike}
 use Rattle.laws_alike.specs.Page.{AreBlocksAlike}
+use Rattle.laws_alike.specs.Targets.{AreDefinitionsAlike}
 use Rattle.laws_alike.proofs.HtmlText.{each_piece}
 
 append_assoc : (is js ks : Inlines) → append (append is js) ks ≡ append is (append js ks)
@@ -97,9 +101,67 @@ module _ (r : Reading) where
       ap (read_block r standing b) (read_joined next bs cs h)
       ∙ read_before standing b (read_blocks r next bs) (read_blocks r (standing_after next bs) cs) h
 
+-- at the top an ending may be left out after a leaf
+after_leaf_top : (top : Bool) (leaf : tree.LeafBlock) (bs : Blocks) → top ≡ true → after_leaf top leaf bs ≡ after_unclosed (is_unclosed leaf) bs
+after_leaf_top top (tree.FencedCode info is_closed ls) bs h = ap (λ t. if t && not is_closed then without_ending bs else bs) h
+after_leaf_top top leaf bs h = refl
+
+-- what isn't an ending stays
+kept : (t : Bool) (bs : Blocks) → without_ending bs ≡ bs → after_unclosed t bs ≡ bs
+kept true bs h = h
+kept false bs h = refl
+
+module _ (r : Reading) where
+  -- blocks at the top, after others of which the last is unclosed code or isn't
+  top_joined : (before : Bool) (standing : Standing) (bs cs : tree.Blocks) → standing.top ≡ true
+      → after_unclosed before (read_blocks r standing (tree.join bs cs))
+      ≡ join (after_unclosed before (read_blocks r standing bs)) (after_unclosed (ends_unclosed before bs) (read_blocks r (standing_after standing bs) cs))
+  top_joined true standing tree.Nil cs h = refl
+  top_joined false standing tree.Nil cs h = refl
+  top_joined before standing (tree.Cons (tree.Leaf leaf) bs) cs h =
+      let first = page.Leaf (read_leaf r standing leaf) in
+      let next = next_standing standing (tree.Leaf leaf) in
+      kept before (page.Cons first (after_leaf standing.top leaf (read_blocks r next (tree.join bs cs)))) refl
+      ∙ ap (page.Cons first) (after_leaf_top standing.top leaf (read_blocks r next (tree.join bs cs)) h ∙ top_joined (is_unclosed leaf) next bs cs h)
+      ∙ ap (λ others. page.Cons first (join others (after_unclosed (ends_unclosed (is_unclosed leaf) bs) (read_blocks r (standing_after next bs) cs))))
+      (sym (after_leaf_top standing.top leaf (read_blocks r next bs) h))
+      ∙ ap (λ all. join all (after_unclosed (ends_unclosed (is_unclosed leaf) bs) (read_blocks r (standing_after next bs) cs)))
+      (sym (kept before (page.Cons first (after_leaf standing.top leaf (read_blocks r next bs))) refl))
+  top_joined true standing (tree.Cons (tree.Ending (Some ending)) bs) cs h = top_joined false (next_standing standing (tree.Ending (Some ending))) bs cs h
+  top_joined false standing (tree.Cons (tree.Ending (Some ending)) bs) cs h =
+      ap (page.Cons (page.Ending ending)) (top_joined false (next_standing standing (tree.Ending (Some ending))) bs cs h)
+  top_joined before standing (tree.Cons (tree.Ending None) bs) cs h = top_joined before (next_standing standing (tree.Ending None)) bs cs h
+  top_joined before standing (tree.Cons (tree.Blank None) bs) cs h = top_joined before (next_standing standing (tree.Blank None)) bs cs h
+  top_joined true standing (tree.Cons (tree.Blank (Some ending)) bs) cs h =
+      ap (page.Cons (page.Blank ending)) (top_joined false (next_standing standing (tree.Blank (Some ending))) bs cs h)
+  top_joined false standing (tree.Cons (tree.Blank (Some ending)) bs) cs h =
+      ap (page.Cons (page.Blank ending)) (top_joined false (next_standing standing (tree.Blank (Some ending))) bs cs h)
+  top_joined true standing (tree.Cons (tree.Holds c kids) bs) cs h =
+      ap (page.Cons (page.Holds (read_container c) (read_blocks r (standing_in c) kids))) (top_joined false (next_standing standing (tree.Holds c kids)) bs cs h)
+  top_joined false standing (tree.Cons (tree.Holds c kids) bs) cs h =
+      ap (page.Cons (page.Holds (read_container c) (read_blocks r (standing_in c) kids))) (top_joined false (next_standing standing (tree.Holds c kids)) bs cs h)
+  top_joined true standing (tree.Cons (tree.Items items) bs) cs h =
+      ap (page.Cons (page.ItemList (list_number items) (is_loose items) (read_blocks r in_container items)))
+      (top_joined false (next_standing standing (tree.Items items)) bs cs h)
+  top_joined false standing (tree.Cons (tree.Items items) bs) cs h =
+      ap (page.Cons (page.ItemList (list_number items) (is_loose items) (read_blocks r in_container items)))
+      (top_joined false (next_standing standing (tree.Items items)) bs cs h)
+
+-- ---- definitions
+
+module _ (m m' : Meaning) where
+  definitions_joined : (ds ds' es es' : List Definition) → AreDefinitionsAlike m m' ds ds' → AreDefinitionsAlike m m' es es'
+      → AreDefinitionsAlike m m' (ds ++ es) (ds' ++ es')
+  definitions_joined [] [] es es' p q = q
+  definitions_joined [] (d' ∷ ds') es es' p q = absurd p
+  definitions_joined (d ∷ ds) [] es es' p q = absurd p
+  definitions_joined (d ∷ ds) (d' ∷ ds') es es' p q = (p.0, definitions_joined ds ds' es es' p.1 q)
+
 pub alike_blocks_compose : AlikeBlocksCompose
 alike_blocks_compose =
     record {
       joined = λ m m' bs bs' cs cs' p q. blocks_joined m m' bs bs' cs cs' p q;
       read = λ r standing bs cs h. read_joined r standing bs cs h;
+      read_top = λ r standing bs cs h. top_joined r false standing bs cs h;
+      defined = definitions_joined;
     }

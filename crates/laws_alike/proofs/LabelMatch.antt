@@ -44,7 +44,7 @@ split-space (c ∷ cs) ds s h =
 -- ---- words
 
 -- a space stands between words
-words-space : (cs ds : List Code) (s : Code) → is_space s ≡ true → words (cs ++ s ∷ ds) ≡ words cs ++ words ds
+pub words-space : (cs ds : List Code) (s : Code) → is_space s ≡ true → words (cs ++ s ∷ ds) ≡ words cs ++ words ds
 words-space cs ds s h = ap (filter is_word) (split-space cs ds s h) ∙ filter-append is_word (slice_split is_space cs) (slice_split is_space ds)
 
 -- spaces at the start are no words

@@ -22,7 +22,7 @@ pub each_byte : (text : List ℕ) → IsOfBytes text → Each IsByte text
 each_byte [] h = tt
 each_byte (b ∷ bs) h = (h 0, each_byte bs (λ k. h (suc k)))
 
-at_byte : (text : List ℕ) → Each IsByte text → IsOfBytes text
+pub at_byte : (text : List ℕ) → Each IsByte text → IsOfBytes text
 at_byte [] h k = omega arith
 at_byte (b ∷ bs) h zero = h.0
 at_byte (b ∷ bs) h (suc k) = at_byte bs h.1 k
@@ -44,7 +44,7 @@ character number =
     cond_both (is_replaced number) 0xFFFD number (λ c. c < 0x11_0000) (λ _. omega arith)
     (λ h. leb-false 0x11_0000 number (or_parts _ (nat_le 0x11_0000 number) h).1)
 
-numbered : (number : ℕ) → Each IsByte (numbered_text number)
+pub numbered : (number : ℕ) → Each IsByte (numbered_text number)
 numbered number = encoded (character_of number) (character number)
 
 named : (found : Option (List ℕ)) → ((text : List ℕ) → found ≡ Some text → IsOfBytes text) → Each IsByte (unwrap_or found [])

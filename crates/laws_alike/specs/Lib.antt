@@ -11,4 +11,5 @@ pub mod Composed
 pub mod Raw
 pub mod GfmFootnoteDefinition
 pub mod Spelled
+pub mod Meanings
 pub mod Examples

@@ -5,4 +5,5 @@ pub mod Labels
 pub mod Texts
 pub mod Tables
 pub mod Blocks
+pub mod InGrammar
 pub mod Events

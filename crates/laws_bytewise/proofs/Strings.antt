@@ -11,7 +11,7 @@ use Rattle.event_grammar.specs.Trees.{Nodes, Around, Nil, Cons}
 use Rattle.event_meaning.specs.Children.{child, text_of, text_in}
 use Rattle.event_meaning.specs.Strings.{reference_text_of, string_part, string_of}
 use Rattle.event_output.specs.Forest.{append, byte_nodes, bytewise}
-use Rattle.laws_bytewise.specs.Filled.{AreFilled}
+use Rattle.laws_bytewise.specs.Sound.{AreSound}
 use Rattle.laws_bytewise.specs.Laws.{StringsSpellTheSame}
 use Rattle.laws_bytewise.proofs.Nodes.{by_cases}
 use Rattle.laws_bytewise.proofs.Children.{has_same, text_same}
@@ -48,7 +48,7 @@ module _ (names : Names) (bytes : List ℕ) where
       ∙ sym (append_assoc (between i (i + 1) bytes) (bytes_on bytes (i + 1) k) (string_of names bytes ns))
       ∙ ap (λ text. text ++ string_of names bytes ns) (next_byte bytes i k)
 
-  pub reference_same : (ns : Nodes) → AreFilled ns → reference_text_of names bytes (bytewise ns) ≡ reference_text_of names bytes ns
+  pub reference_same : (ns : Nodes) → AreSound ns → reference_text_of names bytes (bytewise ns) ≡ reference_text_of names bytes ns
   reference_same ns f =
       let value = text_in bytes n.CharacterReferenceValue in
       ap₂ (λ h v. if h then numbered_text (number_of 16 v)
@@ -58,7 +58,7 @@ module _ (names : Names) (bytes : List ℕ) where
       else (if d then numbered_text (number_of 10 (value ns)) else unwrap_or (names (value ns)) []))
       (has_same n.CharacterReferenceMarkerNumeric refl ns f)
 
-  part_same : (name : Name) (text : List ℕ) (kids : Nodes) → AreFilled kids
+  part_same : (name : Name) (text : List ℕ) (kids : Nodes) → AreSound kids
       → string_part names bytes name text (bytewise kids) ≡ string_part names bytes name text kids
   part_same n.CharacterEscape text kids f = text_same bytes n.CharacterEscapeValue refl kids f
   part_same n.CharacterReference text kids f = reference_same kids f
@@ -66,13 +66,13 @@ module _ (names : Names) (bytes : List ℕ) where
   part_same n.LineEnding text kids f = refl
   part_same name text kids f = refl
 
-  pub string_same : (ns : Nodes) → AreFilled ns → string_of names bytes (bytewise ns) ≡ string_of names bytes ns
+  pub string_same : (ns : Nodes) → AreSound ns → string_of names bytes (bytewise ns) ≡ string_of names bytes ns
   string_same Nil f = refl
   string_same (Cons (Around enter kids exit) ns) f =
       let text = text_of bytes (Around enter kids exit) in
       by_cases (λ ms. string_of names bytes ms ≡ string_of names bytes (Cons (Around enter kids exit) ns)) enter kids exit ns f.0
-      (λ k is none far. string_bytes (edge (spot_of enter)) (suc k) (bytewise ns)
-      ∙ ap₂ (λ front back. front ++ back) (sym (data_bytes bytes (edge (spot_of enter)) (edge (spot_of exit)) (suc k) far)) (string_same ns f.1)
+      (λ k is none far. string_bytes (edge (spot_of enter)) k (bytewise ns)
+      ∙ ap₂ (λ front back. front ++ back) (sym (data_bytes bytes (edge (spot_of enter)) (edge (spot_of exit)) k far)) (string_same ns f.1)
       ∙ ap (λ name. string_part names bytes name text kids ++ string_of names bytes ns) (sym is))
       (ap₂ (λ front back. front ++ back) (part_same enter.name text kids f.0.1) (string_same ns f.1))
 

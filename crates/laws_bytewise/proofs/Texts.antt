@@ -22,11 +22,11 @@ use Rattle.event_meaning.specs.Texts.{append, part, leaves, text_names, code_par
 use Rattle.event_meaning.specs.Texts.{written_string, resource_of, label_or_none, label_codes, target_of, text_part, inlines_of, text_within}
 use Rattle.event_output.specs.Forest as forest
 use Rattle.event_output.specs.Forest.{byte_nodes, bytewise}
-use Rattle.laws_bytewise.specs.Filled.{AreFilled}
+use Rattle.laws_bytewise.specs.Sound.{AreSound}
 use Rattle.laws_bytewise.specs.Laws.{TextsSpellTheSame}
 use Rattle.laws_bytewise.proofs.Nodes.{kept, by_cases, skipped}
-use Rattle.laws_bytewise.proofs.Children.{some_kept, IsOther, has_same, after_same, after_filled, before_same, before_filled, text_same, IsFoundFilled}
-use Rattle.laws_bytewise.proofs.Labels.{own_same, own_filled, own_label_same}
+use Rattle.laws_bytewise.proofs.Children.{some_kept, IsOther, has_same, after_same, after_sound, before_same, before_sound, text_same, IsFoundSound}
+use Rattle.laws_bytewise.proofs.Labels.{own_same, own_sound, own_label_same}
 use Rattle.laws_bytewise.proofs.Strings.{bytes_on, next_byte, data_bytes, reference_same, string_same}
 
 leaves_both : (front back : List ℕ) (is : Inlines)
@@ -44,60 +44,60 @@ module _ (names : Names) (bytes : List ℕ) where
   code_part_same n.MathTextData enter kids others exit = refl
   code_part_same name enter kids others exit = refl
 
-  code_parts_same : (ns : Nodes) → AreFilled ns → code_parts names bytes (bytewise ns) ≡ code_parts names bytes ns
+  code_parts_same : (ns : Nodes) → AreSound ns → code_parts names bytes (bytewise ns) ≡ code_parts names bytes ns
   code_parts_same Nil f = refl
   code_parts_same (Cons (Around enter kids exit) ns) f =
       by_cases (λ ms. code_parts names bytes ms ≡ code_parts names bytes (Cons (Around enter kids exit) ns)) enter kids exit ns f.0
-      (λ k is none far. skipped (code_parts names bytes) (λ i ms. refl) _ (suc k) (bytewise ns)
+      (λ k is none far. skipped (code_parts names bytes) (λ i ms. refl) _ k (bytewise ns)
       ∙ code_parts_same ns f.1
       ∙ sym (ap (λ a. code_part names bytes a (Around enter kids exit) ++ code_parts names bytes ns) is))
       (ap₂ (λ front back. front ++ back) (code_part_same enter.name enter (bytewise kids) kids exit) (code_parts_same ns f.1))
 
-  code_same : (sequence : Name) → IsOther sequence → (ns : Nodes) → AreFilled ns → code_of names bytes sequence (bytewise ns) ≡ code_of names bytes sequence ns
+  code_same : (sequence : Name) → IsOther sequence → (ns : Nodes) → AreSound ns → code_of names bytes sequence (bytewise ns) ≡ code_of names bytes sequence ns
   code_same sequence other ns f =
       let after = after_child sequence ns in
-      let filled = after_filled sequence ns f in
+      let sound = after_sound sequence ns f in
       ap (λ ms. without_padding (code_parts names bytes ms))
-      (ap (before_child sequence) (after_same sequence other ns f) ∙ before_same sequence other after filled)
-      ∙ ap without_padding (code_parts_same (before_child sequence after) (before_filled sequence after filled))
+      (ap (before_child sequence) (after_same sequence other ns f) ∙ before_same sequence other after sound)
+      ∙ ap without_padding (code_parts_same (before_child sequence after) (before_sound sequence after sound))
 
   -- ---- raw HTML
 
-  html_parts_same : (ns : Nodes) → AreFilled ns → html_parts names bytes (bytewise ns) ≡ html_parts names bytes ns
+  html_parts_same : (ns : Nodes) → AreSound ns → html_parts names bytes (bytewise ns) ≡ html_parts names bytes ns
   html_parts_same Nil f = refl
   html_parts_same (Cons (Around enter kids exit) ns) f =
       by_cases (λ ms. html_parts names bytes ms ≡ html_parts names bytes (Cons (Around enter kids exit) ns)) enter kids exit ns f.0
-      (λ k is none far. skipped (html_parts names bytes) (λ i ms. refl) _ (suc k) (bytewise ns)
+      (λ k is none far. skipped (html_parts names bytes) (λ i ms. refl) _ k (bytewise ns)
       ∙ html_parts_same ns f.1
       ∙ sym (ap (λ a. append (html_part names bytes a (text_of bytes (Around enter kids exit))) (html_parts names bytes ns)) is))
       (ap (append (html_part names bytes enter.name (text_of bytes (Around enter kids exit)))) (html_parts_same ns f.1))
 
   -- ---- links
 
-  autolink_same : (ns : Nodes) → AreFilled ns → autolink_of names bytes (bytewise ns) ≡ autolink_of names bytes ns
+  autolink_same : (ns : Nodes) → AreSound ns → autolink_of names bytes (bytewise ns) ≡ autolink_of names bytes ns
   autolink_same ns f =
       ap (λ b. if b then Autolink true (text_in bytes n.AutolinkEmail (bytewise ns)) else Autolink false (text_in bytes n.AutolinkProtocol (bytewise ns)))
       (has_same n.AutolinkEmail refl ns f)
       ∙ ap₂ (λ email protocol. if is_some (child n.AutolinkEmail ns) then Autolink true email else Autolink false protocol)
       (text_same bytes n.AutolinkEmail refl ns f) (text_same bytes n.AutolinkProtocol refl ns f)
 
-  written_found : (found : Option Node) → IsFoundFilled found → written_string names bytes (option_map kept found) ≡ written_string names bytes found
+  written_found : (found : Option Node) → IsFoundSound found → written_string names bytes (option_map kept found) ≡ written_string names bytes found
   written_found None f = refl
   written_found (Some (Around enter kids exit)) f = ap written (string_same names bytes kids f.1)
 
-  own_string : (name : Name) → IsOther name → (ns : Nodes) → AreFilled ns
+  own_string : (name : Name) → IsOther name → (ns : Nodes) → AreSound ns
       → written_string names bytes (own name (bytewise ns)) ≡ written_string names bytes (own name ns)
-  own_string name other ns f = ap (written_string names bytes) (own_same name other ns f) ∙ written_found (own name ns) (own_filled name ns f)
+  own_string name other ns f = ap (written_string names bytes) (own_same name other ns f) ∙ written_found (own name ns) (own_sound name ns f)
 
-  resource_same : (ns : Nodes) → AreFilled ns → resource_of names bytes (bytewise ns) ≡ resource_of names bytes ns
+  resource_same : (ns : Nodes) → AreSound ns → resource_of names bytes (bytewise ns) ≡ resource_of names bytes ns
   resource_same ns f =
       ap₂ (λ destination title. Resource destination (Some title)) (own_string n.ResourceDestinationString refl ns f)
       (own_string n.ResourceTitleString refl ns f)
 
-  label_codes_same : (ns : Nodes) → AreFilled ns → label_codes names bytes (bytewise ns) ≡ label_codes names bytes ns
+  label_codes_same : (ns : Nodes) → AreSound ns → label_codes names bytes (bytewise ns) ≡ label_codes names bytes ns
   label_codes_same ns f = ap (label_or_none names bytes) (own_label_same bytes ns f)
 
-  target_same : (ns : Nodes) → AreFilled ns → target_of names bytes (bytewise ns) ≡ target_of names bytes ns
+  target_same : (ns : Nodes) → AreSound ns → target_of names bytes (bytewise ns) ≡ target_of names bytes ns
   target_same ns f =
       ap (λ b. if b then resource_of names bytes (bytewise ns) else Reference (label_codes names bytes (bytewise ns)))
       (ap is_some (own_same n.Resource refl ns f) ∙ some_kept (own n.Resource ns))
@@ -105,7 +105,7 @@ module _ (names : Names) (bytes : List ℕ) where
 
   -- ---- parts
 
-  text_part_same : (linked : Bool) (name : Name) (text : List ℕ) (kids : Nodes) (inner : Inlines) → AreFilled kids
+  text_part_same : (linked : Bool) (name : Name) (text : List ℕ) (kids : Nodes) (inner : Inlines) → AreSound kids
       → text_part names bytes linked name text (bytewise kids) inner ≡ text_part names bytes linked name text kids inner
   text_part_same linked n.CharacterEscape text kids inner f = ap (λ t. leaves (map Escape t)) (text_same bytes n.CharacterEscapeValue refl kids f)
   text_part_same linked n.CharacterReference text kids inner f = ap (λ t. part (Leaf (Character t))) (reference_same names bytes kids f)
@@ -128,14 +128,14 @@ module _ (names : Names) (bytes : List ℕ) where
       ∙ ap (λ text. append (leaves (map Data text)) (inlines_of names bytes linked ns)) (next_byte bytes i k)
 
   mutual
-    pub inlines_same : (linked : Bool) (ns : Nodes) → AreFilled ns → inlines_of names bytes linked (bytewise ns) ≡ inlines_of names bytes linked ns
+    pub inlines_same : (linked : Bool) (ns : Nodes) → AreSound ns → inlines_of names bytes linked (bytewise ns) ≡ inlines_of names bytes linked ns
     inlines_same linked Nil f = refl
     inlines_same linked (Cons (Around enter kids exit) ns) f =
         let text = text_of bytes (Around enter kids exit) in
         let inside = linked || same_name enter.name n.Link in
         by_cases (λ ms. inlines_of names bytes linked ms ≡ inlines_of names bytes linked (Cons (Around enter kids exit) ns)) enter kids exit ns f.0
-        (λ k is none far. inlines_bytes linked (edge (spot_of enter)) (suc k) (bytewise ns)
-        ∙ ap₂ (λ t is. append (leaves (map Data t)) is) (sym (data_bytes bytes (edge (spot_of enter)) (edge (spot_of exit)) (suc k) far))
+        (λ k is none far. inlines_bytes linked (edge (spot_of enter)) k (bytewise ns)
+        ∙ ap₂ (λ t is. append (leaves (map Data t)) is) (sym (data_bytes bytes (edge (spot_of enter)) (edge (spot_of exit)) k far))
         (inlines_same linked ns f.1)
         ∙ sym (ap (λ a. append (text_part names bytes linked a text kids (text_within names bytes inside kids)) (inlines_of names bytes linked ns)) is))
         (ap₂ append
@@ -143,11 +143,11 @@ module _ (names : Names) (bytes : List ℕ) where
         ∙ text_part_same linked enter.name text kids (text_within names bytes inside kids) f.0.1)
         (inlines_same linked ns f.1))
 
-    pub within_same : (linked : Bool) (ns : Nodes) → AreFilled ns → text_within names bytes linked (bytewise ns) ≡ text_within names bytes linked ns
+    pub within_same : (linked : Bool) (ns : Nodes) → AreSound ns → text_within names bytes linked (bytewise ns) ≡ text_within names bytes linked ns
     within_same linked Nil f = refl
     within_same linked (Cons (Around enter kids exit) ns) f =
         by_cases (λ ms. text_within names bytes linked ms ≡ text_within names bytes linked (Cons (Around enter kids exit) ns)) enter kids exit ns f.0
-        (λ k is none far. skipped (text_within names bytes linked) (λ i ms. refl) _ (suc k) (bytewise ns)
+        (λ k is none far. skipped (text_within names bytes linked) (λ i ms. refl) _ k (bytewise ns)
         ∙ within_same linked ns f.1
         ∙ sym (ap (λ a. if is_listed text_names a then inlines_of names bytes linked kids
         else (if same_name a n.Label then text_within names bytes linked kids else text_within names bytes linked ns)) is))

@@ -1,3 +1,3 @@
-pub mod Filled
+pub mod Sound
 pub mod Laws
 pub mod Examples

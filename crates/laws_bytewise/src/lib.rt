@@ -2,7 +2,7 @@
 #![tactic(auto)]
 
 ghost use Rattle.laws_bytewise.specs.Examples.{RefusedExample};
-ghost use Rattle.laws_bytewise.specs.Laws.{DraftsAreFilled, EventsSpellTheSame, LabelsAreTheSame, PagesSpellTheSame, StringsSpellTheSame, TextsSpellTheSame};
+ghost use Rattle.laws_bytewise.specs.Laws.{EventsSpellTheSame, GrammarIsSound, LabelsAreTheSame, PagesSpellTheSame, StringsSpellTheSame, TextsSpellTheSame};
 
 /// A string spells the same with its data cut into bytes.
 #[tactic(auto, using(crate::proofs::Strings::strings_spell_the_same))]
@@ -25,15 +25,16 @@ pub fn pages_law()
     ensures { PagesSpellTheSame }
 {}
 
-/// A list of events spells the page of its nodes with their data cut into bytes. So it doesn't matter
-/// how data is joined where a list is made.
-pub fn events_law()
-    ensures { EventsSpellTheSame }
+/// Nodes of a list in the grammar are such nodes: places are in order, data holds no other, and stands
+/// in no place where it counts what is last.
+pub fn grammar_law()
+    ensures { GrammarIsSound }
 {}
 
-/// The events of drafts have no empty data if the drafts make none.
-pub fn drafts_law()
-    ensures { DraftsAreFilled }
+/// A list of events in the grammar spells the page of its nodes with their data cut into bytes. So it
+/// doesn't matter how data is joined where a list is made.
+pub fn events_law()
+    ensures { EventsSpellTheSame }
 {}
 
 /// The page of nodes with empty data isn't that of their bytes: what comes before it would be last.

@@ -11,7 +11,7 @@ use Rattle.definition_inline.specs.Spans.{Token, Item, Delimiters, with_spans}
 use Rattle.definition_inline.specs.GfmAutolinkLiteral.{with_literals}
 use Rattle.definition_inline.specs.Scan.{InlineContext, leaf_here, leaf_tokens, LabelStart, LinkStart, ImageStart, label_start_at, may_form, formed_part}
 use Rattle.definition_inline.specs.Scan.{formed_at, Text, text, OpenLabel, reading, with_tokens, with_plain_start, with_link_or_call, scan, whole_text}
-use Rattle.definition_inline.specs.Scan.{spans_from, without_indent}
+use Rattle.definition_inline.specs.Scan.{inlines_from, spans_from, without_indent}
 use Rattle.definition_inline.proofs.MayStand.{Stands}
 use Rattle.definition_inline.proofs.ScanHolds.{where_gives, where_always, Keeps, text_holds}
 use Rattle.laws_inline.specs.Occurs.{part_has, has}
@@ -19,7 +19,7 @@ use Rattle.laws_inline.specs.NestedLinks.{is_nesting, LinksHoldNoLinks}
 use Rattle.laws_inline.proofs.Each.{WhereSome, Each, each-append}
 use Rattle.laws_inline.proofs.Lacks.{Lacks, spans_lack, HeldAlone, leaf_lacks, run_lacks, plain_start_lacks}
 use Rattle.laws_inline.proofs.NestedLiterals.{is_bracketed, holds_bracketed, is_literal_part, with_flat, none_flat}
-use Rattle.laws_inline.proofs.Occurs.{never_in}
+use Rattle.laws_inline.proofs.Occurs.{never_from}
 
 -- ---- texts
 
@@ -145,11 +145,15 @@ module _ (context : InlineContext) where
   not_literal off (Leaf (Literal kind text)) e = absurd (both_ways context.options.constructs.gfm_autolink_literal off e)
   not_literal off i e = refl
 
-pub links_hold_no_links : LinksHoldNoLinks
-links_hold_no_links context content =
+-- of a content that begins anywhere
+pub links_hold_no_links_from : (context : InlineContext) (content : List InlineCode) → has is_nesting (inlines_from context content) ≡ false
+links_hold_no_links_from context content =
     let on = context.options.constructs in
-    let spans = spans_from context (without_indent content) in
-    let flat = spans_nest_nothing context (without_indent content) in
+    let spans = spans_from context content in
+    let flat = spans_nest_nothing context content in
     cond_both on.gfm_autolink_literal (with_literals [] spans) spans (λ is. has is_nesting is ≡ false) (λ _. with_flat [] spans flat)
     (λ off. none_flat spans flat
-    (subst (λ b. has is_literal_part (cond b (with_literals [] spans) spans) ≡ false) off (never_in context is_literal_part (not_literal context off) content)))
+    (subst (λ b. has is_literal_part (cond b (with_literals [] spans) spans) ≡ false) off (never_from context is_literal_part (not_literal context off) content)))
+
+pub links_hold_no_links : LinksHoldNoLinks
+links_hold_no_links context content = links_hold_no_links_from context (without_indent content)

@@ -3,7 +3,7 @@ use Rattle.std.proofs.Common.{◌≡◌, Bool, false, List, refl}
 use Rattle.std.proofs.lemmas.Bool.{or_from, not_from_true}
 use Rattle.definition_text.specs.InlineCode.{InlineCode}
 use Rattle.definition_inline.specs.Inline.{Inline, Leaf, Span, Linked, Call, Inlines, Nil, Cons}
-use Rattle.definition_inline.specs.Scan.{InlineContext, inlines, without_indent}
+use Rattle.definition_inline.specs.Scan.{InlineContext, inlines, inlines_from, without_indent}
 use Rattle.definition_inline.specs.MayStand.{part_may_stand}
 use Rattle.definition_inline.specs.EachPart.{EachPart, EachOf}
 use Rattle.definition_inline.proofs.MayStand.{Stands, may_stand}
@@ -24,10 +24,14 @@ module _ (P : Inline → Type 0) (test : Inline → Bool) (fails : (i : Inline) 
     never (Cons i is) h = or_from (part_has test i) (has test is) (part_never i h.0) (never is h.1)
 
 -- a test that fails of what may stand
-pub never_in : (context : InlineContext) (test : Inline → Bool) → ((i : Inline) → Stands context.options.constructs i → test i ≡ false)
+pub never_from : (context : InlineContext) (test : Inline → Bool) → ((i : Inline) → Stands context.options.constructs i → test i ≡ false)
+    → (content : List InlineCode) → has test (inlines_from context content) ≡ false
+never_from context test fails content =
+    never (Stands context.options.constructs) test fails (inlines_from context content) (may_stand context content)
+
+never_in : (context : InlineContext) (test : Inline → Bool) → ((i : Inline) → Stands context.options.constructs i → test i ≡ false)
     → (content : List InlineCode) → has test (inlines context content) ≡ false
-never_in context test fails content =
-    never (Stands context.options.constructs) test fails (inlines context content) (may_stand context (without_indent content))
+never_in context test fails content = never_from context test fails (without_indent content)
 
 pub nothing_is_off : NothingIsOff
 nothing_is_off context content =

@@ -1,5 +1,5 @@
 -- Rows are laid where the steps that they stand for are.
-use Rattle.std.proofs.Common.{◌≡◌, ℕ, List, [], ◌∷◌, ◌++◌, map, refl, sym, ◌∙◌, subst}
+use Rattle.std.proofs.Common.{◌≡◌, ℕ, List, [], ◌∷◌, ◌++◌, map, refl, sym, ap, ◌∙◌, subst}
 use Rattle.definition_text.specs.Columns.{Code}
 use Rattle.definition_text.specs.Content.{content_codes}
 use Rattle.definition_text.specs.InlineCode.{InlineCode}
@@ -20,8 +20,8 @@ use Rattle.laws_written.specs.Laid.{Step, Holds, EntersSpan, EntersLinked, Leave
 use Rattle.laws_written.specs.Written.{AreCodes, StartsSpan, linked_start, call_codes}
 use Rattle.laws_written.proofs.Contents.{written_from_law}
 use Rattle.laws_written.proofs.Laid.{laid_law}
-use Rattle.laws_rows.specs.Laws.{step_row, RowsLaw}
-use Rattle.laws_rows.specs.Rows.{IsData, AreLeavesLaid, IsPartLaid, IsRowLaid, AreRowsLaid}
+use Rattle.laws_rows.specs.Laws.{FirstRowLaw, RowsLaw}
+use Rattle.laws_rows.specs.Rows.{step_row, IsData, AreHeld, AreLeavesLaid, AreRowsLaid, IsFirstLaid, IsPartLaid}
 use Rattle.laws_rows.proofs.Steps.{rows_of_steps}
 
 -- ---- bytes of text
@@ -45,16 +45,17 @@ module _ (context : InlineContext) (leads : Target → LinkTexts) (at : ℕ → 
   rows_by ss = map (step_row leads) ss
 
   -- leaves, and the steps after them
-  record AfterLeaves (parts : List InlineLeaf) (os : List Open) (rows : List seen.InlineRow) (from to : List InlineCode) : Type 0 where
+  record AfterLeaves (parts : List InlineLeaf) (os : List Open) (rows : List seen.InlineRow) (ss : List Step) (from to : List InlineCode) : Type 0 where
     next : List InlineCode
     left : List Step
+    held : AreHeld parts ss left
     leaves : AreLeavesLaid context parts from next
     same : rows ≡ rows_by left
     laid : AreLaid context os left next to
 
   after_leaves : (parts : List InlineLeaf) (os : List Open) (rows : List seen.InlineRow) (ss : List Step) (from to : List InlineCode)
-      → map seen.Part parts ++ rows ≡ rows_by ss → AreLaid context os ss from to → AfterLeaves parts os rows from to
-  after_leaves [] os rows ss from to is p = record { next = from; left = ss; leaves = refl; same = is; laid = p }
+      → map seen.Part parts ++ rows ≡ rows_by ss → AreLaid context os ss from to → AfterLeaves parts os rows ss from to
+  after_leaves [] os rows ss from to is p = record { next = from; left = ss; held = refl; leaves = refl; same = is; laid = p }
   after_leaves (part ∷ parts) os rows [] from to is p = absurd cc
   after_leaves (part ∷ parts) os rows (Holds other ∷ ss) from to is (mid, here, p) =
       let same : other ≡ part = cc in
@@ -63,6 +64,7 @@ module _ (context : InlineContext) (leads : Target → LinkTexts) (at : ℕ → 
       record {
         next = after.next;
         left = after.left;
+        held = ap (λ x. Holds x ∷ ss) same ∙ ap (λ xs. Holds part ∷ xs) after.held;
         leaves = (mid, subst (λ x. IsLeafLaid context x from mid) same here, after.leaves);
         same = after.same;
         laid = after.laid;
@@ -73,23 +75,19 @@ module _ (context : InlineContext) (leads : Target → LinkTexts) (at : ℕ → 
   after_leaves (part ∷ parts) os rows (HoldsCall label ∷ ss) from to is p = absurd cc
 
   -- a row, and the steps after it
-  record AfterRow (row : InlineRow) (os : List Open) (others : List seen.InlineRow) (from to : List InlineCode) : Type 0 where
-    after : List Open
-    next : List InlineCode
-    left : List Step
-    here : IsRowLaid context row os from after next
-    same : others ≡ rows_by left
-    laid : AreLaid context after left next to
+  abbrev AfterRow : InlineRow → List Open → List seen.InlineRow → List Step → List InlineCode → List InlineCode → Type 0
+  AfterRow row os others ss from to = IsFirstLaid context leads row others os ss from to
 
   data_row : (text : List ℕ) (os : List Open) (others : List seen.InlineRow) (ss : List Step) (from to : List InlineCode)
       → data_rows text ++ others ≡ rows_by ss → AreLaid context os ss from to
-      → (next : List InlineCode) × (left : List Step) × IsData text from next × (others ≡ rows_by left) × AreLaid context os left next to
+      → (next : List InlineCode) × (left : List Step) × IsData text from next × AreHeld (map Data text) ss left × (others ≡ rows_by left)
+      × AreLaid context os left next to
   data_row text os others ss from to is p =
       let found = after_leaves (map Data text) os others ss from to is p in
-      (found.next, found.left, data_laid context text from found.next found.leaves, found.same, found.laid)
+      (found.next, found.left, data_laid context text from found.next found.leaves, found.held, found.same, found.laid)
 
   span_row : (span : Span) (os : List Open) (others : List seen.InlineRow) (ss : List Step) (from to : List InlineCode)
-      → seen.EnterSpan (span_view span) ∷ others ≡ rows_by ss → AreLaid context os ss from to → AfterRow (EnterSpan span) os others from to
+      → seen.EnterSpan (span_view span) ∷ others ≡ rows_by ss → AreLaid context os ss from to → AfterRow (EnterSpan span) os others ss from to
   span_row span os others [] from to is p = absurd cc
   span_row span os others (Holds part ∷ ss) from to is p = absurd cc
   span_row span os others (EntersSpan kind ∷ ss) from to is (marker, size, next, starts, p) =
@@ -100,6 +98,7 @@ module _ (context : InlineContext) (leads : Target → LinkTexts) (at : ℕ → 
         next = next;
         left = ss;
         here = record { marker = marker; size = size; starts = starts_here; opened = refl };
+        own = ap (λ k. EntersSpan k ∷ ss) same;
         same = cc;
         laid = p;
       }
@@ -109,21 +108,22 @@ module _ (context : InlineContext) (leads : Target → LinkTexts) (at : ℕ → 
 
   linked_row : (kind : LinkedKind) (texts : LinkTexts) (os : List Open) (others : List seen.InlineRow) (ss : List Step) (from to : List InlineCode)
       → seen.EnterLinked kind texts ∷ others ≡ rows_by ss → AreLaid context os ss from to
-      → (target : Target) × (next : List InlineCode) × (left : List Step) × AreCodes (linked_start kind) from next × (others ≡ rows_by left)
-      × AreLaid context (OpenLinked target next ∷ os) left next to
+      → (target : Target) × (next : List InlineCode) × (left : List Step) × AreCodes (linked_start kind) from next
+      × (ss ≡ EntersLinked kind target ∷ left) × (others ≡ rows_by left) × AreLaid context (OpenLinked target next ∷ os) left next to
   linked_row kind texts os others [] from to is p = absurd cc
   linked_row kind texts os others (Holds part ∷ ss) from to is p = absurd cc
   linked_row kind texts os others (EntersSpan other ∷ ss) from to is p = absurd cc
   linked_row kind texts os others (EntersLinked other target ∷ ss) from to is (next, codes, p) =
       let same : other ≡ kind = cc in
       let later : others ≡ rows_by ss = cc in
-      (target, next, ss, subst (λ k. AreCodes (linked_start k) from next) same codes, later, p)
+      (target, next, ss, subst (λ k. AreCodes (linked_start k) from next) same codes, ap (λ k. EntersLinked k target ∷ ss) same, later, p)
   linked_row kind texts os others (Leaves ∷ ss) from to is p = absurd cc
   linked_row kind texts os others (HoldsCall label ∷ ss) from to is p = absurd cc
 
   call_row : (label : List Code) (os : List Open) (others : List seen.InlineRow) (ss : List Step) (from to : List InlineCode)
       → seen.CallRow label ∷ others ≡ rows_by ss → AreLaid context os ss from to
-      → (next : List InlineCode) × (left : List Step) × AreCodes (call_codes label) from next × (others ≡ rows_by left) × AreLaid context os left next to
+      → (next : List InlineCode) × (left : List Step) × AreCodes (call_codes label) from next × (ss ≡ HoldsCall label ∷ left) × (others ≡ rows_by left)
+      × AreLaid context os left next to
   call_row label os others [] from to is p = absurd cc
   call_row label os others (Holds part ∷ ss) from to is p = absurd cc
   call_row label os others (EntersSpan kind ∷ ss) from to is p = absurd cc
@@ -132,29 +132,29 @@ module _ (context : InlineContext) (leads : Target → LinkTexts) (at : ℕ → 
   call_row label os others (HoldsCall other ∷ ss) from to is (next, codes, p) =
       let same : other ≡ label = cc in
       let later : others ≡ rows_by ss = cc in
-      (next, ss, subst (λ k. AreCodes (call_codes k) from next) same codes, later, p)
+      (next, ss, subst (λ k. AreCodes (call_codes k) from next) same codes, ap (λ k. HoldsCall k ∷ ss) same, later, p)
 
   exit_row : (os : List Open) (others : List seen.InlineRow) (ss : List Step) (from to : List InlineCode)
-      → seen.Leave ∷ others ≡ rows_by ss → AreLaid context os ss from to → AfterRow Exit os others from to
+      → seen.Leave ∷ others ≡ rows_by ss → AreLaid context os ss from to → AfterRow Exit os others ss from to
   exit_row os others [] from to is p = absurd cc
   exit_row os others (Holds part ∷ ss) from to is p = absurd cc
   exit_row os others (EntersSpan kind ∷ ss) from to is p = absurd cc
   exit_row os others (EntersLinked kind target ∷ ss) from to is p = absurd cc
   exit_row [] others (Leaves ∷ ss) from to is p = absurd p
   exit_row (OpenSpan marker size ∷ os) others (Leaves ∷ ss) from to is (next, codes, p) =
-      record { after = os; next = next; left = ss; here = (refl, codes); same = cc; laid = p }
+      record { after = os; next = next; left = ss; here = (refl, codes); own = refl; same = cc; laid = p }
   exit_row (OpenLinked target inside ∷ os) others (Leaves ∷ ss) from to is (next, ends, p) =
-      record { after = os; next = next; left = ss; here = (refl, ends); same = cc; laid = p }
+      record { after = os; next = next; left = ss; here = (refl, ends); own = refl; same = cc; laid = p }
   exit_row os others (HoldsCall label ∷ ss) from to is p = absurd cc
 
   row_laid : (row : InlineRow) (os : List Open) (others : List seen.InlineRow) (ss : List Step) (from to : List InlineCode)
-      → row_view at row ++ others ≡ rows_by ss → AreLaid context os ss from to → AfterRow row os others from to
+      → row_view at row ++ others ≡ rows_by ss → AreLaid context os ss from to → AfterRow row os others ss from to
   row_laid (Text text) os others ss from to is p =
-      let (next, left, text_laid, same, laid) = data_row text.now os others ss from to is p in
-      record { after = os; next = next; left = left; here = (refl, text_laid); same = same; laid = laid }
+      let (next, left, text_laid, held, same, laid) = data_row text.now os others ss from to is p in
+      record { after = os; next = next; left = left; here = (refl, text_laid); own = held; same = same; laid = laid }
   row_laid (Verbatim verbatim) os others ss from to is p =
-      let (next, left, text_laid, same, laid) = data_row verbatim.text.now os others ss from to is p in
-      record { after = os; next = next; left = left; here = (refl, text_laid); same = same; laid = laid }
+      let (next, left, text_laid, held, same, laid) = data_row verbatim.text.now os others ss from to is p in
+      record { after = os; next = next; left = left; here = (refl, text_laid); own = held; same = same; laid = laid }
   row_laid (Leaf part) os others ss from to is p =
       let found = after_leaves (parts_of part) os others ss from to is p in
       record {
@@ -162,6 +162,7 @@ module _ (context : InlineContext) (leads : Target → LinkTexts) (at : ℕ → 
         next = found.next;
         left = found.left;
         here = (refl, part_laid context part from found.next found.leaves);
+        own = found.held;
         same = found.same;
         laid = found.laid;
       }
@@ -173,33 +174,36 @@ module _ (context : InlineContext) (leads : Target → LinkTexts) (at : ℕ → 
         next = found.next;
         left = found.left;
         here = (refl, subst (λ k. IsLeafLaid context (spelled_view leaf) from k) last here);
+        own = found.held;
         same = found.same;
         laid = found.laid;
       }
   row_laid (EnterSpan span) os others ss from to is p = span_row span os others ss from to is p
   row_laid (EnterLink target) os others ss from to is p =
-      let (leading, next, left, codes, same, laid) = linked_row inline.Link (target_texts at target) os others ss from to is p in
+      let (leading, next, left, codes, entered, same, laid) = linked_row inline.Link (target_texts at target) os others ss from to is p in
       record {
         after = OpenLinked leading next ∷ os;
         next = next;
         left = left;
         here = record { target = leading; codes = codes; opened = refl };
+        own = entered;
         same = same;
         laid = laid;
       }
   row_laid (EnterImage target) os others ss from to is p =
-      let (leading, next, left, codes, same, laid) = linked_row inline.Image (target_texts at target) os others ss from to is p in
+      let (leading, next, left, codes, entered, same, laid) = linked_row inline.Image (target_texts at target) os others ss from to is p in
       record {
         after = OpenLinked leading next ∷ os;
         next = next;
         left = left;
         here = record { target = leading; codes = codes; opened = refl };
+        own = entered;
         same = same;
         laid = laid;
       }
   row_laid (Call label) os others ss from to is p =
-      let (next, left, codes, same, laid) = call_row (content_codes label.now) os others ss from to is p in
-      record { after = os; next = next; left = left; here = (refl, codes); same = same; laid = laid }
+      let (next, left, codes, first, same, laid) = call_row (content_codes label.now) os others ss from to is p in
+      record { after = os; next = next; left = left; here = (refl, codes); own = first; same = same; laid = laid }
   row_laid Exit os others ss from to is p = exit_row os others ss from to is p
 
   rows_laid : (rows : List InlineRow) (os : List Open) (ss : List Step) (from to : List InlineCode) → rows_view at rows ≡ rows_by ss
@@ -210,6 +214,9 @@ module _ (context : InlineContext) (leads : Target → LinkTexts) (at : ℕ → 
   rows_laid (row ∷ rows) os ss from to is p =
       let found = row_laid row os (rows_view at rows) ss from to is p in
       (found.after, found.next, found.here, rows_laid rows found.after found.left found.next to found.same found.laid)
+
+pub first_row_law : FirstRowLaw
+first_row_law context leads at row others before steps from to is p = row_laid context leads at row before others steps from to is p
 
 pub rows_law : RowsLaw
 rows_law context leads at content rows is =

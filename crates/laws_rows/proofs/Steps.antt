@@ -5,7 +5,8 @@ use Rattle.definition_inline.specs.Inline.{Target, LinkTexts, Inline, Leaf, Span
 use Rattle.inline_rows.specs.InlineRows.{part_rows, inline_rows, EnterSpan, EnterLinked, Leave}
 use Rattle.inline_rows.specs.InlineRows as seen
 use Rattle.laws_written.specs.Laid.{Step, Leaves, part_steps, steps_of}
-use Rattle.laws_rows.specs.Laws.{step_row, RowsOfSteps}
+use Rattle.laws_rows.specs.Laws.{RowsOfSteps}
+use Rattle.laws_rows.specs.Rows.{step_row}
 
 module _ (leads : Target → LinkTexts) where
   abbrev rows_by : List Step → List seen.InlineRow

@@ -7,11 +7,11 @@ use Rattle.definition_text.specs.Content.{content_codes, line_ending_code}
 use Rattle.definition_text.specs.InlineCode.{InlineCode}
 use Rattle.definition_inline.specs.Inline.{Target, LinkTexts, Inlines}
 use Rattle.definition_inline.specs.Scan.{InlineContext, inlines_from}
-use Rattle.inline_rows.specs.InlineRows.{inline_rows, Part, EnterSpan, EnterLinked, Leave, CallRow}
+use Rattle.inline_rows.specs.InlineRows.{inline_rows}
 use Rattle.inline_rows.specs.InlineRows as seen
-use Rattle.inline_rows.specs.View.{rows_view}
+use Rattle.inline_rows.specs.View.{row_view, rows_view}
 use Rattle.inline_rows.specs.declared.row.InlineRow.{InlineRow}
-use Rattle.laws_written.specs.Laid.{Step, Holds, EntersSpan, EntersLinked, Leaves, HoldsCall, steps_of}
+use Rattle.laws_written.specs.Laid.{Open, Step, AreLaid, steps_of}
 use Rattle.inline_leaves.specs.declared.leaf.LeafPart.{LeafPart}
 use Rattle.inline_runs.specs.View.{span_view}
 use Rattle.inline_runs.specs.declared.pair.Span.{Span}
@@ -20,15 +20,7 @@ use Rattle.laws_written.specs.Leaves.{IsReference, IsRaw, AreAllSpaces}
 use Rattle.laws_rows.specs.Marks.{sequence_size, call_text}
 use Rattle.laws_rows.specs.Bytes.{AreBytesAt, Passes, IsFront, IsRawInBytes, IsReferenceInBytes, EndsLineInBytes}
 use Rattle.laws_rows.specs.Parts.{EndsLine, HasPartForm}
-use Rattle.laws_rows.specs.Rows.{IsPartLaid, AreRowsLaid}
-
--- the row of a step, where it is known where targets lead
-abbrev pub step_row : (Target → LinkTexts) → Step → seen.InlineRow
-step_row leads (Holds part) = Part part
-step_row leads (EntersSpan kind) = EnterSpan kind
-step_row leads (EntersLinked kind target) = EnterLinked kind (leads target)
-step_row leads Leaves = Leave
-step_row leads (HoldsCall label) = CallRow label
+use Rattle.laws_rows.specs.Rows.{step_row, IsPartLaid, AreRowsLaid, IsFirstLaid}
 
 -- the rows of inline structure are those of its steps
 abbrev pub RowsOfSteps : Type 0
@@ -40,6 +32,13 @@ RowsLaw =
     (context : InlineContext) (leads : Target → LinkTexts) (at : ℕ → LinkTexts) (content : List InlineCode) (rows : List InlineRow)
     → rows_view at rows ≡ inline_rows leads (inlines_from context content)
     → AreRowsLaid context [] rows content []
+
+-- of rows that stand for steps that are laid, the first is laid by its own steps
+abbrev pub FirstRowLaw : Type 0
+FirstRowLaw =
+    (context : InlineContext) (leads : Target → LinkTexts) (at : ℕ → LinkTexts) (row : InlineRow) (others : List seen.InlineRow) (before : List Open)
+    (steps : List Step) (from to : List InlineCode) → row_view at row ++ others ≡ map (step_row leads) steps → AreLaid context before steps from to
+    → IsFirstLaid context leads row others before steps from to
 
 -- a row of a leaf has its form where it is laid
 abbrev pub PartsLaw : Type 0

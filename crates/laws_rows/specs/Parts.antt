@@ -11,8 +11,8 @@ use Rattle.definition_inline.specs.Scan.{InlineContext}
 use Rattle.inline_leaves.specs.declared.leaf.LeafPart.{LeafPart}
 use Rattle.inline_leaves.specs.declared.leaf.LeafPart.TheVariants.{Escape, Character, Number, Code, Math, Unclosed, Autolink, Literal, Html, EscapedBreak}
 use Rattle.inline_leaves.specs.declared.leaf.LeafPart.TheVariants.{TrailingBreak, LineEnd, Spaces}
-use Rattle.laws_written.specs.Leaves.{IsReference, IsRaw, IsAutolink, AreAllSpaces, IsLineEnd}
-use Rattle.laws_written.specs.Written.{AreCodes, IsText}
+use Rattle.laws_written.specs.Leaves.{IsReference, IsRaw, IsAutolink, IsHtml, AreAllSpaces, IsLineEnd}
+use Rattle.laws_written.specs.Written.{IsText}
 use Rattle.laws_rows.specs.Rows.{IsData}
 
 -- each byte after a backslash
@@ -34,7 +34,7 @@ HasPartForm context (Math text) from to = IsRaw dollar (code_text (content_codes
 HasPartForm context (Unclosed text) from to = IsData text.now from to
 HasPartForm context (Autolink email text) from to = IsAutolink text.now from to
 HasPartForm context (Literal kind text) from to = IsText text.now from to
-HasPartForm context (Html text) from to = AreCodes (content_codes text.now) from to
+HasPartForm context (Html text) from to = IsHtml (content_codes text.now) from to
 HasPartForm context EscapedBreak from to = IsText (backslash ∷ []) from to
 HasPartForm context TrailingBreak from to = AreAllSpaces from to
 HasPartForm context (LineEnd ending) from to = EndsLine (line_ending_code ending) from to

@@ -1,20 +1,23 @@
 -- Rows of inline structure as they are written in a content (CommonMark 6): what code that goes over rows finds at each of them.
-use Rattle.std.specs.Prelude.{◌≡◌, ℕ, List, [], ◌∷◌, replicate}
+use Rattle.std.specs.Prelude.{◌≡◌, ℕ, List, [], ◌∷◌, ◌++◌, map, replicate}
 use Rattle.definition_text.specs.Columns.{Code}
 use Rattle.definition_text.specs.Content.{content_codes}
 use Rattle.definition_text.specs.InlineCode.{InlineCode}
-use Rattle.definition_inline.specs.Inline.{Target, LinkedKind, InlineLeaf}
+use Rattle.definition_inline.specs.Inline.{Target, LinkTexts, LinkedKind, InlineLeaf}
 use Rattle.definition_inline.specs.Inline as inline
 use Rattle.definition_inline.specs.Scan.{InlineContext}
 use Rattle.inline_leaves.specs.Leaves.{parts_of}
 use Rattle.inline_leaves.specs.declared.leaf.LeafPart.{LeafPart}
 use Rattle.inline_leaves.specs.declared.leaf.LeafPart.TheVariants.{Unclosed}
+use Rattle.inline_rows.specs.InlineRows.{Part, Leave, CallRow}
+use Rattle.inline_rows.specs.InlineRows as seen
 use Rattle.inline_rows.specs.View.{spelled_view}
 use Rattle.inline_rows.specs.declared.row.InlineRow.{InlineRow}
 use Rattle.inline_rows.specs.declared.row.InlineRow.TheVariants.{Text, Verbatim, Leaf, Spelled, EnterSpan, EnterLink, EnterImage, Call, Exit}
 use Rattle.inline_runs.specs.View.{span_view}
 use Rattle.inline_runs.specs.declared.pair.Span.{Span}
-use Rattle.laws_written.specs.Laid.{Open, OpenSpan, OpenLinked, MayBeSpaces, IsLeafLaid}
+use Rattle.laws_written.specs.Laid.{Open, OpenSpan, OpenLinked, MayBeSpaces, IsLeafLaid, AreLaid}
+use Rattle.laws_written.specs.Laid.{Step, Holds, EntersSpan, EntersLinked, Leaves, HoldsCall}
 use Rattle.laws_written.specs.Written.{AreCodes, EndNoLine, StartsSpan, linked_start, EndsLinked, call_codes}
 
 -- bytes of text, which end no line; there may be none
@@ -74,3 +77,45 @@ abbrev pub AreRowsLaid : InlineContext → List Open → List InlineRow → List
 AreRowsLaid context os [] from to = IsEnd context os from to
 AreRowsLaid context os (row ∷ rows) from to =
     (after : List Open) × (next : List InlineCode) × IsRowLaid context row os from after next × AreRowsLaid context after rows next to
+
+-- ---- rows with the steps that they stand for
+
+-- the row of a step, where it is known where targets lead
+abbrev pub step_row : (Target → LinkTexts) → Step → seen.InlineRow
+step_row leads (Holds part) = Part part
+step_row leads (EntersSpan kind) = seen.EnterSpan kind
+step_row leads (EntersLinked kind target) = seen.EnterLinked kind (leads target)
+step_row leads Leaves = Leave
+step_row leads (HoldsCall label) = CallRow label
+
+-- so many leaves first
+abbrev pub AreHeld : List InlineLeaf → List Step → List Step → Type 0
+AreHeld parts steps left = steps ≡ map Holds parts ++ left
+
+-- the start of a link or an image first, which leads where what is open after it does
+abbrev pub AreEntered : LinkedKind → List Open → List Step → List Step → Type 0
+AreEntered kind (OpenLinked target inside ∷ after) steps left = steps ≡ EntersLinked kind target ∷ left
+AreEntered kind after steps left = ⊥
+
+-- the steps of a row come first, and these are left
+abbrev pub AreStepsOf : InlineRow → List Open → List Step → List Step → Type 0
+AreStepsOf (Text text) after steps left = AreHeld (map inline.Data text.now) steps left
+AreStepsOf (Verbatim verbatim) after steps left = AreHeld (map inline.Data verbatim.text.now) steps left
+AreStepsOf (Leaf part) after steps left = AreHeld (parts_of part) steps left
+AreStepsOf (Spelled leaf) after steps left = steps ≡ Holds (spelled_view leaf) ∷ left
+AreStepsOf (EnterSpan span) after steps left = steps ≡ EntersSpan (span_view span) ∷ left
+AreStepsOf (EnterLink target) after steps left = AreEntered inline.Link after steps left
+AreStepsOf (EnterImage target) after steps left = AreEntered inline.Image after steps left
+AreStepsOf (Call label) after steps left = steps ≡ HoldsCall (content_codes label.now) ∷ left
+AreStepsOf Exit after steps left = steps ≡ Leaves ∷ left
+
+-- the first of some rows is laid, by its steps, and the others stand for the steps that are left, which are laid, too
+pub record IsFirstLaid (context : InlineContext) (leads : Target → LinkTexts) (row : InlineRow) (others : List seen.InlineRow) (before : List Open)
+    (steps : List Step) (from to : List InlineCode) : Type 0 where
+  pub after : List Open
+  pub next : List InlineCode
+  pub left : List Step
+  pub here : IsRowLaid context row before from after next
+  pub own : AreStepsOf row after steps left
+  pub same : others ≡ map (step_row leads) left
+  pub laid : AreLaid context after left next to

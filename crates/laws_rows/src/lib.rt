@@ -1,7 +1,7 @@
 //! Rows of inline structure are laid in their content.
 #![tactic(auto)]
 
-ghost use Rattle.laws_rows.specs.Laws.{BreakBytesLaw, CallBytesLaw, FrontBytesLaw, InlineBytesLaw, LineBytesLaw, PartsLaw, RawBytesLaw, ReferenceBytesLaw};
+ghost use Rattle.laws_rows.specs.Laws.{BreakBytesLaw, CallBytesLaw, FirstRowLaw, FrontBytesLaw, InlineBytesLaw, LineBytesLaw, PartsLaw, RawBytesLaw, ReferenceBytesLaw};
 ghost use Rattle.laws_rows.specs.Laws.{RowsLaw, RowsOfSteps, SequenceLaw, TextBytesLaw};
 ghost use Rattle.laws_rows.specs.Refused.{RefusedRows};
 
@@ -16,6 +16,13 @@ pub fn steps_law()
 #[tactic(auto)]
 pub fn rows_law()
     ensures { RowsLaw }
+{}
+
+/// Of rows that stand for steps that are laid, the first is laid by its own steps: a link leads where
+/// its step does. The other rows stand for the steps that are left.
+#[tactic(auto, using(crate::proofs::Rows::first_row_law))]
+pub fn first_row_law()
+    ensures { FirstRowLaw }
 {}
 
 /// Rows of a leaf have the form of its construct where they are laid: escapes are so many backslashes

@@ -5,7 +5,7 @@ use Rattle.std.specs.Prelude.{◌==◌, nat_le, codes}
 use Rattle.std.specs.Char.{is_ascii_digit, is_ascii_hexdigit, is_ascii_alphanumeric, is_ascii_punctuation}
 use Rattle.std.specs.List.{prefix_len, take_while, list_all}
 use Rattle.std.proofs.Math.Seq.{take-append_seam}
-use Rattle.std.proofs.lemmas.Bool.{cases_Bool, both_ways, cond_both, cond-true, cond-false, eqb-true, and_parts, true≢false}
+use Rattle.std.proofs.lemmas.Bool.{cases_Bool, both_ways, cond_both, cond-true, cond-false, eqb-true, leb-true, and_parts, true≢false}
 use Rattle.std.proofs.lemmas.List.{length-append, take-append-drop, drop-drop}
 use Rattle.definition_text.specs.Bytes.{begins_with, after_all}
 use Rattle.definition_text.specs.Columns.{is_white, indent, bare}
@@ -34,6 +34,7 @@ use Rattle.laws_written.specs.Laws.{LeafLaw}
 use Rattle.laws_written.specs.Leaves.{Lacks, IsReference, IsRaw, HasForm}
 use Rattle.laws_written.specs.Written.{AreCodes, EndNoLine, IsFound}
 use Rattle.laws_written.proofs.Codes.{codes_dropped, run_marks}
+use Rattle.laws_written.proofs.HtmlEnds.{EndsWith, html_closed, html_closes}
 use Rattle.laws_written.proofs.Leaves.{is_its_text, codes_of_take}
 
 -- ---- codes at the front
@@ -196,10 +197,10 @@ module _ (context : InlineContext) where
       let size = indent content in
       let breaks = on.hard_break_trailing && is_trailing_break content in
       cond_both (nat_le 1 size && ends_here (bare content)) (Some (leaf (cond breaks (TrailingBreak ∷ []) []) size)) None (Begins from)
-      (λ _. cond_both breaks (TrailingBreak ∷ []) [] (λ parts. Formed from parts size)
+      (λ first. cond_both breaks (TrailingBreak ∷ []) [] (λ parts. Formed from parts size)
       (λ e _.
       let trailing = (and_parts (nat_le 2 size) _ (and_parts on.hard_break_trailing (is_trailing_break content) e).1).1 in
-      record { size = size; all = refl; codes = all_spaces from (and_parts (list_all (λ c. c == 32) (take_while is_white content)) _ trailing).0 })
+      record { size = size; some = omega (arith, leb-true 1 size (and_parts (nat_le 1 size) _ first).0); all = refl; codes = all_spaces from (and_parts (list_all (λ c. c == 32) (take_while is_white content)) _ trailing).0 })
       (λ _. tt))
       (λ _. tt)
 
@@ -400,7 +401,7 @@ module _ (context : InlineContext) where
     inline : InLine text
 
   -- what passes a test, then more
-  inner_more : (content middle rest : List ℕ) → IsInner content middle → IsInner middle rest → IsInner content rest
+  abbrev inner_more : (content middle rest : List ℕ) → IsInner content middle → IsInner middle rest → IsInner content rest
   inner_more content middle rest p q =
       record {
         text = p.text ++ q.text;
@@ -413,18 +414,35 @@ module _ (context : InlineContext) where
       let size = prefix_len test content in
       record { text = take size content; parts = sym (take-append-drop size content); inline = passed_inline test tells content }
 
-  inner_code : (k : ℕ) (content : List ℕ) → is_eol k ≡ false → begins_with (k ∷ []) content ≡ true → IsInner content (drop 1 content)
+  abbrev inner_code : (k : ℕ) (content : List ℕ) → is_eol k ≡ false → begins_with (k ∷ []) content ≡ true → IsInner content (drop 1 content)
   inner_code k [] inline e = absurd (true≢false (sym e))
   inner_code k (c ∷ cs) inline e =
       let same : k ≡ c = eqb-true k c (and_parts (k == c) _ e).0 in
       record { text = c ∷ []; parts = refl; inline = (subst (λ b. is_eol b ≡ false) same inline, tt) }
 
-  uri_inner : (content : List ℕ) → WhereSome (IsInner content) (uri_end content)
+  -- a code at least
+  record IsFilled (content rest : List ℕ) : Type 0 where
+    inner : IsInner content rest
+    some : 0 < length inner.text
+
+  filled_code : (k : ℕ) (content : List ℕ) → is_eol k ≡ false → begins_with (k ∷ []) content ≡ true → IsFilled content (drop 1 content)
+  filled_code k [] inline e = absurd (true≢false (sym e))
+  filled_code k (c ∷ cs) inline e = record { inner = inner_code k (c ∷ cs) inline e; some = omega arith }
+
+  filled_before : (content middle rest : List ℕ) → IsInner content middle → IsFilled middle rest → IsFilled content rest
+  filled_before content middle rest p q =
+      record { inner = inner_more content middle rest p q.inner; some = omega (arith, length-append p.text q.inner.text, q.some) }
+
+  filled_more : (content middle rest : List ℕ) → IsFilled content middle → IsInner middle rest → IsFilled content rest
+  filled_more content middle rest p q =
+      record { inner = inner_more content middle rest p.inner q; some = omega (arith, length-append p.inner.text q.text, p.some) }
+
+  uri_inner : (content : List ℕ) → WhereSome (IsFilled content) (uri_end content)
   uri_inner content =
       let rest = after_all is_scheme_byte content in
-      cond_both (begins_with_scheme content && begins_with (codes ":") rest) (Some (after_uri rest)) None (WhereSome (IsInner content))
-      (λ e. inner_more content rest (after_uri rest) (inner_passed is_scheme_byte (record { feed = refl; return = refl; both = refl }) content)
-      (inner_more rest (drop 1 rest) (after_uri rest) (inner_code 58 rest refl (and_parts (begins_with_scheme content) _ e).1)
+      cond_both (begins_with_scheme content && begins_with (codes ":") rest) (Some (after_uri rest)) None (WhereSome (IsFilled content))
+      (λ e. filled_before content rest (after_uri rest) (inner_passed is_scheme_byte (record { feed = refl; return = refl; both = refl }) content)
+      (filled_more rest (drop 1 rest) (after_uri rest) (filled_code 58 rest refl (and_parts (begins_with_scheme content) _ e).1)
       (inner_passed is_uri_byte (record { feed = refl; return = refl; both = refl }) (drop 1 rest))))
       (λ _. tt)
 
@@ -433,18 +451,18 @@ module _ (context : InlineContext) where
       cond_both _ (Some (after_all is_domain_byte content)) None (WhereSome (IsInner content))
       (λ _. inner_passed is_domain_byte (record { feed = refl; return = refl; both = refl }) content) (λ _. tt)
 
-  inner_after : (content middle : List ℕ) (o : Option (List ℕ)) → IsInner content middle → WhereSome (IsInner middle) o → WhereSome (IsInner content) o
+  inner_after : (content middle : List ℕ) (o : Option (List ℕ)) → IsFilled content middle → WhereSome (IsInner middle) o → WhereSome (IsFilled content) o
   inner_after content middle None p q = tt
-  inner_after content middle (Some rest) p q = inner_more content middle rest p q
+  inner_after content middle (Some rest) p q = filled_more content middle rest p q
 
-  email_inner : (content : List ℕ) → WhereSome (IsInner content) (email_end content)
+  email_inner : (content : List ℕ) → WhereSome (IsFilled content) (email_end content)
   email_inner content =
       let rest = after_all is_email_byte content in
       let test = nat_le 1 (prefix_len is_email_byte content) in
-      cond_both (test && begins_with (codes "@") rest) (domain_end (drop 1 rest)) None (WhereSome (IsInner content))
+      cond_both (test && begins_with (codes "@") rest) (domain_end (drop 1 rest)) None (WhereSome (IsFilled content))
       (λ e. inner_after content (drop 1 rest) (domain_end (drop 1 rest))
-      (inner_more content rest (drop 1 rest) (inner_passed is_email_byte (record { feed = refl; return = refl; both = refl }) content)
-      (inner_code 64 rest refl (and_parts test _ e).1))
+      (filled_before content rest (drop 1 rest) (inner_passed is_email_byte (record { feed = refl; return = refl; both = refl }) content)
+      (filled_code 64 rest refl (and_parts test _ e).1))
       (domain_inner (drop 1 rest)))
       (λ _. tt)
 
@@ -452,24 +470,26 @@ module _ (context : InlineContext) where
   begun_by k [] e = absurd (true≢false (sym e))
   begun_by k (c ∷ cs) e = ap (λ x. x ∷ cs) (sym (eqb-true k c (and_parts (k == c) _ e).0))
 
-  closed_begins : (c : InlineCode) (cs : List InlineCode) → c.code ≡ 60 → (email : Bool) (o : Option (List ℕ)) → WhereSome (IsInner (codes_of cs)) o
+  closed_begins : (c : InlineCode) (cs : List InlineCode) → c.code ≡ 60 → (email : Bool) (o : Option (List ℕ)) → WhereSome (IsFilled (codes_of cs)) o
       → Begins (c ∷ cs) (closed_autolink email (codes_of cs) o)
   closed_begins c cs first email None p = tt
   closed_begins c cs first email (Some rest) p =
       let content = codes_of cs in
       let text = text_before content rest in
-      let same : text ≡ p.text = text_of_parts content p.text rest p.parts in
+      let inner = p.inner in
+      let same : text ≡ inner.text = text_of_parts content inner.text rest inner.parts in
       begins_if (c ∷ cs) (begins_with (codes ">") rest) (Autolink email text) (length text + 2)
       (λ e.
       let front = 60 ∷ (text ++ 62 ∷ []) in
-      let inner : content ≡ text ++ 62 ∷ drop 1 rest = p.parts ∙ ap (λ xs. xs ++ rest) (sym same) ∙ ap (λ xs. text ++ xs) (begun_by 62 rest e) in
+      let closed : content ≡ text ++ 62 ∷ drop 1 rest = inner.parts ∙ ap (λ xs. xs ++ rest) (sym same) ∙ ap (λ xs. text ++ xs) (begun_by 62 rest e) in
       let parts : codes_of (c ∷ cs) ≡ front ++ drop 1 rest =
-      ap (λ x. x ∷ content) first ∙ ap (λ xs. 60 ∷ xs) (inner ∙ sym (append_assoc text (62 ∷ []) (drop 1 rest))) in
+      ap (λ x. x ∷ content) first ∙ ap (λ xs. 60 ∷ xs) (closed ∙ sym (append_assoc text (62 ∷ []) (drop 1 rest))) in
       let size : length text + 2 ≡ length front = omega (arith, length-append text (62 ∷ [])) in
       let split = front_codes front (drop 1 rest) (c ∷ cs) parts in
       record {
         codes = subst (λ n. AreCodes front (c ∷ cs) (drop n (c ∷ cs))) (sym size) split.0;
-        inline = end_no_line text (subst InLine (sym same) p.inline);
+        some = subst (λ (xs : List ℕ). 0 < length xs) (sym same) p.some;
+        inline = end_no_line text (subst InLine (sym same) inner.inline);
       })
 
   autolink_begins : (from : List InlineCode) → Begins from (autolink_at context.options.constructs (codes_of from))
@@ -487,16 +507,23 @@ module _ (context : InlineContext) where
       (closed_begins c cs is false (uri_end content) (uri_inner content)) (closed_begins c cs is true (email_end content) (email_inner content)))
       (λ _. tt)
 
-  html_formed : (from : List InlineCode) (o : Option (List ℕ)) → Begins from (html_leaf (codes_of from) o)
-  html_formed from None = tt
-  html_formed from (Some rest) =
+  html_formed : (from : List InlineCode) (o : Option (List ℕ)) → WhereSome (λ rest. EndsWith (map html_byte (codes_of from)) (62 ∷ rest)) o
+      → Begins from (html_leaf (codes_of from) o)
+  html_formed from None closes = tt
+  html_formed from (Some rest) closes =
       let n = length (codes_of from) - length rest in
-      λ _. subst (λ text. AreCodes text from (drop n from)) (codes_of_take n from) (codes_dropped n from)
+      let ends = html_closed (codes_of from) rest closes in
+      λ _. record {
+        codes = subst (λ text. AreCodes text from (drop n from)) (codes_of_take n from) (codes_dropped n from);
+        front = ends.0;
+        closed = ends.1;
+      }
 
   html_begins : (from : List InlineCode) → Begins from (html_text_at context.options.constructs (codes_of from))
   html_begins from =
       let rest = html_end (map html_byte (codes_of from)) in
-      cond_both (context.options.constructs.html_text && _) (html_leaf (codes_of from) rest) None (Begins from) (λ _. html_formed from rest) (λ _. tt)
+      cond_both (context.options.constructs.html_text && _) (html_leaf (codes_of from) rest) None (Begins from)
+      (λ _. html_formed from rest (html_closes (map html_byte (codes_of from)))) (λ _. tt)
 
   -- ---- any construct
 

@@ -11,5 +11,6 @@ pub mod LinkedLiterals
 pub mod Scanned
 pub mod Contents
 pub mod Laid
+pub mod HtmlEnds
 pub mod Forms
 pub mod Tails

@@ -1,5 +1,5 @@
 -- The form of each leaf as it is written (CommonMark 2.4, 2.5, 6.1 and 6.5 to 6.8): which codes stand there, and where it ends.
-use Rattle.std.specs.Prelude.{◌≡◌, ◌<◌, ◌==◌, ℕ, true, false, List, [], ◌∷◌, ◌++◌, Some, drop, replicate}
+use Rattle.std.specs.Prelude.{◌≡◌, ◌<◌, ◌==◌, ℕ, true, false, List, [], ◌∷◌, ◌++◌, Some, drop, length, replicate}
 use Rattle.definition_text.specs.Ascii.{backslash, backtick, dollar, greater_than, less_than, semicolon, space}
 use Rattle.definition_text.specs.Columns.{Code as ContentCode, indent}
 use Rattle.definition_text.specs.Content.{is_eol, text_before}
@@ -39,14 +39,22 @@ pub record IsRaw (marker : ℕ) (text : List ℕ) (from to : List InlineCode) : 
   pub closing : AreCodes (replicate size marker) end to
   pub read : code_text (text_before (codes_of inside) (codes_of end)) ≡ text
 
--- a URI or an address between `<` and `>` (CommonMark 6.5)
+-- a URI or an address between `<` and `>`, which has a code at least (CommonMark 6.5)
 pub record IsAutolink (text : List ContentCode) (from to : List InlineCode) : Type 0 where
   pub codes : AreCodes (less_than ∷ (text ++ greater_than ∷ [])) from to
+  pub some : 0 < length text
   pub inline : EndNoLine text
 
--- all spaces that come next (CommonMark 6.7)
+-- raw HTML, which ends with `>` (CommonMark 6.6)
+pub record IsHtml (text : List ContentCode) (from to : List InlineCode) : Type 0 where
+  pub codes : AreCodes text from to
+  pub front : List ContentCode
+  pub closed : text ≡ front ++ greater_than ∷ []
+
+-- all spaces that come next, of which there is one at least (CommonMark 6.7)
 pub record AreAllSpaces (from to : List InlineCode) : Type 0 where
   pub size : ℕ
+  pub some : 0 < size
   pub all : size ≡ indent (codes_of from)
   pub codes : AreCodes (replicate size space) from to
 
@@ -66,7 +74,7 @@ HasForm context (Code text) from to = IsRaw backtick text from to
 HasForm context (Math text) from to = IsRaw dollar text from to
 HasForm context (Autolink email text) from to = IsAutolink text from to
 HasForm context (Literal kind text) from to = IsText text from to
-HasForm context (Html text) from to = AreCodes text from to
+HasForm context (Html text) from to = IsHtml text from to
 HasForm context EscapedBreak from to = IsText (backslash ∷ []) from to
 HasForm context TrailingBreak from to = AreAllSpaces from to
 HasForm context (LineEnd code) from to = IsLineEnd code from to
