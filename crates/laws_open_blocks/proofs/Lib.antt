@@ -1,0 +1,5 @@
+pub mod Bare
+pub mod Rows
+pub mod BareRead
+pub mod LineCounts
+pub mod Spread

@@ -1,0 +1,3 @@
+pub mod Open
+pub mod Lines
+pub mod Laws

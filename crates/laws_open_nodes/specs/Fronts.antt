@@ -1,0 +1,30 @@
+-- What is in front of the blocks of a document, and the page that all of its nodes spell.
+use Rattle.std.specs.Prelude.{◌≡◌, ◌⊎◌, ℕ, true, List, []}
+use Rattle.markdown_options.specs.declared.configuration.ParseOptions.{ParseOptions}
+use Rattle.markdown_options.specs.declared.line_ending.LineEnding.{LineEnding}
+use Rattle.engine_events.specs.declared.event.Name.TheVariants as n
+use Rattle.definition_block.specs.Tree as tree
+use Rattle.definition_inline.specs.CharacterReference.{Names}
+use Rattle.definition_page.specs.InlinePieces.{Meaning}
+use Rattle.definition_page.specs.Page as page
+use Rattle.definition_page.specs.Read.{page_of}
+use Rattle.definition_page.specs.TextTables.{TextTables}
+use Rattle.event_grammar.specs.References.{named}
+use Rattle.event_grammar.specs.Trees.{Nodes}
+use Rattle.event_meaning.specs.Blocks.{blocks_of}
+use Rattle.laws_alike.specs.Meanings.{AreMeanings}
+use Rattle.laws_alike.specs.Page.{AreBlocksAlike, AreAlikeAfterFront}
+use Rattle.laws_alike.specs.Targets.{AreDefinitionsAlike}
+
+-- a byte order mark, which spells nothing, or frontmatter with its ending, too; no definition is among them
+pub record IsFront (names : Names) (text : List ℕ) (front : Nodes) : Type 0 where
+  pub blocks : (blocks_of names text true front ≡ page.Nil)
+      ⊎ ((ending : LineEnding) × (blocks_of names text true front ≡ page.Cons (page.Leaf page.Definition) (page.Cons (page.Ending ending) page.Nil)))
+  pub none : named n.Definition front ≡ []
+
+-- A page that is spelled is alike to that of these blocks, in blocks and definitions.
+pub record IsSpelledPage (tables : TextTables) (options : ParseOptions) (text : List ℕ) (bs : tree.Blocks) (spelled : page.Page) : Type 0 where
+  pub blocks : (m m' : Meaning) → AreMeanings options.constructs tables.names m m'
+      → AreBlocksAlike m m' (page_of tables options bs).blocks spelled.blocks ⊎ AreAlikeAfterFront m m' (page_of tables options bs).blocks spelled.blocks
+  pub defined : (m m' : Meaning) → AreMeanings options.constructs tables.names m m'
+      → AreDefinitionsAlike m m' (page_of tables options bs).definitions spelled.definitions
