@@ -13,7 +13,8 @@ use Rattle.event_lines.specs.Content.{AreNext, IsNext, end_after, next_end, next
 not_none : (n : ℕ) → (suc n == 0) ≡ false
 not_none n = grind (arith, nat_tests)
 
-columns_some : (s : Spot) (owed : ℕ) → columns_before s (suc owed) ≡ tab_size s.column - suc owed
+-- where columns are owed, the others of the tab are before
+pub columns_some : (s : Spot) (owed : ℕ) → columns_before s (suc owed) ≡ tab_size s.column - suc owed
 columns_some s owed = ap (λ none. if none then 0 else tab_size s.column - suc owed) (not_none owed)
 
 module _ (text : List ℕ) where
@@ -26,7 +27,7 @@ module _ (text : List ℕ) where
   next_owes index zero b is = (omega (arith, byte_within index b is), inl refl)
   next_owes index (suc owed) b is = (omega (arith, is.1), inr is.2)
 
-  owes : (end : End) (line : List ℕ) → AreNext text end line → (end.index ≤ length text) × OwesIn text (index_spot text end.index) end.owed
+  pub owes : (end : End) (line : List ℕ) → AreNext text end line → (end.index ≤ length text) × OwesIn text (index_spot text end.index) end.owed
   owes end [] are = are
   owes end (b ∷ bs) are = next_owes end.index end.owed b are.0
 
@@ -112,3 +113,10 @@ after_tab index (suc zero) (suc count) some all =
 after_tab index (suc (suc owed)) (suc count) some all =
     let there : index + 1 + (count - suc owed) ≡ index + 1 + (suc count - suc (suc owed)) = omega arith in
     after_tab index (suc owed) count (omega arith) (omega (arith, all)) ∙ ap (λ i. end_at i 0) there
+
+-- how many columns a tab owes after so many
+pub owed_after : (index owed count : ℕ) → (end_after (end_at index owed) count).owed ≡ owed - count
+owed_after index owed zero = omega arith
+owed_after index zero (suc count) = owed_after (index + 1) zero count ∙ omega arith
+owed_after index (suc zero) (suc count) = owed_after (index + 1) zero count ∙ omega arith
+owed_after index (suc (suc owed)) (suc count) = owed_after index (suc owed) count ∙ omega arith

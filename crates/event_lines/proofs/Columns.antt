@@ -238,7 +238,8 @@ among c (b ∷ bs) n h =
 
 -- ---- white space ahead
 
-dark_is_byte : (c : ℕ) → is_white c ≡ false → is_tab_column c ≡ false
+-- a code that isn't white is a byte
+pub dark_is_byte : (c : ℕ) → is_white c ≡ false → is_tab_column c ≡ false
 dark_is_byte c h = (or_parts (eqb c 32 || eqb c 9) (eqb c 256) h).1
 
 -- no column of a tab is first after the white space ahead

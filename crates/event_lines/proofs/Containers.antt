@@ -26,7 +26,8 @@ views_split cs i d lt =
     drop_more (container_views cs) i (container_view d) (omega arith)
     ∙ ap (λ (c : Container). c ∷ drop (i + 1) (container_views cs)) (get_or-map container_view cs i d (container_view d) lt)
 
-no_quote : (c : CodeContainer) → (c ≡ code.Quote → ⊥) → is_quote (container_view c) ≡ false
+-- another container
+pub no_quote : (c : CodeContainer) → (c ≡ code.Quote → ⊥) → is_quote (container_view c) ≡ false
 no_quote code.Quote h = absurd (h refl)
 no_quote (code.Item item) h = refl
 no_quote (code.Footnote label) h = refl

@@ -11,3 +11,15 @@ pub mod Written
 pub mod Ahead
 pub mod InLine
 pub mod Next
+pub mod SameText
+pub mod InContent
+pub mod Between
+pub mod Sizes
+pub mod White
+pub mod NextLine
+pub mod ContentLines
+pub mod Dark
+pub mod Markers
+pub mod Parts
+pub mod PrefixNodes
+pub mod Starts

@@ -1,6 +1,8 @@
 -- A text is its lines, one after another, each with its ending.
 use Rattle.std.proofs.Common.{◌≡◌, ℕ, ◌<◌, List, [], ◌∷◌, ◌++◌, Option, Some, eqb, refl, sym, ap, ◌∙◌, inl, inr, drop, length, arith, append_assoc, Bool}
-use Rattle.std.proofs.Common.{false, ◌||◌, None}
+use Rattle.std.proofs.Common.{false, ◌||◌, None, ◌+◌, ◌-◌, ap₂, get_or}
+use Rattle.std.proofs.lemmas.Bool.{or_parts}
+use Rattle.event_lines.proofs.Spots.{get_over}
 use Rattle.std.specs.List.{flat_map, list_any}
 use Rattle.std.proofs.lemmas.Bool.{cases_Bool, cond-true, cond-false, eqb-true}
 use Rattle.markdown_options.specs.declared.line_ending.LineEnding.{LineEnding}
@@ -139,3 +141,54 @@ last_line text content after ending is none =
     let others : lines after ≡ [] =
     ap (drop 1) (sym is) ∙ last_first text (ap (λ (l : List TextLine). (first_of l).ending) is ∙ none) in
     sym (lines_joined after) ∙ ap joined others
+
+-- ---- CR and LF are one ending
+
+first_kept : (b : ℕ) (ls : List TextLine) → (first_of (in_first_line b ls)).ending ≡ (first_of ls).ending
+first_kept b [] = refl
+first_kept b (line ∷ others) = refl
+
+return_feed : (content bs : List ℕ) → list_any ends_line content ≡ false → (first_of (lines (content ++ 13 ∷ 10 ∷ bs))).ending ≡ Some CarriageReturnLineFeed
+return_feed [] bs dark = refl
+return_feed (b ∷ content) bs dark =
+    let parts = or_parts (ends_line b) (list_any ends_line content) dark in
+    let no = or_parts (eqb b 10) (eqb b 13) parts.0 in
+    ap (λ (ls : List TextLine). (first_of ls).ending)
+    (cond-false (eqb b 10) _ _ no.0 ∙ cond-false (eqb b 13) _ _ no.1)
+    ∙ first_kept b (lines (content ++ 13 ∷ 10 ∷ bs)) ∙ return_feed content bs parts.1
+
+feed_first : (bs : List ℕ) → get_or bs 0 0 ≡ 10 → bs ≡ 10 ∷ drop 1 bs
+feed_first [] is = absurd (omega (arith, is))
+feed_first (b ∷ bs) is = ap (λ (k : ℕ). k ∷ bs) is
+
+-- no LF is after a line that ends with CR
+pub apart_line : (text content after : List ℕ) (ending : Option LineEnding) → lines text ≡ text_line content ending ∷ lines after
+    → ending ≡ Some CarriageReturn → get_or after 0 0 ≡ 10 → ⊥
+apart_line text content after ending is return feed =
+    let parts : text ≡ content ++ (13 ∷ 10 ∷ drop 1 after) =
+    line_first text content after ending is
+    ∙ ap₂ (λ (e : Option LineEnding) (xs : List ℕ). content ++ (ending_text e ++ xs)) return (feed_first after feed) in
+    let both : Some CarriageReturnLineFeed ≡ Some CarriageReturn =
+    sym (return_feed content (drop 1 after) (dark_line text content after ending is)) ∙ ap (λ (xs : List ℕ). (first_of (lines xs)).ending) (sym parts)
+    ∙ ap (λ (ls : List TextLine). (first_of ls).ending) is ∙ return in
+    let no : 2 ≡ 1 = ap (λ (e : Option LineEnding). length (ending_text e)) both in
+    absurd (omega (arith, no))
+
+-- nor is the place after it between the two
+pub apart_after : (text front left : List ℕ) (ending : LineEnding) → text ≡ front ++ (ending_text (Some ending) ++ left)
+    → (ending ≡ CarriageReturn → get_or left 0 0 ≡ 10 → ⊥) → 0 < length front + length (ending_text (Some ending))
+    → get_or text ((length front + length (ending_text (Some ending))) - 1) 0 ≡ 13 → get_or text (length front + length (ending_text (Some ending))) 0 ≡ 10 → ⊥
+apart_after text front left LineFeed is apart some before after =
+    let last : (length front + 1) - 1 ≡ length front + 0 = omega arith in
+    let byte : get_or text ((length front + 1) - 1) 0 ≡ 10 =
+    ap₂ (λ (xs : List ℕ) (k : ℕ). get_or xs k 0) is last ∙ get_over front (10 ∷ left) 0 in
+    absurd (omega (arith, before, byte))
+apart_after text front left CarriageReturn is apart some before after =
+    let next : get_or left 0 0 ≡ 10 =
+    sym (get_over front (13 ∷ left) 1) ∙ ap (λ (xs : List ℕ). get_or xs (length front + 1) 0) (sym is) ∙ after in
+    apart refl next
+apart_after text front left CarriageReturnLineFeed is apart some before after =
+    let last : (length front + 2) - 1 ≡ length front + 1 = omega arith in
+    let byte : get_or text ((length front + 2) - 1) 0 ≡ 10 =
+    ap₂ (λ (xs : List ℕ) (k : ℕ). get_or xs k 0) is last ∙ get_over front (13 ∷ 10 ∷ left) 1 in
+    absurd (omega (arith, before, byte))

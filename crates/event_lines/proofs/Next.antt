@@ -23,7 +23,7 @@ use Rattle.event_lines.proofs.Spots.{column_in, get_over, get_front}
 use Rattle.event_lines.proofs.Ends.{start_among}
 
 -- the bytes of what is left are the last bytes of the line
-bytes_end : (c : ℕ) (bs : List ℕ) (n : ℕ) → ((k : ℕ) → get_or bs k 0 < 256) → IsEnd (bytes_of (drop n (codes_from c bs))) bs
+pub bytes_end : (c : ℕ) (bs : List ℕ) (n : ℕ) → ((k : ℕ) → get_or bs k 0 < 256) → IsEnd (bytes_of (drop n (codes_from c bs))) bs
 bytes_end c [] n h = (0, ap bytes_of (drop-nil n))
 bytes_end c (b ∷ bs) n h =
     let w = width c b in
@@ -57,7 +57,7 @@ bytes_end c (b ∷ bs) n h =
     ]
 
 -- an end of a list, by its length
-end_by_size : (xs bs : List ℕ) (p : ℕ) → IsEnd xs bs → p + length xs ≡ length bs → xs ≡ drop p bs
+pub end_by_size : (xs bs : List ℕ) (p : ℕ) → IsEnd xs bs → p + length xs ≡ length bs → xs ≡ drop p bs
 end_by_size xs bs p end size =
     let left : length (drop end.0 bs) ≡ length bs - end.0 = length-drop end.0 bs in
     let same : length xs ≡ length (drop end.0 bs) = ap length end.1 in
@@ -68,13 +68,13 @@ end_by_size xs bs p end size =
           end.1 ∙ drop_all end.0 bs le ∙ sym (drop_all p bs (omega arith))
     ]
 
-drop_over : (xs ys : List ℕ) (p : ℕ) → drop (length xs + p) (xs ++ ys) ≡ drop p ys
+pub drop_over : (xs ys : List ℕ) (p : ℕ) → drop (length xs + p) (xs ++ ys) ≡ drop p ys
 drop_over [] ys p = let e : 0 + p ≡ p = omega arith in ap (λ (n : ℕ). drop n ys) e
 drop_over (x ∷ xs) ys p =
     let e : suc (length xs) + p ≡ suc (length xs + p) = omega arith in
     ap (λ (n : ℕ). drop n (x ∷ (xs ++ ys))) e ∙ drop_over xs ys p
 
-drop_front : (p : ℕ) (xs ys : List ℕ) → p ≤ length xs → drop p (xs ++ ys) ≡ drop p xs ++ ys
+pub drop_front : (p : ℕ) (xs ys : List ℕ) → p ≤ length xs → drop p (xs ++ ys) ≡ drop p xs ++ ys
 drop_front zero xs ys le = refl
 drop_front (suc p) [] ys le = absurd (omega arith)
 drop_front (suc p) (x ∷ xs) ys le = drop_front p xs ys (omega arith)

@@ -9,6 +9,7 @@ use Rattle.markdown_options.specs.declared.configuration.Constructs.{Constructs}
 use Rattle.definition_block.specs.Container.{Container}
 use Rattle.laws_laid.specs.EmptyRests.{is_quote}
 use Rattle.markdown_options.specs.declared.line_ending.LineEnding.{LineEnding}
+use Rattle.markdown_options.specs.declared.line_ending.LineEnding.TheVariants.{CarriageReturn}
 use Rattle.markdown_options.specs.declared.beside.Kind.{Kind}
 use Rattle.markdown_options.specs.declared.beside.Kind.TheVariants.{Whitespace}
 use Rattle.definition_text.specs.Columns.{Rest, whole}
@@ -23,7 +24,7 @@ use Rattle.event_lines.proofs.Suffixes.{ends_in, prefixed_follows, starts_end}
 use Rattle.event_lines.proofs.Containers.{quotes_fewer}
 use Rattle.event_output.specs.Ends.{index_spot}
 use Rattle.event_lines.proofs.Spots.{bytes_after, bytes_before, column_after_ending}
-use Rattle.event_lines.proofs.Lines.{dark_line, last_line, line_first, some_left}
+use Rattle.event_lines.proofs.Lines.{apart_after, apart_line, dark_line, last_line, line_first, some_left}
 
 -- a line is begun, of which this is left
 abbrev pub at_line : Standing → List ℕ → ℕ → Option LineEnding → Rest → Standing
@@ -80,6 +81,7 @@ line_begins old content after end ending start rest first fresh ends reads text 
         content = content;
         parts = line;
         last = last_line old.left content after ending e;
+        apart = apart_line old.left content after ending e;
         end = omega arith;
       };
       columns = suffix.0;
@@ -105,10 +107,10 @@ both_ok (Err e) f p q = tt
 
 -- a line begins after the ending of another
 after_line : (text before content left : List ℕ) (ending : Option LineEnding) → (ending ≡ None → left ≡ [])
-    → text ≡ before ++ (content ++ (ending_text ending ++ left)) → IsLineStart text (length before) → 0 < length left
+    → (ending ≡ Some CarriageReturn → get_or left 0 0 ≡ 10 → ⊥) → text ≡ before ++ (content ++ (ending_text ending ++ left)) → IsLineStart text (length before) → 0 < length left
     → IsLineStart text (length (before ++ (content ++ ending_text ending)))
-after_line text before content left None last parts first some = let none = ap length (last refl) in absurd (omega arith)
-after_line text before content left (Some ending) last parts first some =
+after_line text before content left None last apart parts first some = let none = ap length (last refl) in absurd (omega arith)
+after_line text before content left (Some ending) last apart parts first some =
     let mark = first.mark in
     let size = length-append before content in
     let split : text ≡ (before ++ content) ++ (ending_text (Some ending) ++ left) =
@@ -119,6 +121,9 @@ after_line text before content left (Some ending) last parts first some =
     record {
       column = ap (λ (n : ℕ). (index_spot text n).column) (sym whole) ∙ column;
       mark = omega arith;
+      apart =
+          subst (λ (n : ℕ). 0 < n → get_or text (n - 1) 0 ≡ 13 → get_or text n 0 ≡ 10 → ⊥) whole
+          (apart_after text (before ++ content) left ending split (λ is. apart (ap Some is)));
     }
 
 -- the line's ending is passed
@@ -130,7 +135,7 @@ line_ends old text ending left st =
       before = st.line.before ++ (st.line.content ++ ending_text old.ending);
       parts = st.line.parts.parts ∙ sym (append_assoc st.line.before (st.line.content ++ ending_text old.ending) old.left
           ∙ ap (λ (xs : List ℕ). st.line.before ++ xs) (append_assoc st.line.content (ending_text old.ending) old.left));
-      first = after_line text st.line.before st.line.content old.left old.ending st.line.last st.line.parts.parts st.line.parts.first;
+      first = after_line text st.line.before st.line.content old.left old.ending st.line.last st.line.apart st.line.parts.parts st.line.parts.first;
       kind = Whitespace;
       unread = st.unread;
     }
@@ -190,6 +195,7 @@ in_line_over old xs n text over line =
       content = line.content;
       parts = line.parts;
       last = line.last;
+      apart = line.apart;
       end = line.end;
     }
 
@@ -249,6 +255,7 @@ container_starts is_kind old k rest before n found quotes text c here left to ki
         content = st.line.content;
         parts = st.line.parts;
         last = st.line.last;
+        apart = st.line.apart;
         end = st.line.end;
       };
       columns = ends.0;

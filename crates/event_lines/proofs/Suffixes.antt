@@ -1,13 +1,14 @@
 -- What containers leave of a line is its end, from a column on.
-use Rattle.std.proofs.Common.{◌≡◌, ℕ, ◌+◌, Bool, false, ◌&&◌, ◌||◌, not, List, [], ◌∷◌, Option, None, Some, eqb, refl, sym, ap, ◌∙◌, inl, inr, drop, take}
+use Rattle.std.proofs.Common.{◌≡◌, ℕ, ◌+◌, Bool, true, false, ◌&&◌, ◌||◌, not, List, [], ◌∷◌, Option, None, Some, eqb, refl, sym, ap, ◌∙◌, inl, inr, drop, take}
 use Rattle.std.proofs.Common.{leb, ap₂}
 use Rattle.std.specs.Prelude.{min, ◌==◌}
-use Rattle.std.specs.List.{prefix_len}
+use Rattle.std.specs.List.{list_all, prefix_len}
 use Rattle.definition_text.specs.Ascii.{right_parenthesis, asterisk, plus, hyphen, dot, colon, left_bracket, right_bracket, caret}
-use Rattle.std.proofs.lemmas.Bool.{cases_Bool, cond-true, cond-false, eqb-true, false≢true}
+use Rattle.std.proofs.lemmas.Bool.{cases_Bool, cond-true, cond-false, eqb-true, false≢true, leb-true}
 use Rattle.std.proofs.lemmas.List.{drop-drop}
 use Rattle.markdown_options.specs.declared.configuration.Constructs.{Constructs}
-use Rattle.definition_text.specs.Columns.{Rest, bare, indent}
+use Rattle.definition_text.specs.Columns.{Rest, bare, indent, is_blank, is_white}
+use Rattle.event_lines.proofs.White.{all_prefix, all_take}
 use Rattle.definition_text.specs.Content.{Part, closed_by}
 use Rattle.definition_text.specs.Indents.{outdent, small_indent}
 use Rattle.definition_inline.specs.Label.{label_end, ends_label}
@@ -77,7 +78,8 @@ pub record QuoteParts (start rest : Rest) : Type 0 where
   pub mark : bare start ≡ 62 ∷ codes
   pub end : IsEnd rest codes
 
-after_byte_is : (byte : ℕ) (rest found : Rest) → after_byte byte rest ≡ Some found → rest ≡ byte ∷ found
+-- the byte that is first
+pub after_byte_is : (byte : ℕ) (rest found : Rest) → after_byte byte rest ≡ Some found → rest ≡ byte ∷ found
 after_byte_is byte [] found is = absurd (cc)
 after_byte_is byte (code ∷ codes) found is =
     elim (cases_Bool (eqb code byte)) [
@@ -112,6 +114,36 @@ pub continues_end : (on : Constructs) (c : Container) (rest : Rest) (line : Cont
 continues_end on Quote rest line is = quote_end on rest line is
 continues_end on (Item item) rest line is = item_end item.size false rest line is
 continues_end on (Footnote label) rest line is = item_end 4 false rest line is
+
+-- a rest after white space
+pub record IsAfterWhite (rest start : Rest) : Type 0 where
+  pub count : ℕ
+  pub is : rest ≡ drop count start
+  pub white : list_all is_white (take count start) ≡ true
+
+item_white : (size : ℕ) (rest : Rest) → is_inside size false rest ≡ true → list_all is_white (take size rest) ≡ true
+item_white size rest inside =
+    elim (cases_Bool (is_blank rest)) [
+      | inl blank ↦ all_take is_white size rest blank
+      | inr dark ↦ all_prefix is_white size rest (leb-true size (indent rest) (sym (cond-false (is_blank rest) _ _ dark) ∙ inside))
+    ]
+
+item_after_white : (size : ℕ) (rest : Rest) (line : ContainerLine) → item_continues size false rest ≡ Some line → IsAfterWhite line.rest rest
+item_after_white size rest line is =
+    elim (cases_Bool (is_inside size false rest)) [
+      | inl h ↦
+          let e : Some (container_line (drop size rest) Whitespace) ≡ Some line = sym (cond-true (is_inside size false rest) _ _ h) ∙ is in
+          let same : line.rest ≡ drop size rest = cc in
+          record { count = size; is = same; white = item_white size rest h }
+      | inr h ↦ let e : None ≡ Some line = sym (cond-false (is_inside size false rest) _ _ h) ∙ is in absurd (cc)
+    ]
+
+-- an item and a footnote definition have white space on a later line
+pub continues_white : (on : Constructs) (c : Container) (rest : Rest) (line : ContainerLine) → is_quote c ≡ false → continues on c false rest ≡ Some line
+    → IsAfterWhite line.rest rest
+continues_white on Quote rest line other is = absurd (false≢true (sym other))
+continues_white on (Item item) rest line other is = item_after_white item.size rest line is
+continues_white on (Footnote label) rest line other is = item_after_white 4 rest line is
 
 -- ---- containers that start
 

@@ -1,15 +1,18 @@
 -- What is written of the prefixes of containers.
-use Rattle.std.proofs.Common.{◌≡◌, ℕ, ◌+◌, ◌-◌, ◌^◌, ◌<◌, ◌≤◌, List, ◌∷◌, ◌++◌, Option, Some, refl, sym, ap, ◌∙◌, subst, arith, drop, length, length-append}
+use Rattle.std.proofs.Common.{◌≡◌, ℕ, ◌+◌, ◌-◌, ◌^◌, ◌<◌, ◌≤◌, List, ◌∷◌, ◌++◌, Option, Some, true, refl, sym, ap, ap₂, ◌∙◌, subst, arith, drop, take, length, length-append}
 use Rattle.std.proofs.lemmas.List.{drop-drop}
 use Rattle.engine_events.specs.declared.event.Name.TheVariants.{BlockQuoteMarker, BlockQuotePrefix, SpaceOrTab}
 use Rattle.markdown_options.specs.declared.configuration.Constructs.{Constructs}
-use Rattle.definition_text.specs.Columns.{Rest, whole, bare, bytes_of, indent}
+use Rattle.std.specs.List.{list_all}
+use Rattle.definition_text.specs.Columns.{Rest, whole, bare, bytes_of, indent, is_byte, is_white}
+use Rattle.event_output.specs.Joined.{text_between}
+use Rattle.event_lines.proofs.Between.{rests_between}
+use Rattle.event_lines.proofs.White.{all_filter, all_prefix}
 use Rattle.definition_block.specs.ContainerLine.{ContainerLine}
 use Rattle.definition_block.specs.BlockQuote.{quote_prefix}
 use Rattle.event_output.specs.declared.end.End.{End}
 use Rattle.event_output.specs.declared.output.Output.{Output}
 use Rattle.event_output.specs.Ends.{Follows, end_at}
-use Rattle.event_grammar.specs.InGrammar.{node_name}
 use Rattle.event_grammar.specs.Trees.{Node}
 use Rattle.event_output.specs.Forest.{one, void_nodes}
 use Rattle.event_output.specs.Written.{Enters, Exits, IsInOrder, Writes, end_in}
@@ -20,10 +23,11 @@ use Rattle.event_lines.specs.Standing.{Standing, IsBetween, IsInLine, IsLineOf, 
 use Rattle.event_lines.proofs.Lines.{some_left}
 use Rattle.event_lines.proofs.Steps.{line_of}
 use Rattle.event_lines.specs.Ends.{WritesQuiet, rest_start}
-use Rattle.event_lines.proofs.Suffixes.{IsEnd, quote_parts}
+use Rattle.event_lines.proofs.Suffixes.{IsAfterWhite, quote_parts}
 use Rattle.event_lines.proofs.Columns.{bare_owes_none, dark_owes_none}
 use Rattle.event_lines.proofs.Ends.{line_follows, start_whole, start_line, start_marked, left_within}
-use Rattle.event_lines.proofs.Quiet.{quote_node, quiet_space}
+use Rattle.event_lines.specs.Quiet.{IsQuotePrefix}
+use Rattle.event_lines.proofs.Quiet.{prefix_marker, prefix_space, quote_node, quiet_space}
 
 module _ (text before content after : List ℕ) (n line_end : ℕ) (start : Rest) where
   -- where the white space ahead begins
@@ -42,6 +46,17 @@ module _ (text before content after : List ℕ) (n line_end : ℕ) (start : Rest
       )
       )
 
+  pub bare_white : (bare_end : End) → IsLineOf text before content after → line_end ≡ length before + length content
+      → start ≡ drop n (whole content) → bare_end ≡ rest_start line_end (bare start)
+      → list_all is_white (text_between text (rest_start line_end start) bare_end) ≡ true
+  bare_white bare_end line end at is =
+      let k = indent start in
+      let bare_at : bare start ≡ drop (n + k) (whole content) = ap (drop k) at ∙ drop-drop k n (whole content) in
+      let same : text_between text (rest_start line_end start) bare_end ≡ bytes_of (take k start) =
+      ap₂ (text_between text) (ap (rest_start line_end) at) (is ∙ ap (rest_start line_end) bare_at)
+      ∙ rests_between text before content after line_end line end n k ∙ ap (λ (r : Rest). bytes_of (take k r)) (sym at) in
+      ap (list_all is_white) same ∙ all_filter is_white is_byte (take k start) (all_prefix is_white k start (omega arith))
+
   pub bare_follows_self : (bare_end : End) → IsLineOf text before content after → line_end ≡ length before + length content
       → start ≡ drop n (whole content) → bare_end ≡ rest_start line_end (bare start) → Follows text bare_end bare_end
   bare_follows_self bare_end line end at is =
@@ -54,18 +69,21 @@ module _ (text before content after : List ℕ) (n line_end : ℕ) (start : Rest
 module _ {A : Type 0} (text before content after : List ℕ) (n line_end : ℕ) (start rest : Rest) where
   -- white space up to a rest further on
   pub space_written : (a b : Output A) (to : End) → IsLineOf text before content after → line_end ≡ length before + length content
-      → start ≡ drop n (whole content) → end_in a ≡ rest_start line_end start → IsInOrder text a → IsEnd rest start → to ≡ rest_start line_end rest
+      → start ≡ drop n (whole content) → end_in a ≡ rest_start line_end start → IsInOrder text a → IsAfterWhite rest start → to ≡ rest_start line_end rest
       → (IsInOrder text a → Follows text (end_in a) to → Writes text a b (void_nodes text SpaceOrTab (end_in a) to)) → WritesQuiet text a b
   space_written a b to line end at from order further is writes =
-      let at_rest : drop (n + further.0) (whole content) ≡ rest = sym (further.1 ∙ ap (drop further.0) at ∙ drop-drop further.0 n (whole content)) in
-      let follows = line_follows text before content after line_end n (n + further.0) line end (omega arith) in
+      let k = further.count in
+      let at_rest : drop (n + k) (whole content) ≡ rest = sym (further.is ∙ ap (drop k) at ∙ drop-drop k n (whole content)) in
+      let follows = line_follows text before content after line_end n (n + k) line end (omega arith) in
       let from_start : rest_start line_end (drop n (whole content)) ≡ end_in a = ap (rest_start line_end) (sym at) ∙ sym from in
-      let to_rest : rest_start line_end (drop (n + further.0) (whole content)) ≡ to = ap (rest_start line_end) at_rest ∙ sym is in
-      quiet_space text a b (end_in a) to (
-      writes order (subst (λ (x : End). Follows text x to) from_start (
+      let to_rest : rest_start line_end (drop (n + k) (whole content)) ≡ to = ap (rest_start line_end) at_rest ∙ sym is in
+      let on : Follows text (end_in a) to = subst (λ (x : End). Follows text x to) from_start (
       subst (λ (x : End). Follows text (rest_start line_end (drop n (whole content))) x) to_rest follows
-      ))
-      )
+      ) in
+      let same : text_between text (end_in a) to ≡ bytes_of (take k start) =
+      sym (ap₂ (text_between text) from_start to_rest) ∙ rests_between text before content after line_end line end n k
+      ∙ ap (λ (r : Rest). bytes_of (take k r)) (sym at) in
+      quiet_space text a b (end_in a) to on (ap (list_all is_white) same ∙ all_filter is_white is_byte (take k start) further.white) (writes order on)
 
   -- the prefix of a quote, where all before its mark is written
   pub quote_inner : (on : Constructs) (quote : ContainerLine) (b c d e f : Output A) (bare_end to : End)
@@ -79,7 +97,7 @@ module _ {A : Type 0} (text before content after : List ℕ) (n line_end : ℕ) 
       → ((end_in c).index + 1 < 2 ^ 64 → end_in d ≡ end_at ((end_in c).index + 1) 0)
       → (IsInOrder text d → Follows text (end_in d) to → Writes text d e (void_nodes text SpaceOrTab (end_in d) to))
       → (IsInOrder text e → Exits text BlockQuotePrefix e f)
-      → (first : Node) × (node_name first ≡ BlockQuotePrefix) × Writes text b f (one first)
+      → (first : Node) × IsQuotePrefix first × Writes text b f (one first)
   quote_inner on quote b c d e f bare_end to line end at order is same bare_is to_is white_end enters enter_end marker marker_end space exits =
       let parts = quote_parts on start quote is in
       let n1 = n + indent start in
@@ -124,6 +142,7 @@ module _ {A : Type 0} (text before content after : List ℕ) (n line_end : ℕ) 
       let second = marker fits entered.order follows2 in
       let third = space second.order follows3 in
       quote_node text b c d e f (void_nodes text BlockQuoteMarker (end_in c) (end_at ((end_in c).index + 1) 0)) (void_nodes text SpaceOrTab (end_in d) to)
+      (prefix_marker text (end_in c) (end_at ((end_in c).index + 1) 0)) (prefix_space text (end_in d) to)
       entered second third (exits third.order)
 
 -- a line is begun, of which nothing is read: all before it is written

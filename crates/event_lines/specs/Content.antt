@@ -5,6 +5,7 @@ use Rattle.engine_events.specs.declared.event.Name.{Name}
 use Rattle.event_grammar.specs.Trees.{Nodes}
 use Rattle.event_output.specs.declared.end.End.{End}
 use Rattle.event_output.specs.Ends.{IsInTab, OwesIn, end_at, index_spot}
+use Rattle.event_output.specs.Joined.{AreJoined, end_edge, flat_text, text_between}
 use Rattle.event_output.specs.Written.{Enters, Exits, IsInOrder, Writes, end_in}
 use Rattle.event_lines.specs.declared.walk.Walk.{Walk}
 
@@ -51,20 +52,32 @@ BeginsLineHere old new =
     (text line : List ℕ) → IsInOrder text old.out → AreNext text (end_in old.out) line → length text < 2 ^ 61 → length line < 2 ^ 64
     → StandsInLine text line new × (end_in new.out ≡ end_in old.out)
 
+-- the same, where so many columns of the content are before the line
+abbrev pub BeginsLineAfter : {A : Type 0} → ℕ → Walk A → Walk A → Type 0
+BeginsLineAfter columns old new =
+    (text line : List ℕ) → IsInOrder text old.out → AreNext text (end_in old.out) line → length text < 2 ^ 61 → columns + length line < 2 ^ 64
+    → StandsInLine text line new × (end_in new.out ≡ end_in old.out)
+
 -- nodes are written, for the first of these bytes, and the others are next
 pub record WritesInLine {A : Type 0} (text front : List ℕ) (ns : Nodes) (line : List ℕ) (old new : Walk A) : Type 0 where
   pub writes : Writes text old.out new.out ns
   pub stands : StandsInLine text line new
   pub end : end_in new.out ≡ end_after (end_in old.out) (length front)
+  pub place : new.place ≡ old.place + length front
+  pub joined : AreJoined (end_edge text (end_in old.out)) ns (end_edge text (end_in new.out))
+  -- no prefix of a quote is among them
+  pub spells : flat_text text ns ≡ text_between text (end_in old.out) (end_in new.out)
 
 -- an event is entered before these bytes
 pub record EntersInLine {A : Type 0} (text : List ℕ) (name : Name) (line : List ℕ) (old new : Walk A) : Type 0 where
   pub enters : Enters text name old.out new.out
   pub stands : StandsInLine text line new
   pub end : end_in new.out ≡ end_in old.out
+  pub place : new.place ≡ old.place
 
 -- an event is exited before these bytes
 pub record ExitsInLine {A : Type 0} (text : List ℕ) (name : Name) (line : List ℕ) (old new : Walk A) : Type 0 where
   pub exits : Exits text name old.out new.out
   pub stands : StandsInLine text line new
   pub end : end_in new.out ≡ end_in old.out
+  pub place : new.place ≡ old.place

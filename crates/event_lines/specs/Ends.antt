@@ -1,27 +1,30 @@
 -- Where the output of a walk is, beside its lines.
-use Rattle.std.specs.Prelude.{◌≡◌, ℕ, ◌-◌, ◌+◌, ◌==◌, if◌then◌else◌, List, ◌∷◌, Option, drop, length, Bool, false, true, Some}
-use Rattle.std.specs.List.{prefix_len}
+use Rattle.std.specs.Prelude.{◌≡◌, ℕ, ◌-◌, ◌+◌, ◌==◌, if◌then◌else◌, List, ◌∷◌, ◌++◌, Option, drop, length, Bool, false, true, Some}
+use Rattle.std.specs.List.{list_all, list_any, prefix_len}
 use Rattle.engine_events.specs.declared.event.Name.{Name}
-use Rattle.engine_events.specs.declared.event.Name.TheVariants.{BlockQuotePrefix, LineEnding as Ending}
+use Rattle.engine_events.specs.declared.event.Name.TheVariants.{LineEnding as Ending}
 use Rattle.markdown_options.specs.declared.line_ending.LineEnding.{LineEnding}
 use Rattle.markdown_options.specs.declared.beside.Kind.{Kind}
-use Rattle.definition_text.specs.Columns.{Rest, whole, bare, bytes_of, is_tab_column}
+use Rattle.definition_text.specs.Columns.{Rest, whole, bare, bytes_of, is_tab_column, is_white}
+use Rattle.definition_text.specs.Content.{is_space}
 use Rattle.definition_block.specs.Container.{Container}
 use Rattle.definition_block.specs.ContainerLine.{container_line}
 use Rattle.definition_block.specs.BlockQuote.{quote_prefix}
-use Rattle.definition_block.specs.Containers.{continues}
+use Rattle.definition_block.specs.Containers.{continues, starts}
+use Rattle.definition_block.specs.ContainerStart.{container_start}
 use Rattle.block_starts.specs.View.{rest_of}
-use Rattle.event_grammar.specs.InGrammar.{node_name}
 use Rattle.event_grammar.specs.Trees.{Node, Nodes}
 use Rattle.event_output.specs.declared.end.End.{End}
 use Rattle.event_output.specs.declared.output.Output.{Output}
 use Rattle.event_output.specs.Ends.{Follows, end_at}
 use Rattle.event_output.specs.Forest.{append, one, void_nodes}
+use Rattle.event_output.specs.Joined.{flat_text}
 use Rattle.event_output.specs.Written.{Enters, IsInOrder, Writes, end_in}
 use Rattle.laws_laid.specs.Places.{LineRest, Place, Between, Within, AtEnding, Starts}
 use Rattle.event_lines.specs.declared.walk.Walk.{Walk}
 use Rattle.event_lines.specs.Standing.{StandsAt, IsLineOf, around, standing}
-use Rattle.event_lines.specs.Quiet.{AreQuiet}
+use Rattle.event_lines.specs.Prefixes.{IsFootnoteLabel, IsPrefixOf}
+use Rattle.event_lines.specs.Quiet.{AreQuiet, IsQuotePrefix}
 
 -- where a rest of a line begins, of which the content ends at an index
 abbrev pub rest_start : ℕ → Rest → End
@@ -53,6 +56,8 @@ pub record WritesQuiet {A : Type 0} (text : List ℕ) (old new : Output A) : Typ
   pub nodes : Nodes
   pub writes : Writes text old new nodes
   pub quiet : AreQuiet nodes
+  -- outside of the prefixes of quotes there are only spaces and tabs
+  pub white : list_all is_white (flat_text text nodes) ≡ true
 
 -- a walk is in a line, of which this is left after so many columns, and all before it is written
 pub record IsAfter {A : Type 0} (text before content after : List ℕ) (n : ℕ) (w : Walk A) : Type 0 where
@@ -97,16 +102,18 @@ abbrev pub WritesNextLine : {A : Type 0} → Walk A → Walk A → Type 0
 WritesNextLine old new =
     (text : List ℕ) (ending : Option LineEnding) (next : LineRest) (others : List LineRest)
     → StandsAt text (AtEnding ending (next ∷ others)) (standing old) → IsInOrder text old.out → Follows text (written_to old) (line_after old)
-    → (ns : Nodes) × Writes text old.out new.out (append (void_nodes text Ending (written_to old) (line_after old)) ns) × AreQuiet ns × IsWrittenToRest new
+    → (ns : Nodes) × Writes text old.out new.out (append (void_nodes text Ending (written_to old) (line_after old)) ns) × AreQuiet ns
+    × (list_all is_white (flat_text text ns) ≡ true) × IsWrittenToRest new
 
 -- A container is entered after white space, and in it its prefix is written first.
-pub record WritesStart {A : Type 0} (text : List ℕ) (name prefix : Name) (old new : Output A) : Type 0 where
+pub record WritesStart {A : Type 0} (text : List ℕ) (name : Name) (IsPrefix : Node → Type 0) (at : End) (old new : Output A) : Type 0 where
   pub before : Output A
   pub entered : Output A
   pub space : WritesQuiet text old before
+  pub begins : end_in before ≡ at
   pub enters : Enters text name before entered
   pub first : Node
-  pub is_prefix : node_name first ≡ prefix
+  pub is_prefix : IsPrefix first
   pub writes : Writes text entered new (one first)
 
 -- the prefix of a quote is written, where all before its mark is
@@ -115,11 +122,32 @@ WritesMark rest old new =
     (text before content after : List ℕ) (n : ℕ) (kind : Kind) → IsLineOf text before content after → old.line_end ≡ length before + length content
     → rest_of old.rest ≡ drop n (whole content) → written_to old ≡ rest_start old.line_end (bare (rest_of old.rest)) → IsInOrder text old.out
     → quote_prefix old.on.now (rest_of old.rest) ≡ Some (container_line rest kind)
-    → (first : Node) × (node_name first ≡ BlockQuotePrefix) × Writes text old.out new.out (one first) × (written_to new ≡ rest_start old.line_end rest)
+    → (first : Node) × IsQuotePrefix first × Writes text old.out new.out (one first) × (written_to new ≡ rest_start old.line_end rest)
+
+-- the prefix of a container that starts is written, where all before its marker is
+abbrev pub WritesMarker : {A : Type 0} → Container → Rest → Walk A → Walk A → Type 0
+WritesMarker c rest old new =
+    (text before content after : List ℕ) (n : ℕ) (kind : Kind) → IsLineOf text before content after → old.line_end ≡ length before + length content
+    → rest_of old.rest ≡ drop n (whole content) → written_to old ≡ rest_start old.line_end (bare (rest_of old.rest)) → IsInOrder text old.out
+    → starts old.on.now false (rest_of old.rest) ≡ Some (container_start c rest kind)
+    → (first : Node) × IsPrefixOf text c first × Writes text old.out new.out (one first) × (written_to new ≡ rest_start old.line_end rest)
+
+-- a label with its brackets is written, whose text has so many bytes
+abbrev pub WritesFootnoteLabel : {A : Type 0} → ℕ → Walk A → Walk A → Type 0
+WritesFootnoteLabel size old new =
+    (text before content after : List ℕ) (n : ℕ) (label more : Rest) → IsLineOf text before content after → old.line_end ≡ length before + length content
+    → written_to old ≡ rest_start old.line_end (drop n (whole content)) → IsInOrder text old.out → prefix_len is_tab_column (drop n (whole content)) ≡ 0
+    → drop n (whole content) ≡ 91 ∷ 94 ∷ (label ++ 93 ∷ more) → list_any is_space label ≡ false → size ≡ length label
+    → (first : Node) × IsFootnoteLabel label text first × Writes text old.out new.out (one first)
+    × (written_to new ≡ rest_start old.line_end (drop (n + (length label + 3)) (whole content)))
+
+-- where the white space ahead ends
+abbrev pub bare_end : {A : Type 0} → Walk A → End
+bare_end w = end_at (w.line_end - length (bytes_of (bare (rest_of w.rest)))) 0
 
 -- where a container of this kind starts, it is written so
-abbrev pub WritesStartOf : {A : Type 0} → (Container → Bool) → Name → Name → Walk A → Walk A → Type 0
-WritesStartOf is_kind name prefix old new =
+abbrev pub WritesStartOf : {A : Type 0} → (Container → Bool) → Name → Walk A → Walk A → Type 0
+WritesStartOf is_kind name old new =
     (text : List ℕ) (c : Container) (here : LineRest) (left : List LineRest) (to : Place) → is_kind c ≡ true → StandsAt text (Within here left) (standing old)
     → Starts old.on.now (around (standing old)) c (Within here left) to → IsWrittenToRest old → IsInOrder text old.out
-    → WritesStart text name prefix old.out new.out × IsWrittenToRest new
+    → WritesStart text name (IsPrefixOf text c) (bare_end old) old.out new.out × IsWrittenToRest new

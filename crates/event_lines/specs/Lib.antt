@@ -2,6 +2,8 @@ pub mod Open
 pub mod Kinds
 pub mod Standing
 pub mod Quiet
+pub mod Prefixes
 pub mod Ends
 pub mod Steps
 pub mod Content
+pub mod InContent

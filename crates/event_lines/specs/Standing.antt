@@ -1,7 +1,8 @@
 -- Where a walk stands in the lines of a text (CommonMark 2.1 and 5).
-use Rattle.std.specs.Prelude.{◌≡◌, ℕ, ◌+◌, ◌^◌, ◌≤◌, Bool, true, false, List, ◌++◌, [], Option, None, ◌<◌, get_or, length, drop, reverse}
+use Rattle.std.specs.Prelude.{◌≡◌, ℕ, ◌+◌, ◌-◌, ◌^◌, ◌≤◌, Bool, true, false, List, ◌++◌, [], Option, None, Some, ◌<◌, get_or, length, drop, reverse}
 use Rattle.std.specs.List.{list_any}
 use Rattle.markdown_options.specs.declared.line_ending.LineEnding.{LineEnding}
+use Rattle.markdown_options.specs.declared.line_ending.LineEnding.TheVariants.{CarriageReturn}
 use Rattle.markdown_options.specs.declared.configuration.Constructs.{Constructs}
 use Rattle.markdown_options.specs.declared.beside.Kind.{Kind}
 use Rattle.markdown_options.specs.declared.beside.Kind.TheVariants.{Whitespace}
@@ -61,6 +62,8 @@ TEXT_MAX = 2 ^ 60
 pub record IsLineStart (text : List ℕ) (index : ℕ) : Type 0 where
   pub column : (index_spot text index).column ≡ 1
   pub mark : mark_size text ≤ index
+  -- not between CR and LF, which are one ending
+  pub apart : 0 < index → get_or text (index - 1) 0 ≡ 13 → get_or text index 0 ≡ 10 → ⊥
 
 -- These are parts of a text: what is before a line, what the line holds before its ending, and what is after that.
 pub record IsLineOf (text before content after : List ℕ) : Type 0 where
@@ -85,6 +88,7 @@ pub record IsInLine (text : List ℕ) (s : Standing) : Type 0 where
   pub content : List ℕ
   pub parts : IsLineOf text before content (ending_text s.ending ++ s.left)
   pub last : s.ending ≡ None → s.left ≡ []
+  pub apart : s.ending ≡ Some CarriageReturn → get_or s.left 0 0 ≡ 10 → ⊥
   pub end : s.line_end ≡ length before + length content
 
 -- No line is begun, and these are the lines of what is left of the text.

@@ -25,6 +25,15 @@ outside s = record s { is_in_line = false }
 abbrev pub HasSameOpen : Standing → Standing → Type 0
 HasSameOpen old new = (new.on ≡ old.on) × (new.outermost ≡ old.outermost)
 
+-- the same line is begun, and as much of it is left
+pub record IsSameLine (old new : Standing) : Type 0 where
+  pub size : new.size ≡ old.size
+  pub left : new.left ≡ old.left
+  pub begun : new.is_in_line ≡ old.is_in_line
+  pub rest : new.rest ≡ old.rest
+  pub line_end : new.line_end ≡ old.line_end
+  pub ending : new.ending ≡ old.ending
+
 -- The walk begins at the last bytes of a text.
 abbrev pub BeginsAt : ℕ → List ℕ → Standing → Type 0
 BeginsAt size rest new =

@@ -1,24 +1,27 @@
 //! The prefixes of containers (CommonMark 5.1 and 5.2).
 ghost use Rattle.std.specs.Prelude.{◌≡◌, IfOk, MatchOption, OnOk, length, true, ◌≤◌};
-ghost use Rattle.engine_events.specs.declared.event.Name.TheVariants.{BlockQuote, BlockQuotePrefix, GfmFootnoteDefinition, GfmFootnoteDefinitionLabel};
+ghost use Rattle.engine_events.specs.declared.event.Name.TheVariants.{BlockQuote, GfmFootnoteDefinition, GfmFootnoteDefinitionLabel};
 ghost use Rattle.engine_events.specs.declared.event.Name.TheVariants.{GfmFootnoteDefinitionPrefix, ListItem, ListItemPrefix, SpaceOrTab};
 ghost use Rattle.event_output.specs.Children.{holds_lines, may_enter};
-ghost use Rattle.definition_text.specs.Columns.{whole};
+ghost use Rattle.definition_text.specs.Columns.{bare as bare_rest, bytes_of, whole};
+ghost use Rattle.markdown_options.specs.declared.container.Item.{Item as ItemParts};
 ghost use Rattle.block_starts.specs.View.{container_view, container_views, rest_of};
 ghost use Rattle.laws_laid.specs.EmptyRests.{is_quote};
 ghost use Rattle.event_lines.specs.Kinds.{is_footnote, is_item};
-ghost use Rattle.event_lines.specs.Ends.{WritesMark, WritesPrefix, WritesPrefixes, WritesStartOf};
+ghost use Rattle.event_lines.specs.Ends.{WritesFootnoteLabel, WritesMark, WritesMarker, WritesPrefix, WritesPrefixes, WritesStartOf};
 ghost use Rattle.event_lines.specs.Open.{still_open, with_entered};
-ghost use Rattle.definition_block.specs.Container.{Quote};
+ghost use Rattle.std.specs.List.{prefix_len};
+ghost use Rattle.definition_block.specs.ListItem.{is_digit};
+ghost use Rattle.definition_block.specs.Container.{Footnote as FootnoteView, Item as ItemView, Quote};
 ghost use Rattle.event_lines.specs.Standing.{AreQuotesWithin, TEXT_MAX, standing};
-ghost use Rattle.event_lines.specs.Steps.{Leaves, ReadsPrefixes, StartsOf, with_container, with_rest};
+ghost use Rattle.event_lines.specs.Steps.{IsSameLine, Leaves, ReadsPrefixes, StartsOf, with_container, with_rest};
 
 use crate::cut::first;
 use crate::walk::Walk;
 use block_starts::Cursor;
 use block_starts::container::{continues, starts};
 use engine_events::event::Name;
-use markdown_options::{Container, Item};
+use markdown_options::Container;
 use std::alloc::{AllocError, Allocator};
 
 /// No line is longer.
@@ -99,7 +102,7 @@ impl<'a, A: Allocator> Walk<'a, A> {
         requires space { may_enter (still_open self.old) SpaceOrTab ≡ true }
         ensures open { IfOk result (λ starts. still_open self.new ≡ with_entered starts BlockQuote (still_open self.old)) }
         ensures starts { IfOk result (λ starts. StartsOf is_quote (standing self.old) starts (standing self.new)) }
-        ensures written { OnOk result (WritesStartOf is_quote BlockQuote BlockQuotePrefix self.old self.new) }
+        ensures written { OnOk result (WritesStartOf is_quote BlockQuote self.old self.new) }
     {
         let Some((Container::Quote, line)) = starts(self.on, false, self.rest) else {
             return Ok(false);
@@ -119,13 +122,14 @@ impl<'a, A: Allocator> Walk<'a, A> {
         requires space { may_enter (still_open self.old) SpaceOrTab ≡ true }
         ensures open { IfOk result (λ starts. still_open self.new ≡ with_entered starts ListItem (still_open self.old)) }
         ensures starts { IfOk result (λ starts. StartsOf is_item (standing self.old) starts (standing self.new)) }
+        ensures written { OnOk result (WritesStartOf is_item ListItem self.old self.new) }
     {
         let Some((Container::Item(item), line)) = starts(self.on, false, self.rest) else {
             return Ok(false);
         };
         let bare = self.white()?;
         self.enter(Name::ListItem)?;
-        self.item_prefix(item, bare, line.rest)?;
+        self.item_prefix(bare, line.rest)?;
         self.start(Container::Item(item), line.rest)?;
         Ok(true)
     }
@@ -137,6 +141,7 @@ impl<'a, A: Allocator> Walk<'a, A> {
         requires space { may_enter (still_open self.old) SpaceOrTab ≡ true }
         ensures open { IfOk result (λ starts. still_open self.new ≡ with_entered starts GfmFootnoteDefinition (still_open self.old)) }
         ensures starts { IfOk result (λ starts. StartsOf is_footnote (standing self.old) starts (standing self.new)) }
+        ensures written { OnOk result (WritesStartOf is_footnote GfmFootnoteDefinition self.old self.new) }
     {
         let Some((Container::Footnote(label), line)) = starts(self.on, false, self.rest) else {
             return Ok(false);
@@ -161,15 +166,15 @@ impl<'a, A: Allocator> Walk<'a, A> {
 
     /// The prefix of an item, up to a rest of the line.
     #[tactic(auto, using(event_output::proofs::Classes::enters_in), unfolding(event_output::specs::Children::may_hold))]
-    fn item_prefix(&mut self, item: Item, bare: &str, after: Cursor<'a>) -> Result<(), AllocError>
+    fn item_prefix(&mut self, bare: &str, after: Cursor<'a>) -> Result<(), AllocError>
         requires child { may_enter (still_open self.old) ListItemPrefix ≡ true }
         ensures open { OnOk result (still_open self.new ≡ still_open self.old) }
         ensures stays { OnOk result (standing self.new ≡ standing self.old) }
+        ensures marked { OnOk result ((item : ItemParts) → bare.now ≡ bytes_of (bare_rest (rest_of self.old.rest))
+            → WritesMarker (ItemView item) (rest_of after.entry) self.old self.new) }
     {
         self.enter(Name::ListItemPrefix)?;
-        if item.number.is_some() {
-            self.token(Name::ListItemValue, digits(bare.as_bytes()))?;
-        }
+        self.token(Name::ListItemValue, digits(bare.as_bytes()))?;
         self.token(Name::ListItemMarker, 1)?;
         self.space_to(&after)?;
         self.exit(Name::ListItemPrefix)
@@ -181,6 +186,7 @@ impl<'a, A: Allocator> Walk<'a, A> {
         requires child { may_enter (still_open self.old) GfmFootnoteDefinitionPrefix ≡ true }
         ensures open { OnOk result (still_open self.new ≡ still_open self.old) }
         ensures stays { OnOk result (standing self.new ≡ standing self.old) }
+        ensures marked { OnOk result (WritesMarker (FootnoteView label.now) (rest_of after.entry) self.old self.new) }
     {
         self.enter(Name::GfmFootnoteDefinitionPrefix)?;
         self.footnote_label(label.len())?;
@@ -195,6 +201,7 @@ impl<'a, A: Allocator> Walk<'a, A> {
         requires child { may_enter (still_open self.old) GfmFootnoteDefinitionLabel ≡ true }
         ensures open { OnOk result (still_open self.new ≡ still_open self.old) }
         ensures stays { OnOk result (standing self.new ≡ standing self.old) }
+        ensures labelled { OnOk result (WritesFootnoteLabel size self.old self.new) }
     {
         self.enter(Name::GfmFootnoteDefinitionLabel)?;
         self.token(Name::GfmFootnoteDefinitionLabelMarker, 1)?;
@@ -210,6 +217,7 @@ impl<'a, A: Allocator> Walk<'a, A> {
     pub fn leave(&mut self) -> Option<Container<'a>>
         ensures open { still_open self.new ≡ still_open self.old }
         ensures written { self.new.out ≡ self.old.out }
+        ensures line { IsSameLine (standing self.old) (standing self.new) }
         ensures leaves { MatchOption result (standing self.new ≡ standing self.old) (λ c. Leaves (container_view c) (standing self.old) (standing self.new)) }
     {
         let container = self.open.pop()?;
@@ -231,7 +239,9 @@ fn quotes_end(containers: &[Container<'_>], count: usize) -> usize
 }
 
 /// How many digits bytes begin with.
-fn digits(bytes: &[u8]) -> usize {
+fn digits(bytes: &[u8]) -> usize
+    ensures { result ≡ prefix_len is_digit bytes.now }
+{
     for (i, byte) in bytes.iter().enumerate() {
         if !byte.is_ascii_digit() {
             return i;

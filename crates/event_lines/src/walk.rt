@@ -108,6 +108,7 @@ impl<'a, A: Allocator> Walk<'a, A> {
         ensures begun { OnOk result (IsBegun (standing self.old) (standing self.new)) }
         ensures written { OnOk result (WritesLine self.old self.new) }
         ensures around { OnOk result (HasSameOpen (standing self.old) (standing self.new)) }
+        ensures stays { self.old.is_in_line ≡ true → OnOk result (self.new ≡ self.old) }
     {
         if self.is_in_line {
             Ok(())

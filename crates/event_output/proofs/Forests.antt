@@ -50,7 +50,7 @@ bytes_on a b c first second =
     let all : (b - a) + (c - b) ≡ c - a = omega (arith, first, second) in
     ap (λ k. append (byte_nodes a (b - a)) (byte_nodes k (c - b))) later ∙ bytes_both a (b - a) (c - b) ∙ ap (byte_nodes a) all
 
-edges : (i v j w : ℕ) → i ≤ j → (j ≡ i → v ≤ w) → edge (spot i v) ≤ edge (spot j w)
+pub edges : (i v j w : ℕ) → i ≤ j → (j ≡ i → v ≤ w) → edge (spot i v) ≤ edge (spot j w)
 edges i v j w forward columns = grind (arith, nat_tests)
 
 data_on : (text : List ℕ) (a b c : End) → Follows text a b → Follows text b c → append (data_nodes text a b) (data_nodes text b c) ≡ data_nodes text a c
@@ -245,7 +245,7 @@ same_forest text ds name from to same =
     ∙ ap (λ same. with_nodes g (if same then Nil else cut (Around (enter_at text name from) Nil (exit_at text name to)))) (sym same)
 
 -- data that is one token
-test_eq : (a b : ℕ) → (a == b) ≡ true → a ≡ b
+pub test_eq : (a b : ℕ) → (a == b) ≡ true → a ≡ b
 test_eq a b same = grind (arith, nat_tests)
 
 no_data : (text : List ℕ) (a b : End) → a.index ≡ b.index → a.owed ≡ b.owed → Nil ≡ data_nodes text a b

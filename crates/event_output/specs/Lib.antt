@@ -6,5 +6,6 @@ pub mod Drafts
 pub mod Ends
 pub mod Forest
 pub mod Written
+pub mod Joined
 pub mod Children
 pub mod Paragraph

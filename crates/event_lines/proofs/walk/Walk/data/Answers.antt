@@ -1,6 +1,7 @@
 use Rattle.std.proofs.Common.{arith, length-append}
 use Rattle.event_output.specs.Forest.{data_nodes}
 use Rattle.event_output.specs.Written.{end_in}
+use Rattle.event_output.proofs.Joined.{flat_data}
 use Rattle.event_lines.proofs.InLine.{writes_next, writes_nothing}
 use Rattle.event_lines.proofs.Steps.{both_ok}
 use Rattle.event_lines.proofs.walk.Walk.data.Goals as goal
@@ -15,5 +16,6 @@ returns-clause-written g c =
     both_ok c.data.result
     (λ end written text front line is st.
     writes_next text w c.data.new.self front line c.args.size c.saturating_add-self.result c.content_end-end.result (data_nodes text (end_in w.out)) is st
-    (omega (arith, c.saturating_add-self.ensures, st.fits, is, length-append front line)) c.content_end-end.ensures end (written text))
+    (omega (arith, c.saturating_add-self.ensures, st.fits, is, length-append front line)) c.content_end-end.ensures end (written text)
+    (flat_data text (end_in w.out)))
     c.data.ensures.end c.data.ensures.written

@@ -28,6 +28,7 @@ returns-clause-written g c =
       more.0.nodes,
       writes_both text old.out mid.out new.out (void_nodes text LineEnding (written_to old) (line_after old)) more.0.nodes first.0 more.0.writes,
       more.0.quiet,
+      more.0.white,
       more.1,
     ))
     c.begin_line.ensures.written

@@ -5,7 +5,8 @@ use Rattle.definition_block.specs.Containers.{continues}
 use Rattle.block_starts.specs.View.{container_view, rest_of}
 use Rattle.event_lines.specs.declared.walk.Walk.{Walk}
 use Rattle.event_lines.specs.Ends.{WritesQuiet, rest_start, written_to}
-use Rattle.event_lines.proofs.Suffixes.{continues_end}
+use Rattle.event_lines.proofs.Suffixes.{continues_white}
+use Rattle.event_lines.proofs.Containers.{no_quote}
 use Rattle.event_lines.proofs.Written.{space_written}
 use Rattle.event_lines.proofs.walk.Walk.prefix.Goals as goal
 use Rattle.event_lines.proofs.walk.Walk.prefix.Goals.{in-Quote+in_ok-quote_prefix-in-Quote, in_default+in_ok-space_to-in_default}
@@ -24,7 +25,8 @@ returns-clause-written g c text before content after n kind at is =
           (w.in_ok-quote_prefix-in-Quote.ensures.written text before content after n kind at way)
       | in_default+in_ok-space_to-in_default w ↦
           let space = w.in_ok-space_to-in_default.ensures in
-          let further = continues_end old.on.now (container_view c.args.container) (rest_of old.rest) (container_line rest kind) is in
+          let other = no_quote c.args.container w.in_default.not-Quote in
+          let further = continues_white old.on.now (container_view c.args.container) (rest_of old.rest) (container_line rest kind) other is in
           subst (λ (x : Walk g.row.A.Denot). WritesQuiet text old.out x.out × (written_to x ≡ to)) (sym w.self-is) (
             space_written text before content after n old.line_end (rest_of old.rest) rest old.out w.space_to.new.self.out to at.line at.end at.rest at.written
                 at.order further refl (space.written text),

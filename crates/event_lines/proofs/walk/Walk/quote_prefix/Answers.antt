@@ -1,7 +1,9 @@
-use Rattle.std.proofs.Common.{◌≡◌, ℕ, refl, sym, ap, ◌∙◌, subst, length}
+use Rattle.std.proofs.Common.{◌≡◌, ℕ, true, refl, sym, ap, ◌∙◌, subst, length}
 use Rattle.std.specs.Prelude.{◌-◌}
 use Rattle.engine_events.specs.declared.event.Name.TheVariants.{SpaceOrTab}
-use Rattle.definition_text.specs.Columns.{bare, bytes_of}
+use Rattle.std.specs.List.{list_all}
+use Rattle.definition_text.specs.Columns.{bare, bytes_of, is_white}
+use Rattle.event_output.specs.Joined.{text_between}
 use Rattle.definition_block.specs.ContainerLine.{container_line}
 use Rattle.block_starts.specs.View.{rest_of}
 use Rattle.event_grammar.specs.Trees.{Nodes, Nil}
@@ -14,7 +16,7 @@ use Rattle.event_lines.specs.Standing.{Standing}
 use Rattle.event_lines.specs.Ends.{rest_start, written_to}
 use Rattle.event_lines.proofs.Quiet.{no_void, quiet_both, quiet_prefix, quiet_space}
 use Rattle.event_lines.proofs.Steps.{both_ok}
-use Rattle.event_lines.proofs.Written.{bare_follows, bare_follows_self, bare_start, quote_inner}
+use Rattle.event_lines.proofs.Written.{bare_follows, bare_follows_self, bare_start, bare_white, quote_inner}
 use Rattle.event_lines.proofs.walk.Walk.quote_prefix.Goals as goal
 
 pub returns-clause-written : goal.returns-clause-written
@@ -38,7 +40,10 @@ returns-clause-written g c =
     c.enter.new.self.out c.token.new.self.out c.space_to.new.self.out c.exit.new.self.out
     bare_end (rest_start c.token.new.self.line_end rest) at.line at.end at.rest first.order is refl refl to white.end (enter.enters text) enter.end
     (λ fits. marker.written fits text) marker.end (space.written text) (exits text) in (
-      quiet_both text old.out c.white.new.self.out c.exit.new.self.out (quiet_space text old.out c.white.new.self.out (written_to old) bare_end first)
+      quiet_both text old.out c.white.new.self.out c.exit.new.self.out (quiet_space text old.out c.white.new.self.out (written_to old) bare_end
+          (subst (λ (x : End). Follows text x bare_end) (sym at.written) follows)
+          (subst (λ (x : End). list_all is_white (text_between text x bare_end) ≡ true) (sym at.written)
+          (bare_white text before content after n old.line_end start bare_end at.line at.end at.rest bare_is)) first)
           (quiet_prefix text c.white.new.self.out c.exit.new.self.out inner.0 inner.1 inner.2),
       exit_end ∙ space.end ∙ to,
     ))
