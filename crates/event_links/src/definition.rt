@@ -2,19 +2,18 @@
 //!
 //!     definition ::= spaces label ':' white destination (white title)? spaces
 ghost use Rattle.std.specs.Prelude.{◌≡◌, OnOk, true};
-ghost use Rattle.engine_events.specs.declared.event.Name.TheVariants.{Definition, DefinitionDestination, DefinitionLabel, DefinitionTitle, SpaceOrTab};
+ghost use Rattle.engine_events.specs.declared.event.Name.TheVariants.{Definition, DefinitionDestination, DefinitionTitle, SpaceOrTab};
 ghost use Rattle.event_output.specs.Children.{holds_lines, may_enter};
 ghost use Rattle.event_lines.specs.Open.{still_open};
 
-use crate::destination::{inside, push_destination};
-use crate::names::DEFINITION;
+use crate::destination::push_destination;
+use crate::names::{DEFINITION, LABEL};
+use crate::quoted::push_quoted;
 use crate::resource::{last, without_last};
-use crate::title::push_title;
 use crate::white::push_white;
 use engine_events::event::Name;
 use event_lines::Walk;
 use event_lines::cut::bytes_from;
-use event_strings::push_string;
 use inline_links::destination::destination;
 use inline_links::label::label;
 use inline_links::space::{spaces, white};
@@ -39,7 +38,13 @@ pub fn push_definition<T: Tables, A: Allocator>(
     walk.text(Name::SpaceOrTab, content.len().saturating_sub(text.len()))?;
     walk.enter(Name::Definition)?;
     if let Some(found) = label(text.as_bytes()) {
-        push_label(walk, on, tables, without_last(text, found.rest.len()))?;
+        push_quoted(
+            walk,
+            on,
+            tables,
+            &LABEL,
+            without_last(text, found.rest.len()),
+        )?;
         walk.text(Name::DefinitionMarker, 1)?;
         let rest = push_white(walk, bytes_from(found.rest, 1))?;
         push_target(walk, on, tables, last(text, rest.len()))?;
@@ -47,26 +52,6 @@ pub fn push_definition<T: Tables, A: Allocator>(
     walk.exit(Name::Definition)?;
     let left = content.len().saturating_sub(walk.place());
     walk.text(Name::SpaceOrTab, left)
-}
-
-/// The label, with its brackets.
-#[tactic(auto, using(event_output::proofs::Classes::enters_in, event_output::proofs::Classes::string_in), unfolding(event_output::specs::Children::may_hold, event_output::specs::Children::has_string))]
-fn push_label<T: Tables, A: Allocator>(
-    walk: &mut Walk<'_, A>,
-    on: &Constructs,
-    tables: &T,
-    text: &str,
-) -> Result<(), AllocError>
-    requires child { may_enter (still_open walk.old) DefinitionLabel ≡ true }
-    ensures open { OnOk result (still_open walk.new ≡ still_open walk.old) }
-{
-    walk.enter(Name::DefinitionLabel)?;
-    walk.text(Name::DefinitionLabelMarker, 1)?;
-    walk.enter(Name::DefinitionLabelString)?;
-    push_string(walk, on, tables, inside(text))?;
-    walk.exit(Name::DefinitionLabelString)?;
-    walk.text(Name::DefinitionLabelMarker, 1)?;
-    walk.exit(Name::DefinitionLabel)
 }
 
 /// The destination, and the title if there is one.
@@ -97,5 +82,5 @@ fn push_target<T: Tables, A: Allocator>(
     };
     let rest = push_white(walk, part.rest)?;
     let title = without_last(last(text, rest.len()), found.rest.len());
-    push_title(walk, on, tables, &DEFINITION, title)
+    push_quoted(walk, on, tables, &DEFINITION.title, title)
 }

@@ -1,13 +1,18 @@
 //! Destinations (CommonMark 6.3).
 //!
 //!     destination ::= '<' string '>' | string
-ghost use Rattle.std.specs.Prelude.{◌≡◌, OnOk, true};
+ghost use Rattle.std.specs.Prelude.{◌≡◌, ◌<◌, ◌++◌, List, OnOk, length, true, ℕ};
 ghost use Rattle.event_output.specs.Children.{may_enter};
+ghost use Rattle.event_lines.specs.InContent.{IsWhole, StandsInContent, Stop};
 ghost use Rattle.event_lines.specs.Open.{still_open};
+ghost use Rattle.event_strings.specs.Strings.{AreCutApart};
+ghost use Rattle.event_links.specs.Quoted.{WritesRaw};
+ghost use Rattle.event_links.specs.Destination.{IsPlace, WritesDestination, WritesInner};
 
 use crate::names::Names;
+use crate::quoted::push_quoted;
 use event_lines::Walk;
-use event_lines::cut::{first, from, up_to};
+use event_lines::cut::first;
 use event_strings::push_string;
 use markdown_options::{Constructs, Tables};
 use std::alloc::{AllocError, Allocator};
@@ -23,45 +28,56 @@ pub fn push_destination<T: Tables, A: Allocator>(
 ) -> Result<(), AllocError>
     requires child { may_enter (still_open walk.old) names.now.destination ≡ true }
     ensures open { OnOk result (still_open walk.new ≡ still_open walk.old) }
+    ensures written { OnOk result ((bytes string content : List ℕ) (stop : Stop) → IsPlace string text.now
+        → StandsInContent bytes (text.now ++ content) stop walk.old → IsWhole walk.old
+        → WritesDestination on.now (T.reference_of tables.now) bytes names.now string text.now content stop walk.old walk.new) }
 {
     walk.enter(names.destination)?;
-    if first(text.as_bytes()) == b'<' {
-        push_literal(walk, on, tables, names, inside(text))?;
-    } else {
-        walk.enter(names.raw)?;
-        walk.enter(names.string)?;
-        push_string(walk, on, tables, text)?;
-        walk.exit(names.string)?;
-        walk.exit(names.raw)?;
-    }
+    push_inner(walk, on, tables, names, text)?;
     walk.exit(names.destination)
 }
 
-/// A destination between angle brackets.
-#[tactic(auto, using(event_output::proofs::Marks::same_self, event_output::proofs::Classes::enters_in, event_output::proofs::Classes::string_in))]
-fn push_literal<T: Tables, A: Allocator>(
+/// The same between angle brackets, or without.
+fn push_inner<T: Tables, A: Allocator>(
     walk: &mut Walk<'_, A>,
     on: &Constructs,
     tables: &T,
     names: &Names,
     text: &str,
 ) -> Result<(), AllocError>
-    requires child { may_enter (still_open walk.old) names.now.literal ≡ true }
+    requires literal { may_enter (still_open walk.old) names.now.literal.outer ≡ true }
+    requires raw { may_enter (still_open walk.old) names.now.raw ≡ true }
     ensures open { OnOk result (still_open walk.new ≡ still_open walk.old) }
+    ensures written { OnOk result ((bytes string content : List ℕ) (stop : Stop) → IsPlace string text.now
+        → StandsInContent bytes (text.now ++ content) stop walk.old → IsWhole walk.old
+        → WritesInner on.now (T.reference_of tables.now) bytes names.now string text.now content stop walk.old walk.new) }
 {
-    walk.enter(names.literal)?;
-    walk.text(names.literal_marker, 1)?;
-    if !text.is_empty() {
-        walk.enter(names.string)?;
-        push_string(walk, on, tables, text)?;
-        walk.exit(names.string)?;
+    if first(text.as_bytes()) == b'<' {
+        push_quoted(walk, on, tables, &names.literal, text)
+    } else {
+        push_raw(walk, on, tables, names, text)
     }
-    walk.text(names.literal_marker, 1)?;
-    walk.exit(names.literal)
 }
 
-/// A text without its first and its last byte.
-pub fn inside(text: &str) -> &str {
-    let front = up_to(text, text.len().saturating_sub(1));
-    from(front, 1)
+/// A destination without brackets.
+#[tactic(auto, using(event_output::proofs::Marks::same_self, event_output::proofs::Classes::enters_in, event_output::proofs::Classes::string_in))]
+fn push_raw<T: Tables, A: Allocator>(
+    walk: &mut Walk<'_, A>,
+    on: &Constructs,
+    tables: &T,
+    names: &Names,
+    text: &str,
+) -> Result<(), AllocError>
+    requires child { may_enter (still_open walk.old) names.now.raw ≡ true }
+    ensures open { OnOk result (still_open walk.new ≡ still_open walk.old) }
+    ensures written { OnOk result ((bytes content : List ℕ) (stop : Stop) → AreCutApart text.now content → 0 < length text.now
+        → StandsInContent bytes (text.now ++ content) stop walk.old → IsWhole walk.old
+        → let known = T.reference_of tables.now in
+        WritesRaw on.now known bytes names.now.raw names.now.literal.string text.now content stop walk.old walk.new) }
+{
+    walk.enter(names.raw)?;
+    walk.enter(names.literal.string)?;
+    push_string(walk, on, tables, text)?;
+    walk.exit(names.literal.string)?;
+    walk.exit(names.raw)
 }

@@ -4,9 +4,9 @@
 pub mod definition;
 pub mod destination;
 pub mod names;
+pub mod quoted;
 pub mod reference;
 pub mod resource;
-pub mod title;
 pub mod white;
 
 pub use definition::push_definition;

@@ -1,51 +1,68 @@
-//! The names of the parts of destinations and titles (CommonMark 4.7 and 6.3).
+//! The names of the parts of destinations, titles and labels (CommonMark 4.7 and 6.3).
 ghost use Rattle.std.specs.Prelude.{◌≡◌, true};
-ghost use Rattle.event_output.specs.Children.{has_string, may_hold};
+ghost use Rattle.event_output.specs.Children.{may_hold};
+ghost use Rattle.event_links.specs.Quoted.{is_own};
 
+use crate::quoted::Quoted;
 use engine_events::event::Name;
 
-/// The names of the parts of a destination and a title, of which each may hold those in it.
+/// The names of the parts of a destination and a title, of which each may hold those in it. The
+/// strings of both forms of a destination have one name.
 #[derive(Clone, Copy)]
 pub struct Names {
     pub destination: Name,
-    pub literal: Name,
-    pub literal_marker: Name,
+    pub literal: Quoted,
     pub raw: Name,
-    pub string: Name,
-    pub title: Name,
-    pub title_marker: Name,
-    pub title_string: Name,
-    ghost holds_literal: { may_hold destination literal ≡ true },
+    pub title: Quoted,
+    ghost holds_literal: { may_hold destination literal.outer ≡ true },
     ghost holds_raw: { may_hold destination raw ≡ true },
-    ghost literal_holds_marker: { may_hold literal literal_marker ≡ true },
-    ghost literal_holds_string: { may_hold literal string ≡ true },
-    ghost raw_holds_string: { may_hold raw string ≡ true },
-    ghost holds_parts: { has_string string ≡ true },
-    ghost title_holds_marker: { may_hold title title_marker ≡ true },
-    ghost title_holds_string: { may_hold title title_string ≡ true },
-    ghost title_holds_parts: { has_string title_string ≡ true },
+    ghost raw_holds_string: { may_hold raw literal.string ≡ true },
+    ghost own_destination: { is_own destination ≡ true },
+    ghost own_raw: { is_own raw ≡ true },
 }
 
 /// Those of a definition.
 pub const DEFINITION: Names = Names {
     destination: Name::DefinitionDestination,
-    literal: Name::DefinitionDestinationLiteral,
-    literal_marker: Name::DefinitionDestinationLiteralMarker,
+    literal: Quoted {
+        outer: Name::DefinitionDestinationLiteral,
+        marker: Name::DefinitionDestinationLiteralMarker,
+        string: Name::DefinitionDestinationString,
+    },
     raw: Name::DefinitionDestinationRaw,
-    string: Name::DefinitionDestinationString,
-    title: Name::DefinitionTitle,
-    title_marker: Name::DefinitionTitleMarker,
-    title_string: Name::DefinitionTitleString,
+    title: Quoted {
+        outer: Name::DefinitionTitle,
+        marker: Name::DefinitionTitleMarker,
+        string: Name::DefinitionTitleString,
+    },
 };
 
 /// Those of a resource.
 pub const RESOURCE: Names = Names {
     destination: Name::ResourceDestination,
-    literal: Name::ResourceDestinationLiteral,
-    literal_marker: Name::ResourceDestinationLiteralMarker,
+    literal: Quoted {
+        outer: Name::ResourceDestinationLiteral,
+        marker: Name::ResourceDestinationLiteralMarker,
+        string: Name::ResourceDestinationString,
+    },
     raw: Name::ResourceDestinationRaw,
-    string: Name::ResourceDestinationString,
-    title: Name::ResourceTitle,
-    title_marker: Name::ResourceTitleMarker,
-    title_string: Name::ResourceTitleString,
+    title: Quoted {
+        outer: Name::ResourceTitle,
+        marker: Name::ResourceTitleMarker,
+        string: Name::ResourceTitleString,
+    },
+};
+
+/// Those of the label of a definition.
+pub const LABEL: Quoted = Quoted {
+    outer: Name::DefinitionLabel,
+    marker: Name::DefinitionLabelMarker,
+    string: Name::DefinitionLabelString,
+};
+
+/// Those of a reference.
+pub const REFERENCE: Quoted = Quoted {
+    outer: Name::Reference,
+    marker: Name::ReferenceMarker,
+    string: Name::ReferenceString,
 };

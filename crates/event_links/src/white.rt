@@ -1,20 +1,22 @@
 //! White space between the parts of links (CommonMark 4.7 and 6.3).
-ghost use Rattle.std.specs.Prelude.{◌≡◌, OnOk, true};
+//!
+//!     white  ::= spaces (ending spaces)?
+//!     spaces ::= (space | tab)*
+ghost use Rattle.std.specs.Prelude.{◌≡◌, IfOk, List, OnOk, true, ℕ};
+ghost use Rattle.definition_text.specs.Content.{content_codes};
+ghost use Rattle.definition_inline.specs.Space.{after_white};
 ghost use Rattle.event_output.specs.Children.{holds_lines};
+ghost use Rattle.event_lines.specs.InContent.{StandsInContent, Stop};
 ghost use Rattle.event_lines.specs.Open.{still_open};
+ghost use Rattle.definition_text.specs.Columns.{bare};
+ghost use Rattle.event_links.specs.White.{WritesWhite};
 
 use engine_events::event::Name;
 use event_lines::Walk;
-use event_lines::cut::{bytes_from, bytes_up_to};
+use event_lines::cut::bytes_from;
 use inline_leaves::line_ending::ending_at;
-use inline_links::space::white;
 use std::alloc::{AllocError, Allocator};
 use text_bytes::white_size;
-
-/// The bytes before a rest of them.
-pub fn before<'b>(bytes: &'b [u8], rest: &[u8]) -> &'b [u8] {
-    bytes_up_to(bytes, bytes.len().saturating_sub(rest.len()))
-}
 
 /// Spaces and tabs, with at most one line ending among them. Answers what follows.
 #[tactic(auto, using(event_output::proofs::Classes::lines_may))]
@@ -24,15 +26,31 @@ pub fn push_white<'b, A: Allocator>(
 ) -> Result<&'b [u8], AllocError>
     requires lines { holds_lines (still_open walk.old) ≡ true }
     ensures open { OnOk result (still_open walk.new ≡ still_open walk.old) }
+    ensures rest { IfOk result (λ rest. content_codes rest.now ≡ after_white (content_codes bytes.now)) }
+    ensures written { IfOk result (λ rest. (text : List ℕ) (stop : Stop) → StandsInContent text bytes.now stop walk.old
+        → WritesWhite text bytes.now rest.now stop walk.old walk.new) }
 {
-    let rest = white(bytes);
-    let all = before(bytes, rest);
-    let size = white_size(all);
+    let after = push_spaces(walk, bytes)?;
+    let Some(found) = ending_at(after) else {
+        return Ok(after);
+    };
+    walk.content_ending(Name::LineEnding, found.size)?;
+    push_spaces(walk, bytes_from(after, found.size))
+}
+
+/// Spaces and tabs. Answers what follows.
+#[tactic(auto, using(event_output::proofs::Classes::lines_may))]
+fn push_spaces<'b, A: Allocator>(
+    walk: &mut Walk<'_, A>,
+    bytes: &'b [u8],
+) -> Result<&'b [u8], AllocError>
+    requires lines { holds_lines (still_open walk.old) ≡ true }
+    ensures open { OnOk result (still_open walk.new ≡ still_open walk.old) }
+    ensures rest { IfOk result (λ rest. rest.now ≡ bare bytes.now) }
+    ensures written { IfOk result (λ rest. (text : List ℕ) (stop : Stop) → StandsInContent text bytes.now stop walk.old
+        → WritesWhite text bytes.now rest.now stop walk.old walk.new) }
+{
+    let size = white_size(bytes);
     walk.text(Name::SpaceOrTab, size)?;
-    let after = bytes_from(all, size);
-    if let Some(found) = ending_at(after) {
-        walk.content_ending(Name::LineEnding, found.size)?;
-        walk.text(Name::SpaceOrTab, after.len().saturating_sub(found.size))?;
-    }
-    Ok(rest)
+    Ok(bytes_from(bytes, size))
 }

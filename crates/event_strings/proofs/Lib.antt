@@ -1,4 +1,10 @@
+pub mod Codes
 pub mod Spelled
 pub mod Strings
 pub mod References
 pub mod ReferenceSteps
+pub mod SameText
+pub mod PlainNodes
+pub mod Texts
+pub mod Parts
+pub mod OfBytes

@@ -5,11 +5,10 @@ use Rattle.engine_events.specs.declared.event.Name.TheVariants as n
 use Rattle.event_output.specs.declared.end.End.{End}
 use Rattle.event_output.specs.Forest.{one, void_nodes}
 use Rattle.event_output.specs.Written.{end_in}
-use Rattle.event_output.proofs.Written.{writes_none}
 use Rattle.event_lines.specs.declared.walk.Walk.{Walk}
 use Rattle.event_lines.specs.Content.{StandsInLine, WritesInLine, end_after}
 use Rattle.event_lines.proofs.Ahead.{after_bytes}
-use Rattle.event_lines.proofs.InLine.{lines_both}
+use Rattle.event_lines.proofs.InLine.{lines_both, lines_none}
 use Rattle.event_strings.specs.References.{AreMarks, WritesMarks, is_x, mark_nodes, token}
 use Rattle.event_strings.specs.Strings.{StandsInString}
 use Rattle.event_strings.proofs.Spelled.{still_whole, void_one, whole_end}
@@ -20,7 +19,7 @@ x_of b (inr is) = ap is_x is
 
 module _ {A : Type 0} (text : List ℕ) where
   pub no_marks : (a : Walk A) (line : List ℕ) → StandsInString text line a → WritesMarks text [] line a a
-  no_marks a line st = record { writes = record { writes = writes_none text a.out st.stands.order; stands = st.stands; end = refl }; whole = st.whole }
+  no_marks a line st = record { writes = lines_none text a line st.stands; whole = st.whole }
 
   pub one_mark : (a b : Walk A) (line : List ℕ) → (end_in a.out).owed ≡ 0
       → WritesInLine text (35 ∷ []) (void_nodes text n.CharacterReferenceMarkerNumeric (end_in a.out) (end_after (end_in a.out) 1)) line a b

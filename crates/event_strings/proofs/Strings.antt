@@ -1,20 +1,20 @@
 -- What is written of a string, step by step (CommonMark 2.4 and 2.5).
-use Rattle.std.proofs.Common.{◌≡◌, ℕ, ◌≤◌, List, [], ◌∷◌, ◌++◌, refl, sym, ap, ap₂, subst, ◌∙◌, append_assoc, arith, drop, take, length}
-use Rattle.std.proofs.lemmas.List.{length-take-le, take-append-drop}
+use Rattle.std.proofs.Common.{◌≡◌, ℕ, List, [], ◌∷◌, ◌++◌, refl, sym, ap, ap₂, subst, ◌∙◌, arith}
 use Rattle.engine_events.specs.declared.event.Name.TheVariants as n
 use Rattle.definition_inline.specs.CharacterReference.{Names}
 use Rattle.event_grammar.specs.Trees.{Nodes, Around}
 use Rattle.event_output.specs.declared.end.End.{End}
 use Rattle.event_output.specs.Ends.{end_at, enter_at, exit_at}
-use Rattle.event_output.specs.Forest.{append, cut, data_nodes, one, void_nodes}
+use Rattle.event_output.specs.Forest.{append, cut, one, void_nodes}
 use Rattle.event_output.specs.Written.{end_in}
 use Rattle.event_meaning.specs.Strings.{string_of}
 use Rattle.event_lines.specs.declared.walk.Walk.{Walk}
 use Rattle.event_lines.specs.Content.{AreNext, EntersInLine, ExitsInLine, StandsInLine, WritesInLine, end_after}
 use Rattle.event_lines.proofs.InLine.{lines_around, lines_both}
-use Rattle.event_strings.specs.Strings.{StandsInString, WritesString}
+use Rattle.event_strings.specs.Strings.{WritesNode}
 use Rattle.event_strings.specs.References.{token}
-use Rattle.event_strings.proofs.Spelled.{data_string, still_whole, string_append, token_text, void_one, whole_end}
+use Rattle.event_strings.proofs.PlainNodes.{plain_both, plain_one, plain_void}
+use Rattle.event_strings.proofs.Spelled.{still_whole, token_text, void_one, whole_end}
 
 -- an escape spells its byte
 escape_string : (names : Names) (text line : List ℕ) (byte index later : ℕ) (a b : End) (marker value : Nodes)
@@ -29,22 +29,12 @@ module _ {A : Type 0} (names : Names) (text : List ℕ) where
   pub next_here : (line : List ℕ) (w : Walk A) → StandsInLine text line w → (end_in w.out).owed ≡ 0 → AreNext text (end_at (end_in w.out).index 0) line
   next_here line w st whole = subst (λ e. AreNext text e line) (sym st.at ∙ whole_end (end_in w.out) whole) st.next
 
-  -- some bytes, and then others
-  pub strings_both : (a b c : Walk A) (front after line first second : List ℕ) → WritesString names text front first (after ++ line) a b
-      → WritesString names text after second line b c → WritesString names text (front ++ after) (first ++ second) line a c
-  strings_both a b c front after line first second one two = record {
-    nodes = append one.nodes two.nodes;
-    writes = lines_both text a b c front after line one.nodes two.nodes one.writes two.writes;
-    whole = two.whole;
-    spells = string_append text names one.nodes two.nodes ∙ ap₂ (λ xs ys. xs ++ ys) one.spells two.spells;
-  }
-
   -- a backslash and the byte that it escapes
   pub writes_escape : (a b c d e : Walk A) (byte : ℕ) (line : List ℕ) → (end_in a.out).owed ≡ 0
       → EntersInLine text n.CharacterEscape (92 ∷ byte ∷ line) a b
       → WritesInLine text (92 ∷ []) (void_nodes text n.CharacterEscapeMarker (end_in b.out) (end_after (end_in b.out) 1)) (byte ∷ line) b c
       → WritesInLine text (byte ∷ []) (void_nodes text n.CharacterEscapeValue (end_in c.out) (end_after (end_in c.out) 1)) line c d
-      → ExitsInLine text n.CharacterEscape line d e → WritesString names text (92 ∷ byte ∷ []) (byte ∷ []) line a e
+      → ExitsInLine text n.CharacterEscape line d e → WritesNode names text n.CharacterEscape (92 ∷ byte ∷ []) (byte ∷ []) line a e
   writes_escape a b c d e byte line whole enters marker value exits =
       let markers = void_nodes text n.CharacterEscapeMarker (end_in b.out) (end_after (end_in b.out) 1) in
       let values = void_nodes text n.CharacterEscapeValue (end_in c.out) (end_after (end_in c.out) 1) in
@@ -52,36 +42,19 @@ module _ {A : Type 0} (names : Names) (text : List ℕ) where
       let whole_c : (end_in c.out).owed ≡ 0 = ap (λ (x : End). x.owed) marker.end ∙ still_whole (end_in b.out) 1 whole_b in
       let whole_d : (end_in d.out).owed ≡ 0 = ap (λ (x : End). x.owed) value.end ∙ still_whole (end_in c.out) 1 whole_c in
       record {
-        nodes = cut (Around (enter_at text n.CharacterEscape (end_in a.out)) (append markers values) (exit_at text n.CharacterEscape (end_in d.out)));
+        node = Around (enter_at text n.CharacterEscape (end_in a.out)) (append markers values) (exit_at text n.CharacterEscape (end_in d.out));
+        named = refl;
         writes =
             lines_around text a b d e n.CharacterEscape (92 ∷ byte ∷ []) line (append markers values) enters
-            (lines_both text b c d (92 ∷ []) (byte ∷ []) line markers values marker value) exits;
+            (lines_both text b c d (92 ∷ []) (byte ∷ []) line markers values marker value) exits refl;
         whole = ap (λ (x : End). x.owed) exits.end ∙ whole_d;
         spells =
             escape_string names text line byte (end_in b.out).index (end_in c.out).index (end_in a.out) (end_in d.out) markers values
             (void_one text n.CharacterEscapeMarker (end_in b.out) 1 whole_b (omega arith) refl)
             (void_one text n.CharacterEscapeValue (end_in c.out) 1 whole_c (omega arith) refl)
             (next_here (byte ∷ line) c marker.stands whole_c);
-      }
-
-  -- data
-  pub writes_data : (a b : Walk A) (bytes line : List ℕ) (size : ℕ) → size ≤ length bytes → StandsInString text (bytes ++ line) a
-      → ((front after : List ℕ) → size ≡ length front → StandsInLine text (front ++ after) a
-      → WritesInLine text front (data_nodes text (end_in a.out) (end_after (end_in a.out) size)) after a b)
-      → WritesString names text (take size bytes) (take size bytes) (drop size bytes ++ line) a b
-  writes_data a b bytes line size within st written =
-      let front = take size bytes in
-      let after = drop size bytes ++ line in
-      let is : size ≡ length front = sym (length-take-le size bytes within) in
-      let parts : bytes ++ line ≡ front ++ after =
-      ap (λ xs. xs ++ line) (sym (take-append-drop size bytes)) ∙ append_assoc front (drop size bytes) line in
-      let stands : StandsInLine text (front ++ after) a = subst (λ xs. StandsInLine text xs a) parts st.stands in
-      let all = written front after is stands in
-      record {
-        nodes = data_nodes text (end_in a.out) (end_after (end_in a.out) size);
-        writes = all;
-        whole = ap (λ (x : End). x.owed) all.end ∙ still_whole (end_in a.out) (length front) st.whole;
-        spells =
-            ap (λ k. string_of names text (data_nodes text (end_in a.out) (end_after (end_in a.out) k))) is
-            ∙ data_string text names (end_in a.out) front after st.whole (subst (λ e. AreNext text e (front ++ after)) (sym stands.at) stands.next);
+        plain =
+            plain_one _ refl
+            (plain_both markers values (plain_void text n.CharacterEscapeMarker (end_in b.out) (end_after (end_in b.out) 1) refl refl)
+            (plain_void text n.CharacterEscapeValue (end_in c.out) (end_after (end_in c.out) 1) refl refl));
       }

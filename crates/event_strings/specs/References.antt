@@ -2,7 +2,7 @@
 use Rattle.std.specs.Prelude.{◌≡◌, ℕ, ◌+◌, Bool, true, false, ◌||◌, ◌==◌, List, [], ◌∷◌, unwrap_or}
 use Rattle.engine_events.specs.declared.event.Name.{Name}
 use Rattle.engine_events.specs.declared.event.Name.TheVariants as n
-use Rattle.definition_text.specs.Ascii.{number_sign, small_x, capital_x}
+use Rattle.definition_text.specs.Ascii.{number_sign, semicolon, small_x, capital_x}
 use Rattle.definition_inline.specs.CharacterReference.{Names, number_of, numbered_text}
 use Rattle.event_grammar.specs.Trees.{Node, Nodes, Around, Nil, Cons}
 use Rattle.event_output.specs.Ends.{end_at, enter_at, exit_at}
@@ -12,6 +12,9 @@ use Rattle.event_lines.specs.Content.{WritesInLine}
 
 abbrev pub is_x : ℕ → Bool
 is_x b = (b == small_x) || (b == capital_x)
+
+abbrev pub is_semicolon : ℕ → Bool
+is_semicolon b = b == semicolon
 
 -- the bytes between the `&` and the value of a reference, if the value begins with this byte: none, `#`, or `#x`
 abbrev pub AreMarks : List ℕ → ℕ → Type 0

@@ -1,12 +1,17 @@
 //! Character references (CommonMark 2.5).
-ghost use Rattle.std.specs.Prelude.{◌≡◌, ◌+◌, ◌<◌, ◌∷◌, ◌++◌, [], IfOk, List, OnOk, length, slice_index, true, ℕ};
+ghost use Rattle.std.specs.Prelude.{◌≡◌, ◌+◌, ◌<◌, ◌∷◌, ◌++◌, [], IfOk, List, OnOk, false, length, slice_index, true, ℕ};
+ghost use Rattle.std.specs.List.{list_any};
 ghost use Rattle.engine_events.specs.declared.event.Name.TheVariants.{CharacterReference, CharacterReferenceMarkerHexadecimal, CharacterReferenceMarkerNumeric};
 ghost use Rattle.definition_text.specs.Ascii.{ampersand, semicolon};
+ghost use Rattle.definition_text.specs.Lines.{ends_line};
 ghost use Rattle.definition_inline.specs.CharacterReference.{Names};
 ghost use Rattle.event_output.specs.Children.{may_enter};
+ghost use Rattle.event_lines.specs.InContent.{IsWhole, StandsInContent, Stop};
 ghost use Rattle.event_lines.specs.Open.{still_open};
-ghost use Rattle.event_strings.specs.References.{AreMarks, WritesMarks, marked_text};
-ghost use Rattle.event_strings.specs.Strings.{StandsInString, WritesString};
+ghost use Rattle.event_lines.specs.Standing.{standing};
+ghost use Rattle.std.specs.List.{position_or_len};
+ghost use Rattle.event_strings.specs.References.{AreMarks, WritesMarks, is_semicolon, marked_text};
+ghost use Rattle.event_strings.specs.Strings.{StandsInString, WritesNodeIn};
 
 use engine_events::event::Name;
 use event_lines::Walk;
@@ -22,10 +27,11 @@ pub fn push_reference<A: Allocator>(
 ) -> Result<(), AllocError>
     requires child { may_enter (still_open walk.old) CharacterReference ≡ true }
     ensures open { OnOk result (still_open walk.new ≡ still_open walk.old) }
-    ensures written { OnOk result ((names : Names) (text marks value after line : List ℕ) (first : ℕ) → bytes.now ≡ ampersand ∷ (marks ++ first ∷ after)
-        → AreMarks marks first → 0 < length value → size ≡ length marks + length value + 2
-        → StandsInString text (ampersand ∷ ((marks ++ (value ++ semicolon ∷ [])) ++ line)) walk.old
-        → WritesString names text (ampersand ∷ (marks ++ (value ++ semicolon ∷ []))) (marked_text names marks value) line walk.old walk.new) }
+    ensures written { OnOk result ((names : Names) (text marks value after content : List ℕ) (first : ℕ) (stop : Stop)
+        → bytes.now ≡ ampersand ∷ (marks ++ first ∷ after) → AreMarks marks first → 0 < length value → size ≡ length marks + length value + 2
+        → let front = ampersand ∷ (marks ++ (value ++ semicolon ∷ [])) in list_any ends_line front ≡ false
+        → StandsInContent text (front ++ content) stop walk.old → IsWhole walk.old
+        → WritesNodeIn names text CharacterReference front (marked_text names marks value) content stop walk.old walk.new) }
 {
     walk.enter(Name::CharacterReference)?;
     walk.text(Name::CharacterReferenceMarker, 1)?;
@@ -43,6 +49,7 @@ fn push_markers<A: Allocator>(walk: &mut Walk<'_, A>, bytes: &[u8]) -> Result<us
     requires numeric { may_enter (still_open walk.old) CharacterReferenceMarkerNumeric ≡ true }
     requires hexadecimal { may_enter (still_open walk.old) CharacterReferenceMarkerHexadecimal ≡ true }
     ensures open { OnOk result (still_open walk.new ≡ still_open walk.old) }
+    ensures stays { IfOk result (λ _. standing walk.new ≡ standing walk.old) }
     ensures size { IfOk result (λ size. (marks after : List ℕ) → bytes.now ≡ marks ++ after → AreMarks marks (slice_index after 0) → size ≡ length marks) }
     ensures written { OnOk result ((text marks after line : List ℕ) → bytes.now ≡ marks ++ after → AreMarks marks (slice_index after 0)
         → StandsInString text (marks ++ line) walk.old → WritesMarks text marks line walk.old walk.new) }
@@ -61,11 +68,19 @@ fn push_markers<A: Allocator>(walk: &mut Walk<'_, A>, bytes: &[u8]) -> Result<us
 }
 
 /// The size of a character reference: up to its semicolon.
-pub fn reference_size(bytes: &[u8]) -> usize {
-    for (i, byte) in bytes.iter().enumerate() {
-        if *byte == b';' {
-            return i.saturating_add(1);
-        }
-    }
-    bytes.len()
+pub fn reference_size(bytes: &[u8]) -> usize
+    ensures { position_or_len is_semicolon bytes.now < length bytes.now → result ≡ position_or_len is_semicolon bytes.now + 1 }
+{
+    let before = before_semicolon(bytes);
+    before.saturating_add(1).min(bytes.len())
+}
+
+/// How many bytes come before the first semicolon.
+fn before_semicolon(bytes: &[u8]) -> usize
+    ensures { result ≡ position_or_len is_semicolon bytes.now }
+{
+    bytes
+        .iter()
+        .position(|byte| *byte == b';')
+        .unwrap_or(bytes.len())
 }

@@ -1,16 +1,21 @@
 //! Strings, in which only escapes and references are read (CommonMark 2.4 and 2.5).
-ghost use Rattle.std.specs.Prelude.{◌≡◌, ◌<◌, ◌≤◌, ◌++◌, IfOk, List, OnOk, drop, length, take, true, ℕ};
-ghost use Rattle.definition_inline.specs.CharacterReference.{Names};
+ghost use Rattle.std.specs.Prelude.{◌≡◌, ◌<◌, ◌++◌, IfOk, List, None, OnOk, length, true, ℕ};
+ghost use Rattle.std.specs.List.{prefix_len};
+ghost use Rattle.markdown_options.specs.declared.configuration.Constructs.{Constructs};
+ghost use Rattle.definition_text.specs.Content.{content_codes};
+ghost use Rattle.definition_inline.specs.CharacterEscape.{escape_at};
+ghost use Rattle.definition_inline.specs.CharacterReference.{Names, reference_at};
 ghost use Rattle.engine_events.specs.declared.event.Name.TheVariants.{Data};
 ghost use Rattle.event_output.specs.Children.{holds_string, may_enter};
 ghost use Rattle.event_lines.specs.Open.{still_open};
-ghost use Rattle.event_strings.specs.Strings.{StandsInString, WritesString};
+ghost use Rattle.event_lines.specs.InContent.{IsWhole, StandsInContent, Stop};
+ghost use Rattle.event_strings.specs.Strings.{AreCutApart, NoLeaf, WritesStringIn, WritesStringPart, is_ink};
 
 use crate::character_escape::push_escape;
 use crate::character_reference::push_reference;
 use engine_events::event::Name;
 use event_lines::Walk;
-use event_lines::cut::{bytes_from, first, from};
+use event_lines::cut::{bytes_from, from};
 use inline_leaves::character_escape::escape_at;
 use inline_leaves::character_reference::reference_at;
 use inline_leaves::line_ending::ending_at;
@@ -36,6 +41,9 @@ pub fn push_string<T: Tables, A: Allocator>(
 ) -> Result<(), AllocError>
     requires string { holds_string (still_open walk.old) ≡ true }
     ensures open { OnOk result (still_open walk.new ≡ still_open walk.old) }
+    ensures written { OnOk result ((text content : List ℕ) (stop : Stop) → AreCutApart string.now content
+        → StandsInContent text (string.now ++ content) stop walk.old → IsWhole walk.old
+        → WritesStringIn (T.reference_of tables.now) on.now text string.now content stop walk.old walk.new) }
 {
     let mut rest = string;
     while !rest.is_empty() {
@@ -55,22 +63,20 @@ fn push_part<T: Tables, A: Allocator>(
 ) -> Result<usize, AllocError>
     requires string { holds_string (still_open walk.old) ≡ true }
     ensures open { OnOk result (still_open walk.new ≡ still_open walk.old) }
+    ensures written { IfOk result (λ size. (text content : List ℕ) (stop : Stop) → 0 < length rest.now → AreCutApart rest.now content
+        → StandsInContent text (rest.now ++ content) stop walk.old → IsWhole walk.old
+        → WritesStringPart on.now (T.reference_of tables.now) text rest.now content size stop walk.old walk.new) }
 {
-    match first(rest.as_bytes()) {
-        b'\\' if escape_at(on, rest).is_some() => {
-            push_escape(walk)?;
-            Ok(2)
-        }
-        b'&' => match reference_at(on, tables, rest) {
-            Some(found) => {
-                let size = rest.len().saturating_sub(found.after.len());
-                push_reference(walk, rest.as_bytes(), size)?;
-                Ok(size)
-            }
-            None => push_data(walk, rest.as_bytes()),
-        },
-        _ => push_white_or_data(walk, rest.as_bytes()),
+    if escape_at(on, rest).is_some() {
+        push_escape(walk)?;
+        return Ok(2);
     }
+    if let Some(found) = reference_at(on, tables, rest) {
+        let size = rest.len().saturating_sub(found.after.len());
+        push_reference(walk, rest.as_bytes(), size)?;
+        return Ok(size);
+    }
+    push_white_or_data(walk, rest.as_bytes())
 }
 
 /// White space at the end of a line, a line ending and the white space after it, or data. Answers its
@@ -82,6 +88,10 @@ fn push_white_or_data<A: Allocator>(
 ) -> Result<usize, AllocError>
     requires string { holds_string (still_open walk.old) ≡ true }
     ensures open { OnOk result (still_open walk.new ≡ still_open walk.old) }
+    ensures written { IfOk result (λ size. (on : Constructs) (names : Names) (text content : List ℕ) (stop : Stop) → 0 < length bytes.now
+        → escape_at on (content_codes bytes.now) ≡ None → reference_at on names (content_codes bytes.now) ≡ None → AreCutApart bytes.now content
+        → StandsInContent text (bytes.now ++ content) stop walk.old → IsWhole walk.old
+        → WritesStringPart on names text bytes.now content size stop walk.old walk.new) }
 {
     if let Some(found) = ending_at(bytes) {
         walk.content_ending(Name::LineEnding, found.size)?;
@@ -101,8 +111,9 @@ fn push_white_or_data<A: Allocator>(
 fn push_data<A: Allocator>(walk: &mut Walk<'_, A>, bytes: &[u8]) -> Result<usize, AllocError>
     requires child { may_enter (still_open walk.old) Data ≡ true }
     ensures open { OnOk result (still_open walk.new ≡ still_open walk.old) }
-    ensures written { IfOk result (λ size. (names : Names) (text line : List ℕ) → 0 < length bytes.now → StandsInString text (bytes.now ++ line) walk.old
-        → WritesString names text (take size bytes.now) (take size bytes.now) (drop size bytes.now ++ line) walk.old walk.new) }
+    ensures written { IfOk result (λ size. (on : Constructs) (names : Names) (text content : List ℕ) (stop : Stop) → 0 < length bytes.now
+        → NoLeaf on names (content_codes bytes.now) → StandsInContent text (bytes.now ++ content) stop walk.old → IsWhole walk.old
+        → WritesStringPart on names text bytes.now content size stop walk.old walk.new) }
 {
     let size = data_size(bytes_from(bytes, 1)).saturating_add(1);
     walk.data(size)?;
@@ -111,7 +122,7 @@ fn push_data<A: Allocator>(walk: &mut Walk<'_, A>, bytes: &[u8]) -> Result<usize
 
 /// How many bytes come before the first in which something may begin.
 fn data_size(bytes: &[u8]) -> usize
-    ensures within { result ≤ length bytes.now }
+    ensures { result ≡ prefix_len is_ink bytes.now }
 {
     next_of(bytes, STARTS)
 }

@@ -1,0 +1,4 @@
+pub mod White
+pub mod Quoted
+pub mod Destination
+pub mod Tails
