@@ -1,11 +1,17 @@
 //! Code spans (CommonMark 6.1), and math, which is the same with dollars.
 //!
 //!     raw ::= run text run, of the same size
-ghost use Rattle.std.specs.Prelude.{◌≡◌, ◌<◌, ◌≤◌, [], ℕ, OnOk, false, length, true, unwrap_or};
+ghost use Rattle.std.specs.Prelude.{◌≡◌, ◌<◌, ◌≤◌, ◌∷◌, [], ℕ, List, OnOk, false, length, true, unwrap_or};
+ghost use Rattle.definition_inline.specs.CharacterReference.{Names};
 ghost use Rattle.definition_inline.specs.CodeText.{run_of};
 ghost use Rattle.definition_text.specs.Runs.{run as run_size};
 ghost use Rattle.event_output.specs.Children.{has_lines, may_enter, may_hold};
+ghost use Rattle.definition_text.specs.InlineCode.{InlineCode};
+ghost use Rattle.event_inline.specs.Leaves.{Anywhere, WritesLeaves};
+ghost use Rattle.event_inline.specs.Lines.{are_raw_names, is_raw_marker, raw_leaf};
+ghost use Rattle.event_lines.specs.InContent.{IsWhole, StandsInContent, Stop};
 ghost use Rattle.event_lines.specs.Open.{still_open};
+ghost use Rattle.laws_rows.specs.Bytes.{IsRawInBytes};
 
 use crate::lines::push_lines;
 use engine_events::event::Name;
@@ -26,6 +32,8 @@ pub(crate) struct Raw {
     ghost holds_sequence: { may_hold text sequence ≡ true },
     ghost holds_chunk: { may_hold text chunk ≡ true },
     ghost may_go_on: { has_lines text ≡ true },
+    ghost names: { are_raw_names text sequence chunk ≡ true },
+    ghost mark: { is_raw_marker marker ≡ true },
 }
 
 pub(crate) const CODE: Raw = Raw {
@@ -52,6 +60,9 @@ pub(crate) fn push_raw<A: Allocator>(
 ) -> Result<(), AllocError>
     requires child { may_enter (still_open walk.old) raw.now.text ≡ true }
     ensures open { OnOk result (still_open walk.new ≡ still_open walk.old) }
+    ensures written { OnOk result ((names : Names) (text printed : List ℕ) (to : List InlineCode) (stop : Stop) → IsRawInBytes raw.now.marker printed bytes.now to
+        → StandsInContent text bytes.now stop walk.old → IsWhole walk.old
+        → WritesLeaves names text bytes.now Anywhere (raw_leaf raw.now.text printed ∷ []) to stop walk.old walk.new) }
 {
     let size = run(raw.marker, bytes);
     let inside = from(bytes, size);

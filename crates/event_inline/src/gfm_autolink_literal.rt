@@ -2,6 +2,7 @@
 ghost use Rattle.std.specs.Prelude.{◌≡◌, true};
 ghost use Rattle.engine_events.specs.Names.{is_listed};
 ghost use Rattle.event_grammar.specs.Grammar.{text_names};
+ghost use Rattle.event_inline.specs.Leaves.{literal_names};
 
 use engine_events::event::Name;
 use event_lines::cut::first;
@@ -9,7 +10,8 @@ use inline_leaves::LiteralKind;
 
 /// The name of a literal of a kind, which begins with these bytes.
 pub(crate) fn literal_name(kind: LiteralKind, bytes: &[u8]) -> Name
-    ensures { is_listed text_names result ≡ true }
+    ensures listed { is_listed text_names result ≡ true }
+    ensures kind { is_listed (literal_names kind) result ≡ true }
 {
     match kind {
         LiteralKind::Www => Name::GfmAutolinkLiteralWww,

@@ -1,8 +1,16 @@
 //! Calls of footnotes (in neither standard).
-ghost use Rattle.std.specs.Prelude.{◌≡◌, OnOk, true};
+ghost use Rattle.std.specs.Prelude.{[], ◌∷◌, ◌≡◌, List, OnOk, true, ℕ};
+ghost use Rattle.definition_inline.specs.Scan.{InlineContext};
+ghost use Rattle.definition_text.specs.Ascii.{caret, left_bracket};
+ghost use Rattle.definition_text.specs.Content.{content_codes};
+ghost use Rattle.definition_text.specs.InlineCode.{InlineCode};
 ghost use Rattle.engine_events.specs.declared.event.Name.TheVariants.{GfmFootnoteCall, GfmFootnoteCallLabel};
 ghost use Rattle.event_output.specs.Children.{may_enter};
+ghost use Rattle.event_lines.specs.InContent.{IsWhole, StandsInContent, Stop};
 ghost use Rattle.event_lines.specs.Open.{still_open};
+ghost use Rattle.event_inline.specs.Rows.{WritesCall, WritesMark};
+ghost use Rattle.event_inline.specs.Texts.{StandsInText};
+ghost use Rattle.laws_written.specs.Written.{AreCodes, call_codes};
 
 use crate::label::label_end;
 use crate::reading::Reading;
@@ -22,6 +30,10 @@ pub(crate) fn push_call<T: Tables, A: Allocator>(
 ) -> Result<(), AllocError>
     requires child { may_enter (still_open walk.old) GfmFootnoteCall ≡ true }
     ensures open { OnOk result (still_open walk.new ≡ still_open walk.old) }
+    ensures written { OnOk result ((context : InlineContext) (text content : List ℕ) (from to : List InlineCode) (stop : Stop)
+        → context.options.constructs ≡ reading.now.on.now → context.names ≡ T.reference_of reading.now.tables.now
+        → AreCodes (call_codes (content_codes label.now)) from to → StandsInText text reading.now.content.now content from stop walk.old
+        → WritesCall context text (content_codes label.now) content to stop walk.old walk.new) }
 {
     walk.enter(Name::GfmFootnoteCall)?;
     walk.enter(Name::Label)?;
@@ -38,6 +50,8 @@ pub(crate) fn push_call<T: Tables, A: Allocator>(
 fn call_start<A: Allocator>(walk: &mut Walk<'_, A>) -> Result<(), AllocError>
     requires child { may_enter (still_open walk.old) GfmFootnoteCallLabel ≡ true }
     ensures open { OnOk result (still_open walk.new ≡ still_open walk.old) }
+    ensures written { OnOk result ((text content : List ℕ) (stop : Stop) → StandsInContent text (left_bracket ∷ caret ∷ content) stop walk.old
+        → IsWhole walk.old → WritesMark text GfmFootnoteCallLabel (left_bracket ∷ caret ∷ []) content stop walk.old walk.new) }
 {
     walk.enter(Name::GfmFootnoteCallLabel)?;
     walk.text(Name::LabelMarker, 1)?;

@@ -1,6 +1,11 @@
 //! Raw text of lines (CommonMark 6.1 and 6.6).
-ghost use Rattle.std.specs.Prelude.{◌≡◌, OnOk, true};
+ghost use Rattle.std.specs.Prelude.{◌≡◌, ◌++◌, ◌<◌, IfOk, List, OnOk, length, true, ℕ};
+ghost use Rattle.std.specs.List.{position_or_len};
+ghost use Rattle.definition_text.specs.Lines.{ends_line};
+ghost use Rattle.definition_inline.specs.CharacterReference.{Names};
 ghost use Rattle.event_output.specs.Children.{holds_lines, may_enter};
+ghost use Rattle.event_inline.specs.Lines.{AreCutBetween, IsChunk, WritesLine, WritesLines};
+ghost use Rattle.event_lines.specs.InContent.{StandsInContent, Stop};
 ghost use Rattle.event_lines.specs.Open.{still_open};
 
 use engine_events::event::Name;
@@ -27,6 +32,8 @@ pub(crate) fn push_lines<A: Allocator>(
     requires child { may_enter (still_open walk.old) name ≡ true }
     requires lines { holds_lines (still_open walk.old) ≡ true }
     ensures open { OnOk result (still_open walk.new ≡ still_open walk.old) }
+    ensures written { OnOk result ((names : Names) (text content : List ℕ) (stop : Stop) → IsChunk name → AreCutBetween bytes.now content
+        → StandsInContent text (bytes.now ++ content) stop walk.old → WritesLines names text name indented bytes.now content stop walk.old walk.new) }
 {
     let mut rest = bytes;
     while !rest.is_empty() {
@@ -47,6 +54,8 @@ fn push_line<A: Allocator>(
     requires child { may_enter (still_open walk.old) name ≡ true }
     requires lines { holds_lines (still_open walk.old) ≡ true }
     ensures open { OnOk result (still_open walk.new ≡ still_open walk.old) }
+    ensures written { IfOk result (λ size. (names : Names) (text content : List ℕ) (stop : Stop) → IsChunk name → 0 < length bytes.now → AreCutBetween bytes.now content
+        → StandsInContent text (bytes.now ++ content) stop walk.old → WritesLine names text name indented size bytes.now content stop walk.old walk.new) }
 {
     let Some(found) = ending_at(bytes) else {
         let size = line_size(bytes);
@@ -63,6 +72,8 @@ fn push_line<A: Allocator>(
 }
 
 /// How many bytes come before the first LF or CR.
-fn line_size(bytes: &[u8]) -> usize {
+fn line_size(bytes: &[u8]) -> usize
+    ensures { result ≡ position_or_len ends_line bytes.now }
+{
     next_of(bytes, ENDS)
 }

@@ -1,4 +1,6 @@
 //! What rows are read with.
+ghost use Rattle.std.specs.Prelude.{◌∷◌, ◌≡◌, ◌+◌, ◌<◌, List, drop, slice_index, ℕ};
+
 use event_lines::cut::from;
 use markdown_options::Constructs;
 
@@ -11,8 +13,15 @@ pub struct Reading<'c, T> {
 }
 
 impl<'c, T> Reading<'c, T> {
-    /// The content from a place on.
-    pub fn rest(&self, place: usize) -> &'c str {
-        from(self.content, place)
+    /// The content from a place on, which is after an ASCII byte.
+    pub fn rest(&self, place: usize) -> &'c str
+        ensures after { (before b : ℕ) (content : List ℕ) → place ≡ before + 1 → b ∷ content ≡ drop before self.now.content.now → b < 128
+            → result.now ≡ content }
+        ensures bytes { (k : ℕ) → slice_index self.now.content.now k < 256 }
+    {
+        let content = self.content;
+        // What is read as bytes is UTF-8.
+        let _bytes = content.as_bytes();
+        from(content, place)
     }
 }

@@ -1,14 +1,21 @@
 //! Emphasis, strong emphasis (CommonMark 6.2), strikethrough (GFM 6.5) and marked text.
-ghost use Rattle.std.specs.Prelude.{◌≡◌, OnOk, true};
+ghost use Rattle.std.specs.Prelude.{[], ◌∷◌, ◌≡◌, ◌++◌, List, OnOk, drop, false, length, true, ℕ};
+ghost use Rattle.std.specs.List.{list_any};
+ghost use Rattle.definition_text.specs.Lines.{ends_line};
 ghost use Rattle.event_output.specs.Children.{may_enter};
 ghost use Rattle.event_output.specs.Open.{closed};
+ghost use Rattle.event_lines.specs.InContent.{IsWhole, StandsInContent, Stop};
 ghost use Rattle.event_lines.specs.Open.{still_open};
+ghost use Rattle.event_inline.specs.declared.opened.Open.TheVariants as held;
 ghost use Rattle.event_inline.specs.Leaving.{AreHeld, open_around, sequence_name, span_name, text_name};
+ghost use Rattle.event_inline.specs.Rows.{EntersSpan, LeavesSpan};
+ghost use Rattle.laws_rows.specs.Marks.{sequence_size};
 
 use crate::opened::Open;
 use crate::reading::Reading;
 use engine_events::event::Name;
 use event_lines::Walk;
+use event_lines::cut::bytes_from;
 use inline_runs::Span;
 use std::alloc::{AllocError, Allocator};
 use text_bytes::run;
@@ -25,17 +32,29 @@ pub(crate) fn enter_span<T, A: Allocator>(
     requires held { AreHeld open.old.items (still_open walk.old) }
     ensures open { OnOk result (open_around open.new.items walk.new ≡ open_around open.old.items walk.old) }
     ensures held { OnOk result (AreHeld open.new.items (still_open walk.new)) }
+    ensures written { OnOk result ((text front content : List ℕ) (stop : Stop) → front ++ content ≡ drop walk.old.place reading.now.content.now
+        → length front ≡ sequence_size span (front ++ content) → list_any ends_line front ≡ false → StandsInContent text (front ++ content) stop walk.old
+        → IsWhole walk.old
+        → EntersSpan text span front content stop walk.old walk.new × (open.new.items ≡ open.old.items ++ held.Span span (length front) ∷ [])) }
 {
-    let size = match span {
-        Span::Emphasis => 1,
-        Span::Strong | Span::Mark => 2,
-        Span::Strikethrough => run(b'~', reading.rest(walk.place()).as_bytes()),
-    };
+    let bytes = bytes_from(reading.content.as_bytes(), walk.place());
+    let size = sequence_size(span, bytes);
     open.push(Open::Span { span, size })?;
     walk.enter(span_name(span))?;
     walk.text(sequence_name(span), size)?;
     walk.enter(text_name(span))?;
     Ok(())
+}
+
+/// How many bytes the sequence of a span has that bytes begin with: of tildes all that come first.
+fn sequence_size(span: Span, bytes: &[u8]) -> usize
+    ensures { result ≡ sequence_size span bytes.now }
+{
+    match span {
+        Span::Emphasis => 1,
+        Span::Strong | Span::Mark => 2,
+        Span::Strikethrough => run(b'~', bytes),
+    }
 }
 
 /// The end of a span with sequences of a size.
@@ -46,6 +65,8 @@ pub(crate) fn leave_span<A: Allocator>(
 ) -> Result<(), AllocError>
     requires sequence { may_enter (closed (text_name span) (still_open walk.old)) (sequence_name span) ≡ true }
     ensures open { OnOk result (still_open walk.new ≡ closed (span_name span) (closed (text_name span) (still_open walk.old))) }
+    ensures written { OnOk result ((text front content : List ℕ) (stop : Stop) → size ≡ length front → list_any ends_line front ≡ false
+        → StandsInContent text (front ++ content) stop walk.old → IsWhole walk.old → LeavesSpan text span front content stop walk.old walk.new) }
 {
     walk.exit(text_name(span))?;
     walk.text(sequence_name(span), size)?;
