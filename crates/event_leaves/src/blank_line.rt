@@ -2,6 +2,7 @@
 ghost use Rattle.std.specs.Prelude.{◌≡◌, OnOk, true};
 ghost use Rattle.event_output.specs.Children.{holds_lines};
 ghost use Rattle.event_lines.specs.Open.{still_open};
+ghost use Rattle.event_leaves.specs.Laid.{WritesBlankLaid};
 
 use engine_events::event::Name;
 use event_lines::Walk;
@@ -12,6 +13,7 @@ use std::alloc::{AllocError, Allocator};
 pub fn push_blank_line<A: Allocator>(walk: &mut Walk<'_, A>) -> Result<(), AllocError>
     requires lines { holds_lines (still_open walk.old) ≡ true }
     ensures open { OnOk result (still_open walk.new ≡ still_open walk.old) }
+    ensures written { OnOk result (WritesBlankLaid walk.old walk.new) }
 {
     walk.in_line()?;
     walk.all(Name::SpaceOrTab)?;

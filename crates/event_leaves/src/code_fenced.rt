@@ -2,16 +2,28 @@
 //!
 //!     fenced ::= fence line* end_of_fence?
 //!     fence  ::= marker+ white* (info (white+ meta)?)? white*
-ghost use Rattle.std.specs.Prelude.{◌≡◌, ◌∷◌, IfOk, OnOk, true};
+ghost use Rattle.std.specs.Prelude.{◌≡◌, ◌==◌, ◌<◌, ◌∷◌, ◌++◌, Bool, [], IfOk, List, OnOk, Option, drop, false, length, slice_index, true, ℕ};
 ghost use Rattle.engine_events.specs.declared.event.Name.TheVariants.{SpaceOrTab};
-ghost use Rattle.event_output.specs.Children.{has_lines, has_string, holds_blocks, may_enter, may_hold};
+ghost use Rattle.event_output.specs.Children.{has_string, holds_blocks, may_enter};
 ghost use Rattle.event_output.specs.Open.{Entered};
-ghost use Rattle.engine_events.specs.Names.{is_listed};
-ghost use Rattle.event_grammar.specs.Grammar.{block_names};
 ghost use Rattle.event_lines.specs.Open.{still_open};
-ghost use Rattle.event_leaves.specs.Fences.{has_strings, may_enter_any, may_hold_any};
+ghost use Rattle.event_lines.specs.Standing.{standing};
+ghost use Rattle.definition_text.specs.BlockLines.{BlockLine};
+ghost use Rattle.definition_block.specs.Tree.{FencedCode};
+ghost use Rattle.definition_page.specs.Read.{Reading};
+ghost use Rattle.event_leaves.specs.Reads.{WritesReadLeaf};
+ghost use Rattle.event_leaves.specs.Laid.{IsFenceRead};
+ghost use Rattle.event_leaves.specs.Fences.{may_enter_any};
+ghost use Rattle.event_leaves.specs.FenceParts.{AreNames, IsBefore, LeadsTo, WritesClosing, WritesFence, WritesOpening, WritesPart, info_in, info_size};
+ghost use Rattle.event_leaves.specs.RawLines.{IsRawName};
+ghost use Rattle.std.specs.List.{list_any};
+ghost use Rattle.definition_text.specs.Ascii.{dollar};
+ghost use Rattle.definition_text.specs.Lines.{ends_line, lines};
+ghost use Rattle.markdown_options.specs.declared.line_ending.LineEnding.{LineEnding};
+ghost use Rattle.laws_laid.specs.Places.{LineRest};
 
-use crate::code_lines::{line_count, push_code_line};
+use crate::code_lines::{line_count, push_code_lines};
+use crate::fence_names::FenceNames;
 use crate::math_flow::MATH;
 use crate::texts::Texts;
 use engine_events::event::Name;
@@ -22,28 +34,6 @@ use markdown_options::Tables;
 use std::alloc::{AllocError, Allocator};
 use text_bytes::{run, white_size, word_size};
 use text_lines::trim;
-
-/// The names of fenced code or math, and of its parts, which it may hold.
-#[derive(Clone, Copy)]
-pub struct FenceNames {
-    pub block: Name,
-    pub fence: Name,
-    pub sequence: Name,
-    /// The name of the info; math has none.
-    pub info: Option<Name>,
-    pub meta: Name,
-    pub chunk: Name,
-    ghost is_block: { is_listed block_names block ≡ true },
-    ghost may_go_on: { has_lines block ≡ true },
-    ghost holds_fence: { may_hold block fence ≡ true },
-    ghost holds_chunk: { may_hold block chunk ≡ true },
-    ghost fence_holds_sequence: { may_hold fence sequence ≡ true },
-    ghost fence_holds_space: { may_hold fence SpaceOrTab ≡ true },
-    ghost fence_holds_info: { may_hold_any fence info ≡ true },
-    ghost info_holds_parts: { has_strings info ≡ true },
-    ghost fence_holds_meta: { may_hold fence meta ≡ true },
-    ghost meta_holds_parts: { has_string meta ≡ true },
-}
 
 /// The names of code and its parts.
 const CODE: FenceNames = FenceNames {
@@ -64,6 +54,9 @@ pub fn push_fenced_code<T: Tables, A: Allocator + Clone>(
 ) -> Result<(), AllocError>
     requires blocks { holds_blocks (still_open walk.old) ≡ true }
     ensures open { OnOk result (still_open walk.new ≡ still_open walk.old) }
+    ensures written { OnOk result ((r : Reading) (first : Bool) (info : List ℕ) (ls : List BlockLine)
+        → IsFenceRead r texts.now.options.now.constructs (T.reference_of texts.now.tables.now) count ls
+        → WritesReadLeaf r first (FencedCode info true ls) [] walk.old walk.new) }
 {
     let names = push_open(walk, texts, count)?;
     walk.next_line()?;
@@ -79,6 +72,9 @@ pub fn push_whole_code<T: Tables, A: Allocator + Clone>(
 ) -> Result<(), AllocError>
     requires blocks { holds_blocks (still_open walk.old) ≡ true }
     ensures open { OnOk result (still_open walk.new ≡ still_open walk.old) }
+    ensures written { OnOk result ((r : Reading) (first : Bool) (info : List ℕ) (ls : List BlockLine)
+        → IsFenceRead r texts.now.options.now.constructs (T.reference_of texts.now.tables.now) (length (lines text.now)) ls
+        → WritesReadLeaf r first (FencedCode info true ls) [] walk.old walk.new) }
 {
     push_fenced_code(walk, texts, line_count(text))
 }
@@ -110,16 +106,15 @@ fn push_open<T: Tables, A: Allocator + Clone>(
 ) -> Result<FenceNames, AllocError>
     requires blocks { holds_blocks (still_open walk.old) ≡ true }
     ensures open { IfOk result (λ names. still_open walk.new ≡ Entered names.block ∷ still_open walk.old) }
+    ensures written { IfOk result (λ names.
+        WritesOpening texts.now.options.now.constructs (T.reference_of texts.now.tables.now) count names walk.old walk.new) }
 {
     let indent = walk.rest.indent();
     let bare = walk.white()?;
     let names = names_of(first(bare.as_bytes()));
     walk.enter(names.block)?;
     push_opening_fence(walk, texts, &names, bare)?;
-    for _ in 0..count {
-        walk.next_line()?;
-        push_code_line(walk, names.chunk, indent)?;
-    }
+    push_code_lines(walk, names.chunk, indent, count)?;
     Ok(names)
 }
 
@@ -133,6 +128,8 @@ fn push_opening_fence<T: Tables, A: Allocator + Clone>(
 ) -> Result<(), AllocError>
     requires child { may_enter (still_open walk.old) names.now.fence ≡ true }
     ensures open { OnOk result (still_open walk.new ≡ still_open walk.old) }
+    ensures written { OnOk result ((math : Bool) (byte : ℕ) → AreNames math names.now → byte < 128 → slice_index bare.now 0 ≡ byte
+        → WritesFence texts.now.options.now.constructs (T.reference_of texts.now.tables.now) math byte bare.now walk.old walk.new) }
 {
     let size = run(first(bare.as_bytes()), bare.as_bytes());
     walk.enter(names.fence)?;
@@ -155,6 +152,9 @@ fn push_info_and_meta<T: Tables, A: Allocator + Clone>(
     requires info { may_enter_any (still_open walk.old) names.now.info ≡ true }
     requires meta { may_enter (still_open walk.old) names.now.meta ≡ true }
     ensures open { OnOk result (still_open walk.new ≡ still_open walk.old) }
+    ensures written { OnOk result ((math : Bool) (tail : List ℕ) → AreNames math names.now → list_any ends_line text.now ≡ false
+        → LeadsTo (T.reference_of texts.now.tables.now)
+        (info_in math texts.now.options.now.constructs (T.reference_of texts.now.tables.now) text.now) (text.now ++ tail) tail walk.old walk.new) }
 {
     let rest = from(text, push_info(walk, texts, names, text)?);
     let white = white_size(rest.as_bytes());
@@ -171,6 +171,11 @@ fn push_info<T: Tables, A: Allocator + Clone>(
 ) -> Result<usize, AllocError>
     requires info { may_enter_any (still_open walk.old) names.now.info ≡ true }
     ensures open { OnOk result (still_open walk.new ≡ still_open walk.old) }
+    ensures size { IfOk result (λ size. (math : Bool) → AreNames math names.now → list_any ends_line text.now ≡ false → size ≡ info_size math text.now) }
+    ensures written { OnOk result ((math : Bool) (tail : List ℕ) → AreNames math names.now → list_any ends_line text.now ≡ false
+        → LeadsTo (T.reference_of texts.now.tables.now)
+        (info_in math texts.now.options.now.constructs (T.reference_of texts.now.tables.now) text.now)
+        (text.now ++ tail) (drop (info_size math text.now) text.now ++ tail) walk.old walk.new) }
 {
     let Some(info) = names.info else {
         return Ok(0);
@@ -191,6 +196,9 @@ fn push_part<T: Tables, A: Allocator + Clone>(
     requires child { may_enter (still_open walk.old) name ≡ true }
     requires parts { has_string name ≡ true }
     ensures open { OnOk result (still_open walk.new ≡ still_open walk.old) }
+    ensures written { OnOk result ((text rest : List ℕ) (ending : Option LineEnding) (left : List LineRest) → IsRawName name
+        → IsBefore text ending left (string.now ++ rest) walk.old
+        → WritesPart texts.now.options.now.constructs (T.reference_of texts.now.tables.now) text ending left name string.now rest walk.old walk.new) }
 {
     if string.is_empty() {
         return Ok(());
@@ -210,6 +218,7 @@ fn push_closing_fence<A: Allocator>(
     requires child { may_enter (still_open walk.old) names.now.fence ≡ true }
     requires space { may_enter (still_open walk.old) SpaceOrTab ≡ true }
     ensures open { OnOk result (still_open walk.new ≡ still_open walk.old) }
+    ensures written { OnOk result (WritesClosing names.now walk.old walk.new) }
 {
     let bytes = walk.white()?.as_bytes();
     walk.enter(names.fence)?;
@@ -220,6 +229,8 @@ fn push_closing_fence<A: Allocator>(
 
 /// The names by the marker of a fence: a backtick, a tilde or, where it is math, a dollar.
 #[tactic(auto, unfolding(event_output::specs::Children::may_hold, event_output::specs::Children::has_lines, event_output::specs::Children::has_string))]
-fn names_of(marker: u8) -> FenceNames {
+fn names_of(marker: u8) -> FenceNames
+    ensures { AreNames (marker == dollar) result }
+{
     if marker == b'$' { MATH } else { CODE }
 }

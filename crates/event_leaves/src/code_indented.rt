@@ -1,9 +1,13 @@
 //! Indented code (CommonMark 4.4).
-ghost use Rattle.std.specs.Prelude.{◌≡◌, OnOk, true};
+ghost use Rattle.std.specs.Prelude.{◌≡◌, Bool, [], List, OnOk, length, true};
 ghost use Rattle.event_output.specs.Children.{holds_blocks};
 ghost use Rattle.event_lines.specs.Open.{still_open};
+ghost use Rattle.definition_text.specs.BlockLines.{BlockLine};
+ghost use Rattle.definition_block.specs.Tree.{IndentedCode};
+ghost use Rattle.definition_page.specs.Read.{Reading};
+ghost use Rattle.event_leaves.specs.Reads.{WritesReadLeaf};
 
-use crate::code_lines::{push_code_line, push_indent};
+use crate::code_lines::{push_code_lines, push_indent};
 use engine_events::event::Name;
 use event_lines::Walk;
 use markdown_options::constants::TAB_SIZE;
@@ -17,13 +21,12 @@ pub fn push_indented_code<A: Allocator>(
 ) -> Result<(), AllocError>
     requires blocks { holds_blocks (still_open walk.old) ≡ true }
     ensures open { OnOk result (still_open walk.new ≡ still_open walk.old) }
+    ensures written { OnOk result ((r : Reading) (first : Bool) (ls : List BlockLine) → count ≡ length ls
+        → WritesReadLeaf r first (IndentedCode ls) [] walk.old walk.new) }
 {
     push_indent(walk, TAB_SIZE)?;
     walk.enter(Name::CodeIndented)?;
     walk.all(Name::CodeFlowChunk)?;
-    for _ in 1..count {
-        walk.next_line()?;
-        push_code_line(walk, Name::CodeFlowChunk, TAB_SIZE)?;
-    }
+    push_code_lines(walk, Name::CodeFlowChunk, TAB_SIZE, count.saturating_sub(1))?;
     walk.exit(Name::CodeIndented)
 }

@@ -2,12 +2,15 @@
 //!
 //!     frontmatter ::= fence line* fence
 //!     fence       ::= ('-'{3} | '+'{3}) white*
-ghost use Rattle.std.specs.Prelude.{◌≡◌, OnOk, true};
+ghost use Rattle.std.specs.Prelude.{◌≡◌, ◌≤◌, OnOk, length, true, ℕ};
 ghost use Rattle.engine_events.specs.declared.event.Name.TheVariants.{Frontmatter, FrontmatterFence};
 ghost use Rattle.event_output.specs.Children.{holds_lines, may_enter};
 ghost use Rattle.event_lines.specs.Open.{still_open};
+ghost use Rattle.definition_text.specs.Lines.{lines};
+ghost use Rattle.event_leaves.specs.Laid.{WritesFrontLaid};
+ghost use Rattle.event_leaves.specs.Tokens.{LeadsOn};
 
-use crate::code_lines::line_count;
+use crate::code_lines::{line_count, push_lines};
 use engine_events::event::Name;
 use event_lines::Walk;
 use markdown_options::constants::FRONTMATTER_SEQUENCE_SIZE;
@@ -19,14 +22,16 @@ pub fn push_frontmatter<A: Allocator>(walk: &mut Walk<'_, A>, text: &str) -> Res
     requires child { may_enter (still_open walk.old) Frontmatter ≡ true }
     requires lines { holds_lines (still_open walk.old) ≡ true }
     ensures open { OnOk result (still_open walk.new ≡ still_open walk.old) }
+    ensures written { OnOk result (WritesFrontLaid (length (lines text.now)) walk.old walk.new) }
 {
     walk.in_line()?;
     walk.enter(Name::Frontmatter)?;
     push_metadata_fence(walk)?;
-    for _ in 2..line_count(text) {
-        walk.next_line()?;
-        walk.all(Name::FrontmatterChunk)?;
-    }
+    push_lines(
+        walk,
+        Name::FrontmatterChunk,
+        line_count(text).saturating_sub(2),
+    )?;
     walk.next_line()?;
     push_metadata_fence(walk)?;
     walk.exit(Name::Frontmatter)?;
@@ -38,6 +43,7 @@ pub fn push_frontmatter<A: Allocator>(walk: &mut Walk<'_, A>, text: &str) -> Res
 fn push_metadata_fence<A: Allocator>(walk: &mut Walk<'_, A>) -> Result<(), AllocError>
     requires child { may_enter (still_open walk.old) FrontmatterFence ≡ true }
     ensures open { OnOk result (still_open walk.new ≡ still_open walk.old) }
+    ensures written { OnOk result ((left : ℕ) → 3 ≤ left → LeadsOn left 0 walk.old walk.new) }
 {
     walk.enter(Name::FrontmatterFence)?;
     walk.token(Name::FrontmatterSequence, FRONTMATTER_SEQUENCE_SIZE)?;

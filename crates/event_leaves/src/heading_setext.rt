@@ -1,13 +1,25 @@
 //! Setext headings (CommonMark 4.3).
 //!
 //!     heading ::= line+ ('='+ | '-'+) white*
-ghost use Rattle.std.specs.Prelude.{◌≡◌, OnOk, true};
+ghost use Rattle.std.specs.Prelude.{◌≡◌, ◌<◌, List, OnOk, length, true, ℕ};
+ghost use Rattle.definition_inline.specs.Targets.{Targets};
+ghost use Rattle.definition_text.specs.BlockLines.{own_lines};
+ghost use Rattle.inline_content.specs.Lines.{AreContentLines};
+ghost use Rattle.text_pieces.specs.Pieces.{piece_lines};
 ghost use Rattle.engine_events.specs.declared.event.Name.TheVariants.{HeadingSetextUnderline, SpaceOrTab};
 ghost use Rattle.event_output.specs.Children.{holds_blocks, may_enter};
+ghost use Rattle.event_output.specs.Written.{IsInOrder};
+ghost use Rattle.definition_text.specs.Columns.{bare, bytes_of};
+ghost use Rattle.laws_laid.specs.Places.{LineRest, Within};
+ghost use Rattle.event_lines.specs.Ends.{IsWrittenToRest};
 ghost use Rattle.event_lines.specs.Open.{still_open};
+ghost use Rattle.event_lines.specs.Standing.{StandsAt, standing};
+ghost use Rattle.event_leaves.specs.Entered.{WritesUnderline};
+ghost use Rattle.event_leaves.specs.Reads.{WritesSetextHeading};
+ghost use Rattle.event_leaves.specs.Texts.{KnowsTargets, reading_by};
 
 use crate::buffers::Buffers;
-use crate::text::push_text;
+use crate::text::{enter_text, push_text_in};
 use crate::texts::Texts;
 use engine_events::event::Name;
 use event_lines::Walk;
@@ -27,13 +39,18 @@ pub fn push_setext_heading<'a, T: Tables, A: Allocator + Clone>(
 ) -> Result<(), AllocError>
     requires blocks { holds_blocks (still_open walk.old) ≡ true }
     ensures open { OnOk result (still_open walk.new ≡ still_open walk.old) }
+    ensures written { OnOk result ((ds : Targets) (rank : ℕ) → KnowsTargets texts.now ds → AreContentLines (piece_lines lines.now) →
+        WritesSetextHeading (reading_by T.Tables texts.now ds) rank (own_lines (piece_lines lines.now)) walk.old walk.new) }
 {
-    walk.begin_content();
-    let _bare = walk.white()?;
-    walk.enter(Name::HeadingSetext)?;
-    walk.enter(Name::HeadingSetextText)?;
-    push_text(walk, texts, buffers, false, lines, Kind::Whitespace)?;
-    walk.exit(Name::HeadingSetextText)?;
+    enter_text(walk, Name::HeadingSetext)?;
+    push_text_in(
+        walk,
+        texts,
+        buffers,
+        Name::HeadingSetextText,
+        lines,
+        Kind::Whitespace,
+    )?;
     walk.next_line()?;
     push_underline(walk)?;
     walk.exit(Name::HeadingSetext)
@@ -45,6 +62,8 @@ fn push_underline<A: Allocator>(walk: &mut Walk<'_, A>) -> Result<(), AllocError
     requires child { may_enter (still_open walk.old) HeadingSetextUnderline ≡ true }
     requires space { may_enter (still_open walk.old) SpaceOrTab ≡ true }
     ensures open { OnOk result (still_open walk.new ≡ still_open walk.old) }
+    ensures written { OnOk result ((text : List ℕ) (here : LineRest) (left : List LineRest) → StandsAt text (Within here left) (standing walk.old)
+        → IsWrittenToRest walk.old → IsInOrder text walk.old.out → 0 < length (bytes_of (bare here.rest)) → WritesUnderline text here left walk.old walk.new) }
 {
     let bytes = walk.white()?.as_bytes();
     walk.enter(Name::HeadingSetextUnderline)?;

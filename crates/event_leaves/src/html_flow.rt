@@ -1,8 +1,13 @@
 //! HTML blocks (CommonMark 4.6).
-ghost use Rattle.std.specs.Prelude.{◌≡◌, OnOk, true};
+ghost use Rattle.std.specs.Prelude.{◌≡◌, Bool, [], List, OnOk, length, true};
 ghost use Rattle.event_output.specs.Children.{holds_blocks};
 ghost use Rattle.event_lines.specs.Open.{still_open};
+ghost use Rattle.definition_text.specs.BlockLines.{BlockLine};
+ghost use Rattle.definition_block.specs.Tree.{Html};
+ghost use Rattle.definition_page.specs.Read.{Reading};
+ghost use Rattle.event_leaves.specs.Reads.{WritesReadLeaf};
 
+use crate::code_lines::push_lines;
 use engine_events::event::Name;
 use event_lines::Walk;
 use std::alloc::{AllocError, Allocator};
@@ -12,12 +17,10 @@ use std::alloc::{AllocError, Allocator};
 pub fn push_html<A: Allocator>(walk: &mut Walk<'_, A>, count: usize) -> Result<(), AllocError>
     requires blocks { holds_blocks (still_open walk.old) ≡ true }
     ensures open { OnOk result (still_open walk.new ≡ still_open walk.old) }
+    ensures written { OnOk result ((r : Reading) (first : Bool) (ls : List BlockLine) → count ≡ length ls → WritesReadLeaf r first (Html ls) [] walk.old walk.new) }
 {
     walk.enter(Name::HtmlFlow)?;
     walk.all(Name::HtmlFlowData)?;
-    for _ in 1..count {
-        walk.next_line()?;
-        walk.all(Name::HtmlFlowData)?;
-    }
+    push_lines(walk, Name::HtmlFlowData, count.saturating_sub(1))?;
     walk.exit(Name::HtmlFlow)
 }

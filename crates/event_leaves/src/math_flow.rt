@@ -1,5 +1,5 @@
 //! Math (in neither standard): fenced code of dollars, which has no info.
-use crate::code_fenced::FenceNames;
+use crate::fence_names::FenceNames;
 use engine_events::event::Name;
 
 /// The names of math and its parts.

@@ -1,12 +1,17 @@
 //! Paragraphs (CommonMark 4.8).
-ghost use Rattle.std.specs.Prelude.{◌≡◌, ◌∷◌, OnOk, true};
-ghost use Rattle.engine_events.specs.declared.event.Name.TheVariants.{Paragraph};
-ghost use Rattle.event_output.specs.Open.{Entered};
+ghost use Rattle.std.specs.Prelude.{◌≡◌, [], OnOk, true};
+ghost use Rattle.definition_block.specs.Tree.{Paragraph as ParagraphOf};
+ghost use Rattle.definition_inline.specs.Targets.{Targets};
+ghost use Rattle.definition_text.specs.BlockLines.{own_lines};
+ghost use Rattle.text_pieces.specs.ParagraphLines.{AreLines};
+ghost use Rattle.text_pieces.specs.Pieces.{piece_lines, whole_lines};
 ghost use Rattle.event_output.specs.Children.{holds_blocks};
 ghost use Rattle.event_lines.specs.Open.{still_open};
+ghost use Rattle.event_leaves.specs.Texts.{KnowsTargets, reading_by};
+ghost use Rattle.event_leaves.specs.Reads.{WritesReadLeaf};
 
 use crate::buffers::Buffers;
-use crate::text::{push_content, push_text};
+use crate::text::{enter_text, push_content, push_text};
 use crate::texts::Texts;
 use engine_events::event::Name;
 use event_lines::Walk;
@@ -16,7 +21,7 @@ use std::alloc::{AllocError, Allocator};
 use text_pieces::Piece;
 
 /// A paragraph of these lines. The first block of an item may begin with a check (GFM 5.3).
-#[tactic(auto, using(event_output::proofs::Classes::text_in), unfolding(event_output::specs::Children::may_hold, event_output::specs::Children::has_text))]
+#[tactic(auto, using(event_output::proofs::Classes::blocks_may, event_output::proofs::Classes::text_in), unfolding(event_output::specs::Children::may_hold, event_output::specs::Children::has_text))]
 pub fn push_paragraph<'a, T: Tables, A: Allocator + Clone>(
     walk: &mut Walk<'_, A>,
     texts: &Texts<'a, '_, T, A>,
@@ -26,14 +31,16 @@ pub fn push_paragraph<'a, T: Tables, A: Allocator + Clone>(
 ) -> Result<(), AllocError>
     requires blocks { holds_blocks (still_open walk.old) ≡ true }
     ensures open { OnOk result (still_open walk.new ≡ still_open walk.old) }
+    ensures written { OnOk result ((ds : Targets) → KnowsTargets texts.now ds → AreLines (piece_lines lines.now) →
+        WritesReadLeaf (reading_by T.Tables texts.now ds) first (ParagraphOf (own_lines (piece_lines lines.now))) [] walk.old walk.new) }
 {
-    enter_paragraph(walk)?;
+    enter_text(walk, Name::Paragraph)?;
     push_text(walk, texts, buffers, first, lines, Kind::Whitespace)?;
     walk.exit(Name::Paragraph)
 }
 
 /// A paragraph of the lines of a text. The first block of an item may begin with a check (GFM 5.3).
-#[tactic(auto, using(event_output::proofs::Classes::text_in), unfolding(event_output::specs::Children::may_hold, event_output::specs::Children::has_text))]
+#[tactic(auto, using(event_output::proofs::Classes::blocks_may, event_output::proofs::Classes::text_in), unfolding(event_output::specs::Children::may_hold, event_output::specs::Children::has_text))]
 pub fn push_whole_paragraph<'a, T: Tables, A: Allocator + Clone>(
     walk: &mut Walk<'_, A>,
     texts: &Texts<'a, '_, T, A>,
@@ -43,19 +50,10 @@ pub fn push_whole_paragraph<'a, T: Tables, A: Allocator + Clone>(
 ) -> Result<(), AllocError>
     requires blocks { holds_blocks (still_open walk.old) ≡ true }
     ensures open { OnOk result (still_open walk.new ≡ still_open walk.old) }
+    ensures written { OnOk result ((ds : Targets) → KnowsTargets texts.now ds →
+        WritesReadLeaf (reading_by T.Tables texts.now ds) first (ParagraphOf (own_lines (whole_lines text.now))) [] walk.old walk.new) }
 {
-    enter_paragraph(walk)?;
+    enter_text(walk, Name::Paragraph)?;
     push_content(walk, texts, buffers, first, whole_content(text))?;
     walk.exit(Name::Paragraph)
-}
-
-/// A paragraph begins after the spaces and tabs ahead, and its content with them.
-#[tactic(auto, using(event_output::proofs::Classes::blocks_may))]
-fn enter_paragraph<A: Allocator>(walk: &mut Walk<'_, A>) -> Result<(), AllocError>
-    requires blocks { holds_blocks (still_open walk.old) ≡ true }
-    ensures open { OnOk result (still_open walk.new ≡ Entered Paragraph ∷ still_open walk.old) }
-{
-    walk.begin_content();
-    let _bare = walk.white()?;
-    walk.enter(Name::Paragraph)
 }

@@ -1,4 +1,6 @@
 //! What texts are read by.
+ghost use Rattle.std.specs.Prelude.{◌≡◌};
+
 use inline_labels::LabelTable;
 use markdown_options::{ParseOptions, Tables};
 use std::alloc::Allocator;
@@ -16,7 +18,9 @@ pub struct Texts<'a, 'd, T, A: Allocator + Clone> {
 
 impl<'a, T: Tables, A: Allocator + Clone> Texts<'a, '_, T, A> {
     /// The same for contents that live no longer than this.
-    pub(crate) fn reborrow(&self) -> Texts<'_, '_, T, A> {
+    pub(crate) fn reborrow(&self) -> Texts<'_, '_, T, A>
+        ensures { result ≡ self.now }
+    {
         Texts {
             options: self.options,
             tables: self.tables,

@@ -1,0 +1,12 @@
+use Rattle.event_leaves.proofs.Blank.{blank_written}
+use Rattle.event_leaves.proofs.NextLines.{all_ok}
+use Rattle.event_leaves.proofs.blank_line.push_blank_line.Goals as goal
+
+pub returns-clause-written : goal.returns-clause-written
+returns-clause-written g c =
+    let all = c.in_ok-all.ensures in
+    all_ok c.ending.result
+    (λ ends written kept. λ text ending here left to st at order laid.
+    blank_written text ending here left to c.args.walk.now c.in_line.new.self c.all.new.self c.ending.new.self (c.in_ok-in_line.ensures.stays st.line.begun) st at
+    order laid all.stays all.end all.written ends written kept)
+    c.ending.ensures.ends c.ending.ensures.written c.ending.ensures.around

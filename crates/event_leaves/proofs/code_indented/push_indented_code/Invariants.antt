@@ -1,6 +1,0 @@
-use Rattle.std.proofs.Common.{◌≡◌}
-use Rattle.event_lines.specs.Open.{still_open}
-use Rattle.event_leaves.proofs.code_indented.push_indented_code.Given as goal
-
-abbrev pub invariant-loop : goal.invariant-loop
-invariant-loop g l = still_open l.walk ≡ still_open l.initial.walk
