@@ -1,10 +1,16 @@
 //! Rows of cells (GFM 4.10).
 //!
 //!     row ::= (white* bar)? cell (bar cell)* (bar white*)?
-ghost use Rattle.std.specs.Prelude.{◌≡◌, OnOk, true};
+ghost use Rattle.std.specs.Prelude.{◌≡◌, ◌<◌, OnOk, true};
+ghost use Rattle.event_lines.specs.Content.{BeginsLineAfter};
+ghost use Rattle.event_lines.specs.Standing.{standing};
 ghost use Rattle.engine_events.specs.declared.event.Name.TheVariants.{GfmTableCell, GfmTableCellDivider, GfmTableCellText, GfmTableRow, SpaceOrTab};
 ghost use Rattle.event_output.specs.Children.{may_enter};
 ghost use Rattle.event_lines.specs.Open.{still_open};
+ghost use Rattle.definition_inline.specs.Targets.{Targets};
+ghost use Rattle.block_cells.specs.GfmTable.{cell_view};
+ghost use Rattle.event_leaves.specs.Texts.{KnowsTargets, reading_by};
+ghost use Rattle.event_tables.specs.Cells.{WritesInCellHere};
 
 use block_cells::{Cell, Cells};
 use engine_events::event::Name;
@@ -33,14 +39,9 @@ pub(crate) fn push_row<'a, T: Tables, A: Allocator + Clone>(
     let start = walk.index_of(line.text.len());
     walk.to(Name::SpaceOrTab, start)?;
     push_first_divider(walk, line.text.as_bytes())?;
-    push_cells(walk, texts, buffers, Cells::new(without_columns(line)))?;
+    push_cells(walk, texts, buffers, Cells::new(line))?;
     walk.all(Name::SpaceOrTab)?;
     walk.exit(Name::GfmTableRow)
-}
-
-/// A line without the columns of a tab before it, which are written.
-fn without_columns(line: Piece<'_>) -> Piece<'_> {
-    Piece { owed: 0, ..line }
 }
 
 /// The bar before the first cell, if there is one, with the spaces and tabs before it.
@@ -108,8 +109,10 @@ fn push_cell_text<'a, T: Tables, A: Allocator + Clone>(
 ) -> Result<(), AllocError>
     requires child { may_enter (still_open walk.old) GfmTableCellText ≡ true }
     ensures open { OnOk result (still_open walk.new ≡ still_open walk.old) }
+    ensures written { OnOk result ((ds : Targets) → KnowsTargets texts.now ds →
+        WritesInCellHere (reading_by T.Tables texts.now ds) (cell_view cell.now) cell.now.line.text.now walk.old walk.new) }
 {
-    walk.begin_here();
+    begin_text(walk, cell.line.owed);
     walk.enter(Name::GfmTableCellText)?;
     push_text(
         walk,
@@ -119,5 +122,17 @@ fn push_cell_text<'a, T: Tables, A: Allocator + Clone>(
         from_ref(&cell.line),
         cell.after,
     )?;
-    walk.exit(Name::GfmTableCellText)
+    walk.exit(Name::GfmTableCellText)?;
+    Ok(())
+}
+
+/// The text of a cell begins here, after the columns of a tab, which are written.
+fn begin_text<A: Allocator>(walk: &mut Walk<'_, A>, columns: u8)
+    ensures open { still_open walk.new ≡ still_open walk.old }
+    ensures stays { standing walk.new ≡ standing walk.old }
+    ensures begun { BeginsLineAfter columns walk.old walk.new }
+    ensures begins { (walk.new.place ≡ columns) × (walk.new.out ≡ walk.old.out) }
+    ensures few { columns < 256 }
+{
+    walk.begin_after(columns);
 }

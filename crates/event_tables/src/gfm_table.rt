@@ -7,8 +7,8 @@ ghost use Rattle.event_output.specs.Children.{holds_blocks, holds_lines, may_ent
 ghost use Rattle.event_lines.specs.Open.{still_open};
 
 use crate::cells::push_row;
-use crate::delimiters::push_delimiters;
 use engine_events::event::Name;
+use event_cells::push_delimiters;
 use event_leaves::{Buffers, Texts};
 use event_lines::Walk;
 use markdown_options::Tables;

@@ -2,7 +2,6 @@
 #![tactic(auto)]
 
 pub mod cells;
-pub mod delimiters;
 pub mod gfm_table;
 
 pub use gfm_table::push_table;

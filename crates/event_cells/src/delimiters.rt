@@ -2,7 +2,8 @@
 //!
 //!     delimiters ::= (bar | white | delimiter)*
 //!     delimiter  ::= ':'? '-'+ ':'?
-ghost use Rattle.std.specs.Prelude.{◌≡◌, OnOk, true};
+ghost use Rattle.std.specs.Prelude.{◌≡◌, IfOk, OnOk, true};
+ghost use Rattle.event_cells.specs.Columns.{WritesColumnHere, WritesDelimiterRow, WritesPartHere};
 ghost use Rattle.engine_events.specs.declared.event.Name.TheVariants.{GfmTableCellDivider, GfmTableDelimiterCell, GfmTableDelimiterRow, SpaceOrTab};
 ghost use Rattle.event_output.specs.Children.{may_enter};
 ghost use Rattle.event_lines.specs.Open.{still_open};
@@ -15,10 +16,11 @@ use text_bytes::{run, white_size};
 
 /// A row of delimiters: the rest of the line.
 #[tactic(auto, using(event_output::proofs::Classes::enters_in), unfolding(event_output::specs::Children::may_hold))]
-pub(crate) fn push_delimiters<A: Allocator>(walk: &mut Walk<'_, A>) -> Result<(), AllocError>
+pub fn push_delimiters<A: Allocator>(walk: &mut Walk<'_, A>) -> Result<(), AllocError>
     requires child { may_enter (still_open walk.old) GfmTableDelimiterRow ≡ true }
     requires space { may_enter (still_open walk.old) SpaceOrTab ≡ true }
     ensures open { OnOk result (still_open walk.new ≡ still_open walk.old) }
+    ensures written { OnOk result (WritesDelimiterRow walk.old walk.new) }
 {
     let mut rest = walk.white()?.as_bytes();
     walk.enter(Name::GfmTableDelimiterRow)?;
@@ -35,19 +37,18 @@ fn push_part<A: Allocator>(walk: &mut Walk<'_, A>, bytes: &[u8]) -> Result<usize
     requires divider { may_enter (still_open walk.old) GfmTableCellDivider ≡ true }
     requires space { may_enter (still_open walk.old) SpaceOrTab ≡ true }
     ensures open { OnOk result (still_open walk.new ≡ still_open walk.old) }
+    ensures written { IfOk result (λ size. WritesPartHere bytes.now size walk.old walk.new) }
 {
-    match first(bytes) {
-        b'|' => {
-            walk.token(Name::GfmTableCellDivider, 1)?;
-            Ok(1)
-        }
-        b' ' | b'\t' => {
-            let size = white_size(bytes);
-            walk.token(Name::SpaceOrTab, size)?;
-            Ok(size)
-        }
-        _ => push_delimiter(walk, bytes),
+    if first(bytes) == b'|' {
+        walk.token(Name::GfmTableCellDivider, 1)?;
+        return Ok(1);
     }
+    let white = white_size(bytes);
+    if white > 0 {
+        walk.token(Name::SpaceOrTab, white)?;
+        return Ok(white);
+    }
+    push_delimiter(walk, bytes)
 }
 
 /// The delimiter that bytes begin with. Its colons say how the column is aligned. Answers its size.
@@ -55,6 +56,7 @@ fn push_part<A: Allocator>(walk: &mut Walk<'_, A>, bytes: &[u8]) -> Result<usize
 fn push_delimiter<A: Allocator>(walk: &mut Walk<'_, A>, bytes: &[u8]) -> Result<usize, AllocError>
     requires child { may_enter (still_open walk.old) GfmTableDelimiterCell ≡ true }
     ensures open { OnOk result (still_open walk.new ≡ still_open walk.old) }
+    ensures written { IfOk result (λ size. WritesColumnHere bytes.now size walk.old walk.new) }
 {
     walk.enter(Name::GfmTableDelimiterCell)?;
     walk.enter(Name::GfmTableDelimiterCellValue)?;

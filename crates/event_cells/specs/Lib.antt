@@ -1,0 +1,4 @@
+pub mod Before
+pub mod Cells
+pub mod Delimiters
+pub mod Columns
