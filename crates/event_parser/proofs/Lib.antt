@@ -4,3 +4,11 @@ pub mod Paragraph
 pub mod Held
 pub mod LabelRows
 pub mod FootnoteCodes
+pub mod Endings
+pub mod Lines
+pub mod Leaves
+pub mod Blanks
+pub mod Containers
+pub mod Starts
+pub mod Rows
+pub mod Lists

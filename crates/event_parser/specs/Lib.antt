@@ -3,3 +3,4 @@ pub mod Opened
 pub mod Closing
 pub mod State
 pub mod Labels
+pub mod Stands
