@@ -86,7 +86,7 @@ first_lines (suc (suc n)) (line ∷ next ∷ others) h some = (h.0, h.1, h.2, fi
 
 -- the row of a definition
 pub row_of_definition : (content : List ℕ) (ls : List BlockLine) (end : DefinitionEnd) → AreLines ls → (h : EndsAt content ls end)
-    → block_rows (Leaf (Definition h.read.label h.read.destination h.read.title)) ≡ row_value (row.Definition end.lines) ls ∷ []
+    → block_rows (Leaf (Definition (own_lines (take end.lines ls)) h.read.label h.read.destination h.read.title)) ≡ row_value (row.Definition end.lines) ls ∷ []
 row_of_definition content ls end clean h =
     let count = lines_before h.read.rest ls in
     let cuts = definition_cuts ls h.read clean h.found in
@@ -95,7 +95,8 @@ row_of_definition content ls end clean h =
     let read : definition_on own ≡ Some (renamed_definition code_byte (definition h.read.label h.read.destination h.read.title [])) =
     ap definition_at (content_is own own_clean) ∙ definition_renamed code_byte code_byte-renames (content_of (own_lines own))
     ∙ ap (option_map (renamed_definition code_byte)) cuts.again in
-    ap (λ o. Single (definition_value o) ∷ []) (sym read)
+    ap (λ n. block_rows (Leaf (Definition (own_lines (take n ls)) h.read.label h.read.destination h.read.title))) h.count
+    ∙ ap (λ o. Single (definition_value (own_lines own) o) ∷ []) (sym read)
     ∙ ap (λ n. row_value (row.Definition n) ls ∷ []) (sym h.count)
 
 pub one_more : {A : Type 0} (p q : Parser A) (content : List ℕ) (around : List Level) (kids : Blocks) (ls : List BlockLine)

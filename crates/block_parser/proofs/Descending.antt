@@ -15,7 +15,7 @@ use Rattle.definition_block.specs.ContainerLine.{ContainerLine}
 use Rattle.definition_block.specs.Containers.{continues}
 use Rattle.definition_block.specs.CodeFenced.{Fence}
 use Rattle.definition_inline.specs.Definition.{Definition as LinkDefinition}
-use Rattle.definition_text.specs.BlockLines.{BlockLine, last_ending_or}
+use Rattle.definition_text.specs.BlockLines.{BlockLine, last_ending_or, own_lines}
 use Rattle.definition_block.specs.Tree.{Block, Ending, Blank, Blocks, Nil, Cons, join, all_endings, front, trailing, Text, Indented, Fenced, OpenHtml}
 use Rattle.definition_block.specs.Tree.{OpenTable, Opening, At, Inside, Tree, beside_in, grow, goes_on, new, began_blank, is_nothing, is_one_blank}
 use Rattle.block_rows.specs.Rows.{definition_on, definition_value, BlockRow, Single, rows_of}
@@ -153,19 +153,19 @@ and-swap false true = refl
 and-swap false false = refl
 
 -- a definition is no ending
-not-blank : (o : Option LinkDefinition) (rows : List BlockRow) → is_blank_rows (Single (definition_value o) ∷ rows) ≡ false
-not-blank None rows = refl
-not-blank (Some d) rows = refl
+not-blank : (ls : List BlockLine) (o : Option LinkDefinition) (rows : List BlockRow) → is_blank_rows (Single (definition_value ls o) ∷ rows) ≡ false
+not-blank ls None rows = refl
+not-blank ls (Some d) rows = refl
 
 one-row : (waiting : List Row) → is_one_blank_row waiting ≡ is_blank_rows (map lone waiting)
 one-row [] = refl
 one-row (row.Blank ending ∷ []) = refl
-one-row (row.Definition n ∷ []) = sym (not-blank (definition_on (take n [])) [])
+one-row (row.Definition n ∷ []) = sym (not-blank (own_lines (take n [])) (definition_on (take n [])) [])
 one-row (r ∷ []) = refl
 one-row (a ∷ b ∷ rows) = two a
   where
     two : (a : Row) → is_one_blank_row (a ∷ b ∷ rows) ≡ is_blank_rows (lone a ∷ (lone b ∷ map lone rows))
-    two (row.Definition n) = sym (not-blank (definition_on (take n [])) (lone b ∷ map lone rows))
+    two (row.Definition n) = sym (not-blank (own_lines (take n [])) (definition_on (take n [])) (lone b ∷ map lone rows))
     two r = refl
 
 -- only the innermost container can have begun so

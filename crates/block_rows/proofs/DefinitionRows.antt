@@ -18,7 +18,7 @@ none_entered (Item item) = refl
 none_entered (Footnote label) = refl
 
 definitions_in_leaf : (leaf : LeafBlock) → leaf_definitions (spaced_leaf leaf) ++ [] ≡ map (renamed_definition code_byte) (leaf_definitions leaf)
-definitions_in_leaf (Definition label destination title) = refl
+definitions_in_leaf (Definition ls label destination title) = refl
 definitions_in_leaf leaf = refl
 
 mutual

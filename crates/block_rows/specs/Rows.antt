@@ -30,7 +30,7 @@ start_row (Footnote label) = EnterFootnote label
 
 -- a leaf whose columns that are left of a tab are spaces, where it is a definition
 abbrev pub spaced_leaf : LeafBlock → LeafBlock
-spaced_leaf (Definition label destination title) = Definition (map code_byte label) (map code_byte destination) (option_map (map code_byte) title)
+spaced_leaf (Definition ls label destination title) = Definition ls (map code_byte label) (map code_byte destination) (option_map (map code_byte) title)
 spaced_leaf leaf = leaf
 
 -- the rows of blocks, before their items are put into lists
@@ -95,9 +95,9 @@ first_codes (line ∷ others) = line.codes
 abbrev pub definition_on : List BlockLine → Option LinkDefinition
 definition_on ls = definition_at (content_codes (content_text ls))
 
-abbrev pub definition_value : Option LinkDefinition → Block
-definition_value None = Leaf (Definition [] [] None)
-definition_value (Some d) = Leaf (Definition d.label d.destination d.title)
+abbrev pub definition_value : List BlockLine → Option LinkDefinition → Block
+definition_value ls None = Leaf (Definition ls [] [] None)
+definition_value ls (Some d) = Leaf (Definition ls d.label d.destination d.title)
 
 -- what a row stands for: it takes its lines from the front of those that are left
 abbrev pub row_value : Row → List BlockLine → BlockRow
@@ -112,7 +112,7 @@ row_value (row.UnclosedCode count) left = Single (Leaf (FencedCode (first_codes 
 row_value row.WholeCode left = Single (Leaf (FencedCode (first_codes left) true (whole_lines (bytes_of (first_codes (drop 1 left))))))
 row_value (row.Html count) left = Single (Leaf (Html (own_lines (take count left))))
 row_value (row.Table count) left = Single (Leaf (Table (own_lines (take count left))))
-row_value (row.Definition count) left = Single (definition_value (definition_on (take count left)))
+row_value (row.Definition count) left = Single (definition_value (own_lines (take count left)) (definition_on (take count left)))
 row_value row.EnterQuote left = EnterQuote
 row_value (row.EnterItem marker number) left = EnterItem marker number
 row_value row.EnterFootnote left = EnterFootnote (first_codes left)

@@ -43,7 +43,8 @@ row_longer row.WholeCode out (l ∷ []) more le = absurd (omega arith)
 row_longer row.WholeCode out (l ∷ code ∷ ls) more le = refl
 row_longer (row.Html n) out ls more le = taken_longer (λ front. Single (Leaf (Html (own_lines front)))) n n out ls ls more le le
 row_longer (row.Table n) out ls more le = taken_longer (λ front. Single (Leaf (Table (own_lines front)))) n n out ls ls more le le
-row_longer (row.Definition n) out ls more le = taken_longer (λ front. Single (definition_value (definition_on front))) n n out ls ls more le le
+row_longer (row.Definition n) out ls more le =
+    taken_longer (λ front. Single (definition_value (own_lines front) (definition_on front))) n n out ls ls more le le
 row_longer row.EnterFootnote out [] more le = absurd (omega arith)
 row_longer row.EnterFootnote out (l ∷ ls) more le = refl
 row_longer r out ls more le = refl
@@ -96,7 +97,7 @@ none_taken (row.UnclosedCode n) left h = absurd (omega (arith, h))
 none_taken row.WholeCode left h = absurd (omega (arith, h))
 none_taken (row.Html n) left h = none_of (λ front. Single (Leaf (Html (own_lines front)))) n left h
 none_taken (row.Table n) left h = none_of (λ front. Single (Leaf (Table (own_lines front)))) n left h
-none_taken (row.Definition n) left h = none_of (λ front. Single (definition_value (definition_on front))) n left h
+none_taken (row.Definition n) left h = none_of (λ front. Single (definition_value (own_lines front) (definition_on front))) n left h
 none_taken row.EnterFootnote left h = absurd (omega (arith, h))
 none_taken r left h = refl
 

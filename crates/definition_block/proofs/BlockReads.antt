@@ -73,7 +73,7 @@ module _ (good : Property) where
   LeafBlockGood (FencedCode info is_closed ls) = good.info info × LinesGood ls
   LeafBlockGood (Html ls) = LinesGood ls
   LeafBlockGood (Table ls) = LinesGood ls
-  LeafBlockGood (Definition label destination title) = good.leads destination title
+  LeafBlockGood (Definition ls label destination title) = good.leads destination title
 
   abbrev mutual
     pub BlockGood : Block → Type 0

@@ -6,8 +6,8 @@ use Rattle.definition_text.specs.Columns.{Code}
 use Rattle.definition_block.specs.Container.{Container}
 
 -- A leaf block (CommonMark 4): a paragraph; a heading of a rank; a thematic break; indented code; fenced code with its info, and whether it was closed; an
--- HTML block; a table of its lines, the head, the row of delimiters and the rows of its body; a link reference definition with its label, its destination and
--- its title, as they are written.
+-- HTML block; a table of its lines, the head, the row of delimiters and the rows of its body; a link reference definition of its lines,
+-- with its label, its destination and its title, as they are written.
 pub data LeafBlock : Type 0 where
   Paragraph : List BlockLine → LeafBlock
   Heading : ℕ → List BlockLine → LeafBlock
@@ -16,7 +16,7 @@ pub data LeafBlock : Type 0 where
   FencedCode : List ℕ → Bool → List BlockLine → LeafBlock
   Html : List BlockLine → LeafBlock
   Table : List BlockLine → LeafBlock
-  Definition : List Code → List Code → Option (List Code) → LeafBlock
+  Definition : List BlockLine → List Code → List Code → Option (List Code) → LeafBlock
 
 -- A child of a container: a leaf; a container with its children (CommonMark 5); a list with its items and the endings between them, which is made after the
 -- lines are read (CommonMark 5.3); the ending of a block's last line; the ending of a blank line (CommonMark 4.9).

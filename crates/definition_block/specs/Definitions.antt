@@ -30,7 +30,7 @@ lines_before rest ls = length ls - line_count rest
 
 -- a definition on these lines, and the ending of the last one
 abbrev pub definition_lines : LinkDefinition → List BlockLine → Blocks
-definition_lines d ls = block_and_ending (Leaf (Definition d.label d.destination d.title)) (last_ending ls)
+definition_lines d ls = block_and_ending (Leaf (Definition (own_lines ls) d.label d.destination d.title)) (last_ending ls)
 
 -- a definition before what more cuts of the lines after it give
 abbrev pub cut_after : Option LinkDefinition → List BlockLine → (List BlockLine → DefinitionCut) → DefinitionCut
@@ -51,7 +51,7 @@ definition_cut on ls = if on.definition then cut_most (length ls) ls else cut_in
 
 -- a leaf that is a definition; it is alone, so that nothing follows it
 abbrev pub leaf_definitions : LeafBlock → List LinkDefinition
-leaf_definitions (Definition label destination title) = definition label destination title [] ∷ []
+leaf_definitions (Definition ls label destination title) = definition label destination title [] ∷ []
 leaf_definitions leaf = []
 
 -- the definitions in a document, in the order of the text, repeats kept (CommonMark 4.7)

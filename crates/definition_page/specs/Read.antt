@@ -128,7 +128,7 @@ read_leaf r standing (tree.IndentedCode ls) = page.IndentedCode ls
 read_leaf r standing (tree.FencedCode info is_closed ls) = page.FencedCode (info_text r info) is_closed (code_lines standing.top is_closed ls)
 read_leaf r standing (tree.Html ls) = page.Html ls
 read_leaf r standing (tree.Table ls) = page.Table (read_table r ls)
-read_leaf r standing (tree.Definition label destination title) = page.Definition
+read_leaf r standing (tree.Definition ls label destination title) = page.Definition
 
 abbrev pub read_container : Container → page.PageContainer
 read_container Quote = page.Quote

@@ -142,7 +142,7 @@ module _ (default : List ℕ) (options : Options) (tables : TextTables) (ds : Ta
       → ends_plainly tight (visible_after before (is_definition (read_leaf r s leaf)) (page.Leaf (read_leaf r s leaf)))
       ≡ old.plain_after tight said (tree.Leaf leaf)
   leaf_plain s tight before said (tree.Paragraph ls) h = and-true tight
-  leaf_plain s tight before said (tree.Definition label destination title) h = h
+  leaf_plain s tight before said (tree.Definition ls label destination title) h = h
   leaf_plain s tight before said leaf h = and-false tight
 
   holds_plain : (tight : Bool) (before : Option page.Block) (said : Bool) (c : Container) (kids : tree.Blocks) (shown : page.Blocks)
@@ -262,7 +262,7 @@ module _ (default : List ℕ) (options : Options) (tables : TextTables) (ds : Ta
       same.0 tight (Some (page.Leaf (read_leaf r here (tree.Paragraph ls)))) (paragraph_silences tight)
   leaf_followed here s tight silent (tree.FencedCode info is_closed ls) bs same =
       code_followed s tight (s.top && not is_closed) bs same (Some (page.Leaf (read_leaf r here (tree.FencedCode info is_closed ls)))) (none_silences tight)
-  leaf_followed here s tight silent (tree.Definition label destination title) bs same =
+  leaf_followed here s tight silent (tree.Definition ls label destination title) bs same =
       same.0 true (Some (page.Leaf page.Definition)) (definition_silences tight)
   leaf_followed here s tight silent leaf bs same = same.0 false (Some (page.Leaf (read_leaf r here leaf))) (none_silences tight)
 

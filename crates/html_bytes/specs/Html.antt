@@ -52,7 +52,7 @@ fresh_unless said = if said then [] else Fresh ∷ []
 abbrev pub silences : Bool → Bool → Bool → Block → Bool
 silences top tight silent (Leaf (Paragraph ls)) = tight
 silences top tight silent (Leaf (FencedCode info closed ls)) = top && not closed
-silences top tight silent (Leaf (Definition label destination title)) = true
+silences top tight silent (Leaf (Definition ls label destination title)) = true
 silences top tight silent (Holds (Footnote label) kids) = true
 silences top tight silent (Ending None) = silent
 silences top tight silent (Blank None) = silent
@@ -61,7 +61,7 @@ silences top tight silent b = false
 -- whether the last block of an item that prints anything, if it has one, is a tight paragraph, after one more child; `before` says it of those before
 abbrev pub plain_after : Bool → Bool → Block → Bool
 plain_after tight before (Leaf (Paragraph ls)) = tight
-plain_after tight before (Leaf (Definition label destination title)) = before
+plain_after tight before (Leaf (Definition ls label destination title)) = before
 plain_after tight before (Leaf leaf) = false
 plain_after tight before (Holds (Footnote label) kids) = before
 plain_after tight before (Holds c kids) = false

@@ -6,7 +6,7 @@ use Rattle.std.proofs.lemmas.Grind.{reverse_onto}
 use Rattle.std.proofs.lemmas.List.Sums.{fold_push}
 use Rattle.block_rows.specs.declared.row.Row.{Row}
 use Rattle.block_rows.specs.declared.row.Row.TheVariants as row
-use Rattle.definition_text.specs.BlockLines.{BlockLine}
+use Rattle.definition_text.specs.BlockLines.{BlockLine, own_lines}
 use Rattle.definition_block.specs.Tree.{is_ending}
 use Rattle.definition_inline.specs.Definition.{Definition}
 use Rattle.block_rows.specs.Rows.{definition_on, definition_value, row_value, rows_value, value_with, row_size}
@@ -18,14 +18,14 @@ abbrev pub pass_bare : PassView → Row → PassView
 pass_bare p r = pass_row p (row_value r [])
 
 -- a definition is no ending, whatever was read off its lines
-no_ending : (o : Option Definition) → is_ending (definition_value o) ≡ false
-no_ending None = refl
-no_ending (Some d) = refl
+no_ending : (ls : List BlockLine) (o : Option Definition) → is_ending (definition_value ls o) ≡ false
+no_ending ls None = refl
+no_ending ls (Some d) = refl
 
 same_without_lines : (p : PassView) (r : Row) (ls : List BlockLine) → pass_row p (row_value r ls) ≡ pass_bare p r
 same_without_lines p (row.Definition count) ls =
-    ap (λ ending. pass_at (before_if ending p.ahead) p.outer p.places) (no_ending (definition_on (take count ls))
-    ∙ sym (no_ending (definition_on (take count []))))
+    ap (λ ending. pass_at (before_if ending p.ahead) p.outer p.places) (no_ending (own_lines (take count ls)) (definition_on (take count ls))
+    ∙ sym (no_ending (own_lines (take count [])) (definition_on (take count []))))
 same_without_lines p r ls = refl
 
 pub passed_backward : (p : PassView) (rows : List Row) (ls : List BlockLine) → fold pass_bare p (reverse rows) ≡ pass_rows p (rows_value rows ls).rows

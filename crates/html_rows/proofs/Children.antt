@@ -134,7 +134,7 @@ module _ (d : Document) (default : List ℕ) where
 
   -- the row of a leaf
   leaf_row : (leaf : LeafBlock) (p : PrinterView) → print_row d default p (Single (Leaf (spaced_leaf leaf))) ≡ print_row d default p (Single (Leaf leaf))
-  leaf_row (Definition label destination title) p = refl
+  leaf_row (Definition ls label destination title) p = refl
   leaf_row leaf p = refl
 
   -- a block that is a row

@@ -71,7 +71,7 @@ entered_printable (Footnote label) h = h
 entered_printable c h = tt
 
 spaced_printable : (leaf : LeafBlock) → IsPrintableLeaf leaf → IsPrintableLeaf (spaced_leaf leaf)
-spaced_printable (Definition label destination title) h = tt
+spaced_printable (Definition ls label destination title) h = tt
 spaced_printable leaf h = h
 
 mutual

@@ -79,7 +79,7 @@ LeafBlockMayStand on (IndentedCode ls) = on.code_indented ≡ true
 LeafBlockMayStand on (FencedCode info is_closed ls) = InfoMayStand on info
 LeafBlockMayStand on (Html ls) = on.html_flow ≡ true
 LeafBlockMayStand on (Table ls) = on.gfm_table ≡ true
-LeafBlockMayStand on (Definition label destination title) = on.definition ≡ true
+LeafBlockMayStand on (Definition ls label destination title) = on.definition ≡ true
 
 -- the construct of each block is on, at any depth, and items aren't in lists yet
 abbrev mutual
@@ -504,7 +504,7 @@ no_break on off (Leaf Break) p = absurd (both_ways on.thematic_break off p)
 no_break on off b p = refl
 
 no_definition : (on : Constructs) → on.definition ≡ false → (b : Block) → BlockMayStand on b → is_definition b ≡ false
-no_definition on off (Leaf (Definition label destination title)) p = absurd (both_ways on.definition off p)
+no_definition on off (Leaf (Definition ls label destination title)) p = absurd (both_ways on.definition off p)
 no_definition on off b p = refl
 
 no_heading : (on : Constructs) → (on.heading_atx || on.heading_setext) ≡ false → (b : Block) → BlockMayStand on b → is_heading b ≡ false

@@ -61,7 +61,7 @@ plain_leaf on off (FencedCode info is_closed ls) p =
     elim p [ inl h ↦ absurd (both_ways on.code_fenced off.code_fenced h.0) | inr h ↦ absurd (both_ways on.math_flow off.math_flow h.0) ]
 plain_leaf on off (Html ls) p = absurd (both_ways on.html_flow off.html_flow p)
 plain_leaf on off (Table ls) p = absurd (both_ways on.gfm_table off.gfm_table p)
-plain_leaf on off (Definition label destination title) p = absurd (both_ways on.definition off.definition p)
+plain_leaf on off (Definition ls label destination title) p = absurd (both_ways on.definition off.definition p)
 
 plain : (on : Constructs) → AreOff on → (b : Block) → BlockMayStand on b → not (is_plain b) ≡ false
 plain on off (Leaf leaf) p = plain_leaf on off leaf p

@@ -79,7 +79,7 @@ is_thematic_break b = false
 
 -- a link reference definition (CommonMark 4.7)
 abbrev pub is_definition : Block → Bool
-is_definition (Leaf (Definition label destination title)) = true
+is_definition (Leaf (Definition ls label destination title)) = true
 is_definition b = false
 
 -- a heading (CommonMark 4.2 and 4.3)

@@ -28,7 +28,7 @@ IsLeafOn on (IndentedCode ls) first last = last ≡ first + (length ls - 1)
 IsLeafOn on (FencedCode info is_closed ls) first last = last ≡ first + (length ls + (if is_closed then 1 else 0))
 IsLeafOn on (Html ls) first last = last ≡ first + (length ls - 1)
 IsLeafOn on (Table ls) first last = last ≡ first + (length ls - 1)
-IsLeafOn on (Definition label destination title) first last = first ≤ last
+IsLeafOn on (Definition ls label destination title) first last = first ≤ last
 
 -- The lines of a block, by the numbers of its first and its last line. An ending leads from the line that it ends to the next one.
 abbrev mutual

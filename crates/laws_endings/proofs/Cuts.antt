@@ -75,7 +75,10 @@ module _ (e : LineEnding) where
       ap (λ n. n - line_count (codes_with e rest)) (length-map ls (line_with e)) ∙ ap (λ n. length ls - n) (line_count-with rest)
 
   defined-with : (d : LinkDefinition) (ls : List BlockLine) → definition_lines (definition_with e d) (lines_with e ls) ≡ blocks_with e (definition_lines d ls)
-  defined-with d ls = ap (λ ending. Cons (block_with e (Leaf (Definition d.label d.destination d.title))) (Cons (Ending ending) Nil)) (last_ending-with ls)
+  defined-with d ls =
+      ap (λ own. Cons (Leaf (Definition own (codes_with e d.label) (codes_with e d.destination) (option_map (codes_with e) d.title)))
+      (Cons (Ending (last_ending (lines_with e ls))) Nil)) (own_lines-with ls)
+      ∙ ap (λ ending. Cons (block_with e (Leaf (Definition (own_lines ls) d.label d.destination d.title))) (Cons (Ending ending) Nil)) (last_ending-with ls)
 
   cut_after-with : (found : Option LinkDefinition) (ls : List BlockLine) (more : List BlockLine → DefinitionCut)
       → ((others : List BlockLine) → more (lines_with e others) ≡ cut_with (more others))

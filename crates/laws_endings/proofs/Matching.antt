@@ -99,7 +99,7 @@ module _ (e : LineEnding) where
       ∙ ap (λ others. definition_with e (with_spaces d) ∷ others) (all_spaced-with ds)
 
   leaf_definitions-with : (leaf : LeafBlock) → leaf_definitions (leaf_block_with e leaf) ≡ map (definition_with e) (leaf_definitions leaf)
-  leaf_definitions-with (Definition label destination title) = refl
+  leaf_definitions-with (Definition ls label destination title) = refl
   leaf_definitions-with leaf = refl
 
   mutual

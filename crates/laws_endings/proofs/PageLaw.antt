@@ -62,7 +62,7 @@ abbrev DefinitionIs : Definition → Type 0
 DefinitionIs d = Each Plain d.destination × TitleFits d.title
 
 leaf_definitions_fit : (leaf : tree.LeafBlock) → LeafBlockFits leaf → Each DefinitionIs (leaf_definitions leaf)
-leaf_definitions_fit (tree.Definition label destination title) p = (p, tt)
+leaf_definitions_fit (tree.Definition ls label destination title) p = (p, tt)
 leaf_definitions_fit leaf p = tt
 
 mutual

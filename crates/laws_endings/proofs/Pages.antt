@@ -505,7 +505,7 @@ module _ (e : LineEnding) where
     read_leaf_fits s (tree.Heading rank ls) p = text_fits ls p
     read_leaf_fits s (tree.FencedCode info is_closed ls) p = (info_fits info p.0, code_lines_fit s.top is_closed ls p.1)
     read_leaf_fits s (tree.Table ls) p = table_fits ls p
-    read_leaf_fits s (tree.Definition label destination title) p = tt
+    read_leaf_fits s (tree.Definition ls label destination title) p = tt
     read_leaf_fits s leaf p = p
 
     mutual

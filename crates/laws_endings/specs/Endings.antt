@@ -65,7 +65,8 @@ leaf_block_with e (IndentedCode ls) = IndentedCode (lines_with e ls)
 leaf_block_with e (FencedCode info closed ls) = FencedCode info closed (lines_with e ls)
 leaf_block_with e (Html ls) = Html (lines_with e ls)
 leaf_block_with e (Table ls) = Table (lines_with e ls)
-leaf_block_with e (Definition label destination title) = Definition (codes_with e label) (codes_with e destination) (option_map (codes_with e) title)
+leaf_block_with e (Definition ls label destination title) =
+    Definition (lines_with e ls) (codes_with e label) (codes_with e destination) (option_map (codes_with e) title)
 
 abbrev mutual
   -- a block with this ending in place of each LF of it, at any depth

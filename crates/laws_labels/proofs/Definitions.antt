@@ -52,8 +52,8 @@ module _ (P : LinkDefinition → Type 0) where
   define_either b bs first others (inr h) = inr (others h)
 
   leaf_defines : (leaf : LeafBlock) → Some_of P (leaf_definitions leaf) → LeafDefines P leaf
-  leaf_defines (Definition label destination title) (inl h) = h
-  leaf_defines (Definition label destination title) (inr h) = absurd h
+  leaf_defines (Definition ls label destination title) (inl h) = h
+  leaf_defines (Definition ls label destination title) (inr h) = absurd h
   leaf_defines leaf h = absurd h
 
   mutual
@@ -69,7 +69,7 @@ module _ (P : LinkDefinition → Type 0) where
         define_either b bs (λ k. block_defines b k) (λ k. define bs k) (in_either (block_definitions b) (definitions bs) h)
 
   leaf_defined : (leaf : LeafBlock) → LeafDefines P leaf → Some_of P (leaf_definitions leaf)
-  leaf_defined (Definition label destination title) h = inl h
+  leaf_defined (Definition ls label destination title) h = inl h
   leaf_defined leaf h = absurd h
 
   mutual

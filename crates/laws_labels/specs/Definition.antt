@@ -19,7 +19,7 @@ use Rattle.laws_list.specs.Laws.{begins_dark}
 
 -- a leaf is a definition that has this property
 abbrev pub LeafDefines : (LinkDefinition → Type 0) → LeafBlock → Type 0
-LeafDefines P (Definition label destination title) = P (definition label destination title [])
+LeafDefines P (Definition ls label destination title) = P (definition label destination title [])
 LeafDefines P leaf = ⊥
 
 abbrev mutual

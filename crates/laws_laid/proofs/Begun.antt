@@ -85,14 +85,14 @@ module _ (on : Constructs) (around : List Container) where
       let q = fence_begun p.0 p.1 ls from p.3 p.6 in ((p.0, p.1, p.2, p.3, p.4, p.5, q.0, p.7, p.8, p.9), q.1)
   leaf_begun (Html ls) from to p = let q = html_begun p.0 p.1 from p.2 p.3 in ((p.0, p.1, p.2, q.0, p.4, p.5), q.1)
   leaf_begun (Table ls) from to p = let q = table_begun p.0 from p.1 p.2 in ((p.0, p.1, q.0, p.3, p.4), q.1)
-  leaf_begun (Definition label destination title) from to p = let q = text_begun p.0 from p.1 p.2 in ((p.0, p.1, q.0, p.3, p.4), q.1)
+  leaf_begun (Definition ls label destination title) from to p = let q = text_begun p.0 from p.1 p.2 in ((p.0, p.1, q.0, p.3, p.4, p.5), q.1)
 
   -- ---- rows
 
   written_begun : (leaf : LeafBlock) (from to : Place) → IsWrittenLaid on around leaf from to
       → IsWrittenLaid on around leaf (begun on around from) to × (is_in_line (begun on around from) ≡ true)
-  written_begun (Definition label destination title) from to p =
-      let q = leaf_begun (Definition p.0 p.1 p.2) from to p.6 in ((p.0, p.1, p.2, p.3, p.4, p.5, q.0), q.1)
+  written_begun (Definition ls label destination title) from to p =
+      let q = leaf_begun (Definition ls p.0 p.1 p.2) from to p.6 in ((p.0, p.1, p.2, p.3, p.4, p.5, q.0), q.1)
   written_begun leaf from to p = leaf_begun leaf from to p
 
   enters_begun : (row : BlockRow) (inner : List Container) (from to : Place) → Enters on around row from inner to

@@ -54,10 +54,10 @@ module _ (on : Constructs) (around : List Container) where
       → AreBlocksLaid on around (definition_lines d ls) from to
   definition_laid d ls from to some m found p =
       let after = after_some on around (IsTextLine on) ls from to some p in
-      let leaf : IsLeafLaid on around (Definition d.label d.destination d.title) from (AtEnding (last_ending ls) after.0) =
-      (ls, to, (some, p, m), found, (after.0, after.1, refl)) in
+      let leaf : IsLeafLaid on around (Definition (own_lines ls) d.label d.destination d.title) from (AtEnding (last_ending ls) after.0) =
+      (ls, to, (some, p, m), refl, found, (after.0, after.1, refl)) in
       subst (AreBlocksLaid on around (definition_lines d ls) from) (sym after.1)
-      (ended_laid on around (Leaf (Definition d.label d.destination d.title)) (last_ending ls) from after.0 leaf)
+      (ended_laid on around (Leaf (Definition (own_lines ls) d.label d.destination d.title)) (last_ending ls) from after.0 leaf)
 
   -- what is cut from a paragraph, and what is left of it
   abbrev pub CutLaid : DefinitionCut → Place → Place → Type 0

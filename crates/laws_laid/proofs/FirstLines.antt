@@ -46,10 +46,10 @@ module _ (on : Constructs) (around : List Container) where
   leaf_begins (FencedCode info true ls) from to p = let q = p.6 in inl (in_all on around from p.1 q.0 q.1)
   leaf_begins (Html ls) from to p = html_begins p.0 p.1 from p.2 p.3
   leaf_begins (Table ls) from to p = table_begins p.0 from p.1 p.2
-  leaf_begins (Definition label destination title) from to p = text_begins p.0 from p.1 p.2
+  leaf_begins (Definition ls label destination title) from to p = text_begins p.0 from p.1 p.2
 
   written_begins : (leaf : LeafBlock) (from to : Place) → IsWrittenLaid on around leaf from to → BeginsWell from
-  written_begins (Definition label destination title) from to p = leaf_begins (Definition p.0 p.1 p.2) from to p.6
+  written_begins (Definition ls label destination title) from to p = leaf_begins (Definition ls p.0 p.1 p.2) from to p.6
   written_begins leaf from to p = leaf_begins leaf from to p
 
   enters_begins : (row : BlockRow) (inner : List Container) (from to : Place) → Enters on around row from inner to → BeginsWell from

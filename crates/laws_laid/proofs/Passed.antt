@@ -215,8 +215,7 @@ module _ (on : Constructs) where
         let taken = html_taken p.0 p.1 from p.2 p.3 in own_passed p.1 ls from p.2 to taken.0 taken.1 p.4 p.5
     leaf_passed (Table ls) from to p =
         let taken = table_taken p.0 from p.1 p.2 in own_passed p.0 ls from p.1 to taken.0 taken.1 p.3 p.4
-    leaf_passed (Definition label destination title) from to p =
-        (length p.0 - 1, tt, lines_passed p.0 from p.1 to p.2.0 (text_taken p.0 from p.1 p.2) p.4)
+    leaf_passed (Definition ls label destination title) from to p = own_passed p.0 ls from p.1 to p.2.0 (text_taken p.0 from p.1 p.2) p.3 p.5
 
 pub leaves_pass_lines : LeavesPassLines
 leaves_pass_lines = record { passed = λ on around leaf from to p. leaf_passed on around leaf from to p }

@@ -19,7 +19,7 @@ module _ (on : Constructs) where
 
   written_laid : (around : List Container) (leaf : LeafBlock) (from to : Place) → IsLeafLaid on around leaf from to
       → IsWrittenLaid on around (spaced_leaf leaf) from to
-  written_laid around (Definition label destination title) from to p = (label, destination, title, refl, refl, refl, p)
+  written_laid around (Definition ls label destination title) from to p = (label, destination, title, refl, refl, refl, p)
   written_laid around leaf from to p = p
 
   mutual

@@ -59,7 +59,7 @@ module _ (on : Constructs) (around : List Container) where
   leaf_in_line (FencedCode info true ls) from to p = ap is_between p.9
   leaf_in_line (Html ls) from to p = ap is_between p.5.2
   leaf_in_line (Table ls) from to p = ap is_between p.4.2
-  leaf_in_line (Definition label destination title) from to p = ap is_between p.4.2
+  leaf_in_line (Definition ls label destination title) from to p = ap is_between p.5.2
 
 -- so does the end of a container
 pub stops_in_line : (on : Constructs) (around : List Container) (from to : Place) → Stops on around from to → is_between to ≡ false

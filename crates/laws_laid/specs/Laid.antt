@@ -26,9 +26,9 @@ IsBlankLaid on around ending from to =
 
 -- a leaf as its row has it: in the parts of a definition, the columns that are left of a tab are spaces
 abbrev pub IsWrittenLaid : Constructs → List Container → LeafBlock → Place → Place → Type 0
-IsWrittenLaid on around (Definition label destination title) from to =
+IsWrittenLaid on around (Definition ls label destination title) from to =
     (name address : List Code) × (text : Option (List Code)) × (label ≡ map code_byte name) × (destination ≡ map code_byte address)
-    × (title ≡ option_map (map code_byte) text) × IsLeafLaid on around (Definition name address text) from to
+    × (title ≡ option_map (map code_byte) text) × IsLeafLaid on around (Definition ls name address text) from to
 IsWrittenLaid on around leaf from to = IsLeafLaid on around leaf from to
 
 -- a row that holds no other

@@ -164,6 +164,6 @@ IsLeafLaid on around (Html ls) from to =
 IsLeafLaid on around (Table ls) from to =
     (taken : List BlockLine) × (after : Place) × AreTable on around taken from after × (ls ≡ own_lines taken) × EndsAt taken after to
 -- CommonMark 4.7: these lines alone are the definition, and nothing is left of them
-IsLeafLaid on around (Definition label destination title) from to =
-    (taken : List BlockLine) × (after : Place) × AreText on around taken from after
-    × (definition_at (content_of (own_lines taken)) ≡ Some (definition label destination title [])) × EndsAt taken after to
+IsLeafLaid on around (Definition ls label destination title) from to =
+    (taken : List BlockLine) × (after : Place) × AreText on around taken from after × (ls ≡ own_lines taken)
+    × (definition_at (content_of ls) ≡ Some (definition label destination title [])) × EndsAt taken after to

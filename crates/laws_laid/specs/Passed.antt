@@ -20,7 +20,7 @@ later n (Between left) = Between left
 later n (Within here left) = lines_on n here.beside.ending left
 later n (AtEnding ending left) = AtEnding ending left
 
--- How many lines of the text a leaf has after its first. The tree doesn't hold a heading's underline, nor what is around the parts of a definition.
+-- How many lines of the text a leaf has after its first. The tree doesn't hold a heading's underline.
 abbrev pub HasLater : LeafBlock → ℕ → Type 0
 HasLater (Paragraph ls) n = suc n ≡ length ls
 -- by `#`, or by an underline, which is one line more
@@ -31,7 +31,7 @@ HasLater (IndentedCode ls) n = suc n ≡ length ls
 HasLater (FencedCode info is_closed ls) n = n ≡ length ls + (if is_closed then 1 else 0)
 HasLater (Html ls) n = suc n ≡ length ls
 HasLater (Table ls) n = suc n ≡ length ls
-HasLater (Definition label destination title) n = Unit {0}
+HasLater (Definition ls label destination title) n = suc n ≡ length ls
 
 -- A leaf leads to the ending of its last line, so many lines after the one that it begins on.
 pub record LeavesPassLines : Type 0 where

@@ -40,9 +40,9 @@ pub fn first_line_law()
     ensures { FirstLinesAreIn }
 {}
 
-/// A leaf leads to the ending of its last line. A paragraph, indented code, an HTML block and a table
-/// have as many lines of the text as they hold, a thematic break and a heading by `#` one, a heading by
-/// an underline one more for that, fenced code one or two more for its fences.
+/// A leaf leads to the ending of its last line. A paragraph, indented code, an HTML block, a table and
+/// a definition have as many lines of the text as they hold, a thematic break and a heading by `#`
+/// one, a heading by an underline one more for that, fenced code one or two more for its fences.
 #[tactic(auto, using(crate::proofs::Passed::leaves_pass_lines))]
 pub fn passed_law()
     ensures { LeavesPassLines }

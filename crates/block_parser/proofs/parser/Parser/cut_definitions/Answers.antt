@@ -1,4 +1,4 @@
-use Rattle.std.proofs.Common.{◌≡◌, ◌+◌, ℕ, List, None, refl, sym, ap, ◌∙◌, subst, drop, length, string_bytes, arith}
+use Rattle.std.proofs.Common.{◌≡◌, ◌+◌, ℕ, List, None, refl, sym, ap, ◌∙◌, subst, take, drop, length, string_bytes, arith}
 use Rattle.std.proofs.lemmas.List.{drop-drop, length-drop, take_rest}
 use Rattle.definition_text.specs.Content.{content_of, content_text}
 use Rattle.definition_inline.specs.Definition.{definition_at}
@@ -47,7 +47,8 @@ loop-end-preserved g c =
           (Text k.left) k.reads c.deref-in-loop-end.result.now c.deref-in-loop-end.ensures.value in
           let found = c.in-Some.ensures.found (subst AreLines here k.clean) (bytes ∙ k.rest ∙ ap content_text here) in
           let ends = ends_as _ content _ k.left end bytes here found in
-          let reads = c.in_ok-take_lines.ensures.read k.left (Leaf (Definition ends.read.label ends.read.destination ends.read.title))
+          let leaf = Definition (own_lines (take end.lines k.left)) ends.read.label ends.read.destination ends.read.title in
+          let reads = c.in_ok-take_lines.ensures.read k.left (Leaf leaf)
           (row_of_definition content k.left end k.clean ends) refl around (join kids k.definitions) k.reads in
           subst (λ (x : List ℕ). Cutting c.take_lines.new.self x around kids ls) (drop-drop end.bytes at all ∙ ap (drop (at + end.bytes)) (sym same_content))
           (one_more before c.take_lines.new.self content around kids ls k end ends reads);

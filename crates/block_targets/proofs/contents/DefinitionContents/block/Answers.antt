@@ -1,8 +1,9 @@
-use Rattle.std.proofs.Common.{◌≡◌, ◌++◌, ◌∷◌, [], Option, None, Some, refl, sym, ap, ◌∙◌, subst, take}
+use Rattle.std.proofs.Common.{◌≡◌, ◌++◌, ◌∷◌, [], List, Option, None, Some, refl, sym, ap, ◌∙◌, subst, take}
 use Rattle.std.specs.Prelude.{map}
 use Rattle.std.proofs.lemmas.List.{take-map}
 use Rattle.std.proofs.lemmas.Result.{on_ok_weaker}
 use Rattle.block_rows.specs.declared.row.Row.{Row}
+use Rattle.definition_text.specs.BlockLines.{BlockLine, own_lines}
 use Rattle.definition_inline.specs.Definition.{Definition}
 use Rattle.block_rows.specs.Rows.{Single, definition_on, definition_value, row_definitions, row_value}
 use Rattle.text_pieces.specs.Pieces.{piece_line, piece_lines}
@@ -10,9 +11,9 @@ use Rattle.block_targets.specs.Read.{HasContents, alone}
 use Rattle.block_targets.proofs.contents.DefinitionContents.block.Goals as goal
 
 -- a row of a definition stands for one
-one_alone : (o : Option Definition) → row_definitions (Single (definition_value o)) ≡ alone o ∷ []
-one_alone None = refl
-one_alone (Some d) = refl
+one_alone : (ls : List BlockLine) (o : Option Definition) → row_definitions (Single (definition_value ls o)) ≡ alone o ∷ []
+one_alone ls None = refl
+one_alone ls (Some d) = refl
 
 pub returns-in-Definition : goal.returns-in-Definition
 returns-in-Definition g c = record {
@@ -21,7 +22,8 @@ returns-in-Definition g c = record {
       let lines = c.args.lines.now in
       on_ok_weaker c.definition.result
       (subst (λ x. HasContents c.definition.new.self (ds ++ x))
-      (ap (λ ls. alone (definition_on ls) ∷ []) (sym (take-map piece_line count lines)) ∙ sym (one_alone (definition_on (take count (map piece_line lines))))
+      (ap (λ ls. alone (definition_on ls) ∷ []) (sym (take-map piece_line count lines))
+      ∙ sym (one_alone (own_lines (take count (map piece_line lines))) (definition_on (take count (map piece_line lines))))
       ∙ ap (λ (r : Row). row_definitions (row_value r (piece_lines lines))) (sym c.in-Definition.is)))
       (c.definition.ensures.read ds h);
 }
