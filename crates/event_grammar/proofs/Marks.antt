@@ -2,34 +2,46 @@
 use Rattle.std.proofs.Common.{◌≡◌, ◌∙◌, ℕ, ◌+◌, Bool, true, false, ◌||◌, if◌then◌else◌, List, [], ◌∷◌, ◌++◌, refl, sym, ap, subst, append_assoc}
 use denote.Enum.Bare.{same_true}
 use Rattle.engine_events.specs.contracts.event.Name.{the_type}
-use Rattle.engine_events.specs.Names.{same_name}
+use Rattle.engine_events.specs.Names.{is_listed, same_name}
 use Rattle.engine_events.specs.declared.event.Event.{Event}
 use Rattle.engine_events.specs.declared.event.Name.{Name}
 use Rattle.engine_events.specs.declared.event.Name.TheVariants as n
-use Rattle.event_grammar.specs.Marked.{is_marked, mark_of, marked_from}
+use Rattle.event_grammar.specs.Marked.{defines_label, is_marked, mark_of, marked_from, tells_label}
+use Rattle.event_grammar.specs.References.{media_names}
 use Rattle.event_grammar.specs.Void.{is_void}
 
 -- what is so of the marked names is so of each
-six : (a b c d e f : Bool) (A : Type 0) → ((a || (b || (c || false))) || (d || (e || f))) ≡ true → (a ≡ true → A) → (b ≡ true → A) → (c ≡ true → A)
-    → (d ≡ true → A) → (e ≡ true → A) → (f ≡ true → A) → A
-six true b c d e f A h i j k l m o = i refl
-six false true c d e f A h i j k l m o = j refl
-six false false true d e f A h i j k l m o = k refl
-six false false false true e f A h i j k l m o = l refl
-six false false false false true f A h i j k l m o = m refl
-six false false false false false true A h i j k l m o = o refl
-six false false false false false false A h i j k l m o = absurd (let z : false ≡ true = h in cc)
+three : (a b c : Bool) (A : Type 0) → (a || (b || c)) ≡ true → (a ≡ true → A) → (b ≡ true → A) → (c ≡ true → A) → A
+three true b c A h i j k = i refl
+three false true c A h i j k = j refl
+three false false true A h i j k = k refl
+three false false false A h i j k = absurd (let z : false ≡ true = h in cc)
+
+two : (a b : Bool) (A : Type 0) → (a || b) ≡ true → (a ≡ true → A) → (b ≡ true → A) → A
+two true b A h i j = i refl
+two false true A h i j = j refl
+two false false A h i j = absurd (let z : false ≡ true = h in cc)
+
+no_void_of : (name other : Name) → is_void other ≡ false → same_name name other ≡ true → is_void name ≡ false
+no_void_of name other v k = subst (λ z. is_void z ≡ false) (sym (same_true the_type tt name other k)) v
+
+no_void_by : (name other : Name) → is_void other ≡ false → same_name other name ≡ true → is_void name ≡ false
+no_void_by name other v k = subst (λ z. is_void z ≡ false) (same_true the_type tt other name k) v
+
+none_false : (A : Type 0) → false ≡ true → A
+none_false A h = absurd (let z : false ≡ true = h in cc)
 
 no_void : (name : Name) → is_marked name ≡ true → is_void name ≡ false
 no_void name h =
-    six (same_name n.Link name) (same_name n.Image name) (same_name n.GfmFootnoteCall name) (same_name name n.Resource) (same_name name n.ReferenceString)
-    (same_name name n.LabelText) (is_void name ≡ false) h
-    (λ k. subst (λ z. is_void z ≡ false) (same_true the_type tt n.Link name k) refl)
-    (λ k. subst (λ z. is_void z ≡ false) (same_true the_type tt n.Image name k) refl)
-    (λ k. subst (λ z. is_void z ≡ false) (same_true the_type tt n.GfmFootnoteCall name k) refl)
-    (λ k. subst (λ z. is_void z ≡ false) (sym (same_true the_type tt name n.Resource k)) refl)
-    (λ k. subst (λ z. is_void z ≡ false) (sym (same_true the_type tt name n.ReferenceString k)) refl)
-    (λ k. subst (λ z. is_void z ≡ false) (sym (same_true the_type tt name n.LabelText k)) refl)
+    let goal = is_void name ≡ false in
+    three (is_listed media_names name) (tells_label name) (defines_label name) goal h
+    (λ k. three (same_name n.Link name) (same_name n.Image name) (same_name n.GfmFootnoteCall name || false) goal k
+    (no_void_by name n.Link refl) (no_void_by name n.Image refl)
+    (λ l. two (same_name n.GfmFootnoteCall name) false goal l (no_void_by name n.GfmFootnoteCall refl) (none_false goal)))
+    (λ k. three (same_name name n.Resource) (same_name name n.ReferenceString) (same_name name n.LabelText) goal k
+    (no_void_of name n.Resource refl) (no_void_of name n.ReferenceString refl) (no_void_of name n.LabelText refl))
+    (λ k. two (same_name name n.DefinitionLabelString) (same_name name n.GfmFootnoteDefinitionLabelString) goal k
+    (no_void_of name n.DefinitionLabelString refl) (no_void_of name n.GfmFootnoteDefinitionLabelString refl))
 
 not_by : (b v : Bool) → (b ≡ true → v ≡ false) → v ≡ true → b ≡ false
 not_by false v h k = refl

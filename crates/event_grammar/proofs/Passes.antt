@@ -169,6 +169,15 @@ module _ (names : List ℕ → Option (List ℕ)) (bytes : List ℕ) where
       let k = s.before in
       record { before = omega arith; phase_is = s.phase_is; there = (both (reaches start end) (is_spot bytes end) q).1 }
 
+  -- one place on, as it is kept
+  pub stands_next : (from at new : Spot) (known kept : Known) → StandsAt bytes from known → (reaches from at && is_spot bytes at) ≡ true
+      → new ≡ at → kept ≡ known → StandsAt bytes new kept
+  stands_next from at new known kept s p h k =
+      let a = reaches_index from at ((both (reaches from at) (is_spot bytes at) p).0) in
+      let b = s.before in
+      subst (λ z. StandsAt bytes z kept) (sym h)
+      (subst (λ z. StandsAt bytes at z) (sym k) (record { before = omega arith; phase_is = s.phase_is; there = (both (reaches from at) (is_spot bytes at) p).1 }))
+
   -- the same by what stands there, and by the places that were read
   by_spots : (l : Option Leaf) (o after : Open) (os : List Open) (from start end : Spot) (enter exit : Event) (form : Form) → l ≡ None
       → start ≡ spot_of enter → end ≡ spot_of exit → is_pair enter exit ≡ true → is_void enter.name ≡ true

@@ -86,7 +86,8 @@ pub fn is_one_line(name: Name) -> bool
     )
 }
 
-/// Whether an event of this name needs a definition, or tells which label such an event has.
+/// Whether an event of this name needs a definition, tells which label such an event has, or defines
+/// one.
 pub fn is_marked(name: Name) -> bool
     ensures { result ≡ is_marked name }
 {
@@ -98,6 +99,8 @@ pub fn is_marked(name: Name) -> bool
             | Name::Resource
             | Name::ReferenceString
             | Name::LabelText
+            | Name::DefinitionLabelString
+            | Name::GfmFootnoteDefinitionLabelString
     )
 }
 
@@ -135,6 +138,7 @@ pub fn is_string_part(name: Name) -> bool
 }
 
 /// Whether a name is what a text holds.
+#[inline(always)]
 pub fn is_text_part(name: Name) -> bool
     ensures { result ≡ is_listed text_names name }
 {

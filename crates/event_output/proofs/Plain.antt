@@ -1,12 +1,12 @@
 -- Bytes that take one column each and end no line, passed at once.
 use Rattle.std.specs.Prelude.{◌==◌, if◌then◌else◌}
-use Rattle.std.proofs.Common.{◌≡◌, ◌≤◌, ◌<◌, ◌-◌, ◌&&◌, ⊎_elim, ℕ, suc, ◌+◌, Bool, true, false, List, [], ◌∷◌, length, sym, ap, ◌∙◌, arith, drop, get_or}
+use Rattle.std.proofs.Common.{◌≡◌, ◌≤◌, ◌<◌, ◌-◌, ◌&&◌, ⊎_elim, ℕ, suc, ◌+◌, Bool, true, false, List, [], ◌∷◌, length, sym, ap, ◌∙◌, arith, drop, take, get_or}
 use Rattle.std.specs.List.{fold, list_all, prefix_len}
 use Rattle.std.proofs.Math.Bool.{and-true, and-false}
 use Rattle.std.proofs.Math.ListN.{get_or-eq_default}
 use Rattle.std.proofs.lemmas.Bool.{true≢false, and_parts, cases_lt}
 use Rattle.std.proofs.lemmas.Bool.Decides.{nat_tests}
-use Rattle.std.proofs.lemmas.List.{get_or-drop, get_or-take, get_or_default, length-take, length-take-le, length-drop}
+use Rattle.std.proofs.lemmas.List.{drop_more, get_or-drop, get_or-take, get_or_default, length-take, length-take-le, length-drop}
 use Rattle.std.proofs.lemmas.List.Sums.{list_all-from_AllPass, prefix_len_passes}
 use Rattle.engine_events.specs.Columns.{between, mark_size}
 use Rattle.event_output.specs.Spots.{ArePlain, spot, spot_at, next_spot, is_plain, after_plain}
@@ -92,3 +92,18 @@ passed_at_once text s plain index far are after before =
     ∙ ap (λ r. spot s.line (s.column + (index - s.index)) (s.index + (index - s.index)) r) (sym (and-false s.returned))
     ∙ ap (λ n. spot s.line (s.column + (index - s.index)) (s.index + (index - s.index)) (s.returned && n)) (sym none)
     ∙ plain_to text s plain index far are (omega (arith, after)) before (plain_within text s.index plain index after before are)
+
+-- one byte, which is in no byte order mark
+no_mark : (mark : ℕ) (s : Spot) (b : ℕ) → mark ≤ s.index → next_spot 0 s b ≡ next_spot mark s b
+no_mark mark s b far = grind (arith, nat_tests)
+
+pub one_passed : (text : List ℕ) (s : Spot) (byte : ℕ) → 3 ≤ s.index → s.index < length text → get_or text s.index 0 ≡ byte
+    → next_spot 0 s byte ≡ spot_at text (s.index + 1) s
+one_passed text s byte far within is =
+    let mark = mark_size text in
+    let one : (s.index + 1) - s.index ≡ 1 = omega arith in
+    let bytes : between s.index (s.index + 1) text ≡ get_or text s.index 0 ∷ [] =
+    ap (λ n. take n (drop s.index text)) one ∙ ap (take 1) (drop_more text s.index 0 within) in
+    no_mark mark s byte (omega (arith, mark_short text, far))
+    ∙ ap (next_spot mark s) (sym is)
+    ∙ ap (fold (next_spot mark) s) (sym bytes)

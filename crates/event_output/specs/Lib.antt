@@ -8,4 +8,3 @@ pub mod Forest
 pub mod Written
 pub mod Joined
 pub mod Children
-pub mod Paragraph

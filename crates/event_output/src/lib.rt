@@ -4,11 +4,9 @@
 pub mod draft;
 pub mod end;
 pub mod output;
-pub mod paragraph;
 pub mod pass;
 pub mod points;
 pub mod spot;
 
 pub use end::{End, at};
 pub use output::Output;
-pub use paragraph::as_paragraph;

@@ -100,7 +100,8 @@ impl<A: Allocator> Output<A> {
             return Ok(());
         }
         self.drafts.push(draft_to(name, end))?;
-        self.end = end;
+        self.end.index = end.index;
+        self.end.owed = end.owed;
         Ok(())
     }
 
@@ -118,7 +119,8 @@ impl<A: Allocator> Output<A> {
             return self.token(Name::Data, end);
         }
         self.drafts[count - 1] = draft_to(Name::Data, end);
-        self.end = end;
+        self.end.index = end.index;
+        self.end.owed = end.owed;
         Ok(())
     }
 
@@ -134,8 +136,7 @@ impl<A: Allocator> Output<A> {
             → IfOk result (λ events. bytewise (tree events.items) ≡ (forest_in text.now self).kids) }
     {
         let Output { drafts, events, .. } = self;
-        let mut events = events;
-        push_events(text, &drafts, &mut events)?;
+        let events = push_events(text, &drafts, events)?;
         Ok(events)
     }
 }

@@ -1,5 +1,5 @@
 //! From one place of a text to a later one (CommonMark 2.1 and 2.2).
-ghost use Rattle.std.specs.Prelude.{◌≡◌, ◌+◌, ◌*◌, ◌<◌, ◌≤◌, ◌^◌, length};
+ghost use Rattle.std.specs.Prelude.{◌≡◌, ◌+◌, ◌*◌, ◌<◌, ◌≤◌, ◌^◌, length, slice_index, true};
 ghost use Rattle.std.specs.List.{fold, prefix_len};
 ghost use Rattle.engine_events.specs.Columns.{mark_size};
 ghost use Rattle.event_output.specs.Spots.{ArePlain, IsIn, after_plain, is_plain, next_spot, spot_at};
@@ -84,6 +84,38 @@ fn plain_size(bytes: &[u8]) -> usize
     ensures within { result ≤ length bytes.now }
 {
     next_of(bytes, CONTROLS)
+}
+
+/// Whether the bytes from an index to another are one LF.
+#[inline(always)]
+pub(crate) fn is_line_feed(text: &[u8], from: usize, index: usize) -> bool
+    ensures one { result ≡ true → index ≡ from + 1 }
+    ensures within { result ≡ true → from < length text.now }
+    ensures byte { result ≡ true → slice_index text.now from ≡ 10 }
+{
+    from < index && index - from == 1 && from < text.len() && text[from] == b'\n'
+}
+
+/// After an LF that is in no byte order mark.
+#[inline(always)]
+pub(crate) fn after_line_feed(spot: Spot) -> Spot
+    requires index { spot.index + 1 < 2 ^ 61 }
+    requires line { spot.line ≤ spot.index + 1 }
+    ensures same { result ≡ next_spot 0 spot 10 }
+    ensures index { result.index ≡ spot.index + 1 }
+    ensures line { result.line ≤ result.index + 1 }
+    ensures column { result.column ≤ 4 * result.index + 1 }
+{
+    Spot {
+        line: if spot.returned {
+            spot.line
+        } else {
+            spot.line + 1
+        },
+        column: 1,
+        index: spot.index + 1,
+        returned: false,
+    }
 }
 
 /// After the bytes up to an index. Those before `plain` take one column each and end no line.

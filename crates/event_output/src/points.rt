@@ -2,7 +2,7 @@
 //!
 //! Each event has the point where the one before it is. Only an exit right after the enter of the
 //! same name, of what holds no other, is further on.
-ghost use Rattle.std.specs.Prelude.{◌≡◌, ◌+◌, ◌*◌, ◌<◌, ◌≤◌, ◌^◌, ◌++◌, [], OnOk, length, map, None, true, vec_capacity, vec_len};
+ghost use Rattle.std.specs.Prelude.{◌≡◌, ◌+◌, ◌*◌, ◌<◌, ◌≤◌, ◌^◌, ◌++◌, [], IfOk, OnOk, length, map, None, true, vec_capacity, vec_len};
 ghost use Rattle.engine_events.specs.declared.event.Name.TheVariants.{Paragraph};
 ghost use Rattle.engine_events.specs.Events.{event};
 ghost use Rattle.event_output.specs.Children.{HaveChildren, may_enter};
@@ -16,57 +16,67 @@ ghost use Rattle.event_output.specs.Spots.{ArePlain};
 ghost use Rattle.event_output.specs.Tokens.{GoesOn, IsPlace, IsWhole, place, point_at};
 
 use crate::draft::Draft;
-use crate::pass::{MARK_MAX, pass_to, plain_end};
+use crate::pass::{MARK_MAX, after_line_feed, is_line_feed, pass_to, plain_end};
 use crate::spot::{Place, Spot};
 use engine_events::event::Name;
 use engine_events::place::tab_size;
 use engine_events::{Event, Kind, Point};
 use std::alloc::{AllocError, Allocator};
 
-/// Adds the events of drafts, with their points in a text. What they leave of it at its end becomes a
-/// paragraph.
+/// The events of drafts, with their points in a text. What they leave of it at its end becomes a paragraph.
 pub(crate) fn push_events<A: Allocator>(
     text: &[u8],
     drafts: &[Draft],
-    events: &mut Vec<Event, A>,
-) -> Result<(), AllocError>
+    events: Vec<Event, A>,
+) -> Result<Vec<Event, A>, AllocError>
     requires fits { length text.now < 2 ^ 61 }
-    requires none { events.old.items ≡ [] }
+    requires none { events.items ≡ [] }
     requires children { AreChildren drafts.now }
     requires child { may_enter (unmatched_in drafts.now) Paragraph ≡ true }
-    ensures placed { OnOk result (ArePlaced text.now events.new.items) }
-    ensures children { OnOk result (HaveChildren events.new.items) }
-    ensures open { OnOk result (unmatched events.new.items ≡ unmatched_in drafts.now) }
+    ensures placed { IfOk result (λ written. ArePlaced text.now written.items) }
+    ensures children { IfOk result (λ written. HaveChildren written.items) }
+    ensures open { IfOk result (λ written. unmatched written.items ≡ unmatched_in drafts.now) }
     ensures each { AreInOrder text.now first_end drafts.now → (drafts_end first_end drafts.now).index ≡ length text.now
-        → OnOk result (events.new.items ≡ drafts_events text.now first_end drafts.now) }
+        → IfOk result (λ written. written.items ≡ drafts_events text.now first_end drafts.now) }
 {
+    let mut room = events;
     let Some(count) = drafts.len().checked_mul(2) else {
         return Err(AllocError);
     };
-    events.reserve_exact(count)?;
-    let place = push_drafts(text, drafts, events);
-    push_rest(text, place, events)
+    room.reserve_exact(count)?;
+    let Told { events, place } = push_drafts(text, drafts, room);
+    let mut events = events;
+    push_rest(text, place, &mut events)?;
+    Ok(events)
 }
 
-/// Adds the events of drafts, for which there is room. Returns where they end.
+/// Events, and where they end.
+#[derive(Drop)]
+struct Told<A: Allocator> {
+    events: Vec<Event, A>,
+    place: Place,
+}
+
+/// The events of drafts, for which there is room.
 #[inline(never)]
 #[tactic(auto, using(crate::proofs::TokenLists::nothing_told))]
-fn push_drafts<A: Allocator>(text: &[u8], drafts: &[Draft], events: &mut Vec<Event, A>) -> Place
+fn push_drafts<A: Allocator>(text: &[u8], drafts: &[Draft], events: Vec<Event, A>) -> Told<A>
     requires fits { length text.now < 2 ^ 61 }
-    requires none { events.old.items ≡ [] }
-    requires room { 2 * length drafts.now ≤ vec_capacity events.old }
-    ensures place { IsPlace text.now result }
-    ensures told { IsTold text.now events.new.items result }
-    ensures marks { map mark_of events.new.items ≡ marks_of drafts.now }
-    ensures end { AreInOrder text.now first_end drafts.now → result ≡ end_place text.now (drafts_end first_end drafts.now) }
-    ensures each { AreInOrder text.now first_end drafts.now → events.new.items ≡ drafts_events text.now first_end drafts.now }
+    requires none { events.items ≡ [] }
+    requires room { 2 * length drafts.now ≤ vec_capacity events }
+    ensures place { IsPlace text.now result.place }
+    ensures told { IsTold text.now result.events.items result.place }
+    ensures marks { map mark_of result.events.items ≡ marks_of drafts.now }
+    ensures end { AreInOrder text.now first_end drafts.now → result.place ≡ end_place text.now (drafts_end first_end drafts.now) }
+    ensures each { AreInOrder text.now first_end drafts.now → result.events.items ≡ drafts_events text.now first_end drafts.now }
 {
+    let mut events = events;
     let mut place = START;
     let mut plain = 0;
     for draft in drafts {
-        push_draft(text, &mut plain, &mut place, *draft, events);
+        push_draft(text, &mut plain, &mut place, *draft, &mut events);
     }
-    place
+    Told { events, place }
 }
 
 /// Adds the events of a draft at a place, for which there is room. The place is where they end then.
@@ -185,6 +195,10 @@ impl Place {
             self.spot.index = index;
             self.spot.returned = false;
             self.vs = 0;
+        } else if owed == 0 && MARK_MAX <= from && is_line_feed(text, from, index) {
+            self.spot = after_line_feed(self.spot);
+            self.vs = 0;
+            *plain = plain_end(text, index, *plain);
         } else {
             *self = self.pass_to(text, *plain, index, owed);
             *plain = plain_end(text, self.spot.index, *plain);

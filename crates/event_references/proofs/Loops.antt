@@ -9,11 +9,13 @@ use Rattle.engine_events.specs.declared.event.Event.{Event}
 use Rattle.engine_events.specs.declared.event.Kind.{Kind}
 use Rattle.engine_events.specs.declared.event.Kind.TheVariants.{Enter, Exit}
 use Rattle.engine_events.specs.declared.event.Name.{Name}
+use denote.Enum.Bare.{same_true}
+use Rattle.engine_events.specs.contracts.event.Name.{the_type}
 use Rattle.inline_labels.specs.Table.{HasLabels, AddsLabel}
 use Rattle.inline_labels.specs.declared.table.LabelTable.{LabelTable}
 use Rattle.event_grammar.specs.declared.spot.Spot.{Spot}
 use Rattle.event_grammar.specs.Checks.{spot_of}
-use Rattle.event_grammar.specs.Marked.{is_marked, marked_from}
+use Rattle.event_grammar.specs.Marked.{defines_label, is_marked, marked_from}
 use Rattle.event_grammar.specs.References.{media_names, leads}
 use Rattle.event_grammar.proofs.Runs.{no_event}
 use Rattle.event_references.specs.Texts.{is_enter, text_after, text_of, texts_of}
@@ -112,7 +114,9 @@ module _ (bytes : List ℕ) (links footnotes : List (List ℕ)) (events : List E
       → run m ms i (drop i events) ≡ run m ms (i + 1) (drop (i + 1) events)
   skip i m ms l h =
       by_next i m ms l
-      ∙ other_next (event_at i).kind i m ms (after i) (both_no (is_listed media_names (event_at i).name) (is_part (event_at i).name) h)
+      ∙ other_next (event_at i).kind i m ms (after i)
+      (let no = both_no (is_listed media_names (event_at i).name) (is_part (event_at i).name || defines_label (event_at i).name) h in
+      (no.0, (both_no (is_part (event_at i).name) (defines_label (event_at i).name) no.1).0))
 
   -- so only the marked events are asked
   abbrev pub run_marks : Media → List Media → List ℕ → Option ℕ
@@ -236,3 +240,93 @@ module _ (bytes : List ℕ) (links footnotes : List (List ℕ)) (events : List E
         → run_marks m ms left ≡ all → next_at kind i m ms (λ next others. run_marks next others is) ≡ all
     first_mark kind i is left m ms all h k e =
         sym (ap (λ (z : Kind). next_at z i m ms (λ next others. run_marks next others is)) k) ∙ (sym (ap (run_marks m ms) h) ∙ e)
+
+-- ---- the labels of definitions, by the marked events
+
+third : (a b c : Bool) → c ≡ true → (a || (b || c)) ≡ true
+third true b c h = refl
+third false true c h = refl
+third false false c h = h
+
+no_second : (a b m : Bool) → (b ≡ true → m ≡ true) → m ≡ false → (a && b) ≡ false
+no_second false b m h k = refl
+no_second true false m h k = refl
+no_second true true m h k = absurd (let f : true ≡ false = sym (h refl) ∙ k in cc)
+
+module _ (bytes : List ℕ) (name : Name) (events : List Event) where
+  abbrev here : ℕ → Event
+  here i = get_or events i no_event
+
+  abbrev is_one : ℕ → Bool
+  is_one i = is_enter (here i).kind && same_name (here i).name name
+
+  -- the texts of the events of the name among these
+  abbrev pub marked_texts : List ℕ → List (List ℕ)
+  marked_texts [] = []
+  marked_texts (i ∷ is) = if is_one i then text_of bytes (here i) (drop (i + 1) events) ∷ marked_texts is else marked_texts is
+
+  -- an event of the name is marked
+  marked_name : (other : Name) → defines_label name ≡ true → same_name other name ≡ true → is_marked other ≡ true
+  marked_name other d h =
+      subst (λ z. is_marked z ≡ true) (sym (same_true the_type tt other name h)) (third (is_listed media_names name) (is_part name) (defines_label name) d)
+
+  not_one : (i : ℕ) → defines_label name ≡ true → is_marked (here i).name ≡ false → is_one i ≡ false
+  not_one i d h =
+      no_second (is_enter (here i).kind) (same_name (here i).name name) (is_marked (here i).name) (marked_name (here i).name d) h
+
+  marks_there : (b : Bool) (i : ℕ) → i < length events → is_marked (here i).name ≡ b
+      → marked_from i (drop i events) ≡ (if b then i ∷ [] else []) ++ marked_from (i + 1) (drop (i + 1) events)
+  marks_there b i l h =
+      ap (marked_from i) (drop_next events i l)
+      ∙ ap (λ (z : Bool). (if z then i ∷ [] else []) ++ marked_from (i + 1) (drop (i + 1) events)) h
+
+  abbrev TextsFrom : ℕ → Type 0
+  TextsFrom i = texts_of bytes name (drop i events) ≡ marked_texts (marked_from i (drop i events))
+
+  texts_by : (b : Bool) (i : ℕ) → i < length events → defines_label name ≡ true → is_marked (here i).name ≡ b → TextsFrom (i + 1) → TextsFrom i
+  texts_by true i l d h others =
+      texts_next bytes name events i (is_one i) l refl
+      ∙ ap (λ (z : List (List ℕ)). if is_one i then text_of bytes (here i) (drop (i + 1) events) ∷ z else z) others
+      ∙ sym (ap marked_texts (marks_there true i l h))
+  texts_by false i l d h others =
+      texts_next bytes name events i false l (not_one i d h) ∙ (others ∙ sym (ap marked_texts (marks_there false i l h)))
+
+  texts_law : (n i : ℕ) → i + n ≡ length events → defines_label name ≡ true → TextsFrom i
+  texts_law zero i h d =
+      let none = drop_all i events (omega (arith, h)) in
+      ap (texts_of bytes name) none ∙ sym (ap (λ (z : List Event). marked_texts (marked_from i z)) none)
+  texts_law (suc n) i h d = texts_by (is_marked (here i).name) i (omega (arith, h)) d refl (texts_law n (i + 1) (omega (arith, h)) d)
+
+  pub all_texts : defines_label name ≡ true → texts_of bytes name events ≡ marked_texts (marked_from 0 events)
+  all_texts d = texts_law (length events) 0 (omega arith) d
+
+  -- a table has the labels of the name before these marks
+  abbrev pub HasMarked : {A : Type 0} → LabelTable A → ℕ → List ℕ → Type 0
+  HasMarked table count left =
+      (front : List (List ℕ)) × HasLabels table (map content_codes front) × (count ≡ length front) × (front ++ marked_texts left ≡ texts_of bytes name events)
+
+  left_next : (left is : List ℕ) (i : ℕ) (b : Bool) → left ≡ i ∷ is → is_one i ≡ b
+      → marked_texts left ≡ (if b then text_of bytes (here i) (drop (i + 1) events) ∷ marked_texts is else marked_texts is)
+  left_next left is i b h k =
+      ap marked_texts h ∙ ap (λ (t : Bool). if t then text_of bytes (here i) (drop (i + 1) events) ∷ marked_texts is else marked_texts is) k
+
+  pub marked_same : {A : Type 0} (left is : List ℕ) (i : ℕ) (table : LabelTable A) (count : ℕ) → left ≡ i ∷ is → is_one i ≡ false
+      → HasMarked table count left → HasMarked table count is
+  marked_same left is i table count h n k =
+      (k.0, k.1, k.2, ap (λ (z : List (List ℕ)). k.0 ++ z) (sym (left_next left is i false h n)) ∙ k.3)
+
+  pub marked_more : {A B C : Type 0} (left is : List ℕ) (i : ℕ) (old new : LabelTable A) (result : Result B C) (ok : B) (count : ℕ) (text : List ℕ)
+      → left ≡ i ∷ is → is_one i ≡ true → text ≡ text_of bytes (here i) (drop (i + 1) events) → result ≡ Ok ok → AddsLabel old result new count text
+      → HasMarked old count left → HasMarked new (count + 1) is
+  marked_more left is i old new result ok count text h n t r added k =
+      let front = k.0 in
+      let has = subst (λ z. OnOk z (HasLabels new (map content_codes front ++ content_codes text ∷ []))) r
+      (added (map content_codes front) k.1 (k.2 ∙ sym (length-map front content_codes))) in (
+        front ++ text ∷ [],
+        subst (HasLabels new) (sym (map-append content_codes front (text ∷ []))) has,
+        (let n = length-append front (text ∷ []) in let m = k.2 in omega (arith, n, m)),
+        append_assoc front (text ∷ []) (marked_texts is)
+            ∙ ap (λ (z : List ℕ). front ++ (z ∷ marked_texts is)) t
+            ∙ ap (λ (z : List (List ℕ)). front ++ z) (sym (left_next left is i true h n))
+            ∙ k.3,
+      )

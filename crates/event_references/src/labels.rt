@@ -1,8 +1,9 @@
 //! The labels of definitions among events.
-ghost use Rattle.std.specs.Prelude.{◌≡◌, ◌<◌, List, ℕ, IfOk, length, map, is_some};
+ghost use Rattle.std.specs.Prelude.{◌≡◌, ◌<◌, List, ℕ, IfOk, length, map, is_some, true};
 ghost use Rattle.std.specs.Option.{option_map};
 ghost use Rattle.definition_text.specs.Content.{content_codes};
 ghost use Rattle.inline_labels.specs.Table.{HasLabels};
+ghost use Rattle.event_grammar.specs.Marked.{defines_label, marked_from};
 ghost use Rattle.event_grammar.specs.References.{is_defined};
 ghost use Rattle.event_references.specs.Texts.{is_enter, texts_of};
 ghost use Rattle.event_references.specs.Views.{text_at, AreLabels};
@@ -37,6 +38,36 @@ pub fn label_table<A: Allocator + Clone>(
     Ok(table)
 }
 
+/// The same, by the indices of all events that decide which labels need a definition, in order.
+fn marked_table<A: Allocator + Clone>(
+    alloc: A,
+    events: &[Event],
+    bytes: &[u8],
+    name: Name,
+    marked: &[usize],
+) -> Result<LabelTable<A>, AllocError>
+    requires name { defines_label name ≡ true }
+    requires marked { marked.now ≡ marked_from 0 events.now }
+    ensures { IfOk result (λ table. HasLabels table (map content_codes (texts_of bytes.now name events.now))) }
+{
+    let mut table = LabelTable::new(alloc.clone()?)?;
+    let mut text = Vec::new(alloc);
+    let mut count: usize = 0;
+    let mut left = marked;
+    while let Some((mark, others)) = left.split_first() {
+        let index = *mark;
+        let event = &events[index];
+        if is_enter(event.kind) && event.name == name {
+            text.clear();
+            push_text(&mut text, bytes, spot_of(event), &events[index + 1..])?;
+            table.insert(&text, count)?;
+            count += 1;
+        }
+        left = others;
+    }
+    Ok(table)
+}
+
 fn is_enter(kind: Kind) -> bool
     ensures { result ≡ is_enter kind }
 {
@@ -66,19 +97,23 @@ pub fn is_defined<A: Allocator + Clone>(
     Ok(table.find(text)?.is_some())
 }
 
-/// Returns whether the text of the event at an index is the text of an event of a name. Without an
-/// index it is true. The table of such texts is made where it is first asked for. `text` is
+/// Returns whether the text of the event at an index is the text of an event of a name, which is that
+/// of labels of definitions. Without an index it is true. The table of such texts is made where it is
+/// first asked for, by the indices of all events that decide which labels need a definition. `text` is
 /// overwritten.
-pub fn is_label<A: Allocator + Clone>(
+pub(crate) fn is_label<A: Allocator + Clone>(
     table: &mut Option<LabelTable<A>>,
     alloc: &A,
     text: &mut Vec<u8, A>,
     events: &[Event],
     bytes: &[u8],
     name: Name,
+    marked: &[usize],
     label: Option<usize>,
 ) -> Result<bool, AllocError>
-    requires { AreLabels bytes.now events.now name table.old }
+    requires name { defines_label name ≡ true }
+    requires marked { marked.now ≡ marked_from 0 events.now }
+    requires table { AreLabels bytes.now events.now name table.old }
     ensures found { IfOk result (λ found. found ≡ is_defined (texts_of bytes.now name events.now) (option_map (text_at bytes.now events.now) label)) }
     ensures kept { AreLabels bytes.now events.now name table.new }
 {
@@ -87,7 +122,7 @@ pub fn is_label<A: Allocator + Clone>(
     }
     let known = match table.take() {
         Some(known) => known,
-        None => label_table(alloc.clone()?, events, bytes, name)?,
+        None => marked_table(alloc.clone()?, events, bytes, name, marked)?,
     };
     let found = is_defined(&known, text, events, bytes, label)?;
     *table = Some(known);

@@ -153,9 +153,11 @@ impl<A: Allocator + Clone> Definitions<A> {
         text: &mut Vec<u8, A>,
         events: &[Event],
         bytes: &[u8],
+        marked: &[usize],
         name: Name,
         label: Option<usize>,
     ) -> Result<bool, AllocError>
+        requires marked { marked.now ≡ marked_from 0 events.now }
         requires links { AreLabels bytes.now events.now names.DefinitionLabelString self.old.links }
         requires footnotes { AreLabels bytes.now events.now names.GfmFootnoteDefinitionLabelString self.old.footnotes }
         ensures found { IfOk result (λ found. found ≡ leads (texts_of bytes.now names.DefinitionLabelString events.now)
@@ -171,6 +173,7 @@ impl<A: Allocator + Clone> Definitions<A> {
                 events,
                 bytes,
                 Name::GfmFootnoteDefinitionLabelString,
+                marked,
                 label,
             )
         } else {
@@ -181,6 +184,7 @@ impl<A: Allocator + Clone> Definitions<A> {
                 events,
                 bytes,
                 Name::DefinitionLabelString,
+                marked,
                 label,
             )
         }
@@ -218,7 +222,9 @@ pub fn first_lost<A: Allocator + Clone>(
             Kind::Exit => {
                 if is_media(event.name) {
                     let label = open.inner.label();
-                    if !definitions.leads(&alloc, &mut text, events, bytes, event.name, label)? {
+                    if !definitions.leads(
+                        &alloc, &mut text, events, bytes, marked, event.name, label,
+                    )? {
                         return Ok(Some(index));
                     }
                     open.leave();
