@@ -2,8 +2,8 @@
 //!
 //!     frontmatter ::= fence line* fence, the first lines of a text, with the same byte in both fences
 //!     fence       ::= ('-'{3} | '+'{3}) white*
-ghost use Rattle.std.specs.Prelude.{◌≡◌, ◌≤◌, IfSome, length};
-ghost use Rattle.definition_text.specs.Lines.{lines};
+ghost use Rattle.std.specs.Prelude.{◌≡◌, ◌≤◌, IfSome, List, None, Some, length};
+ghost use Rattle.definition_text.specs.Lines.{TextLine, lines};
 ghost use Rattle.definition_block.specs.Frontmatter as spec;
 ghost use Rattle.definition_block.specs.Tree.{blocks, children};
 ghost use Rattle.block_starts.specs.Frontmatter.{lines_if};
@@ -18,6 +18,8 @@ use text_lines::next_line;
 pub fn without_frontmatter<'a>(on: &Constructs, before: Kind, text: &'a str) -> (Kind, &'a str)
     ensures blocks { children on.now result.0 (lines result.1.now) ≡ blocks on.now before text.now }
     ensures shorter { length result.1.now ≤ length text.now }
+    ensures all { spec.after_frontmatter on.now (lines text.now) ≡ None → result.1.now ≡ text.now }
+    ensures left { (others : List TextLine) → spec.after_frontmatter on.now (lines text.now) ≡ Some others → lines result.1.now ≡ others }
 {
     match after_frontmatter(on, text) {
         Some(rest) => (Kind::Whitespace, rest),

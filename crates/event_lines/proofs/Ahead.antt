@@ -61,7 +61,8 @@ module _ (text : List ℕ) where
   pub follows_after : (front line : List ℕ) (end : End) → AreNext text end (front ++ line) → Follows text end (end_after end (length front))
   follows_after [] line end are = follows_self end (owes end line are)
   follows_after (b ∷ bs) line end are =
-      follows_both text end (next_end end) (end_after (next_end end) (length bs)) (follows_step end.index end.owed b are.0) (follows_after bs line (next_end end) are.1)
+      follows_both text end (next_end end) (end_after (next_end end) (length bs)) (follows_step end.index end.owed b are.0)
+      (follows_after bs line (next_end end) are.1)
 
   -- what is next there
   pub next_after : (front line : List ℕ) (end : End) → AreNext text end (front ++ line) → AreNext text (end_after end (length front)) line

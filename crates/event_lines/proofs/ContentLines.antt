@@ -116,7 +116,8 @@ module _ {A : Type 0} (text : List ℕ) (stop : Stop) where
         stands = record {
           order = order;
           at = end ∙ sym here_end;
-          next = subst (λ (xs : List ℕ). AreNext text (content_end_in w) xs) (sym line_is) (subst (λ (e : End). AreNext text e (left_bytes suffix)) (sym here_end) next);
+          next = subst (λ (xs : List ℕ). AreNext text (content_end_in w) xs) (sym line_is)
+              (subst (λ (e : End). AreNext text e (left_bytes suffix)) (sym here_end) next);
           place = omega (arith, place);
           fits = omega (arith, fits, all);
           size = size;
@@ -226,7 +227,8 @@ module _ {A : Type 0} (text : List ℕ) (stop : Stop) where
       subst (λ (o : Output A). Writes text old.out o (Cons node quiet)) (sym out)
       (writes_both text old.out mid.out begun.out (one node) quiet first_writes began.0.writes) in
       let written : IsWrittenToRest new =
-      ap (λ (o : Output A). end_in o) out ∙ began.1 ∙ ap₂ rest_start (ap (λ (s : Standing). s.line_end) (sym same)) (ap (λ (s : Standing). s.rest) (sym same)) in
+      ap (λ (o : Output A). end_in o) out ∙ began.1 ∙ ap₂ rest_start (ap (λ (s : Standing). s.line_end) (sym same))
+      (ap (λ (s : Standing). s.rest) (sym same)) in
       let sizes : length (ending_bytes ending ++ content) ≡ length (ending_bytes ending) + length content = length-append (ending_bytes ending) content in
       let stands : StandsInContent text content stop new =
       stands_within text stop content new here others st.after more within all.order written line_place
@@ -269,7 +271,8 @@ module _ {A : Type 0} where
       let line = map code_byte (block_codes here.rest) in
       let ending = here.beside.ending in
       let content = content_from line ending others in
-      let unread_is = subst (λ (ls : List LineRest). AreTaken old.on.now (around (standing old)) IsRestLine others (Between ls) (Between after)) st.unread taken in
+      let unread_is = subst (λ (ls : List LineRest). AreTaken old.on.now (around (standing old)) IsRestLine others (Between ls) (Between after)) st.unread
+      taken in
       let all = content_size old.on.now (around (standing old)) (lines old.left.now) Whitespace line ending others (Between after) unread_is in
       let left_is = ap length (lines_joined old.left.now) in
       let first = line_size st.line.content here.rest (st.columns, st.suffix) in
@@ -339,14 +342,16 @@ content_done text stop w st =
     done_at text st.line st.ending st.others st.left st.after stop w st.parts st.at st.ahead st.last st.end st.columns st.stands.order
 
 -- lines that are taken as others
-taken_as : (on : Constructs) (containers : List Container) (P Q : Prefixed → BlockLine → Type 0) → ((here : Prefixed) (line : BlockLine) → P here line → Q here line)
+taken_as : (on : Constructs) (containers : List Container) (P Q : Prefixed → BlockLine → Type 0)
+    → ((here : Prefixed) (line : BlockLine) → P here line → Q here line)
     → (ls : List BlockLine) (from to : Place) → AreTaken on containers P ls from to → AreTaken on containers Q ls from to
 taken_as on containers P Q f [] from to taken = taken
 taken_as on containers P Q f (line ∷ others) from to taken =
     (taken.0, taken.1, taken.2, f taken.0 line taken.3, taken_as on containers P Q f others (Between taken.1) to taken.4)
 
 -- lines of a paragraph are lines of a content
-pub text_lines_taken : (on : Constructs) (containers : List Container) (ls : List BlockLine) (from to : Place) → AreTaken on containers (IsTextLine on) ls from to
+pub text_lines_taken : (on : Constructs) (containers : List Container) (ls : List BlockLine) (from to : Place)
+    → AreTaken on containers (IsTextLine on) ls from to
     → AreTaken on containers IsRestLine ls from to
 text_lines_taken on containers ls from to taken =
     taken_as on containers (IsTextLine on) IsRestLine (λ here line is. (is.0.1, is.1)) ls from to taken

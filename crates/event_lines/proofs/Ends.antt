@@ -12,7 +12,8 @@ use Rattle.event_output.specs.Ends.{Follows, OwesIn, end_at, end_columns, index_
 use Rattle.event_output.proofs.Ends.{spot_index}
 use Rattle.text_lines.proofs.Codes.{no_columns, bytes_of_codes}
 use Rattle.event_lines.specs.Standing.{Standing, IsInLine, IsLineOf}
-use Rattle.event_lines.specs.Ends.{rest_start}
+use Rattle.event_lines.specs.declared.walk.Walk.{Walk}
+use Rattle.event_lines.specs.Ends.{IsAfter, IsInLineFrom, rest_start, written_to}
 use Rattle.event_lines.proofs.Columns.{past, inside, onward, IsAmong, among}
 use Rattle.event_lines.proofs.Spots.{column_in, get_over, get_front}
 
@@ -147,6 +148,31 @@ rest_to_end text before content after line_end n line end =
     subst (λ (x : End). Follows text (rest_start line_end (drop n (whole content))) x) at (
     line_follows text before content after line_end n (n + all) line end (omega arith)
     )
+
+-- what is written up to a rest of a line ends in that line
+pub after_in_line : {A : Type 0} (text before content after : List ℕ) (n : ℕ) (from : End) (w : Walk A) → from ≡ end_at (length before) 0
+    → IsAfter text before content after n w → IsInLineFrom text from.index (written_to w).index
+after_in_line text before content after n from w first is =
+    let line = is.line in
+    let start : (rest_start w.line_end (whole content)).index ≡ length before = ap (λ (x : End). x.index)
+    (start_line before content w.line_end line.bytes is.end) in
+    let at : (written_to w).index ≡ (rest_start w.line_end (drop n (whole content))).index =
+    ap (λ (x : End). x.index) (is.written ∙ ap (rest_start w.line_end) is.rest) in
+    let least : (rest_start w.line_end (whole content)).index ≤ (rest_start w.line_end (drop n (whole content))).index =
+    (line_follows text before content after w.line_end 0 n line is.end (omega arith)).forward in
+    let most : (rest_start w.line_end (drop n (whole content))).index ≤ w.line_end = (rest_to_end text before content after w.line_end n line is.end).forward in
+    let end : w.line_end ≡ length before + length content = is.end in
+    let begins : from.index ≡ length before = ap (λ (x : End). x.index) first in
+    record {
+      before = before;
+      content = content;
+      after = after;
+      parts = line.parts;
+      dark = line.dark;
+      begins = begins;
+      forward = omega (arith, begins, start, at, least);
+      within = omega (arith, at, most, end);
+    }
 
 -- and up to the next line
 pub end_to_next : (text : List ℕ) (s : Standing) → IsInLine text s → Follows text (end_at s.line_end 0) (end_at (s.size - length s.left) 0)

@@ -79,7 +79,8 @@ module _ {A : Type 0} (text : List ℕ) where
       let reached : end ≡ end_after from (length front) = ends within ∙ there in
       let here : end_after from (length front) ≡ end_after (end_in w.out) size =
       ap₂ end_after (sym st.at) (sym is) in
-      let written : Writes text w.out out (nodes end) = writes st.order (subst (λ a. Follows text a end) (sym st.at) (subst (Follows text from) (sym reached) follows)) in
+      let written : Writes text w.out out (nodes end) = writes st.order (subst (λ a. Follows text a end) (sym st.at)
+      (subst (Follows text from) (sym reached) follows)) in
       let all = reached ∙ here in
       let now : Writes text w.out out (nodes (end_after (end_in w.out) size)) = subst (λ e. Writes text w.out out (nodes e)) all written in
       let to : Follows text (end_in w.out) (end_after (end_in w.out) size) =

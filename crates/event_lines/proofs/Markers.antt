@@ -174,7 +174,8 @@ item_marked start columns (Some m) i rest before at is =
       | inr t ↦ let e : None ≡ Some (container_start (Item i) rest before) = sym (cond-false (is_item false m) _ _ t) ∙ is in absurd (cc)
     ]
 
-item_found : (on : Constructs) (start : Rest) (i : ItemParts) (rest : Rest) (before : Kind) → item_start on false start ≡ Some (container_start (Item i) rest before)
+item_found : (on : Constructs) (start : Rest) (i : ItemParts) (rest : Rest) (before : Kind)
+    → item_start on false start ≡ Some (container_start (Item i) rest before)
     → IsItemStart start i rest
 item_found on start i rest before is =
     let t = on.list_item && small_indent on start && not (is_break on start) in
@@ -368,10 +369,12 @@ footnote_or_is item None None label rest before none is = let no : None ≡ Some
 footnote_or_is item (Some found) None label rest before none is = is
 
 -- the marker of an item that starts
-pub item_starts : (on : Constructs) (start : Rest) (i : ItemParts) (rest : Rest) (before : Kind) → starts on false start ≡ Some (container_start (Item i) rest before)
+pub item_starts : (on : Constructs) (start : Rest) (i : ItemParts) (rest : Rest) (before : Kind)
+    → starts on false start ≡ Some (container_start (Item i) rest before)
     → IsItemStart start i rest
 item_starts on start i rest before is =
-    item_found on start i rest before (item_or (item_start on false start) (footnote_start on start) (quote_prefix on start) i rest before (no_item on start) is)
+    item_found on start i rest before (item_or (item_start on false start) (footnote_start on start) (quote_prefix on start) i rest before
+    (no_item on start) is)
 
 -- the label of a footnote definition that starts
 pub footnote_starts : (on : Constructs) (start label rest : Rest) (before : Kind) → starts on false start ≡ Some (container_start (Footnote label) rest before)

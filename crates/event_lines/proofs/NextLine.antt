@@ -198,7 +198,8 @@ same_ending CarriageReturn CarriageReturnLineFeed content more is other apart = 
 same_ending CarriageReturnLineFeed CarriageReturnLineFeed content more is other apart = (refl, ap (drop 2) is)
 
 -- the line on which the next line of a content is
-pub record IsNextTaken (on : Constructs) (containers : List Container) (next : BlockLine) (more : List BlockLine) (left : List LineRest) (to : Place) : Type 0 where
+pub record IsNextTaken (on : Constructs) (containers : List Container) (next : BlockLine) (more : List BlockLine) (left : List LineRest)
+    (to : Place) : Type 0 where
   pub first : LineRest
   pub others : List LineRest
   pub left_is : left ≡ first ∷ others

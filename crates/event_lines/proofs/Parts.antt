@@ -66,7 +66,8 @@ pub same_line : (text : List ℕ) (ending : Option LineEnding) (left : List Line
 same_line text ending left s t a b =
     let bytes_left = λ (u : Standing) (line : IsInLine text u).
     bytes_after (ending_text u.ending) u.left (bytes_after line.content (ending_text u.ending ++ u.left)
-    (bytes_after line.before (line.content ++ (ending_text u.ending ++ u.left)) (subst (λ (xs : List ℕ). (k : ℕ) → get_or xs k 0 < 256) line.parts.parts line.over.bytes))) in
+    (bytes_after line.before (line.content ++ (ending_text u.ending ++ u.left)) (subst
+    (λ (xs : List ℕ). (k : ℕ) → get_or xs k 0 < 256) line.parts.parts line.over.bytes))) in
     let lines_bytes = λ (u : Standing) (line : IsInLine text u).
     subst (λ (xs : List ℕ). (k : ℕ) → get_or xs k 0 < 256) (sym (lines_joined u.left)) (bytes_left u line) in
     let same : s.left ≡ t.left = sym (lines_joined s.left)
@@ -124,7 +125,8 @@ module _ {A : Type 0} (text : List ℕ) (ending : Option LineEnding) (left : Lis
       )
 
   -- after a part that is all written, the rest of the line is next
-  pub part_ends : (old new : Walk A) (content behind : List ℕ) → StandsAt text (AtEnding ending left) (standing old) → AreNext text (end_in old.out) (content ++ behind)
+  pub part_ends : (old new : Walk A) (content behind : List ℕ) → StandsAt text (AtEnding ending left) (standing old)
+      → AreNext text (end_in old.out) (content ++ behind)
       → IsWhole old → (end_in old.out).index + length (content ++ behind) ≡ old.line_end
       → StandsInContent text [] (record { place = AtEnding ending left; behind = length behind }) new
       → StandsAt text (AtEnding ending left) (standing new) × IsWhole new × AreNext text (end_in new.out) behind

@@ -113,11 +113,13 @@ EntersAs text name a b = (IsInOrder text a → Enters text name a b) × (end_in 
 abbrev pub ExitsAs : {A : Type 0} → List ℕ → Name → Output A → Output A → Type 0
 ExitsAs text name a b = (IsInOrder text a → Exits text name a b) × (end_in b ≡ end_in a)
 
-module _ {A : Type 0} (text before content after : List ℕ) (line_end : ℕ) (line : IsLineOf text before content after) (end : line_end ≡ length before + length content) where
+module _ {A : Type 0} (text before content after : List ℕ) (line_end : ℕ) (line : IsLineOf text before content after)
+    (end : line_end ≡ length before + length content) where
   -- the prefix of an item
   pub item_written : (a b c d e f : Output A) (k : ℕ) (start rest : Rest) (item : ItemParts) (digits : ℕ) → start ≡ drop k (whole content)
       → IsItemStart start item rest → digits ≡ prefix_len is_digit (bytes_of (bare start)) → end_in a ≡ rest_start line_end (bare start) → IsInOrder text a
-      → EntersAs text n.ListItemPrefix a b → WritesToken text n.ListItemValue digits b c → WritesToken text n.ListItemMarker 1 c d → WritesSpaceTo text (rest_start line_end rest) d e
+      → EntersAs text n.ListItemPrefix a b → WritesToken text n.ListItemValue digits b c → WritesToken text n.ListItemMarker 1 c d
+      → WritesSpaceTo text (rest_start line_end rest) d e
       → ExitsAs text n.ListItemPrefix e f
       → (first : Node) × IsItemPrefix item.number text first × Writes text a f (one first) × (end_in f ≡ rest_start line_end rest)
   item_written a b c d e f k start rest item digits at is count from order enters value marker space exits =
@@ -250,7 +252,8 @@ module _ (text before content after : List ℕ) (line_end : ℕ) (line : IsLineO
   rest_at : (k : ℕ) (front more : Rest) → drop k (whole content) ≡ front ++ more → drop (k + length front) (whole content) ≡ more
   rest_at k front more is = sym (drop-drop (length front) k (whole content)) ∙ ap (drop (length front)) is ∙ drop-append_seam front more
 
-module _ {A : Type 0} (text before content after : List ℕ) (line_end : ℕ) (line : IsLineOf text before content after) (end : line_end ≡ length before + length content) where
+module _ {A : Type 0} (text before content after : List ℕ) (line_end : ℕ) (line : IsLineOf text before content after)
+    (end : line_end ≡ length before + length content) where
   -- a label with its brackets
   pub label_written : (a b c d e f g h i : Output A) (k size : ℕ) (label more : Rest) → end_in a ≡ column content line_end k → IsInOrder text a
       → prefix_len is_tab_column (drop k (whole content)) ≡ 0
@@ -265,12 +268,15 @@ module _ {A : Type 0} (text before content after : List ℕ) (line_end : ℕ) (l
       -- `[`, `^`, the label and `]`
       let first = dark_at text before content after line_end line end k 1 (91 ∷ []) (94 ∷ (label ++ 93 ∷ more)) is refl refl none in
       let is2 = rest_at text before content after line_end line end k (91 ∷ []) (94 ∷ (label ++ 93 ∷ more)) is in
-      let second = dark_at text before content after line_end line end (k + 1) 1 (94 ∷ []) (label ++ 93 ∷ more) is2 refl refl (further text before content after line_end line end k 1 first).none in
+      let second = dark_at text before content after line_end line end (k + 1) 1 (94 ∷ []) (label ++ 93 ∷ more) is2 refl refl
+      (further text before content after line_end line end k 1 first).none in
       let is3 = rest_at text before content after line_end line end (k + 1) (94 ∷ []) (label ++ 93 ∷ more) is2 in
-      let third = dark_at text before content after line_end line end (k + 1 + 1) size label (93 ∷ more) is3 sized white (further text before content after line_end line end (k + 1) 1 second).none in
+      let third = dark_at text before content after line_end line end (k + 1 + 1) size label (93 ∷ more) is3 sized white
+      (further text before content after line_end line end (k + 1) 1 second).none in
       let is4 : drop (k + 1 + 1 + size) (whole content) ≡ 93 ∷ more =
       ap (λ (j : ℕ). drop (k + 1 + 1 + j) (whole content)) sized ∙ rest_at text before content after line_end line end (k + 1 + 1) label (93 ∷ more) is3 in
-      let fourth = dark_at text before content after line_end line end (k + 1 + 1 + size) 1 (93 ∷ []) more is4 refl refl (further text before content after line_end line end (k + 1 + 1) size third).none in
+      let fourth = dark_at text before content after line_end line end (k + 1 + 1 + size) 1 (93 ∷ []) more is4 refl refl
+      (further text before content after line_end line end (k + 1 + 1) size third).none in
       let entered = enters.0 order in
       let at_b : IsAtColumn text before content after line_end line end k b = record { at = enters.1 ∙ from; order = entered.order } in
       let s1 = token_step text before content after line_end line end n.GfmFootnoteDefinitionLabelMarker k 1 b c first at_b open_bracket.0 open_bracket.1 in
@@ -317,7 +323,8 @@ module _ {A : Type 0} (text before content after : List ℕ) (line_end : ℕ) (l
           is_named = refl;
           label_is = λ names.
               ap (label_of names text) (child_found n.GfmFootnoteDefinitionLabelString front string closes refl
-              (none_child_both n.GfmFootnoteDefinitionLabelString opens marks (none_child n.GfmFootnoteDefinitionLabelString n.GfmFootnoteDefinitionLabelMarker text e0 e1 refl refl)
+              (none_child_both n.GfmFootnoteDefinitionLabelString opens marks (none_child n.GfmFootnoteDefinitionLabelString
+              n.GfmFootnoteDefinitionLabelMarker text e0 e1 refl refl)
               (none_child n.GfmFootnoteDefinitionLabelString n.GfmFootnoteDefinitionMarker text e1 e2 refl refl)))
               ∙ ap content_codes text_is ∙ codes_are label dark;
           others = λ name other.
@@ -364,15 +371,19 @@ module _ {A : Type 0} (text before content after : List ℕ) (line_end : ℕ) (l
       let white = any_white label is.dark in
       let front_dark : list_any is_white front ≡ false =
       list_any-append is_white label (93 ∷ []) ∙ ap (λ (t : Bool). t || false) white in
-      let whole_front = dark_at text before content after line_end line end first (length label + 3) front (58 ∷ is.after) parts (sym front_size) front_dark none in
+      let whole_front = dark_at text before content after line_end line end first (length label + 3) front (58 ∷ is.after) parts
+      (sym front_size) front_dark none in
       let colon_at : drop after_label (whole content) ≡ 58 ∷ is.after =
-      ap (λ (j : ℕ). drop (first + j) (whole content)) (sym front_size) ∙ rest_at text before content after line_end line end first front (58 ∷ is.after) parts in
-      let colon = dark_at text before content after line_end line end after_label 1 (58 ∷ []) is.after colon_at refl refl (further text before content after line_end line end first (length label + 3) whole_front).none in
+      ap (λ (j : ℕ). drop (first + j) (whole content)) (sym front_size) ∙ rest_at text before content after line_end line end first front
+      (58 ∷ is.after) parts in
+      let colon = dark_at text before content after line_end line end after_label 1 (58 ∷ []) is.after colon_at refl refl
+      (further text before content after line_end line end first (length label + 3) whole_front).none in
       let at_c : IsAtColumn text before content after line_end line end after_label c = record { at = lab.3; order = lab.2.order } in
       let s1 = token_step text before content after line_end line end n.DefinitionMarker after_label 1 c d colon at_c marker.0 marker.1 in
       let gap_size = indent is.after in
       let rest_is : rest ≡ drop (after_label + 1 + gap_size) (whole content) =
-      is.rest_is ∙ ap (drop gap_size) (sym (rest_at text before content after line_end line end after_label (58 ∷ []) is.after colon_at)) ∙ drop-drop gap_size (after_label + 1) (whole content) in
+      is.rest_is ∙ ap (drop gap_size) (sym (rest_at text before content after line_end line end after_label (58 ∷ []) is.after colon_at))
+      ∙ drop-drop gap_size (after_label + 1) (whole content) in
       let s2 = space_step text before content after line_end line end (after_label + 1) gap_size rest d e rest_is s1.1 space.0 space.1 in
       let e0 = column content line_end after_label in
       let e1 = column content line_end (after_label + 1) in
@@ -389,7 +400,8 @@ module _ {A : Type 0} (text before content after : List ℕ) (line_end : ℕ) (l
           is_named = refl;
           label_is = λ names.
               ap (λ (o : Option Node). label_of names text (child n.GfmFootnoteDefinitionLabelString (inside_of o)))
-              (child_found n.GfmFootnoteDefinitionLabel Nil lab.0 (append markers spaces) (ap (λ (x : Name). same_name x n.GfmFootnoteDefinitionLabel) lab.1.is_named) refl)
+              (child_found n.GfmFootnoteDefinitionLabel Nil lab.0 (append markers spaces)
+              (ap (λ (x : Name). same_name x n.GfmFootnoteDefinitionLabel) lab.1.is_named) refl)
               ∙ lab.1.label_is names;
           others = λ name other.
               let p1 = or_parts (same_name n.GfmFootnoteDefinitionPrefix name) _ other in

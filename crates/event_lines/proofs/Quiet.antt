@@ -27,6 +27,13 @@ quiet_append : (ns ms : Nodes) → AreQuiet ns → AreQuiet ms → AreQuiet (app
 quiet_append Nil ms p q = q
 quiet_append (Cons node ns) ms p q = (p.0, quiet_append ns ms p.1 q)
 
+-- nothing is written from an end to itself
+pub no_void : (text : List ℕ) (name : Name) (from to : End) → from ≡ to → void_nodes text name from to ≡ Nil
+no_void text name from to same =
+    let index : (to.index == from.index) ≡ true = eq-eqb to.index from.index (ap (λ (e : End). e.index) (sym same)) in
+    let owed : (to.owed == from.owed) ≡ true = eq-eqb to.owed from.owed (ap (λ (e : End). e.owed) (sym same)) in
+    cond-true (same_end to from) _ _ (ap₂ (λ (a b : Bool). a && b) index owed)
+
 quiet_void : (text : List ℕ) (from to : End) → AreQuiet (void_nodes text SpaceOrTab from to)
 quiet_void text from to =
     elim (cases_Bool (same_end to from)) [
@@ -83,6 +90,12 @@ module _ {A : Type 0} (text : List ℕ) where
     white = ap (list_all is_white) (flat_void text SpaceOrTab from to refl follows) ∙ white;
   }
 
+  -- no node where nothing is between
+  pub quiet_nothing : (a b : Output A) (from to : End) → Follows text from to → list_all is_white (text_between text from to) ≡ true
+      → Writes text a b (void_nodes text SpaceOrTab from to) → (space : WritesQuiet text a b) × (from ≡ to → space.nodes ≡ Nil)
+  unfolding quiet_space
+  quiet_nothing a b from to follows white w = (quiet_space a b from to follows white w, no_void text SpaceOrTab from to)
+
   -- the prefix of a quote
   pub quote_node : (a b c d e : Output A) (ns ms : Nodes) → AreOfPrefix ns → AreOfPrefix ms → Enters text BlockQuotePrefix a b → Writes text b c ns
       → Writes text c d ms → Exits text BlockQuotePrefix d e → (first : Node) × IsQuotePrefix first × Writes text a e (one first)
@@ -99,13 +112,6 @@ module _ {A : Type 0} (text : List ℕ) where
     quiet = (inr is, tt);
     white = ap (list_all is_white) (prefix_flat text first is.0);
   }
-
--- nothing is written from an end to itself
-pub no_void : (text : List ℕ) (name : Name) (from to : End) → from ≡ to → void_nodes text name from to ≡ Nil
-no_void text name from to same =
-    let index : (to.index == from.index) ≡ true = eq-eqb to.index from.index (ap (λ (e : End). e.index) (sym same)) in
-    let owed : (to.owed == from.owed) ≡ true = eq-eqb to.owed from.owed (ap (λ (e : End). e.owed) (sym same)) in
-    cond-true (same_end to from) _ _ (ap₂ (λ (a b : Bool). a && b) index owed)
 
 -- ---- what is looked for in links and for definitions isn't among quiet nodes
 

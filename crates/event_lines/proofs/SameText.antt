@@ -77,7 +77,8 @@ module _ (text : List ℕ) where
       let one : (index + 1) - index ≡ 1 = omega arith in
       let first : between index (index + 1) text ≡ b ∷ [] = ap (λ (k : ℕ). take k (drop index text)) one ∙ ap (take 1) are.0 in
       let all : b ∷ text_between text (end_at (index + 1) 0) to ≡ text_between text (end_at index 0) to =
-      ap (λ (xs : List ℕ). xs ++ text_between text (end_at (index + 1) 0) to) (sym first) ∙ between_both text index (index + 1) (end_edge text to) (omega arith) onward in
+      ap (λ (xs : List ℕ). xs ++ text_between text (end_at (index + 1) 0) to) (sym first)
+      ∙ between_both text index (index + 1) (end_edge text to) (omega arith) onward in
       record {
         text_is =
             subst (IsSameText start (b ∷ bs)) all

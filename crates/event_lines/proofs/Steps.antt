@@ -107,7 +107,8 @@ both_ok (Err e) f p q = tt
 
 -- a line begins after the ending of another
 after_line : (text before content left : List ℕ) (ending : Option LineEnding) → (ending ≡ None → left ≡ [])
-    → (ending ≡ Some CarriageReturn → get_or left 0 0 ≡ 10 → ⊥) → text ≡ before ++ (content ++ (ending_text ending ++ left)) → IsLineStart text (length before) → 0 < length left
+    → (ending ≡ Some CarriageReturn → get_or left 0 0 ≡ 10 → ⊥) → text ≡ before ++ (content ++ (ending_text ending ++ left))
+    → IsLineStart text (length before) → 0 < length left
     → IsLineStart text (length (before ++ (content ++ ending_text ending)))
 after_line text before content left None last apart parts first some = let none = ap length (last refl) in absurd (omega arith)
 after_line text before content left (Some ending) last apart parts first some =

@@ -1,5 +1,5 @@
 -- Where the output of a walk is, beside its lines.
-use Rattle.std.specs.Prelude.{◌≡◌, ℕ, ◌-◌, ◌+◌, ◌==◌, if◌then◌else◌, List, ◌∷◌, ◌++◌, Option, drop, length, Bool, false, true, Some}
+use Rattle.std.specs.Prelude.{◌≡◌, ◌⊎◌, ◌≤◌, ℕ, ◌-◌, ◌+◌, ◌==◌, if◌then◌else◌, List, ◌∷◌, ◌++◌, Option, drop, length, Bool, false, true, Some}
 use Rattle.std.specs.List.{list_all, list_any, prefix_len}
 use Rattle.engine_events.specs.declared.event.Name.{Name}
 use Rattle.engine_events.specs.declared.event.Name.TheVariants.{LineEnding as Ending}
@@ -7,13 +7,13 @@ use Rattle.markdown_options.specs.declared.line_ending.LineEnding.{LineEnding}
 use Rattle.markdown_options.specs.declared.beside.Kind.{Kind}
 use Rattle.definition_text.specs.Columns.{Rest, whole, bare, bytes_of, is_tab_column, is_white}
 use Rattle.definition_text.specs.Content.{is_space}
+use Rattle.definition_text.specs.Lines.{ends_line}
 use Rattle.definition_block.specs.Container.{Container}
 use Rattle.definition_block.specs.ContainerLine.{container_line}
-use Rattle.definition_block.specs.BlockQuote.{quote_prefix}
 use Rattle.definition_block.specs.Containers.{continues, starts}
 use Rattle.definition_block.specs.ContainerStart.{container_start}
 use Rattle.block_starts.specs.View.{rest_of}
-use Rattle.event_grammar.specs.Trees.{Node, Nodes}
+use Rattle.event_grammar.specs.Trees.{Node, Nodes, Nil}
 use Rattle.event_output.specs.declared.end.End.{End}
 use Rattle.event_output.specs.declared.output.Output.{Output}
 use Rattle.event_output.specs.Ends.{Follows, end_at}
@@ -24,7 +24,7 @@ use Rattle.laws_laid.specs.Places.{LineRest, Place, Between, Within, AtEnding, S
 use Rattle.event_lines.specs.declared.walk.Walk.{Walk}
 use Rattle.event_lines.specs.Standing.{StandsAt, IsLineOf, around, standing}
 use Rattle.event_lines.specs.Prefixes.{IsFootnoteLabel, IsPrefixOf}
-use Rattle.event_lines.specs.Quiet.{AreQuiet, IsQuotePrefix}
+use Rattle.event_lines.specs.Quiet.{AreQuiet}
 
 -- where a rest of a line begins, of which the content ends at an index
 abbrev pub rest_start : ℕ → Rest → End
@@ -86,6 +86,23 @@ WritesLine old new =
     (text : List ℕ) (next : LineRest) (others : List LineRest) → StandsAt text (Between (next ∷ others)) (standing old) → IsWrittenToLine old
     → IsInOrder text old.out → WritesQuiet text old.out new.out × IsWrittenToRest new
 
+-- An index is in the same line of a text as one before it: no line ends between them.
+pub record IsInLineFrom (text : List ℕ) (first index : ℕ) : Type 0 where
+  pub before : List ℕ
+  pub content : List ℕ
+  pub after : List ℕ
+  pub parts : text ≡ before ++ (content ++ after)
+  pub dark : list_any ends_line content ≡ false
+  pub begins : first ≡ length before
+  pub forward : first ≤ index
+  pub within : index ≤ length before + length content
+
+-- what is written ends in the line that is begun
+abbrev pub EndsInLine : {A : Type 0} → Walk A → Walk A → Type 0
+EndsInLine old new =
+    (text : List ℕ) (next : LineRest) (others : List LineRest) → StandsAt text (Between (next ∷ others)) (standing old) → IsWrittenToLine old
+    → IsInOrder text old.out → IsInLineFrom text (written_to old).index (written_to new).index
+
 -- after the line that is begun, and its ending
 abbrev pub line_after : {A : Type 0} → Walk A → End
 line_after w = end_at (w.size - length w.left.now) 0
@@ -110,19 +127,13 @@ pub record WritesStart {A : Type 0} (text : List ℕ) (name : Name) (IsPrefix : 
   pub before : Output A
   pub entered : Output A
   pub space : WritesQuiet text old before
+  -- no white space where none is ahead
+  pub nothing : end_in old ≡ at → space.nodes ≡ Nil
   pub begins : end_in before ≡ at
   pub enters : Enters text name before entered
   pub first : Node
   pub is_prefix : IsPrefix first
   pub writes : Writes text entered new (one first)
-
--- the prefix of a quote is written, where all before its mark is
-abbrev pub WritesMark : {A : Type 0} → Rest → Walk A → Walk A → Type 0
-WritesMark rest old new =
-    (text before content after : List ℕ) (n : ℕ) (kind : Kind) → IsLineOf text before content after → old.line_end ≡ length before + length content
-    → rest_of old.rest ≡ drop n (whole content) → written_to old ≡ rest_start old.line_end (bare (rest_of old.rest)) → IsInOrder text old.out
-    → quote_prefix old.on.now (rest_of old.rest) ≡ Some (container_line rest kind)
-    → (first : Node) × IsQuotePrefix first × Writes text old.out new.out (one first) × (written_to new ≡ rest_start old.line_end rest)
 
 -- the prefix of a container that starts is written, where all before its marker is
 abbrev pub WritesMarker : {A : Type 0} → Container → Rest → Walk A → Walk A → Type 0
@@ -145,9 +156,13 @@ WritesFootnoteLabel size old new =
 abbrev pub bare_end : {A : Type 0} → Walk A → End
 bare_end w = end_at (w.line_end - length (bytes_of (bare (rest_of w.rest)))) 0
 
+-- all before the rest of the line is written, or the white space ahead is, too
+abbrev pub IsWrittenToStart : {A : Type 0} → Walk A → Type 0
+IsWrittenToStart w = IsWrittenToRest w ⊎ (written_to w ≡ bare_end w)
+
 -- where a container of this kind starts, it is written so
 abbrev pub WritesStartOf : {A : Type 0} → (Container → Bool) → Name → Walk A → Walk A → Type 0
 WritesStartOf is_kind name old new =
     (text : List ℕ) (c : Container) (here : LineRest) (left : List LineRest) (to : Place) → is_kind c ≡ true → StandsAt text (Within here left) (standing old)
-    → Starts old.on.now (around (standing old)) c (Within here left) to → IsWrittenToRest old → IsInOrder text old.out
+    → Starts old.on.now (around (standing old)) c (Within here left) to → IsWrittenToStart old → IsInOrder text old.out
     → WritesStart text name (IsPrefixOf text c) (bare_end old) old.out new.out × IsWrittenToRest new

@@ -54,9 +54,9 @@ around s = reverse s.outermost
 abbrev pub AreQuotesWithin : ℕ → List Container → Type 0
 AreQuotesWithin depth outermost = list_any is_quote (drop depth outermost) ≡ false
 
--- No line of a longer text is read.
+-- The largest size of a text, in bytes. No line of a longer text is read.
 abbrev pub TEXT_MAX : ℕ
-TEXT_MAX = 2 ^ 60
+TEXT_MAX = 2 ^ 61 - 1
 
 -- A line begins at an index, in its first column. A byte order mark has no columns (CommonMark 2.1 and 2.2).
 pub record IsLineStart (text : List ℕ) (index : ℕ) : Type 0 where

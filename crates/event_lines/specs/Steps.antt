@@ -76,6 +76,10 @@ abbrev pub Leaves : Container → Standing → Standing → Type 0
 Leaves c old new =
     (around old ≡ c ∷ around new) × (new.on ≡ old.on) × ((text : List ℕ) (p : Place) → StandsAt text p old → StandsAt text p new)
 
+-- no container is open, and the walk is where it was
+abbrev pub IsOutside : Standing → Standing → Type 0
+IsOutside old new = (around old ≡ []) × (new ≡ old)
+
 -- Where a container of this kind starts, it is open after the call.
 abbrev pub StartsOf : (Container → Bool) → Standing → Bool → Standing → Type 0
 StartsOf is_kind old starts new =

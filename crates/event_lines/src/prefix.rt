@@ -8,13 +8,13 @@ ghost use Rattle.markdown_options.specs.declared.container.Item.{Item as ItemPar
 ghost use Rattle.block_starts.specs.View.{container_view, container_views, rest_of};
 ghost use Rattle.laws_laid.specs.EmptyRests.{is_quote};
 ghost use Rattle.event_lines.specs.Kinds.{is_footnote, is_item};
-ghost use Rattle.event_lines.specs.Ends.{WritesFootnoteLabel, WritesMark, WritesMarker, WritesPrefix, WritesPrefixes, WritesStartOf};
+ghost use Rattle.event_lines.specs.Ends.{WritesFootnoteLabel, WritesMarker, WritesPrefix, WritesPrefixes, WritesStartOf};
 ghost use Rattle.event_lines.specs.Open.{still_open, with_entered};
 ghost use Rattle.std.specs.List.{prefix_len};
 ghost use Rattle.definition_block.specs.ListItem.{is_digit};
 ghost use Rattle.definition_block.specs.Container.{Footnote as FootnoteView, Item as ItemView, Quote};
 ghost use Rattle.event_lines.specs.Standing.{AreQuotesWithin, TEXT_MAX, standing};
-ghost use Rattle.event_lines.specs.Steps.{IsSameLine, Leaves, ReadsPrefixes, StartsOf, with_container, with_rest};
+ghost use Rattle.event_lines.specs.Steps.{IsOutside, IsSameLine, Leaves, ReadsPrefixes, StartsOf, with_container, with_rest};
 
 use crate::cut::first;
 use crate::walk::Walk;
@@ -25,7 +25,7 @@ use markdown_options::Container;
 use std::alloc::{AllocError, Allocator};
 
 /// No line is longer.
-const LINE_MAX: usize = 1 << 60;
+const LINE_MAX: usize = usize::MAX / 8;
 
 /// A line before anything of it is read.
 pub(crate) fn line_rest(content: &str) -> Cursor<'_>
@@ -86,7 +86,7 @@ impl<'a, A: Allocator> Walk<'a, A> {
         ensures open { OnOk result (still_open self.new ≡ still_open self.old) }
         ensures stays { OnOk result (standing self.new ≡ standing self.old) }
         ensures written { OnOk result (WritesPrefix Quote (rest_of after.entry) self.old self.new) }
-        ensures marked { OnOk result (WritesMark (rest_of after.entry) self.old self.new) }
+        ensures marked { OnOk result (WritesMarker Quote (rest_of after.entry) self.old self.new) }
     {
         let _bare = self.white()?;
         self.enter(Name::BlockQuotePrefix)?;
@@ -218,7 +218,8 @@ impl<'a, A: Allocator> Walk<'a, A> {
         ensures open { still_open self.new ≡ still_open self.old }
         ensures written { self.new.out ≡ self.old.out }
         ensures line { IsSameLine (standing self.old) (standing self.new) }
-        ensures leaves { MatchOption result (standing self.new ≡ standing self.old) (λ c. Leaves (container_view c) (standing self.old) (standing self.new)) }
+        ensures leaves { MatchOption result (IsOutside (standing self.old) (standing self.new))
+            (λ c. Leaves (container_view c) (standing self.old) (standing self.new)) }
     {
         let container = self.open.pop()?;
         self.quotes_end = quotes_end(&self.open, self.quotes_end);

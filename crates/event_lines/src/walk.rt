@@ -1,14 +1,15 @@
 //! The lines of a text (CommonMark 2.1), one after another, each after the prefixes of its containers.
-ghost use Rattle.std.specs.Prelude.{◌≡◌, ◌∷◌, [], ◌+◌, ◌-◌, ◌<◌, ◌^◌, IfOk, List, OnOk, length, true, ℕ};
+ghost use Rattle.std.specs.Prelude.{◌≡◌, ◌∷◌, [], ◌+◌, ◌-◌, ◌<◌, ◌^◌, IfOk, List, OnOk, false, length, true, ℕ};
 ghost use Rattle.definition_text.specs.Columns.{bare, bytes_of};
 ghost use Rattle.definition_text.specs.Lines.{ending_text};
 ghost use Rattle.block_starts.specs.View.{rest_of};
 ghost use Rattle.engine_events.specs.declared.event.Name.TheVariants.{SpaceOrTab};
 ghost use Rattle.event_output.specs.Open.{Entered, closed};
 ghost use Rattle.event_output.specs.Ends.{end_at, first_end};
-ghost use Rattle.event_output.specs.Written.{Enters, Exits, IsInOrder, open_in};
+ghost use Rattle.event_grammar.specs.Trees.{Nil, growth};
+ghost use Rattle.event_output.specs.Written.{Enters, Exits, IsInOrder, forest_in};
 ghost use Rattle.event_output.specs.Children.{holds_lines, may_enter};
-ghost use Rattle.event_lines.specs.Ends.{WritesEnding, WritesLine, WritesNextLine, WritesUpTo, rest_start, written_to};
+ghost use Rattle.event_lines.specs.Ends.{EndsInLine, WritesEnding, WritesLine, WritesNextLine, WritesUpTo, line_after, rest_start, written_to};
 ghost use Rattle.event_lines.specs.Content.{EntersInLine, ExitsInLine, StandsInLine};
 ghost use Rattle.event_lines.specs.Open.{still_open};
 ghost use Rattle.event_lines.specs.Standing.{standing};
@@ -58,11 +59,15 @@ impl<'a, A: Allocator + Clone> Walk<'a, A> {
         size: usize,
         lines: &'a str,
     ) -> Result<Walk<'a, A>, AllocError>
+        ensures constructs { IfOk result (λ walk. walk.on.now ≡ on.now) }
+        ensures size { IfOk result (λ walk. walk.size ≡ size) }
+        ensures left { IfOk result (λ walk. walk.left.now ≡ lines.now) }
         ensures open { IfOk result (λ walk. still_open walk ≡ []) }
         ensures begins { IfOk result (λ walk. BeginsAt size lines.now (standing walk)) }
         ensures written { IfOk result (λ walk. written_to walk ≡ first_end) }
         ensures order { IfOk result (λ walk. (text : List ℕ) → IsInOrder text walk.out) }
-        ensures outside { IfOk result (λ walk. walk.open.items ≡ []) }
+        ensures forest { IfOk result (λ walk. (text : List ℕ) → forest_in text walk.out ≡ growth Nil []) }
+        ensures outside { IfOk result (λ walk. (standing walk).outermost ≡ []) }
     {
         Ok(Walk {
             on,
@@ -85,19 +90,24 @@ impl<'a, A: Allocator + Clone> Walk<'a, A> {
 impl<'a, A: Allocator> Walk<'a, A> {
     /// What is written.
     pub fn into_output(self) -> Output<A>
-        ensures open { open_in result ≡ still_open self.entry }
+        ensures { result ≡ self.entry.out }
     {
         let Walk { out, .. } = self;
         out
     }
 
-    /// What follows the line.
-    pub fn left(&self) -> &'a str {
-        self.left
+    /// Whether a line is begun.
+    pub fn is_in_line(&self) -> bool
+        ensures { result ≡ self.now.is_in_line }
+    {
+        self.is_in_line
     }
 
     /// Whether no container is open.
-    pub fn is_outside(&self) -> bool {
+    pub fn is_outside(&self) -> bool
+        ensures outside { result ≡ true → (standing self.now).outermost ≡ [] }
+        ensures inside { result ≡ false → 0 < length (standing self.now).outermost }
+    {
         self.open.is_empty()
     }
 
@@ -107,6 +117,7 @@ impl<'a, A: Allocator> Walk<'a, A> {
         ensures open { OnOk result (still_open self.new ≡ still_open self.old) }
         ensures begun { OnOk result (IsBegun (standing self.old) (standing self.new)) }
         ensures written { OnOk result (WritesLine self.old self.new) }
+        ensures line { OnOk result (EndsInLine self.old self.new) }
         ensures around { OnOk result (HasSameOpen (standing self.old) (standing self.new)) }
         ensures stays { self.old.is_in_line ≡ true → OnOk result (self.new ≡ self.old) }
     {
@@ -123,6 +134,7 @@ impl<'a, A: Allocator> Walk<'a, A> {
         ensures open { OnOk result (still_open self.new ≡ still_open self.old) }
         ensures begins { OnOk result (BeginsLine (standing self.old) (standing self.new)) }
         ensures written { OnOk result (WritesLine self.old self.new) }
+        ensures line { OnOk result (EndsInLine self.old self.new) }
         ensures around { OnOk result (HasSameOpen (standing self.old) (standing self.new)) }
     {
         let (content, ending, after) = next_line(self.left);
@@ -156,6 +168,7 @@ impl<'a, A: Allocator> Walk<'a, A> {
         ensures open { OnOk result (still_open self.new ≡ still_open self.old) }
         ensures ends { OnOk result (EndsLine (standing self.old) (standing self.new)) }
         ensures written { OnOk result (WritesEnding name self.old self.new) }
+        ensures line { OnOk result (line_after self.new ≡ line_after self.old) }
         ensures around { OnOk result (HasSameOpen (standing self.old) (standing self.new)) }
     {
         self.is_in_line = false;

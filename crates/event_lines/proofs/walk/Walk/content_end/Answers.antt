@@ -16,10 +16,12 @@ pub returns-then-owed-gt0 : goal.returns-then-owed-gt0
 returns-then-owed-gt0 g c = λ within.
     let start = c.args.self.now.line_start in
     let more = c.args.self.now.place - c.args.self.now.line_place in
-    let closed = after_tab start.index start.owed more (omega (arith, c.if-owed-gt0.true)) (omega (arith, c.if-more-owed.false, c.saturating_sub-more.ensures)) in
+    let closed = after_tab start.index start.owed more (omega (arith, c.if-owed-gt0.true))
+    (omega (arith, c.if-more-owed.false, c.saturating_sub-more.ensures)) in
     let fits : start.index + 1 + (more - start.owed) < 2 ^ 61 = omega (arith, ap (λ (e : End). e.index) closed, within) in
     let first : c.after.result ≡ end_at (start.index + 1) 0 = search rules in
-    let size : c.saturating_sub-then-owed-gt0.result ≡ more - start.owed = omega (arith, c.saturating_sub-then-owed-gt0.ensures, c.saturating_sub-more.ensures) in
+    let size : c.saturating_sub-then-owed-gt0.result ≡ more - start.owed = omega
+    (arith, c.saturating_sub-then-owed-gt0.ensures, c.saturating_sub-more.ensures) in
     let index : c.after.result.index ≡ start.index + 1 = ap (λ (e : End). e.index) first in
     let all : c.after.result.index + c.saturating_sub-then-owed-gt0.result ≡ start.index + 1 + (more - start.owed) = omega (arith, index, size) in
     c.after-then-owed-gt0.ensures (omega (arith, all, fits)) ∙ ap (λ i. end_at i 0) all ∙ sym closed

@@ -16,6 +16,7 @@ use Rattle.event_lines.specs.Standing.{Standing}
 use Rattle.event_lines.specs.Ends.{rest_start, written_to}
 use Rattle.event_lines.proofs.Quiet.{no_void, quiet_both, quiet_prefix, quiet_space}
 use Rattle.event_lines.proofs.Steps.{both_ok}
+use Rattle.event_lines.proofs.Suffixes.{quote_starts}
 use Rattle.event_lines.proofs.Written.{bare_follows, bare_follows_self, bare_start, bare_white, quote_inner}
 use Rattle.event_lines.proofs.walk.Walk.quote_prefix.Goals as goal
 
@@ -62,7 +63,8 @@ returns-clause-marked g c =
     let to = ap (λ (k : ℕ). rest_start k rest) end in
     let bare_end = end_at (old.line_end - length (bytes_of (bare start))) 0 in
     both_ok c.exit.result
-    (λ exits exit_end. λ text before content after n kind line line_is at written order is.
+    (λ exits exit_end. λ text before content after n kind line line_is at written order found.
+    let is = quote_starts old.on.now start rest kind found in
     let bare_is = bare_start text before content after n old.line_end start bare_end refl in
     let from : written_to old ≡ bare_end = written ∙ sym bare_is in
     let follows = bare_follows_self text before content after n old.line_end start bare_end line line_is at bare_is in
