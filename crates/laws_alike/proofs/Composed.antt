@@ -137,9 +137,11 @@ module _ (r : Reading) where
   top_joined false standing (tree.Cons (tree.Blank (Some ending)) bs) cs h =
       ap (page.Cons (page.Blank ending)) (top_joined false (next_standing standing (tree.Blank (Some ending))) bs cs h)
   top_joined true standing (tree.Cons (tree.Holds c kids) bs) cs h =
-      ap (page.Cons (page.Holds (read_container c) (read_blocks r (standing_in c) kids))) (top_joined false (next_standing standing (tree.Holds c kids)) bs cs h)
+      ap (page.Cons (page.Holds (read_container c) (read_blocks r (standing_in c) kids)))
+      (top_joined false (next_standing standing (tree.Holds c kids)) bs cs h)
   top_joined false standing (tree.Cons (tree.Holds c kids) bs) cs h =
-      ap (page.Cons (page.Holds (read_container c) (read_blocks r (standing_in c) kids))) (top_joined false (next_standing standing (tree.Holds c kids)) bs cs h)
+      ap (page.Cons (page.Holds (read_container c) (read_blocks r (standing_in c) kids)))
+      (top_joined false (next_standing standing (tree.Holds c kids)) bs cs h)
   top_joined true standing (tree.Cons (tree.Items items) bs) cs h =
       ap (page.Cons (page.ItemList (list_number items) (is_loose items) (read_blocks r in_container items)))
       (top_joined false (next_standing standing (tree.Items items)) bs cs h)

@@ -115,7 +115,8 @@ module _ (names : Names) (bytes : List ℕ) where
       let full = before_sound fence inside sound in
       ap₂ (λ is_closed ms. fenced_by top info is_closed (ends_in n.SpaceOrTab false ms) (raw_parts bytes ms))
       (ap (λ ms. is_some (child fence ms)) cut ∙ has_same fence other inside sound) both
-      ∙ ap₂ (fenced_by top info (is_some (child fence inside))) (ends_same n.SpaceOrTab false between (before_none fence inside (after_none fence ns none)) full) (raw_parts_same bytes between full)
+      ∙ ap₂ (fenced_by top info (is_some (child fence inside)))
+      (ends_same n.SpaceOrTab false between (before_none fence inside (after_none fence ns none)) full) (raw_parts_same bytes between full)
 
   -- ---- containers
 

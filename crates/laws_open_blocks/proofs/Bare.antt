@@ -3,7 +3,8 @@ use Rattle.std.proofs.Common.{◌≡◌, ℕ, Bool, true, false, ◌==◌, refl,
 use Rattle.std.specs.Prelude.{if◌then◌else◌}
 use Rattle.definition_block.specs.Container.{Quote, Item, Footnote}
 use Rattle.definition_block.specs.Tree.{Block, Leaf, Holds, Items, Ending, Blank, Blocks, Nil, Cons, join, one}
-use Rattle.definition_block.specs.Lists.{after_endings, endings_of, list_items, list_marker, rest_of, item_marker, before_list, put_before, group_items, grouped_block}
+use Rattle.definition_block.specs.Lists.{after_endings, endings_of, list_items, list_marker, rest_of, item_marker, before_list, put_before, group_items}
+use Rattle.definition_block.specs.Lists.{grouped_block}
 use Rattle.laws_open_blocks.specs.Open.{bare_container, bare_block, bare_blocks}
 
 pub bare_join : (xs ys : Blocks) → bare_blocks (join xs ys) ≡ join (bare_blocks xs) (bare_blocks ys)

@@ -62,7 +62,7 @@ module _ (r : Reading) where
   leaf_same standing (FencedCode info is_closed ls) = refl
   leaf_same standing (Html ls) = refl
   leaf_same standing (Table ls) = refl
-  leaf_same standing (Definition label destination title) = refl
+  leaf_same standing (Definition ls label destination title) = refl
 
   after_same : (top : Bool) (leaf : LeafBlock) (others : page.Blocks) → after_leaf top (spaced_leaf leaf) others ≡ after_leaf top leaf others
   after_same top (Paragraph ls) others = refl
@@ -72,7 +72,7 @@ module _ (r : Reading) where
   after_same top (FencedCode info is_closed ls) others = refl
   after_same top (Html ls) others = refl
   after_same top (Table ls) others = refl
-  after_same top (Definition label destination title) others = refl
+  after_same top (Definition ls label destination title) others = refl
 
   container_same : (c : Container) (inner : page.Blocks) → page.Holds (read_container (bare_container c)) inner ≡ page.Holds (read_container c) inner
   container_same Quote inner = refl
@@ -126,7 +126,7 @@ leaf_defined (IndentedCode ls) = refl
 leaf_defined (FencedCode info is_closed ls) = refl
 leaf_defined (Html ls) = refl
 leaf_defined (Table ls) = refl
-leaf_defined (Definition label destination title) = refl
+leaf_defined (Definition ls label destination title) = refl
 
 mutual
   block_defined : (b : Block) → block_definitions (bare_block b) ≡ map with_spaces (block_definitions b)

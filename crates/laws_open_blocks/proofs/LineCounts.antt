@@ -1,5 +1,6 @@
 -- How many lines end before a place, and between two.
-use Rattle.std.proofs.Common.{◌≡◌, ◌≤◌, ◌<◌, ℕ, zero, suc, ◌+◌, ◌-◌, ◌==◌, Bool, true, false, not, ◌&&◌, ◌||◌, leb, List, [], ◌∷◌, ◌++◌, length, take, drop, get_or}
+use Rattle.std.proofs.Common.{◌≡◌, ◌≤◌, ◌<◌, ℕ, zero, suc, ◌+◌, ◌-◌, ◌==◌, Bool, true, false, not, ◌&&◌, ◌||◌, leb, List, [], ◌∷◌, ◌++◌, length, take, drop}
+use Rattle.std.proofs.Common.{get_or}
 use Rattle.std.proofs.Common.{Some, inl, inr, refl, sym, ap, ap₂, ◌∙◌, arith, length-append}
 use Rattle.std.specs.Prelude.{if◌then◌else◌, nat_lt, slice_index}
 use Rattle.std.specs.List.{list_any}
@@ -134,7 +135,8 @@ next_line text front others ending parts apart =
     ap (take (length front + size)) parts ∙ take-append-add front (ending_text (Some ending) ++ others) size
     ∙ ap (λ xs. front ++ xs) (take-append_seam (ending_text (Some ending)) others) in
     let before : take (length front) text ≡ front = ap (take (length front)) parts ∙ take-append_seam front (ending_text (Some ending) ++ others) in
-    let fits : length front ≤ length text = (let l = ap length parts in let m = length-append front (ending_text (Some ending) ++ others) in omega (arith, l, m)) in
+    let fits : length front ≤ length text =
+    (let l = ap length parts in let m = length-append front (ending_text (Some ending) ++ others) in omega (arith, l, m)) in
     let none : length front + 0 ≡ length front = omega arith in
     let here : get_or text (length front) 0 ≡ get_or (ending_text (Some ending) ++ others) 0 0 =
     ap₂ (λ (xs : List ℕ) n. get_or xs n 0) parts (sym none) ∙ get_or-append-add front (ending_text (Some ending) ++ others) 0 0 in

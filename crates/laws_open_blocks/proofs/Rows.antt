@@ -15,7 +15,8 @@ use Rattle.html_looseness.proofs.Ahead.{ahead_of, after_list, before_item_is, li
 use Rattle.html_looseness.proofs.BlockPlaces.{blocks_passed, places_within}
 use Rattle.html_looseness.proofs.ListPlaces.{next_marker}
 use Rattle.laws_open_blocks.specs.Laws.{RowsLeadToBlocks}
-use Rattle.laws_open_blocks.specs.Open.{InContainer, InList, Level, level, Opened, opened, is_in_list, within, bare_item, bare_blocks, item_begun, container_end}
+use Rattle.laws_open_blocks.specs.Open.{InContainer, InList, Level, level, Opened, opened, is_in_list, within, bare_item, bare_blocks, item_begun}
+use Rattle.laws_open_blocks.specs.Open.{container_end}
 use Rattle.laws_open_blocks.specs.Open.{list_end, ends_list, LeadTo}
 use Rattle.laws_open_blocks.proofs.Bare.{bare_groups, bare_marker}
 
@@ -75,7 +76,8 @@ module _ (item : ItemParts) (kids bs : Blocks) (some : 1 ≤ item.marker) where
 
   after_item : (items before : Blocks) (outer : List Level) (places : List Place) (rows : List BlockRow) (all : Blocks) → is_in_list outer ≡ false
       → LeadOn bs → LeadOutOfList bs → (t : Bool) → goes_on ≡ t
-      → LeadTo (opened (join before (Cons (Items (join items (list_ahead (listed t own (grouped bs))))) (after_list (listed t own (grouped bs))))) outer places) rows all
+      → LeadTo
+      (opened (join before (Cons (Items (join items (list_ahead (listed t own (grouped bs))))) (after_list (listed t own (grouped bs))))) outer places) rows all
       → LeadTo (container_end (grouped kids) (level (InContainer (bare_item item.marker item.number) t) items ∷ level InList before ∷ outer)
       (places_within bs ++ places)) (rows_of bs ++ rows) all
   after_item items before outer places rows all free on out false is h =
@@ -148,11 +150,13 @@ item_on item kids bs some inner on out before outer places rows all free h =
     let first = item_in_list item kids bs some inner on out Nil before outer places rows all free
     (subst (λ xs. LeadTo (opened (join before xs) outer places) rows all) (sym (list_is item kids bs some)) h) in (
       tt,
-      subst (λ t. LeadTo (item_begun (bare_item item.marker item.number) (if t then o else within InList o)) (((rows_of kids ++ Exit ∷ []) ++ rows_of bs) ++ rows) all)
+      subst (λ t.
+          LeadTo (item_begun (bare_item item.marker item.number) (if t then o else within InList o)) (((rows_of kids ++ Exit ∷ []) ++ rows_of bs) ++ rows) all)
           (sym free) first,
     )
 
-ending_out : (b : Block) (bs : Blocks) → LeadOutOfList bs → (items before : Blocks) (outer : List Level) (places : List Place) (rows : List BlockRow) (all : Blocks)
+ending_out : (b : Block) (bs : Blocks) → LeadOutOfList bs → (items before : Blocks) (outer : List Level) (places : List Place) (rows : List BlockRow)
+    (all : Blocks)
     → is_in_list outer ≡ false → 1 ≤ list_marker (after_endings (grouped bs))
     → LeadTo (opened (join before (Cons (Items (join items (Cons b (list_ahead (grouped bs))))) (after_list (grouped bs)))) outer places) rows all
     → LeadTo (opened (join items (one b)) (level InList before ∷ outer) (places_within bs ++ places)) (rows_of bs ++ rows) all

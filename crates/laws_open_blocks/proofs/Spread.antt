@@ -1,5 +1,6 @@
 -- Blocks and their nodes are spread alike, and stay so with one more of each.
-use Rattle.std.proofs.Common.{◌≡◌, ◌≤◌, ℕ, suc, ◌+◌, Bool, true, false, not, ◌&&◌, ◌||◌, leb, List, Option, None, Some, length, refl, sym, ap, ap₂, subst, ◌∙◌, arith}
+use Rattle.std.proofs.Common.{◌≡◌, ◌≤◌, ℕ, suc, ◌+◌, Bool, true, false, not, ◌&&◌, ◌||◌, leb, List, Option, None, Some, length, refl, sym, ap, ap₂, subst, ◌∙◌}
+use Rattle.std.proofs.Common.{arith}
 use Rattle.std.specs.Prelude.{if◌then◌else◌}
 use Rattle.std.specs.Option.{option_map}
 use Rattle.std.proofs.lemmas.Bool.{false_from_ne_true}
@@ -57,7 +58,8 @@ module _ (text : List ℕ) where
       (apart_followed child (Some (spot_of end)) ns enter kids exit) (apart_followed child last ns enter kids exit)
       ∙ apart_next here (is_far text last (spot_of first)) (are_apart text child (Some (spot_of end)) ns) (are_apart text child last ns)
       (far (Some (spot_of end))) (far last)
-      ∙ ap (λ (t : Bool). (if here then is_far text last (spot_of first) || are_apart text child (Some (spot_of end)) ns else are_apart text child last ns) || t)
+      ∙ ap (λ (t : Bool).
+      (if here then is_far text last (spot_of first) || are_apart text child (Some (spot_of end)) ns else are_apart text child last ns) || t)
       (chosen here (Some (spot_of end)) last far)
     where
       chosen : (t : Bool) (x y : Option Spot) (f : Option Spot → Bool) → (if t then f x else f y) ≡ f (if t then x else y)
@@ -208,14 +210,16 @@ inside_joined (ConsBlock (Blank e) bs) b h = inside_joined bs b h
 inside_item : (bs : Blocks) (c : Container) (kids : Blocks) → has_gap_inside (join bs (one_block (Holds c kids))) ≡ (has_gap_inside bs || has_gap kids)
 inside_item NoBlock c kids = or_none (has_gap kids)
 inside_item (ConsBlock (Leaf leaf) bs) c kids = inside_item bs c kids
-inside_item (ConsBlock (Holds d inner) bs) c kids = ap (λ t. has_gap inner || t) (inside_item bs c kids) ∙ or_both (has_gap inner) (has_gap_inside bs) (has_gap kids)
+inside_item (ConsBlock (Holds d inner) bs) c kids =
+    ap (λ t. has_gap inner || t) (inside_item bs c kids) ∙ or_both (has_gap inner) (has_gap_inside bs) (has_gap kids)
 inside_item (ConsBlock (Items items) bs) c kids = inside_item bs c kids
 inside_item (ConsBlock (Ending e) bs) c kids = inside_item bs c kids
 inside_item (ConsBlock (Blank e) bs) c kids = inside_item bs c kids
 
 -- ---- both
 
-ended_more : (text : List ℕ) (last : Option Spot) (count : Option ℕ) (line : ℕ) → IsSince text last count line → IsSince text last (option_map suc count) (line + 1)
+ended_more : (text : List ℕ) (last : Option Spot) (count : Option ℕ) (line : ℕ) → IsSince text last count line
+    → IsSince text last (option_map suc count) (line + 1)
 ended_more text None None line h = tt
 ended_more text None (Some count) line h = absurd h
 ended_more text (Some last) None line h = absurd h

@@ -1,5 +1,5 @@
 -- What nodes spell, one after another.
-use Rattle.std.proofs.Common.{◌≡◌, ◌⊎◌, inl, inr, ℕ, Bool, true, false, List, [], ◌∷◌, ◌++◌, Option, None, Some, refl, sym, ap, ap₂, ◌∙◌, subst, map, append_assoc}
+use Rattle.std.proofs.Common.{◌≡◌, inl, inr, ℕ, Bool, true, false, List, [], ◌∷◌, ◌++◌, Some, refl, sym, ap, ap₂, ◌∙◌, subst, map, append_assoc}
 use Rattle.std.specs.Prelude.{if◌then◌else◌}
 use Rattle.std.proofs.lemmas.List.{append-nil, map-append}
 use Rattle.engine_events.specs.Names.{same_name}
@@ -12,7 +12,7 @@ use Rattle.definition_block.specs.Tree as tree
 use Rattle.definition_page.specs.InlinePieces.{Meaning}
 use Rattle.definition_page.specs.Page as page
 use Rattle.definition_page.specs.Read.{Reading, Standing, read_blocks}
-use Rattle.event_grammar.specs.InGrammar.{kids_of, node_name}
+use Rattle.event_grammar.specs.InGrammar.{node_name}
 use Rattle.event_grammar.specs.References.{named, named_in}
 use Rattle.event_grammar.specs.Trees.{Node, Nodes, Around, Nil, Cons, followed_by}
 use Rattle.event_meaning.specs.Blocks.{blocks_from, blocks_of, block_of, join, start_of}
@@ -26,7 +26,7 @@ use Rattle.laws_alike.specs.Targets.{AreDefinitionsAlike}
 use Rattle.laws_alike.proofs.Composed.{alike_blocks_compose}
 use Rattle.laws_open_nodes.specs.Levels.{AreMute, BeginWith, Spell}
 
-join-nil : (bs : page.Blocks) → join bs page.Nil ≡ bs
+pub join-nil : (bs : page.Blocks) → join bs page.Nil ≡ bs
 join-nil page.Nil = refl
 join-nil (page.Cons b bs) = ap (page.Cons b) (join-nil bs)
 
@@ -51,7 +51,7 @@ named_both name (Cons node ns) ms =
     ∙ sym (append_assoc (named_in name node) (named name ns) (named name ms))
 
 -- nodes that spell nothing hold no definition
-mute_named : (ns : Nodes) → AreMute ns → named n.Definition ns ≡ []
+pub mute_named : (ns : Nodes) → AreMute ns → named n.Definition ns ≡ []
 mute_named Nil are = refl
 mute_named (Cons (Around enter kids exit) ns) (inl is, none, more) =
     ap₂ (λ (b : Bool) (xs : List Node). (if b then Around enter kids exit ∷ named n.Definition kids else named n.Definition kids) ++ xs)
@@ -81,7 +81,7 @@ module _ (names : Names) (text : List ℕ) where
       let first = block_of names text top enter.name (text_of text (Around enter kids exit)) kids (blocks_from names text (start_of enter.name) kids) in
       ap (join first) (blocks_both top ns ms) ∙ sym (join-assoc first (blocks_of names text top ns) (blocks_of names text top ms))
 
-  mute_blocks : (top : Bool) (ns : Nodes) → AreMute ns → blocks_of names text top ns ≡ page.Nil
+  pub mute_blocks : (top : Bool) (ns : Nodes) → AreMute ns → blocks_of names text top ns ≡ page.Nil
   mute_blocks top Nil are = refl
   mute_blocks top (Cons (Around enter kids exit) ns) (inl is, none, more) =
       let t = text_of text (Around enter kids exit) in
@@ -114,7 +114,8 @@ module _ (r : Reading) (text : List ℕ) (front : Nodes) where
             (spell.blocks m m' means);
         defined = λ m m' means.
             subst (λ (xs : List Node). AreDefinitionsAlike m m' (definitions bs) (map (definition_of names text) xs))
-            (sym (named_both n.Definition ns ms ∙ ap (λ (xs : List Node). named n.Definition ns ++ xs) (mute_named ms are) ∙ append-nil (named n.Definition ns)))
+            (sym (named_both n.Definition ns ms ∙ ap (λ (xs : List Node). named n.Definition ns ++ xs) (mute_named ms are)
+            ∙ append-nil (named n.Definition ns)))
             (spell.defined m m' means);
       }
 
@@ -138,9 +139,11 @@ module _ (r : Reading) (text : List ℕ) (front : Nodes) where
             alike_blocks_compose.joined m m' (read_blocks r standing bs) (blocks_of names text standing.top ns) more (blocks_of names text standing.top ms)
             (spell.blocks m m' means) (own.blocks m m' means)));
         defined = λ m m' means.
-            subst (λ (ds : List Definition). AreDefinitionsAlike m m' ds (map define (named n.Definition (append ns ms)))) (sym (defined_both bs (tree.one b))) (
+            subst (λ (ds : List Definition). AreDefinitionsAlike m m' ds (map define (named n.Definition (append ns ms))))
+            (sym (defined_both bs (tree.one b))) (
             subst (AreDefinitionsAlike m m' (definitions bs ++ definitions (tree.one b)))
             (sym (ap (map define) (named_both n.Definition ns ms) ∙ map-append define (named n.Definition ns) (named n.Definition ms))) (
-            alike_blocks_compose.defined m m' (definitions bs) (map define (named n.Definition ns)) (definitions (tree.one b)) (map define (named n.Definition ms))
+            alike_blocks_compose.defined m m' (definitions bs) (map define (named n.Definition ns)) (definitions (tree.one b))
+            (map define (named n.Definition ms))
             (spell.defined m m' means) (own.defined m m' means)));
       }

@@ -1,5 +1,6 @@
 -- What is written spells what is open, after one more row.
-use Rattle.std.proofs.Common.{◌≡◌, ◌⊎◌, inl, inr, ◌≤◌, ◌+◌, ℕ, Bool, true, false, List, [], ◌∷◌, ◌++◌, Option, None, Some, refl, sym, ap, ap₂, ◌∙◌, subst, map, length}
+use Rattle.std.proofs.Common.{◌≡◌, inl, inr, ◌≤◌, ◌+◌, ℕ, Bool, true, false, List, [], ◌∷◌, ◌++◌, Option, None, Some, refl, sym, ap, ap₂, ◌∙◌, subst, map}
+use Rattle.std.proofs.Common.{length}
 use Rattle.std.specs.Prelude.{if◌then◌else◌, ◌||◌, ◌&&◌}
 use Rattle.std.proofs.lemmas.Bool.{true≢false}
 use Rattle.std.proofs.lemmas.List.{append-nil}
@@ -12,46 +13,45 @@ use Rattle.engine_events.specs.Names.{same_name, is_listed}
 use Rattle.engine_events.specs.declared.event.Event.{Event}
 use Rattle.engine_events.specs.declared.event.Name.{Name}
 use Rattle.engine_events.specs.declared.event.Name.TheVariants as n
-use Rattle.definition_inline.specs.CharacterReference.{Names}
 use Rattle.definition_inline.specs.Definition.{Definition}
 use Rattle.definition_block.specs.Container.{Container, Quote, Item, Footnote}
 use Rattle.definition_block.specs.Definitions.{definitions, leaf_definitions}
 use Rattle.definition_block.specs.ListItem.{number_of}
 use Rattle.definition_block.specs.Lists.{has_gap, has_gap_inside, is_loose}
-use Rattle.definition_block.specs.Tree.{LeafBlock, Paragraph, Heading, Break, IndentedCode, FencedCode, Html, Table, Definition as DefinitionLeaf, Block, Leaf, Holds, Items, Ending, Blank, Blocks, Nil as NoBlock, Cons as ConsBlock, join, one as one_block, is_ending}
+use Rattle.definition_block.specs.Tree.{LeafBlock, Paragraph, Heading, Break, IndentedCode, FencedCode, Html, Table, Definition as DefinitionLeaf, Block, Leaf}
+use Rattle.definition_block.specs.Tree.{Holds, Items, Ending, Blank, Blocks, Nil as NoBlock, Cons as ConsBlock, join, one as one_block, is_ending}
 use Rattle.definition_page.specs.InlinePieces.{Meaning}
 use Rattle.definition_page.specs.Page as page
-use Rattle.definition_page.specs.Read.{Reading, Standing, list_number, read_block, read_blocks, read_leaf, read_container, standing_in, next_standing, after_leaf, on_page, in_container, without_ending}
-use Rattle.event_check.specs.Loose.{has_loose_item, is_loose_item, is_loose_list, are_apart}
+use Rattle.definition_page.specs.Read.{Reading, Standing, list_number, read_blocks, read_leaf, read_container, standing_in, next_standing, after_leaf, on_page}
+use Rattle.definition_page.specs.Read.{in_container, without_ending}
+use Rattle.event_check.specs.Loose.{has_loose_item, is_loose_item, is_loose_list}
 use Rattle.event_grammar.specs.declared.slot.Child.{Child}
 use Rattle.event_grammar.specs.declared.slot.Child.TheVariants.{Only, Block as BlockChild}
 use Rattle.event_grammar.specs.Checks.{spot_of}
 use Rattle.event_grammar.specs.Grammar.{block_names}
-use Rattle.event_grammar.specs.InGrammar.{kids_of, node_name}
-use Rattle.event_grammar.specs.References.{named, named_in}
+use Rattle.event_grammar.specs.InGrammar.{node_name}
+use Rattle.event_grammar.specs.References.{named}
 use Rattle.event_grammar.specs.Slots.{has}
-use Rattle.event_grammar.specs.Trees.{Growth, Node, Nodes, Part, Around, Nil, Cons, growth, followed_by}
+use Rattle.event_grammar.specs.Trees.{Node, Nodes, Part, Around, Nil, Cons, growth}
 use Rattle.event_meaning.specs.Blocks as spelled
 use Rattle.event_meaning.specs.Blocks.{blocks_from, blocks_of, block_of, footnote_label, start_of}
 use Rattle.event_meaning.specs.Children.{child, inside_of, kids_in, text_in, text_of}
 use Rattle.event_meaning.specs.Raw.{ending_of}
 use Rattle.event_meaning.specs.Spelled.{definition_of}
-use Rattle.event_output.specs.Forest.{append, bytes_from, is_nil, cut, entered, exited, one, with_nodes}
+use Rattle.event_output.specs.Forest.{append, bytes_from, is_nil, cut, exited, one}
 use Rattle.event_output.proofs.Forests.{append-assoc, append-nil as append-none}
-use Rattle.event_output.proofs.Marks.{same_self}
 use Rattle.laws_alike.specs.Composed.{after_unclosed, ends_unclosed, standing_after}
-use Rattle.laws_alike.specs.Meanings.{AreMeanings}
 use Rattle.laws_alike.specs.Page.{AreBlocksAlike, AreContainersAlike}
 use Rattle.laws_alike.specs.Targets.{AreDefinitionsAlike, AreLabelsAlike}
 use Rattle.laws_alike.proofs.Composed.{alike_blocks_compose}
 use Rattle.laws_open_blocks.specs.Lines.{AreSpread, line_at}
-use Rattle.laws_open_blocks.specs.Open.{Holder, InContainer, InList, Level, Opened, is_in_list, is_list, level, opened, within}
+use Rattle.laws_open_blocks.specs.Open.{Holder, InContainer, InList, Level, Opened, is_in_list, is_list, level, opened}
 use Rattle.laws_open_blocks.proofs.Spread.{spread_blocks_compose}
-use Rattle.laws_open_nodes.specs.Levels.{AreAt, AreIn, AreMute, AreOnPage, AreOpen, BeginWith, HasListStart, HasNumber, HasStart, IsFirstOf, IsNamed, Spell, Spells}
+use Rattle.laws_open_nodes.specs.Levels.{AreAt, AreIn, AreMute, AreOpen, BeginWith, HasListStart, HasNumber, HasStart, IsFirstOf, IsNamed, Spell, Spells}
 use Rattle.laws_open_nodes.specs.Levels.{holder_child, holder_standing, innermost, is_item, list_name, spelled_number, standing_at}
 use Rattle.laws_open_nodes.specs.Laws.{LevelsAlwaysGoOn}
-use Rattle.laws_open_nodes.specs.Steps.{IsBegun, IsEndingNode, IsNodeOf, IsStartName, LevelsGoOn, next_stands}
-use Rattle.laws_open_nodes.proofs.Nodes.{SpellMore, begins_more, blocks_both, first_kids, followed_is, from_start, named_both, spell_more, spell_mute}
+use Rattle.laws_open_nodes.specs.Steps.{IsBegun, IsEndingNode, IsNodeOf, IsStartName, LevelsGoOn}
+use Rattle.laws_open_nodes.proofs.Nodes.{SpellMore, begins_more, first_kids, followed_is, from_start, spell_more, spell_mute}
 
 in_container_only : (h : Holder) → (holder_standing h).top ≡ false
 in_container_only (InContainer Quote goes_on) = refl
@@ -126,9 +126,11 @@ module _ (text : List ℕ) where
       ap (has_loose_item text) (sym (append-assoc ns (one node) ms)) ∙ loose_mute bs (append ns (one node)) ms are.2 first
 
 module _ (r : Reading) (text : List ℕ) (front : Nodes) where
-  number_kept : (number : Option ℕ) (ns ms : Nodes) → BeginWith n.ListItemPrefix ns → HasNumber r text front number ns → HasNumber r text front number (append ns ms)
+  number_kept : (number : Option ℕ) (ns ms : Nodes) → BeginWith n.ListItemPrefix ns → HasNumber r text front number ns
+      → HasNumber r text front number (append ns ms)
   number_kept None ns ms begins has = tt
-  number_kept (Some number) ns ms begins has = ap (λ (kids : Nodes). number_of (text_in text n.ListItemValue kids)) (first_kids n.ListItemPrefix ns ms begins) ∙ has
+  number_kept (Some number) ns ms begins has =
+      ap (λ (kids : Nodes). number_of (text_in text n.ListItemValue kids)) (first_kids n.ListItemPrefix ns ms begins) ∙ has
 
   spelled_kept : (name : Name) (ns ms : Nodes) → BeginWith n.ListItem ns → spelled_number r text front name (append ns ms) ≡ spelled_number r text front name ns
   spelled_kept n.ListOrdered ns ms begins =
@@ -150,7 +152,9 @@ module _ (r : Reading) (text : List ℕ) (front : Nodes) where
       (begins_more n.ListItemPrefix ns ms start.0, number_kept item.number ns ms start.0 start.1)
   start_more (InContainer (Footnote label) goes_on) name bs cs ns ms some loose start = (
     begins_more n.GfmFootnoteDefinitionPrefix ns ms start.0,
-    subst (λ (kids : Nodes). AreLabelsAlike label (spelled.label_of r.tables.names text (child n.GfmFootnoteDefinitionLabelString (kids_in n.GfmFootnoteDefinitionLabel kids)))) (sym (first_kids n.GfmFootnoteDefinitionPrefix ns ms start.0)) start.1,
+    subst (λ (kids : Nodes). AreLabelsAlike label (spelled.label_of r.tables.names text
+        (child n.GfmFootnoteDefinitionLabelString (kids_in n.GfmFootnoteDefinitionLabel kids))))
+        (sym (first_kids n.GfmFootnoteDefinitionPrefix ns ms start.0)) start.1,
   )
   start_more InList name bs cs ns ms some loose start = (list_start_more name bs cs ns ms some start.0, loose)
 
@@ -355,7 +359,7 @@ module _ (r : Reading) (text : List ℕ) (front : Nodes) where
   after_leaf_none top (IndentedCode ls) = refl
   after_leaf_none top (Html ls) = refl
   after_leaf_none top (Table ls) = refl
-  after_leaf_none top (DefinitionLeaf label destination title) = refl
+  after_leaf_none top (DefinitionLeaf ls label destination title) = refl
 
   read_one : (standing : Standing) (bs : Blocks) (leaf : LeafBlock)
       → Read standing bs (Leaf leaf) ≡ page.Cons (page.Leaf (read_leaf r (standing_after standing bs) leaf)) page.Nil
@@ -452,7 +456,7 @@ module _ (r : Reading) (text : List ℕ) (front : Nodes) where
   -- ---- ends
 
   -- names of what holds blocks
-  named_other : (h : Holder) (name other : Name) → IsNamed h name → same_name n.BlockQuote other ≡ false → same_name n.ListItem other ≡ false
+  pub named_other : (h : Holder) (name other : Name) → IsNamed h name → same_name n.BlockQuote other ≡ false → same_name n.ListItem other ≡ false
       → same_name n.GfmFootnoteDefinition other ≡ false → same_name n.ListOrdered other ≡ false → same_name n.ListUnordered other ≡ false
       → same_name name other ≡ false
   named_other (InContainer Quote goes_on) name other is quote item footnote ordered unordered = ap (λ (a : Name). same_name a other) is ∙ quote
@@ -461,12 +465,13 @@ module _ (r : Reading) (text : List ℕ) (front : Nodes) where
   named_other InList name other (None, is) quote item footnote ordered unordered = ap (λ (a : Name). same_name a other) is ∙ unordered
   named_other InList name other (Some number, is) quote item footnote ordered unordered = ap (λ (a : Name). same_name a other) is ∙ ordered
 
-  named_whole : (h : Holder) (enter exit : Event) (kids : Nodes) → IsNamed h enter.name → cut (Around enter kids exit) ≡ one (Around enter kids exit)
+  pub named_whole : (h : Holder) (enter exit : Event) (kids : Nodes) → IsNamed h enter.name → cut (Around enter kids exit) ≡ one (Around enter kids exit)
   named_whole h enter exit kids is =
       ap (λ (b : Bool). if b && is_nil kids then bytes_from enter exit else one (Around enter kids exit))
       (named_other h enter.name n.Data is refl refl refl refl refl)
 
-  holder_defined : (h : Holder) (enter exit : Event) (kids : Nodes) → IsNamed h enter.name → named n.Definition (one (Around enter kids exit)) ≡ named n.Definition kids
+  holder_defined : (h : Holder) (enter exit : Event) (kids : Nodes) → IsNamed h enter.name
+      → named n.Definition (one (Around enter kids exit)) ≡ named n.Definition kids
   holder_defined h enter exit kids is =
       ap (λ (b : Bool). (if b then Around enter kids exit ∷ named n.Definition kids else named n.Definition kids) ++ [])
       (named_other h enter.name n.Definition is refl refl refl refl refl)
@@ -525,7 +530,8 @@ module _ (r : Reading) (text : List ℕ) (front : Nodes) where
               tt,
             );
         defined = λ m m' means.
-            subst (λ (ds : List Definition). AreDefinitionsAlike m m' ds (map (definition_of r.tables.names text) (named n.Definition (one (Around enter ns exit)))))
+            subst (λ (ds : List Definition).
+            AreDefinitionsAlike m m' ds (map (definition_of r.tables.names text) (named n.Definition (one (Around enter ns exit)))))
             (sym (append-nil (definitions kids))) (
             subst (λ (xs : List Node). AreDefinitionsAlike m m' (definitions kids) (map (definition_of r.tables.names text) xs))
             (sym (holder_defined (InContainer c goes_on) enter exit ns is)) (own.spell.defined m m' means));
@@ -574,13 +580,15 @@ module _ (r : Reading) (text : List ℕ) (front : Nodes) where
       (spread_blocks_compose.block text (Only n.ListItem) before ms (Holds c kids) enter exit ns refl (ap (same_name n.ListItem) is) fits spread)
 
   -- a container ends in what is around it
-  holder_ends : (c : Container) (goes_on : Bool) (levels : List Level) (parts : List Part) (before kids : Blocks) (enter exit : Event) (ns ms : Nodes) (line : ℕ)
+  holder_ends : (c : Container) (goes_on : Bool) (levels : List Level) (parts : List Part) (before kids : Blocks) (enter exit : Event) (ns ms : Nodes)
+      (line : ℕ)
       → IsNamed (InContainer c goes_on) enter.name → (spot_of enter).index ≤ length text → is_in_list levels ≡ is_item (InContainer c goes_on)
       → IsFirstOf r text front (InContainer c goes_on) before (innermost parts) → AreIn r text front (InContainer c goes_on) enter.name kids ns line
       → AreAt r text front levels parts before ms (line_at text (spot_of enter).index)
       → AreAt r text front levels parts (join before (one_block (Holds c kids))) (append ms (one (Around enter ns exit))) (line_at text (spot_of exit).index)
   holder_ends (Item item) goes_on levels parts before kids enter exit ns ms line is fits stands first own was =
-      at_more levels parts before (Holds (Item item) kids) ms (one (Around enter ns exit)) (line_at text (spot_of enter).index) (line_at text (spot_of exit).index)
+      at_more levels parts before (Holds (Item item) kids) ms (one (Around enter ns exit)) (line_at text (spot_of enter).index)
+      (line_at text (spot_of exit).index)
       (spell_container (standing_at levels) before kids (Item item) goes_on enter exit ns line is own)
       (λ top. kept_if (ends_unclosed false before) (Read on_page before (Holds (Item item) kids)) refl)
       (λ l others here spread. spread_item l.holder before kids (Item item) enter exit ns ms (ap is_in_list (sym here) ∙ stands) is fits spread)
@@ -608,15 +616,18 @@ module _ (r : Reading) (text : List ℕ) (front : Nodes) where
   list_blocks top enter exit ns (None, is) begins =
       let t = text_of text (Around enter ns exit) in
       ap (λ (a : Name). spelled.join (block_of r.tables.names text top a t ns (blocks_from r.tables.names text (start_of a) ns)) page.Nil) is
-      ∙ ap (λ (inner : page.Blocks). page.Cons (page.ItemList None (is_loose_list text true ns) inner) page.Nil) (from_start r.tables.names text n.ListItem ns begins)
-      ∙ sym (ap (λ (a : Name). page.Cons (page.ItemList (spelled_number r text front a ns) (is_loose_list text true ns) (blocks_of r.tables.names text false ns)) page.Nil)
+      ∙ ap (λ (inner : page.Blocks). page.Cons (page.ItemList None (is_loose_list text true ns) inner) page.Nil)
+      (from_start r.tables.names text n.ListItem ns begins)
+      ∙ sym (ap (λ (a : Name).
+      page.Cons (page.ItemList (spelled_number r text front a ns) (is_loose_list text true ns) (blocks_of r.tables.names text false ns)) page.Nil)
       is)
   list_blocks top enter exit ns (Some number, is) begins =
       let t = text_of text (Around enter ns exit) in
       ap (λ (a : Name). spelled.join (block_of r.tables.names text top a t ns (blocks_from r.tables.names text (start_of a) ns)) page.Nil) is
       ∙ ap (λ (inner : page.Blocks). page.Cons (page.ItemList (Some (spelled.list_number r.tables.names text ns)) (is_loose_list text true ns) inner) page.Nil)
       (from_start r.tables.names text n.ListItem ns begins)
-      ∙ sym (ap (λ (a : Name). page.Cons (page.ItemList (spelled_number r text front a ns) (is_loose_list text true ns) (blocks_of r.tables.names text false ns)) page.Nil)
+      ∙ sym (ap (λ (a : Name).
+      page.Cons (page.ItemList (spelled_number r text front a ns) (is_loose_list text true ns) (blocks_of r.tables.names text false ns)) page.Nil)
       is)
 
   spell_list : (standing : Standing) (before items : Blocks) (enter exit : Event) (ns : Nodes) (line : ℕ) → IsNamed InList enter.name
@@ -630,7 +641,8 @@ module _ (r : Reading) (text : List ℕ) (front : Nodes) where
             (sym (list_blocks standing.top enter exit ns is started.0))
             ((started.1, sym (ap₂ (λ (a b : Bool). a || b) own.spread.apart own.start.1), own.spell.blocks m m' means), tt);
         defined = λ m m' means.
-            subst (λ (ds : List Definition). AreDefinitionsAlike m m' ds (map (definition_of r.tables.names text) (named n.Definition (one (Around enter ns exit)))))
+            subst (λ (ds : List Definition).
+            AreDefinitionsAlike m m' ds (map (definition_of r.tables.names text) (named n.Definition (one (Around enter ns exit)))))
             (sym (append-nil (definitions items))) (
             subst (λ (xs : List Node). AreDefinitionsAlike m m' (definitions items) (map (definition_of r.tables.names text) xs))
             (sym (holder_defined InList enter exit ns is)) (own.spell.defined m m' means));
@@ -642,7 +654,8 @@ module _ (r : Reading) (text : List ℕ) (front : Nodes) where
 
   -- ---- what is open
 
-  container_end_by : (c : Container) (goes_on : Bool) (before kids : Blocks) (levels : List Level) (parts : List Part) (ns : Nodes) (exit : Event) (places : List Place)
+  container_end_by : (c : Container) (goes_on : Bool) (before kids : Blocks) (levels : List Level) (parts : List Part) (ns : Nodes) (exit : Event)
+      (places : List Place)
       → AreAt r text front (level (InContainer c goes_on) before ∷ levels) parts kids ns (line_at text (spot_of exit).index)
       → AreOpen r text front (level (InContainer c goes_on) before ∷ levels) parts
       → Spells r text front (opened (join before (one_block (Holds c kids))) levels places) (exited (growth ns parts) exit) (line_at text (spot_of exit).index)
@@ -650,9 +663,11 @@ module _ (r : Reading) (text : List ℕ) (front : Nodes) where
   container_end_by c goes_on before kids levels (part ∷ parts) ns exit places own there =
       record {
         kids =
-            subst (λ (xs : Nodes). AreAt r text front levels parts (join before (one_block (Holds c kids))) (append part.before xs) (line_at text (spot_of exit).index))
+            subst (λ (xs : Nodes).
+            AreAt r text front levels parts (join before (one_block (Holds c kids))) (append part.before xs) (line_at text (spot_of exit).index))
             (sym (named_whole (InContainer c goes_on) part.enter exit ns there.0))
-            (holder_ends c goes_on levels parts before kids part.enter exit ns part.before (line_at text (spot_of exit).index) there.0 there.1 there.2 there.3 own there.4);
+            (holder_ends c goes_on levels parts before kids part.enter exit ns part.before
+            (line_at text (spot_of exit).index) there.0 there.1 there.2 there.3 own there.4);
         around = there.5;
       }
 
@@ -664,7 +679,8 @@ module _ (r : Reading) (text : List ℕ) (front : Nodes) where
   list_end_by before kids levels (part ∷ parts) ns exit places some own there =
       record {
         kids =
-            subst (λ (xs : Nodes). AreAt r text front levels parts (join before (one_block (Items kids))) (append part.before xs) (line_at text (spot_of exit).index))
+            subst (λ (xs : Nodes).
+            AreAt r text front levels parts (join before (one_block (Items kids))) (append part.before xs) (line_at text (spot_of exit).index))
             (sym (named_whole InList part.enter exit ns there.0))
             (at_block levels parts before (Items kids) part.before ns part.enter exit there.2 refl (holder_listed InList part.enter.name there.0 refl) there.1
             (spell_list (standing_at levels) before kids part.enter exit ns (line_at text (spot_of exit).index) there.0 some own) refl there.4);

@@ -20,6 +20,6 @@ LevelsAlwaysGoOn = (r : Reading) (text : List ℕ) (front : Nodes) → LevelsGoO
 -- Where nothing is open after all rows of a document, the nodes spell a page that is alike to that of its blocks.
 abbrev pub PagesAreSpelled : Type 0
 PagesAreSpelled =
-    (tables : TextTables) (options : ParseOptions) (text : List ℕ) (bs : Blocks) (front ns : Nodes) (line : ℕ) → IsFront tables.names text front
+    (tables : TextTables) (options : ParseOptions) (text : List ℕ) (bs : Blocks) (front ns : Nodes) (line : ℕ) → IsFront tables.names text front bs
     → Spells (reading tables options (document_targets bs)) text front (opened (group_items (bare_blocks bs)) [] []) (growth ns []) line
     → IsSpelledPage tables options text bs (page_of tables.names text ns)

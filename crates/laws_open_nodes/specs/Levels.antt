@@ -1,9 +1,8 @@
 -- What the nodes spell that are written so far, in what is open and in the document (CommonMark 5).
 use Rattle.std.specs.Prelude.{◌≡◌, ◌⊎◌, ◌≤◌, ℕ, Bool, true, false, List, [], ◌∷◌, Option, None, Some, map, length}
-use Rattle.engine_events.specs.declared.event.Event.{Event}
 use Rattle.engine_events.specs.declared.event.Name.{Name}
 use Rattle.engine_events.specs.declared.event.Name.TheVariants as n
-use Rattle.definition_block.specs.Container.{Container, Quote, Item, Footnote}
+use Rattle.definition_block.specs.Container.{Quote, Item, Footnote}
 use Rattle.definition_block.specs.Definitions.{definitions}
 use Rattle.definition_block.specs.ListItem.{number_of}
 use Rattle.definition_block.specs.Lists.{has_gap_inside}
@@ -16,7 +15,7 @@ use Rattle.event_grammar.specs.declared.slot.Child.TheVariants.{Only, Block}
 use Rattle.event_grammar.specs.Checks.{spot_of}
 use Rattle.event_grammar.specs.InGrammar.{kids_of, node_name}
 use Rattle.event_grammar.specs.References.{named}
-use Rattle.event_grammar.specs.Trees.{Growth, Node, Nodes, Part, Around, Nil, Cons}
+use Rattle.event_grammar.specs.Trees.{Growth, Nodes, Part, Nil, Cons}
 use Rattle.event_meaning.specs.Blocks as spelled
 use Rattle.event_meaning.specs.Blocks.{blocks_of, footnote_label}
 use Rattle.event_meaning.specs.Children.{kids_in, text_in}

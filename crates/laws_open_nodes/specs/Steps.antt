@@ -6,10 +6,9 @@ use Rattle.engine_events.specs.Names.{is_listed}
 use Rattle.engine_events.specs.declared.event.Event.{Event}
 use Rattle.engine_events.specs.declared.event.Name.{Name}
 use Rattle.engine_events.specs.declared.event.Name.TheVariants as n
-use Rattle.definition_inline.specs.Definition.{Definition}
 use Rattle.definition_block.specs.Container.{Container}
 use Rattle.definition_block.specs.Definitions.{leaf_definitions}
-use Rattle.definition_block.specs.Tree.{LeafBlock, FencedCode, Block, Leaf, Holds, Items, Ending, Blank, Blocks, Nil as NoBlock, Cons as ConsBlock, join, one as one_block}
+use Rattle.definition_block.specs.Tree.{LeafBlock, Block, Leaf, Holds, Items, Ending, Blank, Blocks, Nil as NoBlock, join, one as one_block}
 use Rattle.definition_page.specs.InlinePieces.{Meaning}
 use Rattle.definition_page.specs.Page as page
 use Rattle.definition_page.specs.Read.{Reading, Standing, read_leaf}
@@ -17,7 +16,7 @@ use Rattle.event_grammar.specs.Checks.{spot_of}
 use Rattle.event_grammar.specs.Grammar.{block_names}
 use Rattle.event_grammar.specs.InGrammar.{kids_of, node_name}
 use Rattle.event_grammar.specs.References.{named}
-use Rattle.event_grammar.specs.Trees.{Growth, Node, Nodes, Around, Nil, Cons}
+use Rattle.event_grammar.specs.Trees.{Growth, Node, Nodes, Around, Nil}
 use Rattle.event_meaning.specs.Blocks.{blocks_of, one as one_page_block}
 use Rattle.event_meaning.specs.Children.{text_of}
 use Rattle.event_meaning.specs.Spelled.{definition_of}
@@ -27,7 +26,7 @@ use Rattle.laws_alike.specs.Meanings.{AreMeanings}
 use Rattle.laws_alike.specs.Page.{AreBlocksAlike}
 use Rattle.laws_alike.specs.Targets.{AreDefinitionsAlike}
 use Rattle.laws_open_blocks.specs.Lines.{line_at}
-use Rattle.laws_open_blocks.specs.Open.{Holder, InContainer, InList, Level, Opened, is_in_list, level, opened, within}
+use Rattle.laws_open_blocks.specs.Open.{InContainer, InList, Level, Opened, is_in_list, level, opened, within}
 use Rattle.laws_open_nodes.specs.Levels.{AreMute, HasStart, IsFirstOf, IsNamed, Spells, innermost, is_item, list_name, standing_at}
 
 -- the ending of a line, by a name
@@ -59,7 +58,8 @@ module _ (r : Reading) (text : List ℕ) (front : Nodes) where
 
   -- what is written spells what is open, after one more row or a part of its nodes
   pub record LevelsGoOn : Type 0 where
-    pub mute : (o : Opened) (g : Growth) (line : ℕ) (ns : Nodes) → AreMute ns → IsBegun o → Spells r text front o g line → Spells r text front o (with_nodes g ns) line
+    pub mute : (o : Opened) (g : Growth) (line : ℕ) (ns : Nodes) → AreMute ns → IsBegun o → Spells r text front o g line
+        → Spells r text front o (with_nodes g ns) line
     -- the ending of a block's last line; in unclosed code at the top it is written already
     pub ending : (o : Opened) (g : Growth) (line : ℕ) (e : LineEnding) (node : Node) → IsEndingNode text n.LineEnding e node
         → (o.outer ≡ [] → ends_unclosed false o.kids ≡ false) → IsBegun o → Spells r text front o g line
@@ -70,7 +70,8 @@ module _ (r : Reading) (text : List ℕ) (front : Nodes) where
         → Spells r text front (opened (join o.kids (one_block (Ending None))) o.outer o.places) g other
     -- a blank line
     pub blank : (o : Opened) (g : Growth) (line : ℕ) (e : LineEnding) (node : Node) → IsEndingNode text n.BlankLineEnding e node
-        → IsBegun o → Spells r text front o g line → Spells r text front (opened (join o.kids (one_block (Blank (Some e)))) o.outer o.places) (with_nodes g (one node)) (line + 1)
+        → IsBegun o → Spells r text front o g line
+        → Spells r text front (opened (join o.kids (one_block (Blank (Some e)))) o.outer o.places) (with_nodes g (one node)) (line + 1)
     pub no_blank : (o : Opened) (g : Growth) (line other : ℕ) → o.outer ≡ [] → Spells r text front o g line
         → Spells r text front (opened (join o.kids (one_block (Blank None))) o.outer o.places) g other
     -- a leaf
@@ -84,7 +85,8 @@ module _ (r : Reading) (text : List ℕ) (front : Nodes) where
         → is_in_list o.outer ≡ is_item (InContainer c goes_on) → IsNamed (InContainer c goes_on) enter.name
         → IsFirstOf r text front (InContainer c goes_on) o.kids (innermost g.outer) → (spot_of enter).index ≤ length text → IsStartName (node_name first)
         → named n.Definition (one first) ≡ [] → HasStart r text front (InContainer c goes_on) enter.name NoBlock (one first)
-        → Spells r text front o g (line_at text (spot_of enter).index) → Spells r text front (within (InContainer c goes_on) o) (with_nodes (entered g enter) (one first)) line
+        → Spells r text front o g (line_at text (spot_of enter).index)
+        → Spells r text front (within (InContainer c goes_on) o) (with_nodes (entered g enter) (one first)) line
     pub list : (o : Opened) (g : Growth) (line : ℕ) (number : Option ℕ) (enter : Event) → is_in_list o.outer ≡ false → enter.name ≡ list_name number
         → (spot_of enter).index ≤ length text → Spells r text front o g (line_at text (spot_of enter).index)
         → Spells r text front (within InList o) (entered g enter) line

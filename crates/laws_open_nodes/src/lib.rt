@@ -2,6 +2,7 @@
 #![tactic(auto)]
 
 ghost use Rattle.laws_open_nodes.specs.Laws.{LevelsAlwaysGoOn, PagesAreSpelled};
+ghost use Rattle.laws_open_nodes.specs.Texts.{TextsAreSpelled};
 
 /// What is written spells what is open, after one more row or a part of its nodes.
 #[tactic(auto, using(crate::proofs::Steps::always_go_on))]
@@ -12,4 +13,11 @@ pub fn levels_law()
 /// Where nothing is open after all rows of a document, its nodes spell the page of its blocks.
 pub fn pages_law()
     ensures { PagesAreSpelled }
+{}
+
+/// Where nothing is open after all rows of a text, events in the grammar that have its nodes spell
+/// the page of the text.
+#[tactic(auto, using(crate::proofs::Texts::texts_are_spelled))]
+pub fn texts_law()
+    ensures { TextsAreSpelled }
 {}
