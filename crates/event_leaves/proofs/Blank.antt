@@ -1,35 +1,106 @@
 -- What is written of a blank line, step by step (CommonMark 4.9).
-use Rattle.std.proofs.Common.{◌≡◌, ℕ, ◌-◌, false, true, List, [], ◌++◌, Option, refl, sym, ap, ap₂, subst, ◌∙◌, drop, length, arith}
-use Rattle.std.specs.List.{list_all}
+use Rattle.std.proofs.Common.{◌≡◌, inl, inr, ◌≤◌, ◌+◌, ℕ, suc, ◌-◌, eqb, Bool, false, true, not, List, [], ◌∷◌, ◌++◌, Option, refl, sym, ap, subst, ◌∙◌, drop, length, arith}
+use Rattle.std.specs.Prelude.{if◌then◌else◌}
+use Rattle.std.specs.List.{list_all, prefix_len}
+use Rattle.std.proofs.lemmas.Bool.{and_parts, cases_Bool, cond-false, cond-true, eqb-true, ne_eqb, true≢false}
 use Rattle.std.proofs.lemmas.List.{drop_all}
 use Rattle.std.proofs.Math.Seq.{take-length}
 use Rattle.markdown_options.specs.declared.line_ending.LineEnding.{LineEnding}
 use Rattle.engine_events.specs.Names.{same_name}
 use Rattle.engine_events.specs.declared.event.Name.{Name}
 use Rattle.engine_events.specs.declared.event.Name.TheVariants as n
-use Rattle.definition_text.specs.Columns.{Rest, is_blank, is_white, whole}
+use Rattle.definition_text.specs.Columns.{Rest, bytes_of, is_blank, is_byte, is_tab_column, is_white, whole}
 use Rattle.definition_text.specs.Lines.{ending_text}
 use Rattle.block_starts.specs.View.{rest_of}
-use Rattle.event_grammar.specs.Trees.{Nodes}
+use Rattle.event_grammar.specs.Trees.{Growth, Nodes, Around, Nil, Cons}
 use Rattle.event_output.specs.declared.end.End.{End}
-use Rattle.event_output.specs.Ends.{Follows, end_at}
-use Rattle.event_output.specs.Forest.{void_nodes}
-use Rattle.event_output.specs.Written.{IsInOrder, Writes}
+use Rattle.event_output.specs.Ends.{Follows, end_at, enter_at, exit_at, same_end}
+use Rattle.event_output.specs.Forest.{append, cut, is_nil, void_nodes}
+use Rattle.event_output.specs.Written.{IsInOrder, Writes, forest_in}
 use Rattle.event_output.proofs.Written.{writes_both}
 use Rattle.laws_laid.specs.Laid.{IsBlankLaid}
 use Rattle.laws_laid.specs.Places.{AtEnding, Between, LineRest, Place, Within, line_left}
 use Rattle.event_lines.specs.declared.walk.Walk.{Walk}
 use Rattle.event_lines.specs.Ends.{IsWrittenToRest, WritesEnding, WritesQuiet, WritesUpTo, line_after, rest_start, written_to}
-use Rattle.event_lines.specs.Standing.{Standing, StandsAt, around, standing}
+use Rattle.event_lines.specs.Standing.{IsLineOf, Standing, StandsAt, around, standing}
 use Rattle.event_lines.specs.Steps.{EndsLine, HasSameOpen}
-use Rattle.event_lines.proofs.Ends.{end_to_next}
+use Rattle.event_lines.proofs.Ends.{end_to_next, left_within, rest_to_end, start_whole}
 use Rattle.event_lines.proofs.Steps.{at_ending}
 use Rattle.event_lines.proofs.Suffixes.{IsAfterWhite}
 use Rattle.event_lines.proofs.Written.{space_written}
 use Rattle.event_leaves.specs.Laid.{AreEnding, WritesBlank}
 use Rattle.event_leaves.proofs.Endings.{ending_nodes}
 
+-- ---- white space takes all that is left
+
+abbrev tail_of : Nodes → Nodes
+tail_of Nil = Nil
+tail_of (Cons node ns) = ns
+
+append_none : (ns ms : Nodes) → append ns ms ≡ append ns Nil → ms ≡ Nil
+append_none Nil ms is = is
+append_none (Cons node ns) ms is = append_none ns ms (ap tail_of is)
+
+-- where no space is written, its ends are the same
+void_same : (text : List ℕ) (from to : End) → void_nodes text n.SpaceOrTab from to ≡ Nil → same_end to from ≡ true
+void_same text from to none =
+    elim (cases_Bool (same_end to from)) [
+      | inl same ↦ same
+      | inr other ↦
+          let node = cut (Around (enter_at text n.SpaceOrTab from) Nil (exit_at text n.SpaceOrTab to)) in
+          absurd (true≢false (sym (ap is_nil none) ∙ ap (λ (b : Bool). is_nil (if b then Nil else node)) other))
+    ]
+
+-- where nothing is between a rest and the end of its line, the rest is empty
+rest_same : (text before content after : List ℕ) (line_end : ℕ) (rest : Rest) → IsLineOf text before content after → line_end ≡ length before + length content
+    → length (bytes_of rest) ≤ length content → same_end (end_at line_end 0) (rest_start line_end rest) ≡ true → rest ≡ []
+rest_same text before content after line_end [] line end few same = refl
+rest_same text before content after line_end (c ∷ cs) line end few same =
+    elim (cases_Bool (is_tab_column c)) [
+      | inl column ↦
+          let owed : prefix_len is_tab_column (c ∷ cs) ≡ 1 + prefix_len is_tab_column cs = cond-true (is_tab_column c) _ _ column in
+          let index = line_end - length (bytes_of (c ∷ cs)) in
+          let start : rest_start line_end (c ∷ cs) ≡ end_at (index - 1) (1 + prefix_len is_tab_column cs) =
+          ap (λ (k : ℕ). if eqb k 0 then end_at index 0 else end_at (index - 1) k) owed
+          ∙ cond-false (eqb (1 + prefix_len is_tab_column cs) 0) _ _ (ne_eqb (1 + prefix_len is_tab_column cs) 0 (λ is. omega (arith, is))) in
+          let parts = and_parts (eqb line_end (rest_start line_end (c ∷ cs)).index) (eqb 0 (rest_start line_end (c ∷ cs)).owed) same in
+          let none : 0 ≡ (rest_start line_end (c ∷ cs)).owed = eqb-true 0 (rest_start line_end (c ∷ cs)).owed parts.1 in
+          let some : (rest_start line_end (c ∷ cs)).owed ≡ 1 + prefix_len is_tab_column cs = ap (λ (x : End). x.owed) start in
+          absurd (omega (arith, none, some))
+      | inr byte ↦
+          let owed : prefix_len is_tab_column (c ∷ cs) ≡ 0 = cond-false (is_tab_column c) _ _ byte in
+          let start = start_whole line_end (c ∷ cs) owed in
+          let bytes : bytes_of (c ∷ cs) ≡ c ∷ bytes_of cs = cond-true (is_byte c) _ _ (ap not byte) in
+          let size : length (bytes_of (c ∷ cs)) ≡ suc (length (bytes_of cs)) = ap length bytes in
+          let parts = and_parts (eqb line_end (rest_start line_end (c ∷ cs)).index) (eqb 0 (rest_start line_end (c ∷ cs)).owed) same in
+          let here : line_end ≡ (rest_start line_end (c ∷ cs)).index = eqb-true line_end (rest_start line_end (c ∷ cs)).index parts.0 in
+          let there : (rest_start line_end (c ∷ cs)).index ≡ line_end - length (bytes_of (c ∷ cs)) = ap (λ (x : End). x.index) start in
+          absurd (omega (arith, here, there, size, few, end))
+    ]
+
 module _ {A : Type 0} (text : List ℕ) where
+  -- all of a blank line is written; nothing is only where nothing is left of it
+  blank_all : (old a : Walk A) (here : LineRest) (left : List LineRest) (ns : Nodes) → StandsAt text (Within here left) (standing old) → IsWrittenToRest old
+      → IsInOrder text old.out → WritesUpTo n.SpaceOrTab (end_at old.line_end 0) old a → Writes text old.out a.out ns → ns ≡ Nil → rest_of old.rest ≡ []
+  blank_all old a here left ns st at order writes written none =
+      let line = st.line in
+      let after = ending_text old.ending ++ old.left.now in
+      let rest = rest_of old.rest in
+      let is : rest ≡ drop st.columns (whole line.content) = st.rest ∙ st.suffix in
+      let start : written_to old ≡ rest_start old.line_end rest = at in
+      let follows : Follows text (written_to old) (end_at old.line_end 0) =
+      subst (λ (x : End). Follows text x (end_at old.line_end 0)) (ap (rest_start old.line_end) (sym is) ∙ sym start)
+      (rest_to_end text line.before line.content after old.line_end st.columns line.parts line.end) in
+      let space = writes text order follows in
+      let void = void_nodes text n.SpaceOrTab (written_to old) (end_at old.line_end 0) in
+      let same : append (forest_in text old.out).kids void ≡ append (forest_in text old.out).kids Nil =
+      ap (λ (g : Growth). g.kids) (sym space.forest ∙ written.forest) ∙ ap (append (forest_in text old.out).kids) none in
+      let few : length (bytes_of rest) ≤ length line.content =
+      subst (λ (r : Rest). length (bytes_of r) ≤ length line.content) (sym is) (left_within line.content st.columns line.parts.bytes) in
+      rest_same text line.before line.content after old.line_end rest line.parts line.end few
+      (ap (same_end (end_at old.line_end 0)) (sym start)
+      ∙ void_same text (written_to old) (end_at old.line_end 0) (append_none (forest_in text old.out).kids void same))
+
   -- all of a blank line
   pub blank_space : (old a : Walk A) (here : LineRest) (left : List LineRest) → StandsAt text (Within here left) (standing old) → IsWrittenToRest old
       → IsInOrder text old.out → is_blank here.rest ≡ true → WritesUpTo n.SpaceOrTab (end_at old.line_end 0) old a → WritesQuiet text old.out a.out
@@ -83,8 +154,8 @@ module _ {A : Type 0} (text : List ℕ) where
       let line_end : a.line_end ≡ old.line_end = ap (λ (s : Standing). s.line_end) same in
       let end : written_to a ≡ end_at a.line_end 0 =
       end_b ∙ ap (λ (w : Walk A). end_at w.line_end 0) is ∙ ap (λ (k : ℕ). end_at k 0) (sym line_end) in
-      let spaces = blank_space old a here left st at order (ap (λ (l : LineRest). is_blank l.rest) line ∙ laid.3)
-      (subst (λ (w : Walk A). WritesUpTo n.SpaceOrTab (end_at w.line_end 0) w a) is writes_b) in
+      let upto = subst (λ (w : Walk A). WritesUpTo n.SpaceOrTab (end_at w.line_end 0) w a) is writes_b in
+      let spaces = blank_space old a here left st at order (ap (λ (l : LineRest). is_blank l.rest) line ∙ laid.3) upto in
       let st_a = subst (StandsAt text (AtEnding here.beside.ending left)) (sym same) (at_ending text here left (standing old) st) in
       let done = end_written n.BlankLineEnding a d here.beside.ending left refl st_a end spaces.writes.order writes in
       let ending_is : here.beside.ending ≡ ending = ap (λ (l : LineRest). l.beside.ending) line ∙ sym laid.4 in
@@ -92,6 +163,7 @@ module _ {A : Type 0} (text : List ℕ) where
       record {
         before = spaces.nodes;
         are_quiet = spaces.quiet;
+        space = blank_all old a here left spaces.nodes st at order upto spaces.writes;
         nodes = done.nodes;
         are_ending = subst (λ (e : Option LineEnding). AreEnding text n.BlankLineEnding e done.nodes) ending_is done.are_ending;
         writes = writes_both text old.out a.out d.out spaces.nodes done.nodes spaces.writes done.writes;

@@ -1,5 +1,5 @@
 -- What is written of fenced code and math that a fence closes (CommonMark 4.5).
-use Rattle.std.proofs.Common.{◌≡◌, ◌⊎◌, ℕ, ◌+◌, ◌≤◌, Bool, true, false, List, [], ◌∷◌, ◌++◌, Option, None, Some, inl, inr, refl, sym, ap, ap₂, subst, ◌∙◌, flat_map, length, reverse, arith}
+use Rattle.std.proofs.Common.{◌≡◌, ◌⊎◌, ℕ, Bool, true, false, List, [], ◌∷◌, ◌++◌, Option, None, Some, refl, sym, ap, ap₂, subst, ◌∙◌, flat_map, length, reverse}
 use Rattle.std.proofs.lemmas.Bool.{cond-true}
 use Rattle.std.proofs.lemmas.List.{append-nil}
 use Rattle.markdown_options.specs.declared.configuration.Constructs.{Constructs}
@@ -15,18 +15,18 @@ use Rattle.definition_block.specs.Tree.{FencedCode}
 use Rattle.definition_inline.specs.CharacterReference.{Names}
 use Rattle.definition_page.specs.InlinePieces.{Meaning}
 use Rattle.definition_page.specs.Page as page
-use Rattle.definition_page.specs.Read.{Reading, code_lines, info_text, read_leaf}
+use Rattle.definition_page.specs.Read.{Reading, info_text, read_leaf}
 use Rattle.event_grammar.specs.Grammar.{block_names}
 use Rattle.event_grammar.specs.InGrammar.{kids_of, node_name}
 use Rattle.event_grammar.specs.References.{named}
-use Rattle.event_grammar.specs.Trees.{Node, Nodes, Around, Nil, Cons}
+use Rattle.event_grammar.specs.Trees.{Node, Nodes, Around, Cons}
 use Rattle.event_meaning.specs.Blocks.{blocks_of, code_fenced_of, info_of, math_flow_of, one as one_block}
 use Rattle.event_meaning.specs.Children.{child, inside_of, kids_in}
 use Rattle.event_meaning.specs.Raw.{End as EndPart, RawPart, fenced_lines, raw_parts}
 use Rattle.event_output.specs.declared.end.End.{End}
 use Rattle.event_output.specs.Ends.{end_at, enter_at, exit_at}
 use Rattle.event_output.specs.Forest.{append, one}
-use Rattle.event_output.specs.Written.{Exits, IsInOrder, Writes, end_in}
+use Rattle.event_output.specs.Written.{Exits, IsInOrder, end_in}
 use Rattle.event_output.proofs.Written.{writes_both}
 use Rattle.laws_alike.specs.Page.{AreBlocksAlike, AreLeavesAlike}
 use Rattle.laws_alike.specs.Raw.{code_parts, end_part}
@@ -46,7 +46,7 @@ use Rattle.event_leaves.proofs.ClosingFence.{closed_alike, info_read, parts_clos
 use Rattle.event_leaves.proofs.FencedCode.{closed_leaf, math_string}
 use Rattle.event_leaves.proofs.LeafNodes.{leaf_written}
 use Rattle.event_leaves.proofs.NextLines.{next_written, none_unread}
-use Rattle.event_leaves.proofs.Nodes.{quiet_definitions, quiet_parts, raw_append, raw_parts_append, raw_quiet, named_append}
+use Rattle.event_leaves.proofs.Nodes.{quiet_parts, raw_append, raw_parts_append, raw_quiet, named_append}
 
 -- ---- the block's name
 

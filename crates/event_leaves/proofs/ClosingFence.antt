@@ -1,34 +1,23 @@
 -- What is written of fenced code and math that are closed, step by step (CommonMark 4.5).
-use Rattle.std.proofs.Common.{◌≡◌, ◌⊎◌, ℕ, ◌+◌, ◌-◌, ◌^◌, ◌<◌, ◌≤◌, Bool, true, false, not, ◌&&◌, ◌||◌, List, [], ◌∷◌, ◌++◌, Option, None, Some, inl, inr, refl, sym, ap, ap₂, subst, ◌∙◌, append_assoc, flat_map, length, reverse, arith}
-use Rattle.std.proofs.lemmas.Bool.{cond-false, cond-true}
+use Rattle.std.proofs.Common.{◌≡◌, ℕ, ◌+◌, ◌-◌, ◌^◌, ◌<◌, ◌≤◌, Bool, true, false, ◌&&◌, List, [], ◌∷◌, ◌++◌, Option, Some, refl, sym, ap, subst, ◌∙◌, append_assoc, flat_map, length, arith}
+use Rattle.std.proofs.lemmas.Bool.{cond-false}
 use Rattle.std.proofs.lemmas.List.{append-nil}
-use Rattle.markdown_options.specs.declared.configuration.Constructs.{Constructs}
 use Rattle.markdown_options.specs.declared.line_ending.LineEnding.{LineEnding}
 use Rattle.engine_events.specs.Names.{same_name}
-use Rattle.engine_events.specs.declared.event.Name.{Name}
 use Rattle.engine_events.specs.declared.event.Name.TheVariants as n
 use Rattle.definition_text.specs.BlockLines.{BlockLine, last_ending_or}
 use Rattle.definition_text.specs.Columns.{bare, bytes_of}
-use Rattle.definition_block.specs.CodeFenced.{Fence}
-use Rattle.definition_block.specs.Container.{Container}
-use Rattle.definition_block.specs.Tree.{FencedCode}
-use Rattle.definition_inline.specs.CharacterReference.{Names}
 use Rattle.definition_page.specs.InlinePieces.{Meaning}
 use Rattle.definition_page.specs.Page as page
-use Rattle.definition_page.specs.Read.{Reading, code_lines, info_text, read_leaf}
+use Rattle.definition_page.specs.Read.{Reading, code_lines, info_text}
 use Rattle.block_starts.specs.View.{rest_of}
-use Rattle.event_grammar.specs.InGrammar.{kids_of, node_name}
 use Rattle.event_grammar.specs.References.{named}
-use Rattle.event_grammar.specs.Trees.{Node, Nodes, Around, Nil, Cons}
-use Rattle.event_meaning.specs.Blocks.{fenced_of, info_of}
-use Rattle.event_meaning.specs.Children.{child, inside_of, kids_in}
-use Rattle.event_meaning.specs.Raw.{Chunk, End as EndPart, RawPart, fenced_lines, raw_lines, raw_parts}
-use Rattle.event_output.specs.declared.end.End.{End}
+use Rattle.event_grammar.specs.Trees.{Node, Around}
+use Rattle.event_meaning.specs.Raw.{End as EndPart, RawPart, fenced_lines}
 use Rattle.event_output.specs.Ends.{end_at, enter_at, exit_at}
-use Rattle.event_output.specs.Forest.{append, cut, is_nil, one}
+use Rattle.event_output.specs.Forest.{cut, is_nil, one}
 use Rattle.event_output.specs.Written.{Enters, Exits, IsInOrder, Writes, end_in}
-use Rattle.event_output.proofs.Written.{writes_around, writes_both}
-use Rattle.laws_alike.specs.BlockLines.{has_lines}
+use Rattle.event_output.proofs.Written.{writes_around}
 use Rattle.laws_alike.specs.Page.{AreLeavesAlike}
 use Rattle.laws_alike.specs.Raw.{code_parts, end_part}
 use Rattle.laws_alike.proofs.Raw.{raw_lines_are_alike}
@@ -38,10 +27,9 @@ use Rattle.event_lines.specs.Ends.{IsWrittenToRest, WritesUpTo, written_to}
 use Rattle.event_lines.specs.Standing.{Standing, StandsAt, standing}
 use Rattle.event_lines.proofs.Steps.{at_ending}
 use Rattle.event_leaves.specs.declared.fence_names.FenceNames.{FenceNames}
-use Rattle.event_leaves.specs.FenceParts.{AreNames, WritesClosingOf, block_info, chunk_name, fence_name, info_by}
+use Rattle.event_leaves.specs.FenceParts.{AreNames, WritesClosingOf, chunk_name, info_by}
 use Rattle.event_leaves.specs.RawLines.{chunk_parts, parts_after}
-use Rattle.event_leaves.specs.Tokens.{LeadsOn}
-use Rattle.event_leaves.proofs.FencedCode.{has_some, math_string}
+use Rattle.event_leaves.proofs.FencedCode.{has_some}
 use Rattle.event_leaves.proofs.LeafNodes.{white_written}
 use Rattle.event_leaves.proofs.OpeningFence.{fence_is, sequence_other}
 use Rattle.event_leaves.proofs.RawBlocks.{line_parts}

@@ -1,7 +1,6 @@
 -- What is written of indented code, step by step (CommonMark 4.4).
-use Rattle.std.proofs.Common.{◌≡◌, ℕ, ◌+◌, ◌-◌, ◌≤◌, Bool, List, [], ◌∷◌, ◌++◌, Option, inl, inr, refl, sym, ap, ap₂, subst, ◌∙◌, drop, length, arith}
+use Rattle.std.proofs.Common.{◌≡◌, ℕ, ◌+◌, ◌-◌, ◌≤◌, Bool, List, [], ◌∷◌, ◌++◌, inl, refl, sym, ap, subst, ◌∙◌, drop, length, arith}
 use Rattle.std.specs.Prelude.{min}
-use Rattle.std.specs.List.{list_all}
 use Rattle.std.proofs.lemmas.List.{drop-drop}
 use Rattle.markdown_options.specs.declared.configuration.Constructs.{Constructs}
 use Rattle.engine_events.specs.declared.event.Name.TheVariants as n
@@ -15,7 +14,7 @@ use Rattle.definition_page.specs.Page as page
 use Rattle.block_starts.specs.View.{rest_of}
 use Rattle.event_meaning.specs.Raw.{RawPart, raw_lines, raw_parts}
 use Rattle.event_output.specs.declared.end.End.{End}
-use Rattle.event_output.specs.Ends.{Follows, end_at}
+use Rattle.event_output.specs.Ends.{end_at}
 use Rattle.event_output.specs.Written.{Enters, Exits, IsInOrder}
 use Rattle.laws_alike.specs.BlockLines.{AreCodeLinesAlike}
 use Rattle.laws_alike.proofs.Raw.{raw_lines_are_alike}

@@ -13,16 +13,16 @@ use Rattle.engine_events.specs.declared.event.Name.{Name}
 use Rattle.engine_events.specs.declared.event.Name.TheVariants as n
 use Rattle.definition_text.specs.Lines.{ending_text}
 use Rattle.event_grammar.specs.InGrammar.{node_name}
-use Rattle.event_meaning.specs.Children.{text_of}
+use Rattle.event_meaning.specs.Children.{ends_in, text_of}
 use Rattle.event_grammar.specs.Trees.{Node, Nodes, Around, Nil}
-use Rattle.event_output.specs.declared.end.End.{End}
 use Rattle.event_output.specs.Ends.{end_at, enter_at, exit_at, same_end}
 use Rattle.event_output.specs.Forest.{one, void_nodes}
 use Rattle.event_meaning.specs.Raw.{End as EndPart, ending_of, raw_part, raw_parts}
 use Rattle.laws_alike.specs.Raw.{end_part}
 use Rattle.event_lines.specs.Standing.{IsInLine, Standing}
 use Rattle.event_leaves.specs.Laid.{AreEnding}
-use Rattle.event_leaves.proofs.Nodes.{void_cases}
+use Rattle.event_leaves.specs.RawLines.{AreRaw}
+use Rattle.event_leaves.proofs.Nodes.{raw_none, raw_one, void_cases}
 
 -- where the ending of a line begins and ends in the text
 ending_between : (text before content after : List ℕ) (ending : List ℕ) → text ≡ before ++ (content ++ (ending ++ after))
@@ -92,3 +92,16 @@ pub ending_parts : (text : List ℕ) (ending : Option LineEnding) (ns : Nodes) �
 ending_parts text None ns are = ap (raw_parts text) are
 ending_parts text (Some ending) ns are =
     ap (raw_parts text) are.1 ∙ end_node text are.0 ending are.2 are.4
+
+-- no definition and no fence
+pub ending_raw : (text : List ℕ) (ending : Option LineEnding) (ns : Nodes) → AreEnding text n.LineEnding ending ns → AreRaw ns
+ending_raw text None ns are = subst AreRaw (sym are) raw_none
+ending_raw text (Some ending) ns are =
+    subst AreRaw (sym are.1) (
+    raw_one are.0 n.LineEnding are.2 are.3 (record { no_data = refl; no_definition = refl; no_code = refl; no_math = refl })
+    )
+
+-- and no white space
+pub ending_last : (text : List ℕ) (before : Bool) (ending : LineEnding) (ns : Nodes) → AreEnding text n.LineEnding (Some ending) ns
+    → ends_in n.SpaceOrTab before ns ≡ false
+ending_last text before ending ns are = ap (ends_in n.SpaceOrTab before) are.1 ∙ ap (λ (x : Name). same_name x n.SpaceOrTab) are.2

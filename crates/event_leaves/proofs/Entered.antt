@@ -67,26 +67,23 @@ module _ {A : Type 0} (text : List ℕ) where
       append-none [] = refl
       append-none (x ∷ xs) = ap (λ ys. x ∷ ys) (append-none xs)
 
-  pub text_entered : (a b c d : Walk A) (name : Name) (white : ℕ) (here : LineRest) (left after : List LineRest) (others : List BlockLine)
-      → standing b ≡ standing a → BeginsContent a b → white ≡ white_count (map code_byte (block_codes (rest_of b.rest))) → standing c ≡ standing b
+  -- an event is entered in the lines of a text after so many spaces and tabs
+  pub white_entered : (a b c d : Walk A) (name : Name) (white : ℕ) (here : LineRest) (left after : List LineRest) (others : List BlockLine)
+      → standing b ≡ standing a → BeginsContent a b → white ≤ white_count (content_text (rest_line here.rest here.beside ∷ others)) → standing c ≡ standing b
       → ((front line : List ℕ) → white ≡ length front → same_name SpaceOrTab BlockQuotePrefix ≡ false → StandsInLine text (front ++ line) b
       → WritesInLine text front (void_nodes text SpaceOrTab (end_in b.out) (end_after (end_in b.out) white)) line b c)
       → standing d ≡ standing c → ((line : List ℕ) → StandsInLine text line c → EntersInLine text name line c d)
       → StandsAt text (Within here left) (standing a) → IsWrittenToRest a → IsInOrder text a.out
       → AreTaken a.on.now (around (standing a)) IsRestLine others (Between left) (Between after)
       → EntersAt text name (content_text (rest_line here.rest here.beside ∷ others)) (text_stop (rest_line here.rest here.beside ∷ others) after) a d
-  text_entered a b c d name white here left after others same_b begins white_is same_c writes same_d enters at to_rest order taken =
+      × (d.place ≡ white)
+  white_entered a b c d name white here left after others same_b begins few same_c writes same_d enters at to_rest order taken =
       let first = rest_line here.rest here.beside in
       let stop = text_stop (first ∷ others) after in
       let content = content_text (first ∷ others) in
       let begun = begins text here left after others at to_rest order taken in
-      let line = map code_byte (block_codes here.rest) in
       let is = lines_ahead first others in
       let stands : StandsInContent text content stop b = subst (λ bs. StandsInContent text bs stop b) is begun.0 in
-      let rest_is : rest_of b.rest ≡ here.rest = ap (λ (s : Standing). s.rest) same_b ∙ at.rest in
-      let few : white ≤ white_count content =
-      subst (λ k. k ≤ white_count content) (sym (white_is ∙ ap (λ r. white_count (map code_byte (block_codes r))) rest_is))
-      (subst (λ bs. white_count line ≤ white_count bs) is (white_ahead line here.beside.ending others)) in
       let front = take white content in
       let size : length front ≡ white = length-take-le white content (omega (arith, few, white_fits content)) in
       let ahead =
@@ -101,17 +98,39 @@ module _ {A : Type 0} (text : List ℕ) where
       let out : end_in b.out ≡ end_in a.out = ap end_in begun.2 in
       let onward : Follows text (end_in b.out) (end_after (end_in b.out) (length front)) =
       follows_after text front ahead.line (end_in b.out) (next_here (front ++ ahead.line) b ahead.stands) in
-      let line_end : c.line_end ≡ a.line_end = ap (λ (s : Standing). s.line_end) (same_c ∙ same_b) in
-      record {
-        before = nodes;
-        are_quiet = void_quiet text (end_in b.out) (end_after (end_in b.out) white);
-        space = c.out;
-        writes = subst (λ (o : Output A). Writes text o c.out nodes) begun.2 written.writes;
-        enters = entered.enters;
-        stands = subst (λ k. StandsInContent text (drop k content) stop d) (sym place) entered.stands;
-        white = omega (arith, place, few);
-        around = (ap (λ (s : Standing). s.on) same, ap (λ (s : Standing). s.outermost) same);
-        starts =
-            omega (arith, onward.forward, ap (λ (e : End). e.index) out, ap (λ (e : End). e.index) in_line_writes.end);
-        begins = omega (arith, in_line (drop white content) stop c written.stands, line_end);
-      }
+      let line_end : c.line_end ≡ a.line_end = ap (λ (s : Standing). s.line_end) (same_c ∙ same_b) in (
+        record {
+          before = nodes;
+          are_quiet = void_quiet text (end_in b.out) (end_after (end_in b.out) white);
+          space = c.out;
+          writes = subst (λ (o : Output A). Writes text o c.out nodes) begun.2 written.writes;
+          enters = entered.enters;
+          stands = subst (λ k. StandsInContent text (drop k content) stop d) (sym place) entered.stands;
+          white = omega (arith, place, few);
+          around = (ap (λ (s : Standing). s.on) same, ap (λ (s : Standing). s.outermost) same);
+          starts =
+              omega (arith, onward.forward, ap (λ (e : End). e.index) out, ap (λ (e : End). e.index) in_line_writes.end);
+          begins = omega (arith, in_line (drop white content) stop c written.stands, line_end);
+        },
+        place,
+      )
+
+  -- the white space is that of the first line
+  pub text_entered : (a b c d : Walk A) (name : Name) (white : ℕ) (here : LineRest) (left after : List LineRest) (others : List BlockLine)
+      → standing b ≡ standing a → BeginsContent a b → white ≡ white_count (map code_byte (block_codes (rest_of b.rest))) → standing c ≡ standing b
+      → ((front line : List ℕ) → white ≡ length front → same_name SpaceOrTab BlockQuotePrefix ≡ false → StandsInLine text (front ++ line) b
+      → WritesInLine text front (void_nodes text SpaceOrTab (end_in b.out) (end_after (end_in b.out) white)) line b c)
+      → standing d ≡ standing c → ((line : List ℕ) → StandsInLine text line c → EntersInLine text name line c d)
+      → StandsAt text (Within here left) (standing a) → IsWrittenToRest a → IsInOrder text a.out
+      → AreTaken a.on.now (around (standing a)) IsRestLine others (Between left) (Between after)
+      → EntersAt text name (content_text (rest_line here.rest here.beside ∷ others)) (text_stop (rest_line here.rest here.beside ∷ others) after) a d
+  text_entered a b c d name white here left after others same_b begins white_is same_c writes same_d enters at to_rest order taken =
+      let first = rest_line here.rest here.beside in
+      let content = content_text (first ∷ others) in
+      let line = map code_byte (block_codes here.rest) in
+      let is = lines_ahead first others in
+      let rest_is : rest_of b.rest ≡ here.rest = ap (λ (s : Standing). s.rest) same_b ∙ at.rest in
+      let few : white ≤ white_count content =
+      subst (λ k. k ≤ white_count content) (sym (white_is ∙ ap (λ r. white_count (map code_byte (block_codes r))) rest_is))
+      (subst (λ bs. white_count line ≤ white_count bs) is (white_ahead line here.beside.ending others)) in
+      (white_entered a b c d name white here left after others same_b begins few same_c writes same_d enters at to_rest order taken).0

@@ -1,10 +1,10 @@
 -- What is written of a fence, step by step (CommonMark 4.5).
-use Rattle.std.proofs.Common.{◌≡◌, ℕ, suc, ◌+◌, ◌-◌, ◌^◌, ◌<◌, ◌≤◌, Bool, true, false, not, cond, ◌&&◌, ◌||◌, List, [], ◌∷◌, ◌++◌, Option, None, Some, eqb, inl, inr, refl, sym, ap, ap₂, subst, ◌∙◌}
-use Rattle.std.proofs.Common.{append_assoc, drop, take, get_or, length, length-append, arith}
-use Rattle.std.specs.List.{list_any, prefix_len, position_or_len, suffix_len}
+use Rattle.std.proofs.Common.{◌≡◌, ℕ, suc, ◌+◌, ◌-◌, ◌^◌, ◌<◌, ◌≤◌, Bool, true, false, not, cond, ◌||◌, List, [], ◌∷◌, ◌++◌, Option, None, Some, eqb, inl, inr, refl, sym, ap, ap₂, subst, ◌∙◌}
+use Rattle.std.proofs.Common.{drop, take, get_or, length, length-append, arith}
+use Rattle.std.specs.List.{list_any, position_or_len, suffix_len}
 use Rattle.std.specs.Str.{IsCharBoundary, IsUtf8}
 use Rattle.std.proofs.lemmas.Bool.{cases_Bool, cond-false, cond-true, eqb-true, ne_eqb, or_parts}
-use Rattle.std.proofs.lemmas.List.{append-nil, length-take-le, take-append-drop}
+use Rattle.std.proofs.lemmas.List.{append-nil, take-append-drop}
 use Rattle.std.proofs.lemmas.List.Folds.{list_any-append}
 use Rattle.std.proofs.lemmas.List.Sums.{passes_at_first, prefix_len-le-length, prefix_len_passes}
 use Rattle.markdown_options.specs.declared.configuration.Constructs.{Constructs}
@@ -18,24 +18,22 @@ use Rattle.definition_text.specs.Lines.{ends_line}
 use Rattle.definition_text.specs.Runs.{run}
 use Rattle.definition_inline.specs.CharacterReference.{Names}
 use Rattle.event_grammar.specs.InGrammar.{node_name}
-use Rattle.event_grammar.specs.Trees.{Node, Nodes, Around, Nil, Cons}
+use Rattle.event_grammar.specs.Trees.{Node, Nodes, Nil, Cons}
 use Rattle.event_meaning.specs.Blocks.{info_of}
 use Rattle.event_meaning.specs.Children.{child}
 use Rattle.event_output.specs.declared.end.End.{End}
-use Rattle.event_output.specs.Ends.{Follows, end_at, enter_at, exit_at}
-use Rattle.event_output.specs.Forest.{append, one, void_nodes}
-use Rattle.event_output.specs.Written.{IsInOrder, Writes, end_in}
+use Rattle.event_output.specs.Ends.{Follows, end_at}
+use Rattle.event_output.specs.Forest.{append, void_nodes}
+use Rattle.event_output.specs.Written.{end_in}
 use Rattle.event_output.proofs.Written.{writes_both, writes_none}
 use Rattle.laws_laid.specs.Places.{AtEnding, LineRest}
 use Rattle.text_bytes.proofs.Ascii.{boundary_after, boundary_before, space_ascii}
 use Rattle.event_lines.specs.declared.walk.Walk.{Walk}
 use Rattle.event_lines.specs.Content.{AreNext, end_after}
 use Rattle.event_lines.specs.Ends.{WritesUpTo, written_to}
-use Rattle.event_lines.specs.InContent.{IsWhole}
 use Rattle.event_lines.specs.Standing.{Standing, StandsAt, standing}
-use Rattle.event_lines.specs.Steps.{HasSameOpen}
 use Rattle.event_lines.proofs.Ahead.{after_bytes, next_after}
-use Rattle.event_leaves.specs.FenceParts.{IsBefore, IsPartOf, LeadsTo, WritesPart, WritesParts, info_by}
+use Rattle.event_leaves.specs.FenceParts.{IsBefore, IsPartOf, LeadsTo, WritesPart, info_by}
 use Rattle.event_leaves.proofs.LeafNodes.{line_in_text}
 use Rattle.event_leaves.specs.RawLines.{IsRawName}
 use Rattle.event_leaves.proofs.Nodes.{child_append, raw_append, raw_none, raw_void, void_cases}

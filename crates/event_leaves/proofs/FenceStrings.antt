@@ -26,7 +26,7 @@ use Rattle.event_output.specs.declared.end.End.{End}
 use Rattle.event_output.specs.declared.output.Output.{Output}
 use Rattle.event_output.specs.Ends.{end_at, enter_at, exit_at}
 use Rattle.event_output.specs.Forest.{cut, is_nil, one}
-use Rattle.event_output.specs.Written.{Enters, Exits, IsInOrder, Writes, end_in}
+use Rattle.event_output.specs.Written.{Exits, IsInOrder, Writes, end_in}
 use Rattle.event_output.proofs.Written.{writes_around, writes_none}
 use Rattle.laws_laid.specs.Places.{AtEnding, LineRest}
 use Rattle.event_lines.specs.declared.walk.Walk.{Walk}

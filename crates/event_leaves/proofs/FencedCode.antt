@@ -1,6 +1,6 @@
 -- What fenced code and math spell (CommonMark 4.5).
-use Rattle.std.proofs.Common.{◌≡◌, ◌⊎◌, ℕ, suc, ◌+◌, ◌<◌, Bool, true, false, not, cond, ◌&&◌, ◌||◌, leb, is_some, List, [], ◌∷◌, ◌++◌, Option, None, Some, eqb, inl, inr, refl, sym, ap, ap₂, subst, ◌∙◌, get_or, drop, take, flat_map, map, length, arith}
-use Rattle.std.specs.List.{list_all, position_or_len, prefix_len}
+use Rattle.std.proofs.Common.{◌≡◌, ◌⊎◌, ℕ, ◌<◌, Bool, true, false, not, cond, ◌&&◌, ◌||◌, leb, is_some, List, [], ◌∷◌, ◌++◌, Option, None, Some, eqb, inl, inr, refl, sym, ap, ap₂, ◌∙◌, get_or, flat_map, map, arith}
+use Rattle.std.specs.List.{list_all}
 use Rattle.std.proofs.lemmas.Bool.{cases_Bool, and_parts, cond-true, cond-false, eqb-true, leb-true}
 use Rattle.std.proofs.lemmas.List.Sums.{prefix_len_passes}
 use Rattle.markdown_options.specs.declared.configuration.Constructs.{Constructs}
@@ -8,8 +8,8 @@ use Rattle.markdown_options.specs.declared.line_ending.LineEnding.{LineEnding}
 use Rattle.engine_events.specs.Names.{same_name}
 use Rattle.engine_events.specs.declared.event.Name.{Name}
 use Rattle.engine_events.specs.declared.event.Name.TheVariants as n
-use Rattle.definition_text.specs.BlockLines.{BlockLine, last_ending_or, own_lines}
-use Rattle.definition_text.specs.Columns.{Rest, bare, bytes_of, code_byte, indent, is_white, trim}
+use Rattle.definition_text.specs.BlockLines.{BlockLine, last_ending_or}
+use Rattle.definition_text.specs.Columns.{Rest, bare, bytes_of, code_byte, indent}
 use Rattle.definition_text.specs.Indents.{small_indent}
 use Rattle.definition_text.specs.Runs.{after_run, run}
 use Rattle.definition_block.specs.CodeFenced.{Fence, fence_by, fence_of, fence_start, first_word}
@@ -17,16 +17,15 @@ use Rattle.definition_block.specs.MathFlow.{math_fence_of, math_info, math_start
 use Rattle.definition_inline.specs.CharacterReference.{Names}
 use Rattle.definition_inline.specs.Strings.{string_text}
 use Rattle.definition_page.specs.Page as page
-use Rattle.event_grammar.specs.InGrammar.{kids_of, node_name}
+use Rattle.event_grammar.specs.InGrammar.{node_name}
 use Rattle.event_grammar.specs.Trees.{Node, Nodes, Nil, Cons}
 use Rattle.event_meaning.specs.Blocks.{fenced_of}
 use Rattle.event_meaning.specs.Children.{after_child, before_child, child, ends_in}
-use Rattle.event_meaning.specs.Raw.{Chunk, End as EndPart, RawPart, fenced_lines, raw_lines, raw_parts}
+use Rattle.event_meaning.specs.Raw.{fenced_lines, raw_lines, raw_parts}
 use Rattle.event_output.specs.Forest.{append, one}
 use Rattle.event_output.proofs.Forests.{append-nil}
 use Rattle.laws_alike.specs.BlockLines.{has_lines}
 use Rattle.laws_alike.specs.Raw.{chunk, code_parts, end_part}
-use Rattle.event_leaves.specs.FenceParts.{info_by}
 use Rattle.event_leaves.proofs.Nodes.{before_append, before_none, child_append}
 
 -- ---- the page's leaf

@@ -1,13 +1,10 @@
 -- What is written up to the last line of fenced code or math, step by step (CommonMark 4.5).
-use Rattle.std.proofs.Common.{◌≡◌, ◌⊎◌, ℕ, zero, suc, ◌+◌, ◌-◌, ◌<◌, ◌≤◌, Bool, true, false, not, cond, ◌||◌, List, [], ◌∷◌, ◌++◌, Option, None, Some, eqb, inl, inr, refl, sym, ap, ap₂, subst, ◌∙◌, get_or, drop, take, length, reverse, arith}
+use Rattle.std.proofs.Common.{◌≡◌, ◌⊎◌, ℕ, zero, suc, ◌+◌, ◌-◌, ◌<◌, Bool, true, false, cond, ◌||◌, List, [], ◌∷◌, ◌++◌, Option, Some, eqb, inl, inr, refl, sym, ap, ap₂, subst, ◌∙◌, get_or, drop, length, reverse, arith}
 use Rattle.std.specs.Prelude.{replicate}
-use Rattle.std.specs.List.{list_any, position_or_len}
-use Rattle.std.specs.Str.{IsUtf8}
+use Rattle.std.specs.List.{list_any}
 use Rattle.std.proofs.lemmas.Bool.{cases_Bool, cond-true, cond-false, or_parts}
 use Rattle.markdown_options.specs.declared.configuration.Constructs.{Constructs}
-use Rattle.markdown_options.specs.declared.line_ending.LineEnding.{LineEnding}
 use Rattle.engine_events.specs.declared.event.Name.{Name}
-use Rattle.engine_events.specs.declared.event.Name.TheVariants as n
 use Rattle.definition_text.specs.BlockLines.{BlockLine}
 use Rattle.definition_text.specs.Columns.{Rest, bare, bytes_of, codes_from, indent, is_byte, tab_column, trim, whole}
 use Rattle.definition_text.specs.Indents.{outdent}
@@ -18,22 +15,20 @@ use Rattle.definition_block.specs.Container.{Container}
 use Rattle.definition_block.specs.Tree.{rest_line}
 use Rattle.definition_block.specs.MathFlow.{math_info, math_start}
 use Rattle.definition_inline.specs.CharacterReference.{Names}
-use Rattle.block_starts.specs.View.{rest_of}
 use Rattle.block_starts.specs.Widths.{width}
-use Rattle.event_output.specs.declared.end.End.{End}
 use Rattle.event_output.specs.Ends.{end_at}
 use Rattle.event_output.specs.Written.{Enters, IsInOrder, end_in}
 use Rattle.event_lines.specs.Content.{AreNext}
 use Rattle.laws_laid.specs.Leaves.{AreTaken, IsFenceLine}
-use Rattle.laws_laid.specs.Places.{AtEnding, Between, InAll, InSome, LineRest, Prefixed, Within}
+use Rattle.laws_laid.specs.Places.{Between, InAll, InSome, LineRest, Prefixed, Within}
 use Rattle.event_lines.specs.declared.walk.Walk.{Walk}
-use Rattle.event_lines.specs.Ends.{IsWrittenToRest, written_to}
+use Rattle.event_lines.specs.Ends.{written_to}
 use Rattle.event_lines.specs.Standing.{Standing, StandsAt, around, standing}
 use Rattle.event_lines.proofs.Columns.{codes_first}
 use Rattle.event_leaves.specs.declared.fence_names.FenceNames.{FenceNames}
-use Rattle.event_leaves.specs.FenceParts.{AreNames, IsBefore, WritesFence, WritesOpened, block_info, chunk_name, fence_name, info_by, info_in}
+use Rattle.event_leaves.specs.FenceParts.{AreNames, IsBefore, WritesFence, WritesOpened, block_info, chunk_name, info_by, info_in}
 use Rattle.event_leaves.specs.RawLines.{IsChunkName, IsCutLine, WritesCutLines}
-use Rattle.event_leaves.proofs.FencedCode.{FenceFacts, fence_facts}
+use Rattle.event_leaves.proofs.FencedCode.{fence_facts}
 use Rattle.event_leaves.proofs.OnLine.{WritesWhiteAhead}
 use Rattle.event_leaves.proofs.OpeningFence.{before_entered}
 use Rattle.event_leaves.proofs.RawBlocks.{taken_as}

@@ -1,15 +1,12 @@
 -- What is written of an HTML block, step by step (CommonMark 4.6).
-use Rattle.std.proofs.Common.{◌≡◌, ℕ, ◌-◌, ◌≤◌, Bool, List, [], ◌∷◌, Option, inl, inr, refl, sym, ap, ap₂, subst, ◌∙◌, length, arith}
+use Rattle.std.proofs.Common.{◌≡◌, ℕ, ◌-◌, Bool, List, [], ◌∷◌, inl, inr, refl, sym, ap, subst, ◌∙◌, length, arith}
 use Rattle.markdown_options.specs.declared.configuration.Constructs.{Constructs}
 use Rattle.engine_events.specs.declared.event.Name.TheVariants as n
 use Rattle.definition_text.specs.BlockLines.{BlockLine, last_ending, own_lines}
-use Rattle.definition_text.specs.Columns.{Rest, block_codes}
 use Rattle.definition_block.specs.Tree.{Html, rest_line}
 use Rattle.definition_inline.specs.CharacterReference.{Names}
 use Rattle.definition_page.specs.Page as page
-use Rattle.block_starts.specs.View.{rest_of}
 use Rattle.event_meaning.specs.Raw.{RawPart, raw_lines, raw_parts}
-use Rattle.event_output.specs.declared.end.End.{End}
 use Rattle.event_output.specs.Ends.{end_at}
 use Rattle.event_output.specs.Written.{Enters, Exits, IsInOrder}
 use Rattle.laws_alike.specs.BlockLines.{AreHtmlLinesAlike}
@@ -18,7 +15,6 @@ use Rattle.laws_laid.specs.Places.{AtEnding, Between, InAll, InSome, LineRest, P
 use Rattle.event_lines.specs.declared.walk.Walk.{Walk}
 use Rattle.event_lines.specs.Ends.{IsWrittenToRest, WritesUpTo, rest_start, written_to}
 use Rattle.event_lines.specs.Standing.{Standing, StandsAt, around, standing}
-use Rattle.event_lines.specs.Steps.{HasSameOpen}
 use Rattle.event_lines.proofs.Quiet.{quiet_none}
 use Rattle.event_leaves.specs.RawLines.{IsCutLine, WritesCutLines, chunk_parts}
 use Rattle.event_leaves.specs.Written.{WritesLeaf}

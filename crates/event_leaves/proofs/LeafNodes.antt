@@ -1,5 +1,5 @@
 -- The node of a leaf after white space, step by step.
-use Rattle.std.proofs.Common.{◌≡◌, ℕ, ◌+◌, ◌-◌, ◌≤◌, ◌<◌, Bool, true, false, ◌&&◌, List, [], ◌∷◌, ◌++◌, refl, sym, ap, ap₂, subst, ◌∙◌, drop, length, length-append, map, arith}
+use Rattle.std.proofs.Common.{◌≡◌, ℕ, ◌+◌, ◌-◌, ◌≤◌, Bool, true, false, ◌&&◌, List, [], ◌∷◌, ◌++◌, refl, sym, ap, ap₂, subst, ◌∙◌, drop, length, length-append, map, arith}
 use Rattle.std.proofs.lemmas.Bool.{cond-false}
 use Rattle.std.proofs.lemmas.List.{drop-drop}
 use Rattle.engine_events.specs.Names.{same_name, is_listed}
@@ -9,12 +9,10 @@ use Rattle.markdown_options.specs.declared.configuration.Constructs.{Constructs}
 use Rattle.definition_text.specs.Columns.{Rest, bare, bytes_of, indent, is_white, whole}
 use Rattle.definition_text.specs.Lines.{ending_text}
 use Rattle.definition_inline.specs.CharacterReference.{Names}
-use Rattle.definition_inline.specs.Definition.{Definition}
 use Rattle.definition_page.specs.InlinePieces.{Meaning}
 use Rattle.definition_page.specs.Page as page
 use Rattle.block_starts.specs.View.{rest_of}
 use Rattle.event_grammar.specs.Grammar.{block_names}
-use Rattle.event_grammar.specs.InGrammar.{node_name}
 use Rattle.event_grammar.specs.References.{named}
 use Rattle.event_grammar.specs.Trees.{Node, Nodes, Around}
 use Rattle.event_meaning.specs.Blocks.{blocks_of, one as one_block}
@@ -29,7 +27,6 @@ use Rattle.laws_alike.specs.Targets.{AreDefinitionsAlike}
 use Rattle.laws_laid.specs.Places.{AtEnding, InAll, LineRest, Place, Within, line_left}
 use Rattle.event_lines.specs.declared.walk.Walk.{Walk}
 use Rattle.event_lines.specs.Ends.{IsWrittenToRest, WritesQuiet, WritesUpTo, rest_start, written_to}
-use Rattle.event_lines.specs.Quiet.{AreQuiet}
 use Rattle.event_lines.specs.Standing.{IsInLine, Standing, StandsAt, standing}
 use Rattle.event_lines.specs.Steps.{HasSameOpen}
 use Rattle.event_lines.proofs.Ends.{left_within, rest_to_end}
@@ -57,7 +54,7 @@ line_in_text text s line =
     omega (arith, sizes, more, line.end)
 
 -- an event that holds no definition is a block
-spelled : (text : List ℕ) (on : Constructs) (names : Names) (top : Bool) (leaf : page.PageLeaf) (name : Name) (kids : Nodes) (from to : End)
+pub spelled : (text : List ℕ) (on : Constructs) (names : Names) (top : Bool) (leaf : page.PageLeaf) (name : Name) (kids : Nodes) (from to : End)
     → is_listed block_names name ≡ true → same_name name n.Definition ≡ false → named n.Definition kids ≡ []
     → ((m m' : Meaning) → AreBlocksAlike m m' (one_block (page.Leaf leaf)) (blocks_of names text top (one (Around (enter_at text name from) kids (exit_at text name to)))))
     → SpellsLeaf on names text top leaf [] (Around (enter_at text name from) kids (exit_at text name to))

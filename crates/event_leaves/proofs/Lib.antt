@@ -23,6 +23,7 @@ pub mod FencedLines
 pub mod ClosingFence
 pub mod ClosedCode
 pub mod OpenCode
+pub mod TopCode
 pub mod Indents
 pub mod JoinedTexts
 pub mod LineTokens
@@ -31,6 +32,8 @@ pub mod Checked
 pub mod Contents
 pub mod TextLeaves
 pub mod OnLine
+pub mod TakenLines
+pub mod Definitions
 pub mod InEvents
 pub mod Underlines
 pub mod SetextLeaves

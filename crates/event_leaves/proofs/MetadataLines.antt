@@ -1,23 +1,22 @@
 -- The lines of frontmatter, and what is written of them (in neither standard).
-use Rattle.std.proofs.Common.{◌≡◌, ℕ, suc, ◌+◌, ◌-◌, ◌<◌, ◌≤◌, Bool, true, false, cond, ◌&&◌, List, [], ◌∷◌, ◌++◌, Option, None, Some, eqb, inl, inr, refl, sym, ap, ap₂, subst, ◌∙◌}
-use Rattle.std.proofs.Common.{append_assoc, drop, flat_map, get_or, length, length-append, map, reverse, arith}
-use Rattle.std.specs.List.{list_all, prefix_len}
+use Rattle.std.proofs.Common.{◌≡◌, ℕ, suc, ◌-◌, ◌<◌, ◌≤◌, true, ◌&&◌, List, [], ◌∷◌, ◌++◌, Option, None, Some, eqb, inl, inr, refl, sym, ap, subst, ◌∙◌}
+use Rattle.std.proofs.Common.{drop, get_or, length, reverse, arith}
+use Rattle.std.specs.List.{list_all}
 use Rattle.std.proofs.lemmas.Bool.{cases_Bool, and_parts, cond-true, cond-false, eqb-true}
 use Rattle.std.proofs.lemmas.List.Sums.{prefix_len-le-length}
 use Rattle.markdown_options.specs.declared.configuration.Constructs.{Constructs}
 use Rattle.markdown_options.specs.declared.line_ending.LineEnding.{LineEnding}
-use Rattle.markdown_options.specs.declared.beside.Kind.{Kind}
 use Rattle.markdown_options.specs.declared.beside.Kind.TheVariants.{Whitespace}
 use Rattle.engine_events.specs.declared.event.Name.TheVariants as n
-use Rattle.definition_text.specs.BlockLines.{BlockLine, last_ending_or}
-use Rattle.definition_text.specs.Columns.{Rest, bytes_of, is_tab_column, is_white, whole}
+use Rattle.definition_text.specs.BlockLines.{BlockLine}
+use Rattle.definition_text.specs.Columns.{Rest, bytes_of, is_white, whole}
 use Rattle.definition_text.specs.Lines.{TextLine, ending_text, lines}
 use Rattle.definition_text.specs.Runs.{after_run, run}
 use Rattle.definition_block.specs.Container.{Container}
 use Rattle.definition_block.specs.Frontmatter.{after_frontmatter, after_metadata_fence, is_metadata_fence}
 use Rattle.definition_block.specs.Tree.{beside_line, rest_line}
 use Rattle.laws_laid.specs.Leaves.{AreTaken}
-use Rattle.laws_laid.specs.Places.{AtEnding, Between, InAll, LineRest, Place, Within, line_left, line_rest, prefixed, unread}
+use Rattle.laws_laid.specs.Places.{AtEnding, Between, InAll, LineRest, Within, line_left, line_rest, prefixed, unread}
 use Rattle.text_lines.proofs.Codes.{bytes_of_codes, no_columns}
 use Rattle.event_lines.proofs.Lines.{joined, lines_joined}
 use Rattle.event_lines.proofs.Spots.{bytes_after, bytes_before}

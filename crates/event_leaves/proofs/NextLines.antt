@@ -1,6 +1,6 @@
 -- What is written of the lines of a raw block, one after another (CommonMark 4.4 to 4.6).
-use Rattle.std.proofs.Common.{◌≡◌, ℕ, zero, suc, ◌+◌, ◌-◌, ◌<◌, Bool, true, false, cond, ◌||◌, ◌&&◌, is_some, List, [], ◌∷◌, ◌++◌, Option, None, Some, eqb, inl, inr, refl, sym, ap, ap₂}
-use Rattle.std.proofs.Common.{subst, ◌∙◌, ◌≤◌, append_assoc, drop, length, length-append, length-drop, map, reverse, arith, Result, Ok, Err}
+use Rattle.std.proofs.Common.{◌≡◌, ℕ, ◌+◌, ◌<◌, Bool, true, false, cond, ◌&&◌, is_some, List, [], ◌∷◌, ◌++◌, Option, None, Some, eqb, inl, inr, refl, sym, ap, ap₂}
+use Rattle.std.proofs.Common.{subst, ◌∙◌, ◌≤◌, append_assoc, drop, length, length-append, length-drop, reverse, arith, Result, Ok, Err}
 use Rattle.std.specs.Prelude.{◌⊎◌, ◌==◌}
 use Rattle.std.specs.List.{list_all}
 use Rattle.std.proofs.lemmas.Bool.{cases_Bool, cond-true, cond-false, false≢true, or_parts, and_parts}
@@ -10,7 +10,6 @@ use Rattle.markdown_options.specs.declared.configuration.Constructs.{Constructs}
 use Rattle.markdown_options.specs.declared.line_ending.LineEnding.{LineEnding}
 use Rattle.markdown_options.specs.declared.line_ending.LineEnding.TheVariants.{CarriageReturn, CarriageReturnLineFeed, LineFeed}
 use Rattle.std.specs.Result.{OnOk}
-use Rattle.markdown_options.specs.declared.beside.Kind.{Kind}
 use Rattle.markdown_options.specs.declared.beside.Kind.TheVariants.{Whitespace}
 use Rattle.engine_events.specs.declared.event.Name.{Name}
 use Rattle.engine_events.specs.declared.event.Name.TheVariants as n
@@ -29,16 +28,16 @@ use Rattle.event_output.specs.Written.{IsInOrder, Writes}
 use Rattle.event_output.proofs.Written.{writes_both, writes_none}
 use Rattle.laws_alike.specs.Raw.{end_part, has_codes, is_there}
 use Rattle.laws_laid.specs.Leaves.{AreTaken}
-use Rattle.laws_laid.specs.Places.{AtEnding, Between, InAll, LineRest, Place, Prefixed, Within, line_left, line_rest, prefixed, unread}
+use Rattle.laws_laid.specs.Places.{AtEnding, Between, InAll, LineRest, Within, line_left, line_rest, prefixed, unread}
 use Rattle.event_lines.specs.declared.walk.Walk.{Walk}
 use Rattle.event_lines.specs.Ends.{IsWrittenToRest, WritesNextLine, line_after, written_to}
-use Rattle.event_lines.specs.Standing.{IsAtEnding, Standing, StandsAt, around, standing}
+use Rattle.event_lines.specs.Standing.{Standing, StandsAt, around, standing}
 use Rattle.event_lines.specs.Steps.{HasSameOpen, PassesLine}
 use Rattle.event_lines.proofs.Columns.{codes_first}
 use Rattle.event_lines.proofs.Ends.{end_to_next}
 use Rattle.event_leaves.specs.RawLines.{AreRaw, IsChunkName, IsCutLine, WritesCut, WritesCutLine, WritesCutLines, WritesLines, chunk_parts, parts_after}
 use Rattle.event_leaves.proofs.Endings.{ending_nodes, ending_parts}
-use Rattle.event_leaves.proofs.Nodes.{IsRawName, ends_append, quiet_parts, raw_append, raw_none, raw_parts_append, raw_quiet, raw_void}
+use Rattle.event_leaves.proofs.Nodes.{ends_append, quiet_parts, raw_append, raw_none, raw_parts_append, raw_quiet, raw_void}
 
 -- three facts of a call that succeeds
 pub all_ok : {T E P Q R S : Type 0} (r : Result T E) → (P → Q → R → S) → OnOk r P → OnOk r Q → OnOk r R → OnOk r S

@@ -1,5 +1,5 @@
 -- Nodes in which there is no definition, and of which none is a fence.
-use Rattle.std.proofs.Common.{◌≡◌, ℕ, Bool, true, false, cond, ◌&&◌, List, [], ◌∷◌, ◌++◌, Option, None, Some, inl, inr, refl, sym, ap, ap₂, subst, ◌∙◌, append_assoc}
+use Rattle.std.proofs.Common.{◌≡◌, ℕ, Bool, true, false, cond, ◌&&◌, List, [], ◌∷◌, ◌++◌, None, Some, inl, inr, refl, sym, ap, ap₂, subst, ◌∙◌, append_assoc}
 use Rattle.std.proofs.lemmas.Bool.{cases_Bool, cond-true, cond-false}
 use Rattle.engine_events.specs.Names.{same_name}
 use Rattle.engine_events.specs.declared.event.Name.{Name}
@@ -94,11 +94,18 @@ raw_void text name from to is =
       math = cond-false (same_name name n.MathFlowFence) _ _ is.no_math;
     })
 
--- ---- what spells nothing
-
 void_definition : (node : Node) (name : Name) → node_name node ≡ name → kids_of node ≡ Nil → same_name name n.Definition ≡ false → named_in n.Definition node ≡ []
 void_definition (Around enter kids exit) name is none other =
     cond-false (same_name enter.name n.Definition) _ _ (ap (λ (x : Name). same_name x n.Definition) is ∙ other) ∙ ap (named n.Definition) none
+
+pub raw_one : (node : Node) (name : Name) → node_name node ≡ name → kids_of node ≡ Nil → IsRawName name → AreRaw (one node)
+raw_one node name is none raw = record {
+  definitions = ap (λ (ns : List Node). ns ++ []) (void_definition node name is none raw.no_definition);
+  code = cond-false (same_name (node_name node) n.CodeFencedFence) _ _ (ap (λ (x : Name). same_name x n.CodeFencedFence) is ∙ raw.no_code);
+  math = cond-false (same_name (node_name node) n.MathFlowFence) _ _ (ap (λ (x : Name). same_name x n.MathFlowFence) is ∙ raw.no_math);
+}
+
+-- ---- what spells nothing
 
 of_prefix : (ns : Nodes) → AreOfPrefix ns → named n.Definition ns ≡ []
 of_prefix Nil are = refl

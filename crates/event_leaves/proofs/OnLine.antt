@@ -16,7 +16,7 @@ use Rattle.laws_laid.specs.Places.{LineRest, Within, AtEnding}
 use Rattle.event_lines.specs.declared.walk.Walk.{Walk}
 use Rattle.event_lines.specs.Content.{AreNext}
 use Rattle.event_lines.specs.Ends.{IsWrittenToRest, WritesQuiet, WritesUpTo, rest_start, written_to}
-use Rattle.event_lines.specs.Standing.{Standing, StandsAt, standing}
+use Rattle.event_lines.specs.Standing.{Standing, StandsAt, TEXT_MAX, standing}
 use Rattle.event_lines.proofs.Columns.{bare_owes_none}
 use Rattle.event_lines.proofs.Ends.{start_whole}
 use Rattle.event_lines.proofs.Next.{left_bytes, left_next}
@@ -28,7 +28,7 @@ use Rattle.event_leaves.proofs.LeafNodes.{white_written}
 left_of_bare : (rest : Rest) → left_bytes (bare rest) ≡ bytes_of (bare rest)
 left_of_bare rest = ap (λ (k : ℕ). replicate k space ++ bytes_of (bare rest)) (bare_owes_none rest)
 
-small_text : (n : ℕ) → n ≤ 2 ^ 60 → n < 2 ^ 61
+small_text : (n : ℕ) → n ≤ TEXT_MAX → n < 2 ^ 61
 small_text n h = omega (arith, h)
 
 -- the white space ahead is written, and what follows it is left of the line

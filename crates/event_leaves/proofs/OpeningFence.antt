@@ -1,6 +1,6 @@
 -- What is written of an opening fence, step by step (CommonMark 4.5).
-use Rattle.std.proofs.Common.{◌≡◌, ℕ, ◌+◌, ◌^◌, ◌<◌, Bool, true, false, ◌&&◌, List, [], ◌∷◌, ◌++◌, Option, None, get_or, eqb, refl, sym, ap, subst, ◌∙◌, drop, take, length, arith}
-use Rattle.std.specs.List.{list_any, prefix_len}
+use Rattle.std.proofs.Common.{◌≡◌, ℕ, ◌+◌, ◌^◌, ◌<◌, Bool, true, false, ◌&&◌, List, [], ◌∷◌, ◌++◌, Option, None, eqb, refl, sym, ap, subst, ◌∙◌, drop, take, length, arith}
+use Rattle.std.specs.List.{list_any}
 use Rattle.std.specs.Str.{IsCharBoundary, IsUtf8}
 use Rattle.std.proofs.lemmas.Bool.{cond-false}
 use Rattle.std.proofs.lemmas.List.{length-take-le, take-append-drop}

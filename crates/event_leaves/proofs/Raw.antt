@@ -1,10 +1,10 @@
 -- The bytes of nodes in a line, and what they are among the parts of a raw block (CommonMark 4.4 to 4.6).
-use Rattle.std.proofs.Common.{◌≡◌, ℕ, zero, suc, ◌+◌, ◌-◌, ◌<◌, ◌≤◌, Bool, true, false, cond, not, ◌&&◌, ◌||◌, List, [], ◌∷◌, ◌++◌, Option, None, Some, eqb, ltb, inl, inr, refl}
-use Rattle.std.proofs.Common.{sym, ap, ap₂, subst, ◌∙◌, append_assoc, drop, take, length, length-append, map, arith, get_or}
+use Rattle.std.proofs.Common.{◌≡◌, ℕ, zero, suc, ◌+◌, ◌-◌, ◌<◌, ◌≤◌, Bool, true, false, not, ◌&&◌, ◌||◌, List, [], ◌∷◌, ◌++◌, eqb, ltb, inl, inr, refl}
+use Rattle.std.proofs.Common.{sym, ap, ap₂, subst, ◌∙◌, drop, take, length, length-append, arith, get_or}
 use Rattle.std.specs.Prelude.{◌==◌, replicate}
 use Rattle.std.specs.List.{fold, prefix_len, repeat}
 use Rattle.std.proofs.Math.Seq.{drop-nil}
-use Rattle.std.proofs.lemmas.Bool.{cases_Bool, cond-true, cond-false, eqb-true, eqb-false, ltb-true, ltb-false, le-ltb, ne_eqb}
+use Rattle.std.proofs.lemmas.Bool.{cases_Bool, cond-true, cond-false, eqb-true, ltb-true, ltb-false, le-ltb, ne_eqb}
 use Rattle.std.proofs.lemmas.Bool.Decides.{nat_tests}
 use Rattle.std.proofs.lemmas.List.{append-nil, length-replicate}
 use Rattle.engine_events.specs.Columns.{between, column_after, ends_no_line, mark_size, tab_size}
@@ -12,11 +12,11 @@ use Rattle.engine_events.specs.declared.event.Name.{Name}
 use Rattle.definition_text.specs.Ascii.{space}
 use Rattle.definition_text.specs.Columns.{Rest, bytes_of, is_tab_column, whole}
 use Rattle.event_grammar.specs.Points.{column_at, column_on, edge, spot as cut}
-use Rattle.event_grammar.specs.Trees.{Node, Nodes, Around, Nil}
+use Rattle.event_grammar.specs.Trees.{Node, Around, Nil}
 use Rattle.event_meaning.specs.Children.{columns_after, spaced_text_of, text_of}
 use Rattle.event_output.specs.declared.end.End.{End}
 use Rattle.event_output.specs.declared.spot.Spot.{Spot}
-use Rattle.event_output.specs.Ends.{IsInTab, columns_before, end_at, end_columns, enter_at, exit_at, index_spot, same_end}
+use Rattle.event_output.specs.Ends.{end_at, end_columns, enter_at, exit_at, index_spot, same_end}
 use Rattle.event_output.specs.Spots.{next_spot, start}
 use Rattle.event_lines.specs.Content.{AreNext, end_after}
 use Rattle.event_lines.specs.Ends.{rest_start}

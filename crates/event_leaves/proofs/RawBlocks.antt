@@ -1,32 +1,30 @@
 -- What is written of a raw block, step by step (CommonMark 4.4 and 4.6).
-use Rattle.std.proofs.Common.{◌≡◌, ℕ, suc, ◌+◌, ◌-◌, ◌≤◌, Bool, true, false, not, cond, ◌&&◌, List, [], ◌∷◌, ◌++◌, Option, None, Some, refl, sym, ap, ap₂, subst, ◌∙◌}
-use Rattle.std.proofs.Common.{append_assoc, flat_map, length, map, arith, reverse, inl, inr}
-use Rattle.std.proofs.lemmas.Bool.{cases_Bool}
+use Rattle.std.proofs.Common.{◌≡◌, ℕ, suc, List, [], ◌∷◌, ◌++◌, Option, None, Some, refl, sym, ap, ap₂, subst, ◌∙◌}
+use Rattle.std.proofs.Common.{append_assoc, flat_map, length, reverse}
 use Rattle.std.proofs.lemmas.Grind.{flat_map-append}
 use Rattle.std.proofs.lemmas.List.{append-nil}
 use Rattle.markdown_options.specs.declared.configuration.Constructs.{Constructs}
 use Rattle.markdown_options.specs.declared.line_ending.LineEnding.{LineEnding}
 use Rattle.engine_events.specs.declared.event.Name.{Name}
 use Rattle.engine_events.specs.declared.event.Name.TheVariants as n
-use Rattle.definition_text.specs.BlockLines.{BlockLine, block_line, last_ending, last_ending_or, own_lines}
-use Rattle.definition_text.specs.Columns.{Code, Rest, bytes_of, is_byte}
+use Rattle.definition_text.specs.BlockLines.{BlockLine, last_ending, own_lines}
+use Rattle.definition_text.specs.Columns.{Code, Rest, bytes_of}
 use Rattle.definition_block.specs.Container.{Container}
-use Rattle.definition_block.specs.Tree.{rest_line}
 use Rattle.event_grammar.specs.Trees.{Nodes}
 use Rattle.event_meaning.specs.Raw.{Chunk, End as EndPart, RawPart, raw_lines, raw_parts}
 use Rattle.event_output.specs.Ends.{end_at}
 use Rattle.event_output.specs.Forest.{append}
-use Rattle.event_output.specs.Written.{IsInOrder, Writes}
+use Rattle.event_output.specs.Written.{Writes}
 use Rattle.event_output.proofs.Written.{writes_both}
 use Rattle.laws_alike.specs.BlockLines.{AreHtmlLinesAlike, HtmlPart, html_end, html_parts, html_text}
 use Rattle.laws_alike.specs.Raw.{end_part}
 use Rattle.laws_laid.specs.Leaves.{AreTaken}
-use Rattle.laws_laid.specs.Places.{AtEnding, Between, InAll, InSome, LineRest, Place, Prefixed}
+use Rattle.laws_laid.specs.Places.{AtEnding, Between, LineRest, Place, Prefixed}
 use Rattle.event_lines.specs.declared.walk.Walk.{Walk}
 use Rattle.event_lines.specs.Ends.{written_to}
-use Rattle.event_lines.specs.Standing.{Standing, StandsAt, around, standing}
+use Rattle.event_lines.specs.Standing.{StandsAt, around, standing}
 use Rattle.event_lines.specs.Steps.{HasSameOpen}
-use Rattle.event_leaves.specs.RawLines.{AreRaw, IsChunkName, IsCutLine, WritesCutLines, WritesLines, chunk_parts, html_chunk, parts_after}
+use Rattle.event_leaves.specs.RawLines.{AreRaw, IsChunkName, IsCutLine, WritesCutLines, chunk_parts, html_chunk, parts_after}
 use Rattle.event_leaves.proofs.Nodes.{raw_append, raw_parts_append}
 use Rattle.event_leaves.proofs.RawLines.{bytes_stay}
 

@@ -1,32 +1,29 @@
 -- What is written of the lines of a raw block, step by step (CommonMark 4.4 to 4.6).
-use Rattle.std.proofs.Common.{◌≡◌, ℕ, zero, suc, ◌+◌, ◌-◌, ◌<◌, Bool, true, false, not, cond, ◌||◌, ◌&&◌, is_some, List, [], ◌∷◌, ◌++◌, Option, None, Some, eqb, inl, inr, refl, sym, ap, ap₂}
-use Rattle.std.proofs.Common.{subst, ◌∙◌, append_assoc, drop, take, length, length-append, map, arith}
-use Rattle.std.specs.Prelude.{◌⊎◌, min, replicate}
-use Rattle.std.specs.List.{list_all, prefix_len}
+use Rattle.std.proofs.Common.{◌≡◌, ℕ, zero, suc, ◌+◌, ◌-◌, ◌<◌, Bool, true, false, not, cond, List, [], ◌∷◌, ◌++◌, inl, inr, refl, sym, ap, ap₂}
+use Rattle.std.proofs.Common.{subst, ◌∙◌, drop, take, length, map, arith}
+use Rattle.std.specs.Prelude.{min, replicate}
+use Rattle.std.specs.List.{prefix_len}
 use Rattle.std.proofs.lemmas.Bool.{cases_Bool, cond-true, cond-false, eqb-true, false≢true}
-use Rattle.std.proofs.lemmas.List.{append-nil, drop-drop, length-map, length-replicate}
-use Rattle.markdown_options.specs.declared.line_ending.LineEnding.{LineEnding}
-use Rattle.markdown_options.specs.declared.beside.Kind.TheVariants.{Whitespace}
+use Rattle.std.proofs.lemmas.List.{drop-drop, length-map}
 use Rattle.engine_events.specs.Names.{same_name}
 use Rattle.engine_events.specs.declared.event.Name.{Name}
 use Rattle.engine_events.specs.declared.event.Name.TheVariants as n
 use Rattle.definition_text.specs.Ascii.{space}
-use Rattle.definition_text.specs.BlockLines.{BlockLine, last_ending_or}
-use Rattle.definition_text.specs.Columns.{Code, Rest, block_codes, bytes_of, code_byte, indent, is_byte, is_tab_column, tab_column, whole}
+use Rattle.definition_text.specs.Columns.{Code, Rest, block_codes, bytes_of, code_byte, indent, is_tab_column, tab_column, whole}
 use Rattle.definition_text.specs.Indents.{outdent}
-use Rattle.definition_text.specs.Lines.{TextLine, ending_text, lines}
+use Rattle.definition_text.specs.Lines.{ending_text}
 use Rattle.text_lines.proofs.Codes.{no_bytes}
 use Rattle.event_grammar.specs.Trees.{Node, Nodes, Nil}
-use Rattle.event_meaning.specs.Children.{ends_in, spaced_text_of, text_of}
+use Rattle.event_meaning.specs.Children.{ends_in, spaced_text_of}
 use Rattle.event_meaning.specs.Raw.{Chunk, RawPart, raw_part, raw_parts}
 use Rattle.event_output.specs.declared.end.End.{End}
 use Rattle.event_output.specs.Ends.{Follows, end_at, same_end}
-use Rattle.event_output.specs.Forest.{append, one, void_nodes}
+use Rattle.event_output.specs.Forest.{append, void_nodes}
 use Rattle.event_output.specs.Written.{IsInOrder, Writes}
-use Rattle.event_output.proofs.Written.{writes_both, writes_none}
+use Rattle.event_output.proofs.Written.{writes_both}
 use Rattle.block_starts.specs.View.{rest_of}
-use Rattle.laws_laid.specs.Places.{AtEnding, Between, LineRest, Place, Within}
-use Rattle.laws_alike.specs.Raw.{chunk, end_part, has_codes, is_there}
+use Rattle.laws_laid.specs.Places.{AtEnding, LineRest, Within}
+use Rattle.laws_alike.specs.Raw.{chunk, has_codes}
 use Rattle.event_lines.specs.declared.walk.Walk.{Walk}
 use Rattle.event_lines.specs.Ends.{IsWrittenToRest, WritesUpTo, rest_start, written_to}
 use Rattle.event_lines.specs.Standing.{IsLineOf, Standing, StandsAt, standing}
@@ -36,7 +33,7 @@ use Rattle.event_lines.proofs.Quiet.{no_void}
 use Rattle.event_lines.proofs.Steps.{at_ending}
 use Rattle.event_leaves.specs.RawLines.{AreRaw, IsChunkName, WritesCut, chunk_parts, html_chunk}
 use Rattle.event_leaves.proofs.Nodes.{IsRawName, ends_append, raw_append, raw_parts_append, raw_void, void_cases}
-use Rattle.event_leaves.proofs.Raw.{HasBytes, rest_bytes, rest_size, void_node}
+use Rattle.event_leaves.proofs.Raw.{rest_bytes, rest_size, void_node}
 
 -- ---- the codes of what is left of a line
 

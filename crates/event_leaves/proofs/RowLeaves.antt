@@ -1,26 +1,25 @@
 -- The leaf of a row is written, by the kind of the row (CommonMark 4).
-use Rattle.std.proofs.Common.{◌≡◌, ℕ, zero, suc, ◌+◌, ◌<◌, ◌≤◌, Bool, true, false, List, [], ◌∷◌, ◌++◌, Option, None, Some, refl, sym, ap, ◌∙◌, subst, arith, drop, take, length, length-append, length-drop, get_or, map}
+use Rattle.std.proofs.Common.{◌≡◌, ℕ, zero, suc, ◌+◌, ◌<◌, Bool, true, false, List, [], ◌∷◌, ◌++◌, refl, sym, ap, ◌∙◌, subst, arith, drop, take, length, length-drop, get_or}
 use Rattle.std.specs.Prelude.{replicate}
 use Rattle.std.proofs.lemmas.Bool.Decides.{nat_tests}
 use Rattle.std.proofs.lemmas.Bool.{cond-true}
 use Rattle.std.proofs.lemmas.List.{length-map}
 use Rattle.definition_text.specs.BlockLines.{BlockLine, own_lines}
-use Rattle.definition_text.specs.Columns.{bytes_of, codes_from, is_byte, tab_column}
+use Rattle.definition_text.specs.Columns.{bytes_of, is_byte, tab_column}
 use Rattle.definition_text.specs.Lines.{lines}
-use Rattle.definition_block.specs.Tree.{Break, FencedCode, Heading, Html, IndentedCode, Leaf, Paragraph}
-use Rattle.definition_inline.specs.Definition.{Definition as LinkDefinition}
+use Rattle.definition_block.specs.Tree.{Break, FencedCode, Heading, Html, IndentedCode, Paragraph}
 use Rattle.definition_page.specs.Read.{Reading}
 use Rattle.block_rows.specs.declared.row.Row.{Row}
 use Rattle.block_rows.specs.declared.row.Row.TheVariants as row
-use Rattle.block_rows.specs.Rows.{Single, definition_value, first_codes, row_size, row_value}
+use Rattle.block_rows.specs.Rows.{Single, definition_on, definition_value, first_codes, row_size, row_value}
 use Rattle.text_pieces.specs.declared.piece.Piece.{Piece}
 use Rattle.text_pieces.specs.ParagraphLines.{AreLines}
 use Rattle.text_pieces.specs.Pieces.{piece_lines, whole_line, whole_lines}
 use Rattle.inline_content.specs.Lines.{AreContentLines}
 use Rattle.text_lines.proofs.Codes.{no_bytes}
 use Rattle.event_lines.specs.declared.walk.Walk.{Walk}
-use Rattle.event_lines.specs.Standing.{standing}
 use Rattle.event_lines.proofs.Columns.{tail_bytes}
+use Rattle.event_leaves.specs.Laid.{WritesReadUnclosed}
 use Rattle.event_leaves.specs.Reads.{WritesReadLeaf}
 use Rattle.event_leaves.specs.Rows.{AreLinesOf, WritesRow}
 
@@ -61,12 +60,6 @@ bytes_same (b ∷ bs) h =
 
 pub piece_bytes : (owed : ℕ) (text : List ℕ) → ((k : ℕ) → get_or text k 0 < 256) → bytes_of (replicate owed tab_column ++ text) ≡ text
 piece_bytes owed text h = no_bytes owed text ∙ bytes_same text h
-
--- nothing is said of a definition
-pub definition_row : {A : Type 0} (r : Reading) (first : Bool) (o : Option LinkDefinition) (old new : Walk A)
-    → WritesRow r first (Single (definition_value o)) old new
-definition_row r first None old new = tt
-definition_row r first (Some d) old new = tt
 
 -- ---- the text of a piece
 
@@ -135,8 +128,19 @@ module _ {A : Type 0} (r : Reading) (first : Bool) (x : Row) (ls : List BlockLin
   fenced_row k is of written =
       by_row (row.FencedCode k) is (written (first_codes ls) (take k (drop 1 ls)) (fenced_size ls k (size_by (row.FencedCode k) is of)))
 
-  pub unclosed_row : (k : ℕ) → x ≡ row.UnclosedCode k → WritesRow r first (row_value x ls) old new
-  unclosed_row k is = by_row (row.UnclosedCode k) is tt
+  pub unclosed_row : (k : ℕ) → x ≡ row.UnclosedCode k → AreLinesOf x ls
+      → ((info : List ℕ) (own : List BlockLine) → k ≡ length own → WritesReadUnclosed r first (FencedCode info false own) old new)
+      → WritesRow r first (row_value x ls) old new
+  unclosed_row k is of written =
+      by_row (row.UnclosedCode k) is (written (first_codes ls) (take k (drop 1 ls)) (fenced_size ls k (size_by (row.UnclosedCode k) is of)))
+
+  pub definition_row : (k : ℕ) → x ≡ row.Definition k → AreLinesOf x ls
+      → WritesRow r first (Single (definition_value (own_lines ls) (definition_on ls))) old new → WritesRow r first (row_value x ls) old new
+  definition_row k is of written =
+      by_row (row.Definition k) is (
+      subst (λ (xs : List BlockLine). WritesRow r first (Single (definition_value (own_lines xs) (definition_on xs))) old new)
+      (sym (all_taken ls k (size_by (row.Definition k) is of))) written
+      )
 
   pub whole_code_row : (text : List ℕ) → x ≡ row.WholeCode → bytes_of (first_codes (drop 1 ls)) ≡ text
       → ((info : List ℕ) (own : List BlockLine) → length (lines text) ≡ length own → WritesReadLeaf r first (FencedCode info true own) [] old new)

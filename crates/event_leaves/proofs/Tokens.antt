@@ -1,6 +1,5 @@
 -- What is written of the bytes of a line, step by step.
-use Rattle.std.proofs.Common.{◌≡◌, ℕ, suc, ◌+◌, ◌-◌, ◌^◌, ◌<◌, ◌≤◌, Bool, false, ◌&&◌, List, [], ◌∷◌, ◌++◌, eqb, inl, inr, refl, sym, ap, subst, ◌∙◌, length, get_or, arith}
-use Rattle.std.specs.List.{prefix_len}
+use Rattle.std.proofs.Common.{◌≡◌, ℕ, ◌+◌, ◌-◌, ◌^◌, ◌<◌, ◌≤◌, Bool, ◌&&◌, List, [], ◌∷◌, ◌++◌, eqb, inl, refl, sym, ap, subst, ◌∙◌, length, get_or, arith}
 use Rattle.std.proofs.lemmas.Bool.{cond-true, cond-false, eq-eqb}
 use Rattle.engine_events.specs.Names.{same_name}
 use Rattle.engine_events.specs.declared.event.Name.{Name}
@@ -16,7 +15,7 @@ use Rattle.event_output.proofs.Written.{writes_around, writes_both, writes_none}
 use Rattle.event_lines.specs.declared.walk.Walk.{Walk}
 use Rattle.event_lines.specs.Ends.{WritesUpTo, written_to}
 use Rattle.event_lines.specs.Standing.{Standing, standing}
-use Rattle.event_leaves.specs.Tokens.{AreLeft, LeadsOn, WritesTokens}
+use Rattle.event_leaves.specs.Tokens.{AreLeft, LeadsOn}
 use Rattle.event_leaves.proofs.Nodes.{IsRawName, raw_append, raw_none, raw_void}
 
 -- an index further on

@@ -61,8 +61,8 @@ info_by on names [] = None
 info_by on names (b ∷ bs) = Some (string_text on names (b ∷ bs))
 
 -- parts of a fence are written up to these bytes, with this info among them
-pub record WritesParts {A : Type 0} (names : Names) (text : List ℕ) (ending : Option LineEnding) (left : List LineRest) (info : Option (List ℕ)) (bytes : List ℕ)
-    (old new : Walk A) : Type 0 where
+pub record WritesParts {A : Type 0} (names : Names) (text : List ℕ) (ending : Option LineEnding) (left : List LineRest) (info : Option (List ℕ))
+    (bytes : List ℕ) (old new : Walk A) : Type 0 where
   pub nodes : Nodes
   pub writes : Writes text old.out new.out nodes
   pub raw : AreRaw nodes
@@ -73,7 +73,8 @@ pub record WritesParts {A : Type 0} (names : Names) (text : List ℕ) (ending : 
 -- From a walk before these bytes, parts are written up to others.
 abbrev pub LeadsTo : {A : Type 0} → Names → Option (List ℕ) → List ℕ → List ℕ → Walk A → Walk A → Type 0
 LeadsTo names info from to old new =
-    (text : List ℕ) (ending : Option LineEnding) (left : List LineRest) → IsBefore text ending left from old → WritesParts names text ending left info to old new
+    (text : List ℕ) (ending : Option LineEnding) (left : List LineRest) → IsBefore text ending left from old
+    → WritesParts names text ending left info to old new
 
 -- the node of a string by a name; none without bytes
 abbrev pub IsPartOf : Constructs → Names → List ℕ → Name → List ℕ → Nodes → Type 0

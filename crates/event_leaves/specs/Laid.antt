@@ -1,5 +1,5 @@
 -- What is written of a leaf that is laid in the lines of a text (CommonMark 4).
-use Rattle.std.specs.Prelude.{◌≡◌, ◌≤◌, ℕ, Bool, true, false, List, [], ◌++◌, Option, None, Some, length}
+use Rattle.std.specs.Prelude.{◌≡◌, ◌≤◌, ◌<◌, ℕ, Bool, true, false, List, [], ◌++◌, Option, None, Some, length}
 use Rattle.markdown_options.specs.declared.configuration.Constructs.{Constructs}
 use Rattle.markdown_options.specs.declared.line_ending.LineEnding.{LineEnding}
 use Rattle.markdown_options.specs.LineEndings.{ending_bytes}
@@ -15,6 +15,7 @@ use Rattle.definition_block.specs.Tree.{LeafBlock}
 use Rattle.definition_inline.specs.CharacterReference.{Names}
 use Rattle.definition_page.specs.Page as page
 use Rattle.definition_page.specs.Read.{Reading, read_leaf}
+use Rattle.block_starts.specs.View.{rest_of}
 use Rattle.event_grammar.specs.InGrammar.{kids_of, node_name}
 use Rattle.event_grammar.specs.References.{named}
 use Rattle.event_grammar.specs.Trees.{Node, Nodes, Nil}
@@ -70,6 +71,12 @@ WritesReadToEnd r first leaf old new =
     → IsInOrder text old.out → IsLeafLaid old.on.now (around (standing old)) leaf (Within here left) to
     → WritesToEnd r.parse.constructs r.tables.names text (read_leaf r (record { top = true; first = first }) leaf) to old new
 
+-- fenced code that no fence closes: in a container it ends before the ending of its last line, outside of containers after it
+abbrev pub WritesReadUnclosed : {A : Type 0} → Reading → Bool → LeafBlock → Walk A → Walk A → Type 0
+WritesReadUnclosed r first leaf old new =
+    (0 < length (standing old).outermost → WritesReadInside r first leaf old new)
+    × ((standing old).outermost ≡ [] → WritesReadToEnd r first leaf old new)
+
 -- ---- endings and blank lines
 
 -- The nodes of an ending by a name: one that holds no other and has its bytes, or none where there is no ending.
@@ -82,6 +89,8 @@ AreEnding text name (Some ending) ns =
 pub record WritesBlank {A : Type 0} (text : List ℕ) (ending : Option LineEnding) (to : Place) (old new : Walk A) : Type 0 where
   pub before : Nodes
   pub are_quiet : AreQuiet before
+  -- all that is left of the line is among them
+  pub space : before ≡ Nil → rest_of old.rest ≡ []
   pub nodes : Nodes
   pub are_ending : AreEnding text BlankLineEnding ending nodes
   pub writes : Writes text old.out new.out (append before nodes)
@@ -93,7 +102,8 @@ pub record WritesBlank {A : Type 0} (text : List ℕ) (ending : Option LineEndin
 abbrev pub WritesBlankLaid : {A : Type 0} → Walk A → Walk A → Type 0
 WritesBlankLaid old new =
     (text : List ℕ) (ending : Option LineEnding) (here : LineRest) (left : List LineRest) (to : Place) → StandsAt text (Within here left) (standing old)
-    → IsWrittenToRest old → IsInOrder text old.out → IsBlankLaid old.on.now (around (standing old)) ending (Within here left) to → WritesBlank text ending to old new
+    → IsWrittenToRest old → IsInOrder text old.out → IsBlankLaid old.on.now (around (standing old)) ending (Within here left) to
+    → WritesBlank text ending to old new
 
 -- ---- frontmatter
 
@@ -112,6 +122,7 @@ pub record WritesFront {A : Type 0} (text : List ℕ) (others : List TextLine) (
   pub ending : Option LineEnding
   pub nodes : Nodes
   pub are_ending : AreEnding text n.LineEnding ending nodes
+  pub last : ending ≡ None → others ≡ []
   pub writes : Writes text old.out new.out (append before (append (one node) nodes))
   pub stands : StandsAt text (Between (unread Whitespace others)) (standing new)
   pub around : HasSameOpen (standing old) (standing new)

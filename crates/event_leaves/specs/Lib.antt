@@ -2,6 +2,7 @@ pub mod Texts
 pub mod Entered
 pub mod Written
 pub mod Reads
+pub mod Definition
 pub mod Laid
 pub mod RawLines
 pub mod Tokens

@@ -1,11 +1,11 @@
 -- What is written of the bytes of a line, one event after another: of a thematic break, or of a fence.
-use Rattle.std.specs.Prelude.{◌≡◌, ◌-◌, ◌≤◌, ◌^◌, ℕ, List, length}
+use Rattle.std.specs.Prelude.{◌≡◌, ◌-◌, ◌≤◌, ℕ, List, length}
 use Rattle.event_grammar.specs.Trees.{Nodes}
 use Rattle.event_output.specs.Ends.{end_at}
 use Rattle.event_output.specs.Written.{IsInOrder, Writes}
 use Rattle.event_lines.specs.declared.walk.Walk.{Walk}
 use Rattle.event_lines.specs.Ends.{written_to}
-use Rattle.event_lines.specs.Standing.{standing}
+use Rattle.event_lines.specs.Standing.{TEXT_MAX, standing}
 use Rattle.event_leaves.specs.RawLines.{AreRaw}
 
 -- so many bytes are left of the line, and all before them is written
@@ -14,7 +14,7 @@ pub record AreLeft {A : Type 0} (text : List ℕ) (left : ℕ) (w : Walk A) : Ty
   pub at : written_to w ≡ end_at (w.line_end - left) 0
   pub within : left ≤ w.line_end
   pub end : w.line_end ≤ length text
-  pub fits : length text ≤ 2 ^ 60
+  pub fits : length text ≤ TEXT_MAX
 
 -- nodes are written, and so many bytes are left of the line then
 pub record WritesTokens {A : Type 0} (text : List ℕ) (left : ℕ) (old new : Walk A) : Type 0 where

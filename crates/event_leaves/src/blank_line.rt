@@ -1,6 +1,7 @@
 //! Blank lines (CommonMark 4.9).
 ghost use Rattle.std.specs.Prelude.{◌≡◌, OnOk, true};
 ghost use Rattle.event_output.specs.Children.{holds_lines};
+ghost use Rattle.event_lines.specs.Ends.{line_after};
 ghost use Rattle.event_lines.specs.Open.{still_open};
 ghost use Rattle.event_leaves.specs.Laid.{WritesBlankLaid};
 
@@ -14,6 +15,7 @@ pub fn push_blank_line<A: Allocator>(walk: &mut Walk<'_, A>) -> Result<(), Alloc
     requires lines { holds_lines (still_open walk.old) ≡ true }
     ensures open { OnOk result (still_open walk.new ≡ still_open walk.old) }
     ensures written { OnOk result (WritesBlankLaid walk.old walk.new) }
+    ensures after { walk.old.is_in_line ≡ true → OnOk result (line_after walk.new ≡ line_after walk.old) }
 {
     walk.in_line()?;
     walk.all(Name::SpaceOrTab)?;

@@ -12,7 +12,7 @@ ghost use Rattle.definition_text.specs.BlockLines.{BlockLine};
 ghost use Rattle.definition_block.specs.Tree.{FencedCode};
 ghost use Rattle.definition_page.specs.Read.{Reading};
 ghost use Rattle.event_leaves.specs.Reads.{WritesReadLeaf};
-ghost use Rattle.event_leaves.specs.Laid.{IsFenceRead};
+ghost use Rattle.event_leaves.specs.Laid.{IsFenceRead, WritesReadUnclosed};
 ghost use Rattle.event_leaves.specs.Fences.{may_enter_any};
 ghost use Rattle.event_leaves.specs.FenceParts.{AreNames, IsBefore, LeadsTo, WritesClosing, WritesFence, WritesOpening, WritesPart, info_in, info_size};
 ghost use Rattle.event_leaves.specs.RawLines.{IsRawName};
@@ -89,10 +89,14 @@ pub fn push_unclosed_code<T: Tables, A: Allocator + Clone>(
 ) -> Result<(), AllocError>
     requires blocks { holds_blocks (still_open walk.old) ≡ true }
     ensures open { OnOk result (still_open walk.new ≡ still_open walk.old) }
+    ensures written { OnOk result ((r : Reading) (first : Bool) (info : List ℕ) (ls : List BlockLine)
+        → IsFenceRead r texts.now.options.now.constructs (T.reference_of texts.now.tables.now) count ls
+        → WritesReadUnclosed r first (FencedCode info false ls) walk.old walk.new) }
 {
     let names = push_open(walk, texts, count)?;
     if walk.is_outside() {
         walk.ending(Name::LineEnding)?;
+        return walk.exit(names.block);
     }
     walk.exit(names.block)
 }

@@ -1,17 +1,26 @@
 //! Link reference definitions (CommonMark 4.7).
-ghost use Rattle.std.specs.Prelude.{◌≡◌, OnOk, true};
+ghost use Rattle.std.specs.Prelude.{◌≡◌, Bool, OnOk, true};
+ghost use Rattle.block_rows.specs.Rows.{Single, definition_on, definition_value};
+ghost use Rattle.definition_inline.specs.Targets.{Targets};
+ghost use Rattle.definition_text.specs.BlockLines.{own_lines};
+ghost use Rattle.text_pieces.specs.Pieces.{piece_lines};
 ghost use Rattle.event_output.specs.Children.{holds_blocks};
 ghost use Rattle.event_lines.specs.Open.{still_open};
+ghost use Rattle.event_leaves.specs.Rows.{WritesRow};
+ghost use Rattle.event_leaves.specs.Texts.{KnowsTargets, reading_by};
 
 use crate::buffers::Buffers;
 use crate::texts::Texts;
+use engine_events::event::Name;
 use event_lines::Walk;
+use event_lines::cut::from;
 use markdown_options::Tables;
 use std::alloc::{AllocError, Allocator};
+use text_bytes::white_size;
 use text_pieces::{Piece, join_lines};
 
-/// A link reference definition of these lines.
-#[tactic(auto, using(event_output::proofs::Classes::blocks_may))]
+/// A link reference definition of these lines, and white space at the end of the last one.
+#[tactic(auto, using(event_output::proofs::Classes::blocks_may, event_output::proofs::Classes::enters_in, event_output::proofs::Classes::lines_in), unfolding(event_output::specs::Children::may_hold, event_output::specs::Children::has_lines))]
 pub fn push_definition<'a, T: Tables, A: Allocator + Clone>(
     walk: &mut Walk<'_, A>,
     texts: &Texts<'a, '_, T, A>,
@@ -20,13 +29,22 @@ pub fn push_definition<'a, T: Tables, A: Allocator + Clone>(
 ) -> Result<(), AllocError>
     requires blocks { holds_blocks (still_open walk.old) ≡ true }
     ensures open { OnOk result (still_open walk.new ≡ still_open walk.old) }
+    ensures written { OnOk result ((ds : Targets) (first : Bool) → KnowsTargets texts.now ds → let ls = piece_lines lines.now in
+        WritesRow (reading_by T.Tables texts.now ds) first (Single (definition_value (own_lines ls) (definition_on ls))) walk.old walk.new) }
 {
     join_lines(&mut buffers.joined, lines)?;
+    let content = buffers.joined.as_str();
+    let white = white_size(content.as_bytes());
     walk.begin_content();
+    walk.text(Name::SpaceOrTab, white)?;
+    walk.enter(Name::Definition)?;
     event_links::push_definition(
         walk,
         &texts.options.constructs,
         texts.tables,
-        buffers.joined.as_str(),
-    )
+        from(content, white),
+    )?;
+    walk.exit(Name::Definition)?;
+    let left = content.len().saturating_sub(walk.place());
+    walk.text(Name::SpaceOrTab, left)
 }

@@ -17,7 +17,8 @@ use std::alloc::{AllocError, Allocator};
 pub fn push_html<A: Allocator>(walk: &mut Walk<'_, A>, count: usize) -> Result<(), AllocError>
     requires blocks { holds_blocks (still_open walk.old) ≡ true }
     ensures open { OnOk result (still_open walk.new ≡ still_open walk.old) }
-    ensures written { OnOk result ((r : Reading) (first : Bool) (ls : List BlockLine) → count ≡ length ls → WritesReadLeaf r first (Html ls) [] walk.old walk.new) }
+    ensures written { OnOk result ((r : Reading) (first : Bool) (ls : List BlockLine) → count ≡ length ls
+        → WritesReadLeaf r first (Html ls) [] walk.old walk.new) }
 {
     walk.enter(Name::HtmlFlow)?;
     walk.all(Name::HtmlFlowData)?;

@@ -1,7 +1,9 @@
 pub mod Written
 pub mod Places
-pub mod Spaces
 pub mod Found
+pub mod Children
+pub mod Spaces
 pub mod Marks
 pub mod Tails
 pub mod Resources
+pub mod Definitions

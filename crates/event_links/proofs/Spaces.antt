@@ -33,6 +33,7 @@ use Rattle.event_strings.proofs.Parts.{owed_indent, void_node, white_in}
 use Rattle.event_strings.proofs.PlainNodes.{plain_both, plain_quiet, plain_void}
 use Rattle.event_strings.proofs.Texts.{EndingStep, ending_step, told_ascii}
 use Rattle.event_links.specs.White.{WritesWhite, is_ascii_byte}
+use Rattle.event_links.proofs.Children.{ending_child, none_both, space_child}
 
 white_ascii : (n : ℕ) (xs : List ℕ) → AreBytes xs → n ≤ indent xs → list_all is_ascii_byte (take n xs) ≡ true
 white_ascii zero xs bytes le = refl
@@ -88,6 +89,7 @@ module _ {A : Type 0} (text : List ℕ) (stop : Stop) where
             (append-nil (drop size xs)) w.writes;
         whole = omega (arith, owed_indent text stop a xs st, is, ap (λ (x : End). x.owed) w.end, owed_after from.index from.owed size);
         plain = plain_void text n.SpaceOrTab from (end_after from size) refl refl;
+        others = λ name h. space_child name text from (end_after from size) h;
       }
 
   -- white space, a line ending, and white space
@@ -120,6 +122,9 @@ module _ {A : Type 0} (text : List ℕ) (stop : Stop) where
             plain_both first.nodes (append nodes last.nodes) first.plain
             (plain_both nodes last.nodes
             (plain_both (one ends.node) ends.quiet (void_node ends.node ends.named ends.empty) (plain_quiet ends.quiet ends.are_quiet)) last.plain);
+        others = λ name h.
+            none_both name first.nodes (append nodes last.nodes) (first.others name h)
+            (none_both name nodes last.nodes (ending_child name ends.node ends.quiet ends.named ends.are_quiet h) (last.others name h));
       }
 
 pub ending_cut : (xs : List ℕ) (found : Ending) → AreBytes xs → ReadsEnding xs found → EndingStep default_constructs (λ name. None) xs found.ending found.size

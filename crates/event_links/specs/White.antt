@@ -1,13 +1,20 @@
 -- What is written of white space between the parts of a link (CommonMark 6.3).
-use Rattle.std.specs.Prelude.{◌≡◌, ℕ, Bool, true, nat_lt, List, ◌++◌}
+use Rattle.std.specs.Prelude.{◌≡◌, ℕ, Bool, true, false, nat_lt, List, [], ◌∷◌, ◌++◌, None}
 use Rattle.std.specs.List.{list_all}
+use Rattle.engine_events.specs.Names.{is_listed}
+use Rattle.engine_events.specs.declared.event.Name.{Name}
+use Rattle.engine_events.specs.declared.event.Name.TheVariants as n
 use Rattle.event_grammar.specs.Trees.{Nodes}
+use Rattle.event_meaning.specs.Children.{child}
 use Rattle.event_lines.specs.declared.walk.Walk.{Walk}
 use Rattle.event_lines.specs.InContent.{IsWhole, Stop, WritesInContent}
 use Rattle.event_strings.specs.Plain.{ArePlain}
 
 abbrev pub is_ascii_byte : ℕ → Bool
 is_ascii_byte b = nat_lt b 128
+
+abbrev pub white_names : List Name
+white_names = n.SpaceOrTab ∷ n.LineEnding ∷ n.BlockQuotePrefix ∷ []
 
 -- the white space is written that a content begins with, and the rest is ahead
 pub record WritesWhite {A : Type 0} (text content rest : List ℕ) (stop : Stop) (old new : Walk A) : Type 0 where
@@ -18,3 +25,5 @@ pub record WritesWhite {A : Type 0} (text content rest : List ℕ) (stop : Stop)
   pub writes : WritesInContent text front nodes rest stop old new
   pub whole : IsWhole new
   pub plain : ArePlain nodes
+  -- among them are only spaces and tabs, line endings and the prefixes of quotes
+  pub others : (name : Name) → is_listed white_names name ≡ false → child name nodes ≡ None

@@ -1,4 +1,4 @@
-use Rattle.std.proofs.Common.{◌≤◌, ℕ, List, ap, ◌∙◌, length, sym, subst}
+use Rattle.std.proofs.Common.{◌∙◌}
 use Rattle.event_leaves.proofs.ClosingFence.{closing_written}
 use Rattle.event_leaves.proofs.NextLines.{all_ok}
 use Rattle.event_leaves.proofs.code_fenced.push_closing_fence.Goals as goal

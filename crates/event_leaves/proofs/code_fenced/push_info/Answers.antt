@@ -1,4 +1,4 @@
-use Rattle.std.proofs.Common.{◌≡◌, ap, ◌∙◌, arith, get_or}
+use Rattle.std.proofs.Common.{ap, ◌∙◌, arith}
 use Rattle.std.specs.List.{position_or_len}
 use Rattle.definition_text.specs.Content.{is_space}
 use Rattle.event_leaves.proofs.FenceStrings.{info_absent, info_present}

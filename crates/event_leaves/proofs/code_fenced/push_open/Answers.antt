@@ -1,4 +1,4 @@
-use Rattle.std.proofs.Common.{ℕ, List, ap, ◌∙◌, sym, get_or}
+use Rattle.std.proofs.Common.{ℕ, List, ap, ◌∙◌, get_or}
 use Rattle.definition_text.specs.Columns.{bare, bytes_of, indent, Rest}
 use Rattle.event_leaves.proofs.FencedLines.{opening_written}
 use Rattle.event_leaves.proofs.OnLine.{white_ahead}

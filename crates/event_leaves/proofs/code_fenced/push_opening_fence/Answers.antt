@@ -1,4 +1,4 @@
-use Rattle.std.proofs.Common.{ℕ, List, ap, ap₂, ◌∙◌, sym}
+use Rattle.std.proofs.Common.{ℕ, List, ap, ap₂, ◌∙◌}
 use Rattle.definition_text.specs.Columns.{indent}
 use Rattle.definition_text.specs.Runs.{run}
 use Rattle.std.specs.Prelude.{slice_index}

@@ -1,4 +1,4 @@
-use Rattle.std.proofs.Common.{◌≡◌, ◌<◌, ◌∙◌, arith}
+use Rattle.std.proofs.Common.{◌≡◌, ◌∙◌, arith}
 use Rattle.definition_text.specs.Indents.{outdent}
 use Rattle.event_leaves.proofs.NextLines.{so_far_all, so_far_more, so_far_none}
 use Rattle.event_leaves.proofs.code_lines.push_code_lines.Goals as goal

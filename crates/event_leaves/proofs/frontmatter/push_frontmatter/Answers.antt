@@ -12,13 +12,17 @@ use Rattle.event_output.specs.Ends.{end_at, enter_at, exit_at}
 use Rattle.event_output.specs.Forest.{append, one}
 use Rattle.event_output.specs.Written.{end_in}
 use Rattle.event_output.proofs.Written.{writes_around, writes_both}
-use Rattle.laws_laid.specs.Places.{AtEnding, Between, LineRest, Place, Within, line_left, line_rest, prefixed, unread}
-use Rattle.event_lines.specs.Standing.{Standing, StandsAt, around, standing}
+use Rattle.laws_laid.specs.Places.{AtEnding, Between, LineRest, Within, line_rest, unread}
+use Rattle.event_lines.specs.Standing.{Standing, StandsAt, standing}
 use Rattle.event_leaves.proofs.Blank.{end_written}
 use Rattle.event_leaves.proofs.MetadataLines.{AreBytes, fence_line, front_lines, line_bytes, mid_lines, text_lines, top_line}
 use Rattle.event_leaves.proofs.NextLines.{all_ok, next_written}
 use Rattle.event_leaves.proofs.Nodes.{raw_append}
 use Rattle.event_leaves.proofs.frontmatter.push_frontmatter.Goals as goal
+
+none_left : (ls : List TextLine) → unread Whitespace ls ≡ [] → ls ≡ []
+none_left [] none = refl
+none_left (l ∷ ls) none = cc
 
 pub returns-clause-written : goal.returns-clause-written
 returns-clause-written g c =
@@ -91,6 +95,7 @@ returns-clause-written g c =
       ending = fl.last.ending;
       nodes = done.nodes;
       are_ending = done.are_ending;
+      last = λ none. none_left others (st_e.unread ∙ ap (λ (xs : List ℕ). unread Whitespace (lines xs)) (st_e.line.last (st_e.ending ∙ none)));
       writes = writes_both text old.out a.out d.out begun.0.nodes (append (one node) done.nodes) begun.0.writes (
           writes_both text a.out e.out d.out (one node) done.nodes whole_node done.writes);
       stands = ends text fl.last.ending (unread Whitespace others) st_e;

@@ -1,4 +1,4 @@
-use Rattle.std.proofs.Common.{◌-◌, arith, refl}
+use Rattle.std.proofs.Common.{◌-◌, refl}
 use Rattle.engine_events.specs.declared.event.Name.TheVariants as n
 use Rattle.event_leaves.proofs.NextLines.{all_ok}
 use Rattle.event_leaves.proofs.Tokens.{token_all, token_on, tokens_around, tokens_both}

@@ -1,9 +1,8 @@
-use Rattle.std.proofs.Common.{refl, sym, ap, subst, ◌∙◌, arith}
+use Rattle.std.proofs.Common.{refl, arith}
 use Rattle.std.proofs.lemmas.Result.{on_ok_weaker}
 use Rattle.text_pieces.specs.Pieces.{piece_lines}
-use Rattle.event_lines.proofs.Steps.{both_ok}
 use Rattle.event_leaves.specs.Texts.{reading_by}
-use Rattle.event_leaves.proofs.RowLeaves.{break_row, fenced_row, heading_row, html_row, indented_row, paragraph_row, setext_row, unclosed_row, whole_code_row}
+use Rattle.event_leaves.proofs.RowLeaves.{break_row, definition_row, fenced_row, heading_row, html_row, indented_row, paragraph_row, setext_row, unclosed_row, whole_code_row}
 use Rattle.event_leaves.proofs.RowLeaves.{whole_first, whole_paragraph_row, whole_second}
 use Rattle.event_leaves.proofs.leaf.push_leaf.Goals as goal
 
@@ -80,5 +79,14 @@ pub returns-in-UnclosedCode-clause-written : goal.returns-in-UnclosedCode-clause
 returns-in-UnclosedCode-clause-written g c =
     let ls = piece_lines c.args.lines.now in
     on_ok_weaker c.push_unclosed_code.result
-    (λ _ ds knows of. unclosed_row (reading_by g.T.Tables c.args.texts.now ds) c.args.first c.args.row ls c.args.walk.now c.push_unclosed_code.new.walk c.in-UnclosedCode.count c.in-UnclosedCode.is)
-    c.push_unclosed_code.ensures.open
+    (λ written ds knows of. unclosed_row (reading_by g.T.Tables c.args.texts.now ds) c.args.first c.args.row ls c.args.walk.now c.push_unclosed_code.new.walk c.in-UnclosedCode.count c.in-UnclosedCode.is of
+    (λ info own size. written (reading_by g.T.Tables c.args.texts.now ds) c.args.first info own (record { constructs = refl; same_names = refl; lines = size })))
+    c.push_unclosed_code.ensures.written
+
+pub returns-in-Definition-clause-written : goal.returns-in-Definition-clause-written
+returns-in-Definition-clause-written g c =
+    let ls = piece_lines c.args.lines.now in
+    on_ok_weaker c.push_definition.result
+    (λ written ds knows of. definition_row (reading_by g.T.Tables c.args.texts.now ds) c.args.first c.args.row ls c.args.walk.now c.push_definition.new.walk _ c.in-Definition.is of
+    (written ds c.args.first knows))
+    c.push_definition.ensures.written

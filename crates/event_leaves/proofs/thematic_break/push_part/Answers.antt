@@ -1,4 +1,4 @@
-use Rattle.std.proofs.Common.{◌≡◌, arith, length, refl}
+use Rattle.std.proofs.Common.{arith, length, refl}
 use Rattle.engine_events.specs.declared.event.Name.TheVariants as n
 use Rattle.event_leaves.proofs.Tokens.{run_some, token_on}
 use Rattle.event_leaves.proofs.thematic_break.push_part.Goals as goal
