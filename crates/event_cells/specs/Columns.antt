@@ -42,8 +42,8 @@ WritesColumnHere bytes size old new =
     → WritesColumn text bs size ending left (alignment first last) bytes old new
 
 -- so many bytes are those of a bar, of white space or of a delimiter, which is written
-pub record WritesPart {A : Type 0} (text bytes : List ℕ) (size : ℕ) (ending : Option LineEnding) (left : List LineRest) (columns : List AlignKind) (old new : Walk A)
-    : Type 0 where
+pub record WritesPart {A : Type 0} (text bytes : List ℕ) (size : ℕ) (ending : Option LineEnding) (left : List LineRest) (columns : List AlignKind)
+    (old new : Walk A) : Type 0 where
   pub some : 0 < size
   pub now : List AlignKind
   pub later : List AlignKind

@@ -20,5 +20,6 @@ pub data AreDelimiters : List ℕ → List AlignKind → Type 0 where
   none : AreDelimiters [] []
   bar : {bs : List ℕ} {aligns : List AlignKind} → AreDelimiters bs aligns → AreDelimiters (124 ∷ bs) aligns
   white : {b : ℕ} {bs : List ℕ} {aligns : List AlignKind} → is_white b ≡ true → AreDelimiters bs aligns → AreDelimiters (b ∷ bs) aligns
-  column : {bytes bs : List ℕ} {aligns : List AlignKind} (left right : Bool) (n : ℕ) → bytes ≡ colon_if left ++ (hyphen ∷ (replicate n hyphen ++ (colon_if right ++ bs)))
-      → begins_other bs ≡ true → AreDelimiters bs aligns → AreDelimiters bytes (alignment left right ∷ aligns)
+  column : {bytes bs : List ℕ} {aligns : List AlignKind} (left right : Bool) (n : ℕ)
+      → bytes ≡ colon_if left ++ (hyphen ∷ (replicate n hyphen ++ (colon_if right ++ bs))) → begins_other bs ≡ true
+      → AreDelimiters bs aligns → AreDelimiters bytes (alignment left right ∷ aligns)

@@ -1,14 +1,14 @@
 -- The text of a cell.
-use Rattle.std.proofs.Common.{◌≡◌, ◌<◌, ◌≤◌, ℕ, zero, suc, ◌+◌, Bool, true, false, ◌||◌, List, [], ◌∷◌, ◌++◌, Option, None, drop, get_or, length, map, replicate, refl, sym, ap, ap₂, subst, ◌∙◌, arith, eqb}
+use Rattle.std.proofs.Common.{◌≡◌, ◌<◌, ◌≤◌, ℕ, zero, suc, ◌+◌, Bool, false, ◌||◌, List, [], ◌∷◌, ◌++◌, Option, None, drop, get_or, map, replicate, refl, sym, ap, ap₂, subst, ◌∙◌, arith, eqb}
 use Rattle.std.specs.List.{list_any, prefix_len}
-use Rattle.std.proofs.lemmas.Bool.{cond-false, cond-true, ne_eqb, or_parts}
+use Rattle.std.proofs.lemmas.Bool.{cond-false, ne_eqb, or_parts}
 use Rattle.std.proofs.lemmas.List.{append-nil, get_or-drop}
 use Rattle.markdown_options.specs.declared.beside.Kind.{Kind}
 use Rattle.markdown_options.specs.declared.line_ending.LineEnding.{LineEnding}
 use Rattle.definition_text.specs.BlockLines.{BlockLine, block_line, own_lines}
 use Rattle.definition_text.specs.Columns.{code_byte, is_white}
-use Rattle.definition_text.specs.Content.{content_text, is_eol}
-use Rattle.definition_text.specs.InlineCode.{InlineCode, inline_content, with_kinds}
+use Rattle.definition_text.specs.Content.{content_text}
+use Rattle.definition_text.specs.InlineCode.{inline_content, with_kinds}
 use Rattle.definition_text.specs.Lines.{ends_line}
 use Rattle.text_pieces.specs.ParagraphLines.{HaveNoEnding}
 use Rattle.event_output.specs.Ends.{end_at}

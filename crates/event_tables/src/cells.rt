@@ -1,16 +1,20 @@
 //! Rows of cells (GFM 4.10).
 //!
 //!     row ::= (white* bar)? cell (bar cell)* (bar white*)?
-ghost use Rattle.std.specs.Prelude.{◌≡◌, ◌<◌, OnOk, true};
+ghost use Rattle.std.specs.Prelude.{◌≡◌, ◌∷◌, ◌<◌, List, [], OnOk, slice_index, true, ℕ};
 ghost use Rattle.event_lines.specs.Content.{BeginsLineAfter};
 ghost use Rattle.event_lines.specs.Standing.{standing};
 ghost use Rattle.engine_events.specs.declared.event.Name.TheVariants.{GfmTableCell, GfmTableCellDivider, GfmTableCellText, GfmTableRow, SpaceOrTab};
 ghost use Rattle.event_output.specs.Children.{may_enter};
 ghost use Rattle.event_lines.specs.Open.{still_open};
 ghost use Rattle.definition_inline.specs.Targets.{Targets};
-ghost use Rattle.block_cells.specs.GfmTable.{cell_view};
+ghost use Rattle.definition_block.specs.GfmTable.{Cell as CellView};
+ghost use Rattle.definition_text.specs.Columns.{bytes_of};
+ghost use Rattle.text_pieces.specs.Pieces.{piece_line};
+ghost use Rattle.block_cells.specs.GfmTable.{cell_view, cells_left};
 ghost use Rattle.event_leaves.specs.Texts.{KnowsTargets, reading_by};
-ghost use Rattle.event_tables.specs.Cells.{WritesInCellHere};
+ghost use Rattle.event_tables.specs.Cells.{WritesCellHere, WritesFirstBar, WritesFirstCellsHere, WritesInCellHere};
+ghost use Rattle.event_tables.specs.Rows.{WritesRowHere};
 
 use block_cells::{Cell, Cells};
 use engine_events::event::Name;
@@ -20,8 +24,7 @@ use event_lines::cut::{bytes_from, first};
 use markdown_options::{Kind, Tables};
 use std::alloc::{AllocError, Allocator};
 use std::slice::from_ref;
-use text_bytes::white_size;
-use text_lines::is_blank;
+use text_bytes::{is_blank, white_size};
 use text_pieces::Piece;
 
 /// A row of cells: a line, which is the rest of the line.
@@ -34,14 +37,25 @@ pub(crate) fn push_row<'a, T: Tables, A: Allocator + Clone>(
 ) -> Result<(), AllocError>
     requires child { may_enter (still_open walk.old) GfmTableRow ≡ true }
     ensures open { OnOk result (still_open walk.new ≡ still_open walk.old) }
+    ensures written { OnOk result ((ds : Targets) → KnowsTargets texts.now ds
+        → WritesRowHere (reading_by T.Tables texts.now ds) (piece_line line.entry) walk.old walk.new) }
 {
     walk.enter(Name::GfmTableRow)?;
-    let start = walk.index_of(line.text.len());
+    let text = bytes_only(line.text);
+    let start = walk.index_of(text.len());
     walk.to(Name::SpaceOrTab, start)?;
-    push_first_divider(walk, line.text.as_bytes())?;
+    push_first_divider(walk, text.as_bytes())?;
     push_cells(walk, texts, buffers, Cells::new(line))?;
     walk.all(Name::SpaceOrTab)?;
     walk.exit(Name::GfmTableRow)
+}
+
+/// A text: its bytes are below 256.
+fn bytes_only(text: &str) -> &str
+    ensures same { result.now ≡ text.now }
+    ensures bytes { (k : ℕ) → slice_index result.now k < 256 }
+{
+    text
 }
 
 /// The bar before the first cell, if there is one, with the spaces and tabs before it.
@@ -49,6 +63,7 @@ fn push_first_divider<A: Allocator>(walk: &mut Walk<'_, A>, bytes: &[u8]) -> Res
     requires space { may_enter (still_open walk.old) SpaceOrTab ≡ true }
     requires divider { may_enter (still_open walk.old) GfmTableCellDivider ≡ true }
     ensures open { OnOk result (still_open walk.new ≡ still_open walk.old) }
+    ensures written { OnOk result (WritesFirstBar bytes.now walk.old walk.new) }
 {
     let white = white_size(bytes);
     if first(bytes_from(bytes, white)) != b'|' {
@@ -68,18 +83,37 @@ fn push_cells<'a, T: Tables, A: Allocator + Clone>(
     requires cell { may_enter (still_open walk.old) GfmTableCell ≡ true }
     requires divider { may_enter (still_open walk.old) GfmTableCellDivider ≡ true }
     ensures open { OnOk result (still_open walk.new ≡ still_open walk.old) }
+    ensures written { OnOk result ((ds : Targets) → KnowsTargets texts.now ds
+        → WritesFirstCellsHere (reading_by T.Tables texts.now ds) (cells_left cells.entry) [] walk.old walk.new) }
 {
     let mut left = cells;
     while let Some(cell) = left.next() {
-        push_cell(walk, texts, buffers, &cell)?;
-        if cell.after == Kind::Punctuation {
-            walk.token(Name::GfmTableCellDivider, 1)?;
-        }
+        push_cell_and_bar(walk, texts, buffers, &cell)?;
     }
     Ok(())
 }
 
-/// A cell, which comes next. One of spaces and tabs alone has no text.
+/// A cell, which comes next, with the bar after it, if there is one.
+fn push_cell_and_bar<'a, T: Tables, A: Allocator + Clone>(
+    walk: &mut Walk<'_, A>,
+    texts: &Texts<'a, '_, T, A>,
+    buffers: &mut Buffers<'a, A>,
+    cell: &Cell<'a>,
+) -> Result<(), AllocError>
+    requires cell { may_enter (still_open walk.old) GfmTableCell ≡ true }
+    requires divider { may_enter (still_open walk.old) GfmTableCellDivider ≡ true }
+    ensures open { OnOk result (still_open walk.new ≡ still_open walk.old) }
+    ensures written { OnOk result ((ds : Targets) → KnowsTargets texts.now ds → (cs : List CellView)
+        → WritesFirstCellsHere (reading_by T.Tables texts.now ds) (cell_view cell.now ∷ cs) cs walk.old walk.new) }
+{
+    push_cell(walk, texts, buffers, cell)?;
+    match cell.after {
+        Kind::Punctuation => walk.token(Name::GfmTableCellDivider, 1),
+        _ => Ok(()),
+    }
+}
+
+/// A cell, which comes next.
 #[tactic(auto, using(event_output::proofs::Classes::enters_in), unfolding(event_output::specs::Children::may_hold))]
 fn push_cell<'a, T: Tables, A: Allocator + Clone>(
     walk: &mut Walk<'_, A>,
@@ -89,14 +123,33 @@ fn push_cell<'a, T: Tables, A: Allocator + Clone>(
 ) -> Result<(), AllocError>
     requires child { may_enter (still_open walk.old) GfmTableCell ≡ true }
     ensures open { OnOk result (still_open walk.new ≡ still_open walk.old) }
+    ensures written { OnOk result ((ds : Targets) → KnowsTargets texts.now ds →
+        WritesCellHere (reading_by T.Tables texts.now ds) (cell_view cell.now) walk.old walk.new) }
 {
     walk.enter(Name::GfmTableCell)?;
-    if is_blank(cell.line.text) {
-        walk.token(Name::SpaceOrTab, cell.line.text.len())?;
-    } else {
-        push_cell_text(walk, texts, buffers, cell)?;
-    }
+    push_in_cell(walk, texts, buffers, cell)?;
     walk.exit(Name::GfmTableCell)
+}
+
+/// What a cell holds: its text, or spaces and tabs alone.
+fn push_in_cell<'a, T: Tables, A: Allocator + Clone>(
+    walk: &mut Walk<'_, A>,
+    texts: &Texts<'a, '_, T, A>,
+    buffers: &mut Buffers<'a, A>,
+    cell: &Cell<'a>,
+) -> Result<(), AllocError>
+    requires child { may_enter (still_open walk.old) GfmTableCellText ≡ true }
+    requires space { may_enter (still_open walk.old) SpaceOrTab ≡ true }
+    ensures open { OnOk result (still_open walk.new ≡ still_open walk.old) }
+    ensures written { OnOk result ((ds : Targets) → KnowsTargets texts.now ds →
+        WritesInCellHere (reading_by T.Tables texts.now ds) (cell_view cell.now) (bytes_of (cell_view cell.now).codes) walk.old walk.new) }
+{
+    let text = bytes_only(cell.line.text);
+    if is_blank(text.as_bytes()) {
+        walk.token(Name::SpaceOrTab, text.len())
+    } else {
+        push_cell_text(walk, texts, buffers, cell)
+    }
 }
 
 /// The text of a cell.

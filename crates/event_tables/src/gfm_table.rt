@@ -1,10 +1,18 @@
 //! Tables (GFM 4.10).
 //!
 //!     table ::= head delimiters row*
-ghost use Rattle.std.specs.Prelude.{◌≡◌, OnOk, true};
-ghost use Rattle.engine_events.specs.declared.event.Name.TheVariants.{GfmTableBody};
+ghost use Rattle.std.specs.Prelude.{◌≡◌, Bool, OnOk, [], true};
+ghost use Rattle.engine_events.specs.declared.event.Name.TheVariants.{GfmTableBody, GfmTableHead, GfmTableRow};
 ghost use Rattle.event_output.specs.Children.{holds_blocks, holds_lines, may_enter};
 ghost use Rattle.event_lines.specs.Open.{still_open};
+ghost use Rattle.definition_inline.specs.Targets.{Targets};
+ghost use Rattle.definition_text.specs.BlockLines.{own_lines};
+ghost use Rattle.definition_block.specs.Tree.{Table};
+ghost use Rattle.text_pieces.specs.Pieces.{piece_line, piece_lines};
+ghost use Rattle.event_leaves.specs.Reads.{WritesReadLeaf};
+ghost use Rattle.event_leaves.specs.Texts.{KnowsTargets, reading_by};
+ghost use Rattle.event_tables.specs.Rows.{WritesFirstRowsHere, WritesNextRowHere};
+ghost use Rattle.event_tables.specs.Tables.{WritesBodyHere, WritesHeadHere};
 
 use crate::cells::push_row;
 use engine_events::event::Name;
@@ -26,23 +34,39 @@ pub fn push_table<'a, T: Tables, A: Allocator + Clone>(
 ) -> Result<(), AllocError>
     requires blocks { holds_blocks (still_open walk.old) ≡ true }
     ensures open { OnOk result (still_open walk.new ≡ still_open walk.old) }
+    ensures written { OnOk result ((ds : Targets) → KnowsTargets texts.now ds → (first : Bool)
+        → WritesReadLeaf (reading_by T.Tables texts.now ds) first (Table (own_lines (piece_lines lines.now))) [] walk.old walk.new) }
 {
     let [head, _, rows @ ..] = lines else {
         return Ok(());
     };
     walk.enter(Name::GfmTable)?;
-    walk.enter(Name::GfmTableHead)?;
-    push_row(walk, texts, buffers, *head)?;
-    walk.next_line()?;
-    push_delimiters(walk)?;
-    walk.exit(Name::GfmTableHead)?;
-    if !rows.is_empty() {
-        push_body(walk, texts, buffers, rows)?;
-    }
+    push_head(walk, texts, buffers, *head)?;
+    push_body(walk, texts, buffers, rows)?;
     walk.exit(Name::GfmTable)
 }
 
-/// The rows of the body, after the ending of the row of delimiters.
+/// The head, and the row of delimiters on the next line.
+#[tactic(auto, using(event_output::proofs::Classes::enters_in, event_output::proofs::Classes::lines_in), unfolding(event_output::specs::Children::may_hold, event_output::specs::Children::has_lines))]
+fn push_head<'a, T: Tables, A: Allocator + Clone>(
+    walk: &mut Walk<'_, A>,
+    texts: &Texts<'a, '_, T, A>,
+    buffers: &mut Buffers<'a, A>,
+    head: Piece<'a>,
+) -> Result<(), AllocError>
+    requires child { may_enter (still_open walk.old) GfmTableHead ≡ true }
+    ensures open { OnOk result (still_open walk.new ≡ still_open walk.old) }
+    ensures written { OnOk result ((ds : Targets) → KnowsTargets texts.now ds
+        → WritesHeadHere (reading_by T.Tables texts.now ds) (piece_line head.entry) walk.old walk.new) }
+{
+    walk.enter(Name::GfmTableHead)?;
+    push_row(walk, texts, buffers, head)?;
+    walk.next_line()?;
+    push_delimiters(walk)?;
+    walk.exit(Name::GfmTableHead)
+}
+
+/// The rows of the body, if there are any, after the ending of the row of delimiters.
 #[tactic(auto, using(event_output::proofs::Classes::enters_in, event_output::proofs::Classes::lines_in), unfolding(event_output::specs::Children::may_hold, event_output::specs::Children::has_lines))]
 fn push_body<'a, T: Tables, A: Allocator + Clone>(
     walk: &mut Walk<'_, A>,
@@ -53,14 +77,51 @@ fn push_body<'a, T: Tables, A: Allocator + Clone>(
     requires child { may_enter (still_open walk.old) GfmTableBody ≡ true }
     requires lines { holds_lines (still_open walk.old) ≡ true }
     ensures open { OnOk result (still_open walk.new ≡ still_open walk.old) }
+    ensures written { OnOk result ((ds : Targets) → KnowsTargets texts.now ds
+        → WritesBodyHere (reading_by T.Tables texts.now ds) (piece_lines rows.now) walk.old walk.new) }
 {
+    let [row, others @ ..] = rows else {
+        return Ok(());
+    };
     walk.next_line()?;
     walk.enter(Name::GfmTableBody)?;
-    for (i, row) in rows.iter().enumerate() {
-        if i > 0 {
-            walk.next_line()?;
-        }
-        push_row(walk, texts, buffers, *row)?;
-    }
+    push_row(walk, texts, buffers, *row)?;
+    push_next_rows(walk, texts, buffers, others)?;
     walk.exit(Name::GfmTableBody)
+}
+
+/// Rows on the lines after the one that is written.
+fn push_next_rows<'a, T: Tables, A: Allocator + Clone>(
+    walk: &mut Walk<'_, A>,
+    texts: &Texts<'a, '_, T, A>,
+    buffers: &mut Buffers<'a, A>,
+    rows: &[Piece<'a>],
+) -> Result<(), AllocError>
+    requires child { may_enter (still_open walk.old) GfmTableRow ≡ true }
+    requires lines { holds_lines (still_open walk.old) ≡ true }
+    ensures open { OnOk result (still_open walk.new ≡ still_open walk.old) }
+    ensures written { OnOk result ((ds : Targets) → KnowsTargets texts.now ds
+        → WritesFirstRowsHere (reading_by T.Tables texts.now ds) (piece_lines rows.now) [] walk.old walk.new) }
+{
+    for row in rows {
+        push_next_row(walk, texts, buffers, *row)?;
+    }
+    Ok(())
+}
+
+/// The ending of the line, and the row of the next one.
+fn push_next_row<'a, T: Tables, A: Allocator + Clone>(
+    walk: &mut Walk<'_, A>,
+    texts: &Texts<'a, '_, T, A>,
+    buffers: &mut Buffers<'a, A>,
+    row: Piece<'a>,
+) -> Result<(), AllocError>
+    requires child { may_enter (still_open walk.old) GfmTableRow ≡ true }
+    requires lines { holds_lines (still_open walk.old) ≡ true }
+    ensures open { OnOk result (still_open walk.new ≡ still_open walk.old) }
+    ensures written { OnOk result ((ds : Targets) → KnowsTargets texts.now ds
+        → WritesNextRowHere (reading_by T.Tables texts.now ds) (piece_line row.entry) walk.old walk.new) }
+{
+    walk.next_line()?;
+    push_row(walk, texts, buffers, row)
 }
