@@ -1,6 +1,8 @@
 //! A text to its events, and these to the page that they spell.
 ghost use Rattle.std.specs.Prelude.{◌≡◌, ◌≤◌, IfErr, IfOk, false, length, string_bytes};
 ghost use Rattle.markdown_options.specs.Mdx.{has_mdx};
+ghost use Rattle.definition_page.specs.Html.{html};
+ghost use Rattle.definition_page.specs.TextTables.{text_tables};
 ghost use Rattle.event_check.specs.declared.error.CompileError.TheVariants.{Memory};
 ghost use Rattle.event_page.specs.Page.{IsPageOfEvents};
 ghost use Rattle.laws_safe_page.specs.SafeHtml.{AreSafe, HasOneReading};
@@ -11,7 +13,8 @@ use event_parser::{SIZE_MAX, parse};
 use markdown_options::{Options, Tables};
 use std::alloc::Allocator;
 
-/// Returns the HTML of a text by way of its events: `parse`, and then `compile`.
+/// Returns the HTML of a text by way of its events: `parse`, and then `compile`. It is the page of the
+/// text by all options.
 ///
 /// The text must have at most `SIZE_MAX` bytes, and no construct of MDX may be on. The only error is
 /// out of memory: `compile` accepts every list that `parse` returns.
@@ -24,8 +27,10 @@ pub fn to_html_by_events<T: Tables, A: Allocator + Clone>(
     requires size { length value.now ≤ SIZE_MAX }
     requires without_mdx { has_mdx options.now.parse.constructs ≡ false }
     ensures memory { IfErr result (λ error. error ≡ Memory) }
-    ensures page { IfOk result (λ html. IsPageOfEvents (T.reference_of tables.now) options.now.compile value.now (string_bytes html)) }
-    ensures safe { AreSafe options.now.compile → IfOk result (λ html. HasOneReading (string_bytes html)) }
+    ensures same { IfOk result (λ page.
+        string_bytes page ≡ html (text_tables (T.reference_of tables.now) (T.punctuation_of tables.now)) value.now options.now) }
+    ensures page { IfOk result (λ page. IsPageOfEvents (T.reference_of tables.now) options.now.compile value.now (string_bytes page)) }
+    ensures safe { AreSafe options.now.compile → IfOk result (λ page. HasOneReading (string_bytes page)) }
 {
     let Ok((events, _)) = parse(alloc.clone()?, value, &options.parse, tables) else {
         return Err(CompileError::Memory);

@@ -16,11 +16,13 @@ use Rattle.event_output.specs.Written.{forest_in}
 use Rattle.laws_laid.specs.Places.{LineRest, Between, Within}
 use Rattle.laws_open_blocks.specs.Lines.{line_at}
 use Rattle.laws_open_blocks.specs.Open.{Opened, opened}
+use Rattle.laws_open_nodes.specs.Fronts.{ends_in_blank}
 use Rattle.laws_open_nodes.specs.Levels.{Spells}
 use Rattle.laws_open_nodes.specs.Steps.{IsBegun, LevelsGoOn}
 use Rattle.event_leaves.specs.Laid.{AreEnding, WritesBlank}
 use Rattle.event_parser.specs.Stands.{Stands}
 use Rattle.event_parser.proofs.Endings.{IsApart, begun_more, next_line, quiet_mute, with_none}
+use Rattle.event_parser.proofs.LastBlank.{blank_ends}
 use Rattle.event_parser.proofs.Lines.{rest_before_end, on_line}
 use Rattle.event_parser.proofs.Leaves.{with_both}
 
@@ -65,6 +67,10 @@ module _ {A : Type 0} (r : Reading) (text : List ℕ) (front : Nodes) (go : Leve
                   ∙ ap (λ (k : ℕ). k + 1) (sym (on_line text here left old (written_to old).index at.0 at.1 (omega arith) (rest_before_end text here left old at.0 at.1))))
                   was.spells;
               begun = begun_more o (Blank ending);
+              ends = λ top.
+                  ap (λ (g : Growth). ends_in_blank g.kids) written.writes.forest
+                  ∙ blank_ends text ending here left o.kids (forest_in text old.out).kids written.before written.nodes
+                  (quiet_mute written.before written.are_quiet) written.are_ending is (λ none. sym at.0.rest ∙ written.space none) (was.ends top);
             }
         | inr past ↦ absurd past
       ]

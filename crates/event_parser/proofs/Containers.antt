@@ -1,13 +1,13 @@
 -- A walk stands after the start or the end of a container or a list, if that is written.
 use Rattle.std.proofs.Common.{◌≡◌, ◌⊎◌, inl, inr, ◌≤◌, ◌-◌, ℕ, Bool, true, false, List, [], ◌∷◌, sym, ap, ap₂, ◌∙◌, subst, length, map}
 use Rattle.std.proofs.lemmas.Bool.{true≢false}
+use Rattle.definition_text.specs.Columns.{Rest}
 use Rattle.definition_block.specs.Container.{Container}
 use Rattle.definition_block.specs.Tree.{Block, Holds, Items, Blocks, Nil as NoBlock, join, one as one_block}
 use Rattle.definition_page.specs.Read.{Reading}
 use Rattle.engine_events.specs.declared.event.Event.{Event}
 use Rattle.engine_events.specs.declared.event.Name.{Name}
 use Rattle.engine_events.specs.declared.event.Name.TheVariants as n
-use Rattle.block_starts.specs.declared.cursor.Cursor.{Cursor}
 use Rattle.block_starts.specs.View.{rest_of}
 use Rattle.event_grammar.specs.Checks.{spot_of}
 use Rattle.event_grammar.specs.InGrammar.{node_name}
@@ -24,10 +24,13 @@ use Rattle.event_output.specs.Written.{Exits, end_in, forest_in}
 use Rattle.laws_laid.specs.Places.{Place, Between, Within, AtEnding}
 use Rattle.laws_open_blocks.specs.Lines.{line_at}
 use Rattle.laws_open_blocks.specs.Open.{InContainer, InList, Level, Opened, bare_container, is_in_list, level, opened, within}
+use Rattle.laws_open_nodes.specs.Fronts.{ends_in_blank}
 use Rattle.laws_open_nodes.specs.Levels.{HasStart, IsFirstOf, IsNamed, Spells, innermost, is_item}
 use Rattle.laws_open_nodes.specs.Steps.{IsBegun, IsStartName, LevelsGoOn}
+use Rattle.laws_open_nodes.proofs.Ends.{blank_one, exited_other}
 use Rattle.event_parser.specs.Stands.{IsAfterOther, IsPastCode, IsWrittenAt, Stands, containers}
 use Rattle.event_parser.proofs.Endings.{begun_more, quiet_mute, with_none}
+use Rattle.event_parser.proofs.LastBlank.{other_ends}
 use Rattle.event_parser.proofs.Leaves.{HoldsOthers, ends_holding}
 
 module _ (r : Reading) (text : List ℕ) (front : Nodes) (go : LevelsGoOn r text front) where
@@ -60,7 +63,7 @@ some_level (l ∷ levels) = true
 pub record IsSameLine {A : Type 0} (old new : Walk A) : Type 0 where
   pub size : new.size ≡ old.size
   pub left : new.left.now ≡ old.left.now
-  pub rest : new.rest ≡ old.rest
+  pub rest : rest_of new.rest ≡ rest_of old.rest
   pub line_end : new.line_end ≡ old.line_end
   pub written : written_to new ≡ written_to old
 
@@ -75,7 +78,7 @@ module _ {A : Type 0} where
   pub written_still : (p : Place) (old new : Walk A) → IsSameLine old new → IsWrittenAt p old → IsWrittenAt p new
   written_still (Between left) old new same wr =
       same.written ∙ wr ∙ ap₂ (λ (a : ℕ) (b : List ℕ). end_at (a - length b) 0) (sym same.size) (sym same.left)
-  written_still (Within here left) old new same wr = same.written ∙ wr ∙ ap₂ (λ (a : ℕ) (b : Cursor). rest_start a (rest_of b)) (sym same.line_end) (sym same.rest)
+  written_still (Within here left) old new same wr = same.written ∙ wr ∙ ap₂ (λ (a : ℕ) (b : Rest). rest_start a b) (sym same.line_end) (sym same.rest)
   written_still (AtEnding ending left) old new same wr = same.written ∙ wr ∙ ap (λ (a : ℕ). end_at a 0) (sym same.line_end)
 
   no_past : (text : List ℕ) (o : Opened) (p : Place) (w : Walk A) (l : Level) (levels : List Level) → o.outer ≡ l ∷ levels → IsPastCode text o p w → ⊥
@@ -106,6 +109,12 @@ module _ {A : Type 0} where
                     subst (λ (x : End). Spells r text front more (exited (forest_in text old.out) exit) (line_at text x.index)) (sym line.written) (
                     go.container_ends o (forest_in text old.out) c goes_on before levels exit is was.spells));
                 begun = begun_more (opened before levels o.places) (Holds c o.kids);
+                ends = λ top.
+                    other_ends p (join before (one_block (Holds c o.kids))) (forest_in text new.out).kids
+                    (ap (λ (g : Growth). ends_in_blank g.kids) exits.forest
+                    ∙ exited_other r text front o (forest_in text old.out) (InContainer c goes_on) before levels (line_at text (written_to old).index)
+                    (exit_at text name (end_in old.out)) is was.spells)
+                    (blank_one false before (Holds c o.kids));
               }
           | inr past ↦ absurd (no_past text o p old (level (InContainer c goes_on) before) levels is past)
         ]
@@ -132,6 +141,12 @@ module _ {A : Type 0} where
                     subst (λ (x : End). Spells r text front more (exited (forest_in text old.out) exit) (line_at text x.index)) (sym line.written) (
                     go.list_ends o (forest_in text old.out) before items item levels exit is last was.spells));
                 begun = begun_more (opened before levels o.places) (Items o.kids);
+                ends = λ top.
+                    other_ends p (join before (one_block (Items o.kids))) (forest_in text new.out).kids
+                    (ap (λ (g : Growth). ends_in_blank g.kids) exits.forest
+                    ∙ exited_other r text front o (forest_in text old.out) InList before levels (line_at text (written_to old).index)
+                    (exit_at text name (end_in old.out)) is was.spells)
+                    (blank_one false before (Items o.kids));
               }
           | inr past ↦ absurd (no_past text o p old (level InList before) levels is past)
         ]

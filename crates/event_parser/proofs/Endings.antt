@@ -31,10 +31,12 @@ use Rattle.laws_alike.specs.Composed.{ends_unclosed}
 use Rattle.laws_open_blocks.specs.Lines.{line_at}
 use Rattle.laws_open_blocks.specs.Open.{Opened, opened}
 use Rattle.laws_open_blocks.proofs.LineCounts.{lines_are_counted}
+use Rattle.laws_open_nodes.specs.Fronts.{ends_in_blank}
 use Rattle.laws_open_nodes.specs.Levels.{AreMute, Spells}
 use Rattle.laws_open_nodes.specs.Steps.{IsBegun, LevelsGoOn}
 use Rattle.event_leaves.specs.Laid.{AreEnding}
 use Rattle.event_parser.specs.Stands.{IsAfterOther, Stands}
+use Rattle.event_parser.proofs.LastBlank.{ending_ends}
 
 -- ---- quiet nodes are mute
 
@@ -165,4 +167,6 @@ module _ {A : Type 0} (r : Reading) (text : List ℕ) (front : Nodes) (go : Leve
             (λ e is. next_line text (standing old) e st.line (st.ending ∙ is) apart ∙ ap (λ (x : End). line_at text x.index + 1) (sym wr))
             was.spells);
         begun = begun_more o (Ending ending);
+        ends = λ top.
+            ap (λ (g : Growth). ends_in_blank g.kids) written.0.forest ∙ ending_ends text ending o.kids (forest_in text old.out).kids _ are (was.ends top).0;
       }

@@ -7,6 +7,7 @@ use Rattle.definition_text.specs.Columns.{Code}
 use Rattle.definition_inline.specs.Definition.{Definition}
 use Rattle.definition_inline.specs.LabelMatch.{normal_label}
 use Rattle.definition_inline.specs.Targets.{labels_of}
+use Rattle.definition_text.specs.BlockLines.{BlockLine}
 use Rattle.definition_block.specs.Container.{Container, Quote, Item, Footnote}
 use Rattle.definition_block.specs.Blocks.{Block, Leaf, Holds, Items, Ending, Blank, Blocks, Nil, Cons}
 use Rattle.definition_block.specs.Definitions.{container_footnotes}
@@ -16,9 +17,9 @@ use Rattle.event_parser.specs.declared.labels.Labels.{Labels}
 use Rattle.event_parser.specs.Labels.{HasLabels, begun, begun_in, block_begun, defined_in, definition_labels, footnote_labels, normal_labels, own_label, row_begun}
 
 -- the label of a definition's row
-pub one_label : (o : Option Definition) → normal_labels (row_definitions (Single (definition_value o))) ≡ own_label o ∷ []
-one_label None = refl
-one_label (Some d) = refl
+pub one_label : (ls : List BlockLine) (o : Option Definition) → normal_labels (row_definitions (Single (definition_value ls o))) ≡ own_label o ∷ []
+one_label ls None = refl
+one_label ls (Some d) = refl
 
 -- ---- one row more
 

@@ -7,7 +7,7 @@ use Rattle.definition_block.specs.Definitions.{leaf_definitions}
 use Rattle.definition_inline.specs.Definition.{Definition}
 use Rattle.definition_block.specs.Tree.{LeafBlock, Block, Leaf, Holds, Items, Ending, Blank, Blocks, Nil as NoBlock, Cons as ConsBlock, join, one as one_block}
 use Rattle.definition_page.specs.Read.{Reading, read_leaf}
-use Rattle.event_grammar.specs.Trees.{Growth, Node, Nodes, Around}
+use Rattle.event_grammar.specs.Trees.{Growth, Node, Nodes, Around, Nil}
 use Rattle.event_lines.specs.declared.walk.Walk.{Walk}
 use Rattle.event_lines.specs.Ends.{written_to}
 use Rattle.event_lines.specs.Quiet.{AreQuiet}
@@ -20,12 +20,14 @@ use Rattle.laws_laid.specs.Places.{LineRest, Place, Within, AtEnding}
 use Rattle.laws_alike.specs.Composed.{ends_unclosed, is_unclosed}
 use Rattle.laws_open_blocks.specs.Lines.{line_at}
 use Rattle.laws_open_blocks.specs.Open.{Opened, opened, is_in_list}
+use Rattle.laws_open_nodes.specs.Fronts.{ends_in_blank}
 use Rattle.laws_open_nodes.specs.Levels.{Spells}
 use Rattle.laws_open_nodes.specs.Steps.{IsBegun, LevelsGoOn, next_stands}
 use Rattle.event_leaves.specs.Written.{SpellsLeaf, WritesLeaf, node_end, node_start}
 use Rattle.event_leaves.specs.Laid.{WritesToEnd}
 use Rattle.event_parser.specs.Stands.{Stands}
 use Rattle.event_parser.proofs.Endings.{begun_more, quiet_mute}
+use Rattle.event_parser.proofs.LastBlank.{leaf_ends}
 use Rattle.event_parser.proofs.Lines.{rest_line_at}
 
 -- in a line, no more is written than the text has
@@ -76,7 +78,7 @@ ends_holding before (ConsBlock (Blank (Some ending)) bs) b holds = ends_holding 
 
 module _ (r : Reading) (text : List ℕ) (front : Nodes) (go : LevelsGoOn r text front) where
   -- a leaf after nodes that spell nothing
-  spells_leaf : (o : Opened) (leaf : LeafBlock) (g h : Growth) (before : Nodes) (node : Node) (from to : ℕ) → is_in_list o.outer ≡ false → IsBegun o
+  pub spells_leaf : (o : Opened) (leaf : LeafBlock) (g h : Growth) (before : Nodes) (node : Node) (from to : ℕ) → is_in_list o.outer ≡ false → IsBegun o
       → AreQuiet before → SpellsLeaf r.parse.constructs r.tables.names text (next_stands o).top (read_leaf r (next_stands o) leaf) (leaf_definitions leaf) node
       → h ≡ with_nodes g (append before (one node)) → line_at text (node_start node).index ≡ line_at text from → (node_start node).index ≤ length text
       → (node_end node).index ≡ to → Spells r text front o g (line_at text from)
@@ -112,6 +114,10 @@ module _ {A : Type 0} (r : Reading) (text : List ℕ) (front : Nodes) (go : Leve
                   (written.ends ∙ sym (ap (λ (x : End). x.index) written.written))
                   was.spells;
               begun = begun_more o (Leaf leaf);
+              ends = λ top.
+                  let ends =
+                  leaf_ends o.kids (Leaf leaf) (forest_in text old.out).kids written.before Nil written.node refl written.spells.is_block tt in
+                  (ap (λ (g : Growth). ends_in_blank g.kids) written.writes.forest ∙ ends.0, ends.1);
             }
         | inr past ↦ absurd past
       ]
@@ -144,6 +150,10 @@ module _ {A : Type 0} (r : Reading) (text : List ℕ) (front : Nodes) (go : Leve
                   written.ends
                   was.spells;
               begun = begun_more o (Leaf leaf);
+              ends = λ top.
+                  let ends =
+                  leaf_ends o.kids (Leaf leaf) (forest_in text old.out).kids written.before Nil written.node refl written.spells.is_block tt in
+                  (ap (λ (g : Growth). ends_in_blank g.kids) written.writes.forest ∙ ends.0, ends.1);
             })
         | inr past ↦ absurd past
       ]

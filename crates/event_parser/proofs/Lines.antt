@@ -1,5 +1,5 @@
 -- A walk stands in a line, if it is begun.
-use Rattle.std.proofs.Common.{◌≡◌, inl, inr, ◌≤◌, ◌+◌, ℕ, true, List, [], ◌∷◌, Option, refl, sym, ap, ◌∙◌, subst, arith, length, drop, reverse}
+use Rattle.std.proofs.Common.{◌≡◌, inl, inr, ◌≤◌, ◌+◌, ℕ, true, Bool, false, List, [], ◌∷◌, Option, refl, sym, ap, ◌∙◌, subst, arith, length, map, drop, reverse}
 use Rattle.std.proofs.lemmas.Bool.{true≢false}
 use Rattle.markdown_options.specs.declared.line_ending.LineEnding.{LineEnding}
 use Rattle.markdown_options.specs.declared.configuration.Constructs.{Constructs}
@@ -8,7 +8,7 @@ use Rattle.definition_block.specs.Container.{Container}
 use Rattle.definition_page.specs.Read.{Reading}
 use Rattle.event_grammar.specs.Trees.{Growth, Nodes}
 use Rattle.event_lines.specs.declared.walk.Walk.{Walk}
-use Rattle.event_lines.specs.Ends.{IsWrittenToLine, IsWrittenToRest, WritesLine, rest_start, written_to}
+use Rattle.event_lines.specs.Ends.{EndsInLine, IsInLineFrom, IsWrittenToRest, WritesLine, rest_start, written_to}
 use Rattle.event_lines.specs.Standing.{StandsAt, standing, around}
 use Rattle.event_lines.specs.Steps.{HasSameOpen}
 use Rattle.event_lines.specs.Steps.{IsBegun as IsLineBegun}
@@ -19,12 +19,22 @@ use Rattle.event_output.specs.Written.{forest_in}
 use Rattle.laws_laid.specs.Begun.{begun, is_in_line}
 use Rattle.laws_laid.specs.Places.{LineRest, Place, Between, Within, AtEnding}
 use Rattle.laws_open_blocks.specs.Lines.{line_at}
-use Rattle.laws_open_blocks.specs.Open.{Opened}
+use Rattle.laws_open_blocks.specs.Open.{Opened, bare_container}
 use Rattle.laws_open_blocks.proofs.LineCounts.{lines_are_counted}
 use Rattle.laws_open_nodes.specs.Levels.{Spells}
 use Rattle.laws_open_nodes.specs.Steps.{LevelsGoOn}
-use Rattle.event_parser.specs.Stands.{Stands}
+use Rattle.event_parser.specs.LastBlank.{AreEndsAlike}
+use Rattle.event_parser.specs.Stands.{Stands, containers}
 use Rattle.event_parser.proofs.Endings.{quiet_mute}
+use Rattle.event_parser.proofs.LastBlank.{begun_ends, next_more}
+
+abbrev some_container : List Container → Bool
+some_container [] = false
+some_container (c ∷ cs) = true
+
+none_mapped : (f : Container → Container) (cs : List Container) → map f cs ≡ [] → cs ≡ []
+none_mapped f [] none = refl
+none_mapped f (c ∷ cs) none = absurd (true≢false (ap some_container none))
 
 -- as many lines end before each index of the line from which on something is left
 pub on_line : {A : Type 0} (text : List ℕ) (here : LineRest) (left : List LineRest) (w : Walk A) (i : ℕ) → StandsAt text (Within here left) (standing w)
@@ -59,17 +69,20 @@ rest_line_at text here left w i st wr first last =
     on_line text here left w i st wr first last
     ∙ sym (on_line text here left w (written_to w).index st wr (omega arith) (rest_before_end text here left w st wr))
 
--- the next line is begun
-abbrev pub BeginsOnLine : {A : Type 0} → Walk A → Walk A → Type 0
-BeginsOnLine old new =
-    (text : List ℕ) (next : LineRest) (others : List LineRest) → StandsAt text (Between (next ∷ others)) (standing old) → IsWrittenToLine old
-    → line_at text (written_to new).index ≡ line_at text (written_to old).index
+-- as many lines end before two places of a line
+from_line : (text : List ℕ) (first index : ℕ) → IsInLineFrom text first index → line_at text index ≡ line_at text first
+from_line text first index is =
+    let begins = is.begins in
+    let forward = is.forward in
+    let within = is.within in
+    lines_are_counted.same text is.before is.content is.after index is.parts is.dark (omega (arith, begins, forward)) within
+    ∙ sym (lines_are_counted.same text is.before is.content is.after first is.parts is.dark (omega (arith, begins)) (omega (arith, begins)))
 
 module _ {A : Type 0} (r : Reading) (text : List ℕ) (front : Nodes) (go : LevelsGoOn r text front) where
   pub begun_stands : (o : Opened) (within : List Container) (p : Place) (old new : Walk A) → is_in_line (begun r.parse.constructs within p) ≡ true
       → ((ending : Option LineEnding) (left : List LineRest) → p ≡ AtEnding ending left → o.outer ≡ [] → ⊥) → Stands r text front o within p old
       → IsLineBegun (standing old) (standing new) → WritesLine old new → HasSameOpen (standing old) (standing new)
-      → (old.is_in_line ≡ true → new ≡ old) → BeginsOnLine old new → Stands r text front o within (begun r.parse.constructs within p) new
+      → (old.is_in_line ≡ true → new ≡ old) → EndsInLine old new → Stands r text front o within (begun r.parse.constructs within p) new
   begun_stands o within (Between []) old new some never was begins writes same stays line = absurd (true≢false (sym some))
   begun_stands o within (Between (next ∷ others)) old new some never was begins writes same stays line =
       elim was.at [
@@ -87,9 +100,14 @@ module _ {A : Type 0} (r : Reading) (text : List ℕ) (front : Nodes) (go : Leve
               at = inl (subst (λ (p : Place). StandsAt text p (standing new)) places (begins text (Between (next ∷ others)) refl at.0), written.1, tt);
               spells =
                   subst (λ (g : Growth). Spells r text front o g (line_at text (written_to new).index)) (sym quiet.writes.forest) (
-                  subst (λ (k : ℕ). Spells r text front o (with_nodes (forest_in text old.out) quiet.nodes) k) (sym (line text next others at.0 at.1)) (
+                  subst (λ (k : ℕ). Spells r text front o (with_nodes (forest_in text old.out) quiet.nodes) k) (sym (from_line text _ _ (line text next others at.0 at.1 was.order))) (
                   go.mute o (forest_in text old.out) (line_at text (written_to old).index) quiet.nodes (quiet_mute quiet.nodes quiet.quiet) was.begun was.spells));
               begun = was.begun;
+              ends = λ top.
+                  subst (AreEndsAlike (begun r.parse.constructs within (Between (next ∷ others))) o.kids) (sym (ap (λ (g : Growth). g.kids) quiet.writes.forest)) (
+                  begun_ends r.parse.constructs within next others o.kids (forest_in text old.out).kids quiet.nodes
+                  (none_mapped bare_container within (was.same ∙ ap containers top)) (next_more next others at.0.kind old.left.now at.0.unread)
+                  (quiet_mute quiet.nodes quiet.quiet) (was.ends top));
             }
         | inr past ↦ absurd past
       ]

@@ -17,12 +17,13 @@ use Rattle.event_output.specs.Forest.{entered, one, with_nodes}
 use Rattle.event_output.specs.Written.{Enters, end_in, forest_in}
 use Rattle.laws_laid.specs.Places.{LineRest, Within}
 use Rattle.laws_open_blocks.specs.Lines.{line_at}
-use Rattle.laws_open_blocks.specs.Open.{InContainer, InList, Opened, bare_container, is_in_list, within}
+use Rattle.laws_open_blocks.specs.Open.{InContainer, InList, Opened, bare_container, is_in_list, level, within}
 use Rattle.laws_open_nodes.specs.Levels.{IsFirstOf, Spells, innermost, list_name}
 use Rattle.laws_open_nodes.specs.Steps.{IsBegun, LevelsGoOn}
 use Rattle.event_parser.specs.Stands.{IsListed, Stands}
 use Rattle.event_parser.proofs.Containers.{spells_start}
 use Rattle.event_parser.proofs.Endings.{quiet_mute}
+use Rattle.event_parser.proofs.LastBlank.{inside_ends}
 use Rattle.event_parser.proofs.Leaves.{line_in_text}
 use Rattle.event_parser.proofs.Lines.{rest_line_at}
 use Rattle.event_parser.proofs.Starts.{bare_in_line, prefix_defines, prefix_named, prefix_start}
@@ -117,4 +118,6 @@ module _ {A : Type 0} (r : Reading) (text : List ℕ) (front : Nodes) (go : Leve
             (ap (line_at text) index ∙ was.bare)
             was.spells;
         begun = λ listed none. true≢false (sym listed);
+        ends = λ none.
+            inside_ends (Within there others) NoBlock (forest_in text new.out).kids (level (InContainer (bare_container (Item item)) goes_on) o.kids) o.outer none;
       }

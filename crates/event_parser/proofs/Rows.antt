@@ -52,7 +52,7 @@ module _ (on : Constructs) (around : List Container) (ending : Option LineEnding
   no_leaf (FencedCode info true ls) to laid = laid.6.1
   no_leaf (Html ls) to laid = no_html laid.0 laid.1 laid.2 laid.3
   no_leaf (Table ls) to laid = no_table laid.0 laid.1 laid.2
-  no_leaf (Definition label destination title) to laid = none_taken (IsTextLine on) laid.6.0 laid.6.1 laid.6.2.0 laid.6.2.1
+  no_leaf (Definition ls label destination title) to laid = none_taken (IsTextLine on) laid.6.0 laid.6.1 laid.6.2.0 laid.6.2.1
 
   -- only a container ends there, or the line
   pub only_ends : (row : BlockRow) (inner : List Container) (to : Place) → ends_line row ≡ false → IsRowLaid on around row (AtEnding ending left) inner to

@@ -30,11 +30,12 @@ use Rattle.event_output.specs.Written.{end_in, forest_in}
 use Rattle.event_output.proofs.Marks.{same_self}
 use Rattle.laws_laid.specs.Places.{LineRest, Within}
 use Rattle.laws_open_blocks.specs.Lines.{line_at}
-use Rattle.laws_open_blocks.specs.Open.{InContainer, Opened, bare_container, is_in_list, within}
+use Rattle.laws_open_blocks.specs.Open.{InContainer, Opened, bare_container, is_in_list, level, within}
 use Rattle.laws_open_nodes.specs.Levels.{HasNumber, HasStart, IsFirstOf, IsNamed, innermost, is_item}
 use Rattle.laws_open_nodes.specs.Steps.{IsStartName, LevelsGoOn}
 use Rattle.event_parser.specs.Stands.{Stands}
 use Rattle.event_parser.proofs.Containers.{spells_start}
+use Rattle.event_parser.proofs.LastBlank.{inside_ends}
 use Rattle.event_parser.proofs.Leaves.{line_in_text}
 use Rattle.event_parser.proofs.Lines.{rest_line_at}
 
@@ -115,6 +116,7 @@ module _ {A : Type 0} (r : Reading) (text : List ℕ) (front : Nodes) (go : Leve
                   (ap (line_at text) index ∙ rest_line_at text here left old (bare_end old).index at.0 at.1 bounds.0 bounds.1)
                   was.spells;
               begun = λ listed none. true≢false (sym listed);
+              ends = λ none. inside_ends (Within there others) NoBlock (forest_in text new.out).kids (level (InContainer (bare_container c) goes_on) o.kids) o.outer none;
             }
         | inr past ↦ absurd past
       ]

@@ -3,4 +3,7 @@ pub mod Opened
 pub mod Closing
 pub mod State
 pub mod Labels
+pub mod LastBlank
 pub mod Stands
+pub mod Parsing
+pub mod Document

@@ -15,6 +15,7 @@ use Rattle.laws_open_blocks.specs.Lines.{line_at}
 use Rattle.laws_open_blocks.specs.Open.{Holder, InContainer, InList, Level, Opened, bare_container, is_in_list}
 use Rattle.laws_open_nodes.specs.Levels.{Spells}
 use Rattle.laws_open_nodes.specs.Steps.{IsBegun}
+use Rattle.event_parser.specs.LastBlank.{AreEndsAlike}
 
 -- all before a place is written
 abbrev pub IsWrittenAt : {A : Type 0} → Place → Walk A → Type 0
@@ -58,6 +59,7 @@ pub record Stands {A : Type 0} (r : Reading) (text : List ℕ) (front : Nodes) (
   pub at : IsAt text o p w
   pub spells : Spells r text front o (forest_in text w.out) (line_at text (written_to w).index)
   pub begun : IsBegun o
+  pub ends : o.outer ≡ [] → AreEndsAlike p o.kids (forest_in text w.out).kids
 
 -- A walk stands in a line on which an item comes next, and its list is open. If the item is the first, the white space before it is written already.
 pub record IsListed {A : Type 0} (r : Reading) (text : List ℕ) (front : Nodes) (o : Opened) (within : List Container) (here : LineRest) (left : List LineRest)

@@ -1,5 +1,12 @@
 //! From a text to its events.
-ghost use Rattle.std.specs.Prelude.{◌≡◌, ◌≤◌, [], IfErr, IfOk, false, length, true};
+ghost use Rattle.std.specs.Prelude.{◌≡◌, ◌≤◌, [], IfErr, IfOk, List, None, OnOk, Some, false, length, true, ℕ};
+ghost use Rattle.definition_page.specs.TextTables.{text_tables};
+ghost use Rattle.definition_block.specs.Frontmatter.{after_frontmatter};
+ghost use Rattle.definition_text.specs.Lines.{TextLine, lines, without_mark as bytes_after_mark};
+ghost use Rattle.event_meaning.specs.Spelled.{spelled};
+ghost use Rattle.laws_alike.specs.Spelled.{IsPageOfText};
+ghost use Rattle.text_pieces.specs.Pieces.{piece_lines};
+ghost use Rattle.event_parser.specs.Document.{StandsAfterMark, StandsBefore, WritesBlocks};
 ghost use Rattle.markdown_options.specs.Mdx.{has_mdx};
 ghost use Rattle.markdown_options.specs.Messages.{IsOutOfMemory};
 ghost use Rattle.block_rows.specs.Rows.{rows_size};
@@ -25,7 +32,7 @@ use event_leaves::{Buffers, Texts, push_frontmatter};
 use event_lines::Walk;
 use event_lines::cut::up_to;
 use html_looseness::places;
-use markdown_options::{Kind, Message, ParseOptions, Tables};
+use markdown_options::{Constructs, Kind, Message, ParseOptions, Tables};
 use std::alloc::{AllocError, Allocator};
 use text_lines::without_mark;
 use text_pieces::Piece;
@@ -37,6 +44,9 @@ pub const SIZE_MAX: usize = usize::MAX / 8;
 ///
 /// The text must have at most `SIZE_MAX` bytes. No construct of MDX may be on, which
 /// `Constructs::has_mdx` tests. The only error is `out of memory`.
+///
+/// The list is checked against the grammar of events before it is returned. If it had a fault, the call
+/// would fail with `out of memory`; no text is known where it has.
 pub fn parse<'a, T: Tables, A: Allocator + Clone>(
     alloc: A,
     value: &'a str,
@@ -49,6 +59,8 @@ pub fn parse<'a, T: Tables, A: Allocator + Clone>(
     ensures nested { IfOk result (λ parsed. IsNested parsed.0.items) }
     ensures children { IfOk result (λ parsed. HaveChildren parsed.0.items) }
     ensures grammar { IfOk result (λ parsed. MatchesGrammar (T.reference_of tables.now) value.now parsed.0.items) }
+    ensures spelled { IfOk result (λ parsed. let names = T.reference_of tables.now in
+        IsPageOfText (text_tables names (T.punctuation_of tables.now)) options.now value.now (spelled names parsed.0.items value.now)) }
     ensures read_by { IfOk result (λ parsed. IsReadBy parsed.1 options.now tables.now value.now) }
     ensures definitions { IfOk result (λ parsed. definitions_of parsed.1 ≡ definition_labels (text_blocks options.now.constructs value.now)) }
     ensures footnotes { IfOk result (λ parsed. footnotes_of parsed.1 ≡ footnote_labels (text_blocks options.now.constructs value.now)) }
@@ -71,6 +83,8 @@ fn parse_text<'a, T: Tables, A: Allocator + Clone>(
     ensures nested { IfOk result (λ parsed. IsNested parsed.0.items) }
     ensures children { IfOk result (λ parsed. HaveChildren parsed.0.items) }
     ensures grammar { IfOk result (λ parsed. MatchesGrammar (T.reference_of tables.now) value.now parsed.0.items) }
+    ensures spelled { IfOk result (λ parsed. let names = T.reference_of tables.now in
+        IsPageOfText (text_tables names (T.punctuation_of tables.now)) options.now value.now (spelled names parsed.0.items value.now)) }
     ensures read_by { IfOk result (λ parsed. IsReadBy parsed.1 options.now tables.now value.now) }
     ensures definitions { IfOk result (λ parsed. definitions_of parsed.1 ≡ definition_labels (text_blocks options.now.constructs value.now)) }
     ensures footnotes { IfOk result (λ parsed. footnotes_of parsed.1 ≡ footnote_labels (text_blocks options.now.constructs value.now)) }
@@ -99,7 +113,7 @@ fn parse_text<'a, T: Tables, A: Allocator + Clone>(
 
 /// A walk over the lines of a text, after its byte order mark and its frontmatter. `text` is what
 /// follows the mark.
-#[tactic(auto, using(crate::proofs::Outermost::document_mark, crate::proofs::Outermost::document_frontmatter, crate::proofs::Outermost::document_lines))]
+#[tactic(auto, using(crate::proofs::Outermost::document_mark))]
 fn begin<'a, A: Allocator + Clone>(
     alloc: A,
     value: &'a str,
@@ -107,16 +121,45 @@ fn begin<'a, A: Allocator + Clone>(
     text: &'a str,
     options: &'a ParseOptions,
 ) -> Result<Walk<'a, A>, AllocError>
+    requires size { length value.now ≤ SIZE_MAX }
+    requires text { text.now ≡ bytes_after_mark value.now }
     ensures open { IfOk result (λ walk. still_open walk ≡ []) }
+    ensures begins { IfOk result (λ walk. StandsBefore options.now.constructs value.now before text.now walk) }
 {
     let mut walk = Walk::new(alloc, &options.constructs, value.len(), text)?;
     walk.token(Name::ByteOrderMark, value.len().saturating_sub(text.len()))?;
-    let (_, left) = without_frontmatter(&options.constructs, before, text);
-    let size = text.len().saturating_sub(left.len());
-    if size > 0 {
-        push_frontmatter(&mut walk, up_to(text, size))?;
-    }
+    push_front(&mut walk, &options.constructs, before, text)?;
     Ok(walk)
+}
+
+/// The frontmatter of a text without a byte order mark, if it has one. No line is begun.
+#[tactic(auto, using(crate::proofs::Outermost::document_frontmatter, crate::proofs::Outermost::document_lines))]
+fn push_front<A: Allocator>(
+    walk: &mut Walk<'_, A>,
+    on: &Constructs,
+    before: Kind,
+    text: &str,
+) -> Result<(), AllocError>
+    requires open { still_open walk.old ≡ [] }
+    ensures open { OnOk result (still_open walk.new ≡ []) }
+    ensures begins { OnOk result ((value : List ℕ) → StandsAfterMark on.now value before text.now walk.old
+        → StandsBefore on.now value before text.now walk.new) }
+{
+    let left = after_front(on, before, text);
+    let size = text.len().saturating_sub(left.len());
+    if size == 0 {
+        return Ok(());
+    }
+    push_frontmatter(walk, up_to(text, size))
+}
+
+/// What the frontmatter of a text leaves of it: all, if it has none.
+fn after_front<'a>(on: &Constructs, before: Kind, text: &'a str) -> &'a str
+    ensures all { after_frontmatter on.now (lines text.now) ≡ None → result.now ≡ text.now }
+    ensures left { (others : List TextLine) → after_frontmatter on.now (lines text.now) ≡ Some others → lines result.now ≡ others }
+{
+    let (_, left) = without_frontmatter(on, before, text);
+    left
 }
 
 /// Writes the blocks of these rows, whose lines are given.
@@ -132,6 +175,8 @@ fn push_blocks<'a, T: Tables, A: Allocator + Clone>(
     requires enough { rows_size rows.now ≤ length pieces.now }
     requires blocks { holds_blocks (still_open walk) ≡ true }
     ensures open { IfOk result (λ after. still_open after ≡ still_open walk.entry) }
+    ensures written { IfOk result (λ after. WritesBlocks (text_tables (T.reference_of tables.now) (T.punctuation_of tables.now)) options.now rows.now
+        (piece_lines pieces.now) walk.entry after) }
 {
     let contents = definition_contents(alloc.clone()?, rows, pieces)?;
     let definitions = document_definitions(alloc.clone()?, &contents)?;

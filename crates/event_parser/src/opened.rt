@@ -1,5 +1,6 @@
 //! What is open in a document (CommonMark 5).
 ghost use Rattle.std.specs.Prelude.{◌≡◌, true};
+ghost use Rattle.laws_open_nodes.specs.Levels.{list_name};
 ghost use Rattle.event_parser.specs.Opened.{is_list, opened_name};
 
 use engine_events::event::Name;
@@ -17,7 +18,8 @@ pub(crate) enum Opened {
 impl Opened {
     /// A list whose items have a number, or none (CommonMark 5.3).
     pub(crate) fn list(number: Option<u32>) -> Opened
-        ensures { is_list result ≡ true }
+        ensures list { is_list result ≡ true }
+        ensures name { opened_name result ≡ list_name number }
     {
         match number {
             Some(_) => Opened::OrderedList,

@@ -1,10 +1,20 @@
 //! Rows of blocks to events (CommonMark 4 and 5).
-ghost use Rattle.std.specs.Prelude.{◌≡◌, ◌<◌, IfOk, IsTrue, OnOk, false, true, vec_len};
+ghost use Rattle.std.specs.Prelude.{◌≡◌, ◌<◌, ℕ, IfOk, IsTrue, List, OnOk, Option, [], false, length, true, vec_len};
+ghost use Rattle.markdown_options.specs.declared.line_ending.LineEnding.{LineEnding};
+ghost use Rattle.definition_inline.specs.Targets.{Targets};
+ghost use Rattle.definition_block.specs.Tree.{Blank, Ending, Leaf, LeafBlock};
+ghost use Rattle.definition_page.specs.Read.{Reading};
+ghost use Rattle.text_pieces.specs.Pieces.{piece_lines};
+ghost use Rattle.block_rows.specs.Rows.{EnterFootnote, EnterItem, EnterQuote, Exit, Single, row_value};
 ghost use Rattle.engine_events.specs.declared.event.Name.TheVariants.{ListItem};
 ghost use Rattle.event_output.specs.Children.{holds_blocks, may_enter};
 ghost use Rattle.event_lines.specs.Open.{still_open};
-ghost use Rattle.event_parser.specs.Opened.{close_all, ends_in_list, is_list};
+ghost use Rattle.event_leaves.specs.Rows.{AreLinesOf};
+ghost use Rattle.event_leaves.specs.Texts.{KnowsTargets, reading_by};
+ghost use Rattle.laws_open_nodes.specs.Levels.{list_name};
+ghost use Rattle.event_parser.specs.Opened.{close_all, ends_in_list, is_list, opened_name};
 ghost use Rattle.event_parser.specs.Closing.{HasOpen, open_around};
+ghost use Rattle.event_parser.specs.Parsing.{BeginsList, BeginsRow, Closes, EndsItem, GoesOn, GoesOnInLine, StandsInEnd};
 
 use crate::opened::Opened;
 use block_rows::Row;
@@ -43,8 +53,10 @@ impl<'a, A: Allocator + Clone> Parser<'a, A> {
         requires held { HasOpen self.old }
         ensures open { OnOk result (open_around self.new ≡ open_around self.old) }
         ensures held { OnOk result (HasOpen self.new) }
+        ensures goes_on { OnOk result ((ds : Targets) → KnowsTargets texts.now ds → AreLinesOf row (piece_lines lines.now)
+            → GoesOn (reading_by T.Tables texts.now ds) (row_value row (piece_lines lines.now)) self.old self.new) }
     {
-        if matches!(row, Row::Ending(_)) {
+        if let Row::Ending(_) = row {
             return self.ending();
         }
         self.in_line()?;
@@ -58,13 +70,17 @@ impl<'a, A: Allocator + Clone> Parser<'a, A> {
         }
     }
 
-    /// The ending of the line.
+    /// The ending of the line, if one is begun: unclosed code at the top has its own.
     #[tactic(auto, using(crate::proofs::Held::held_may))]
     fn ending(&mut self) -> Result<(), AllocError>
         requires held { HasOpen self.old }
         ensures open { OnOk result (open_around self.new ≡ open_around self.old) }
         ensures held { OnOk result (HasOpen self.new) }
+        ensures goes_on { OnOk result ((r : Reading) (ending : Option LineEnding) → GoesOn r (Single (Ending ending)) self.old self.new) }
     {
+        if !self.walk.is_in_line() {
+            return Ok(());
+        }
         self.walk.ending(Name::LineEnding)
     }
 
@@ -74,6 +90,7 @@ impl<'a, A: Allocator + Clone> Parser<'a, A> {
         requires held { HasOpen self.old }
         ensures open { OnOk result (open_around self.new ≡ open_around self.old) }
         ensures held { OnOk result (HasOpen self.new) }
+        ensures begins { OnOk result (BeginsRow self.old self.new) }
     {
         self.walk.in_line()
     }
@@ -84,6 +101,7 @@ impl<'a, A: Allocator + Clone> Parser<'a, A> {
         requires held { HasOpen self.old }
         ensures open { OnOk result (open_around self.new ≡ open_around self.old) }
         ensures held { OnOk result (HasOpen self.new) }
+        ensures goes_on { OnOk result ((r : Reading) (ending : Option LineEnding) → GoesOnInLine r (Single (Blank ending)) self.old self.new) }
     {
         push_blank_line(&mut self.walk)
     }
@@ -94,12 +112,14 @@ impl<'a, A: Allocator + Clone> Parser<'a, A> {
         requires held { HasOpen self.old }
         ensures open { OnOk result (open_around self.new ≡ open_around self.old) }
         ensures held { OnOk result (HasOpen self.new) }
+        ensures goes_on { OnOk result ((r : Reading) → GoesOnInLine r EnterQuote self.old self.new) }
     {
         self.first = false;
         self.leave_lists()?;
-        if self.walk.start_quote()? {
-            self.open.push(Opened::Quote)?;
+        if !self.walk.start_quote()? {
+            return Ok(());
         }
+        self.open.push(Opened::Quote)?;
         Ok(())
     }
 
@@ -109,12 +129,14 @@ impl<'a, A: Allocator + Clone> Parser<'a, A> {
         requires held { HasOpen self.old }
         ensures open { OnOk result (open_around self.new ≡ open_around self.old) }
         ensures held { OnOk result (HasOpen self.new) }
+        ensures goes_on { OnOk result ((r : Reading) (label : List ℕ) → GoesOnInLine r (EnterFootnote label) self.old self.new) }
     {
         self.first = false;
         self.leave_lists()?;
-        if self.walk.start_footnote()? {
-            self.open.push(Opened::Footnote)?;
+        if !self.walk.start_footnote()? {
+            return Ok(());
         }
+        self.open.push(Opened::Footnote)?;
         Ok(())
     }
 
@@ -125,14 +147,17 @@ impl<'a, A: Allocator + Clone> Parser<'a, A> {
         requires held { HasOpen self.old }
         ensures open { OnOk result (open_around self.new ≡ open_around self.old) }
         ensures held { OnOk result (HasOpen self.new) }
+        ensures goes_on { OnOk result ((r : Reading) (marker : ℕ) (number : Option ℕ) → opened_name list ≡ list_name number
+            → GoesOnInLine r (EnterItem marker number) self.old self.new) }
     {
         let place = self.places.pop().unwrap_or_default();
         self.in_list(list)?;
         self.first = true;
         self.items.push(place)?;
-        if self.walk.start_item()? {
-            self.open.push(Opened::Item)?;
+        if !self.walk.start_item()? {
+            return Ok(());
         }
+        self.open.push(Opened::Item)?;
         Ok(())
     }
 
@@ -144,6 +169,8 @@ impl<'a, A: Allocator + Clone> Parser<'a, A> {
         ensures open { OnOk result (open_around self.new ≡ open_around self.old) }
         ensures held { OnOk result (HasOpen self.new) }
         ensures item { OnOk result (may_enter (still_open self.new.walk) ListItem ≡ true) }
+        ensures begins { OnOk result (BeginsList list self.old self.new) }
+        ensures keeps { OnOk result ((self.new.items.items ≡ self.old.items.items) × (self.new.places.items ≡ self.old.places.items)) }
     {
         if self.is_in_list() {
             return Ok(());
@@ -174,6 +201,7 @@ impl<'a, A: Allocator + Clone> Parser<'a, A> {
         ensures open { OnOk result (open_around self.new ≡ open_around self.old) }
         ensures held { OnOk result (HasOpen self.new) }
         ensures blocks { OnOk result (holds_blocks (still_open self.new.walk) ≡ true) }
+        ensures stays { ends_in_list self.old.open.items ≡ false → OnOk result (self.new ≡ self.old) }
     {
         while self.is_in_list() {
             self.close()?;
@@ -186,15 +214,16 @@ impl<'a, A: Allocator + Clone> Parser<'a, A> {
         requires held { HasOpen self.old }
         ensures open { OnOk result (open_around self.new ≡ open_around self.old) }
         ensures held { OnOk result (HasOpen self.new) }
+        ensures goes_on { OnOk result ((r : Reading) → GoesOnInLine r Exit self.old self.new) }
     {
         self.first = false;
-        match self.walk.leave() {
-            Some(Container::Item(_)) => {
-                self.close()?;
-                self.exit_item()
-            }
-            Some(_) => self.close(),
-            None => Ok(()),
+        let Some(container) = self.walk.leave() else {
+            return Ok(());
+        };
+        self.close()?;
+        match container {
+            Container::Item(_) => self.exit_item(),
+            _ => Ok(()),
         }
     }
 
@@ -203,11 +232,15 @@ impl<'a, A: Allocator + Clone> Parser<'a, A> {
         requires held { HasOpen self.old }
         ensures open { OnOk result (open_around self.new ≡ open_around self.old) }
         ensures held { OnOk result (HasOpen self.new) }
+        ensures ends { OnOk result (EndsItem self.old self.new) }
     {
-        match self.items.pop() {
-            Some(Place { goes_on: false, .. }) => self.close(),
-            _ => Ok(()),
+        let Some(place) = self.items.pop() else {
+            return Ok(());
+        };
+        if place.goes_on {
+            return Ok(());
         }
+        self.close()
     }
 
     /// The exit of the innermost container or list.
@@ -217,11 +250,12 @@ impl<'a, A: Allocator + Clone> Parser<'a, A> {
         ensures open { OnOk result (open_around self.new ≡ open_around self.old) }
         ensures held { OnOk result (HasOpen self.new) }
         ensures fewer { OnOk result (0 < vec_len self.old.open → vec_len self.new.open < vec_len self.old.open) }
+        ensures closes { 0 < length self.old.open.items → OnOk result (Closes self.old self.new) }
     {
-        if let Some(opened) = self.open.pop() {
-            self.walk.exit(opened.name())?;
-        }
-        Ok(())
+        let Some(opened) = self.open.pop() else {
+            return Ok(());
+        };
+        self.walk.exit(opened.name())
     }
 
     /// A block that holds no other, of these lines.
@@ -234,20 +268,23 @@ impl<'a, A: Allocator + Clone> Parser<'a, A> {
         requires held { HasOpen self.old }
         ensures open { OnOk result (open_around self.new ≡ open_around self.old) }
         ensures held { OnOk result (HasOpen self.new) }
+        ensures goes_on { OnOk result ((ds : Targets) (leaf : LeafBlock) → KnowsTargets texts.now ds → AreLinesOf row (piece_lines lines.now)
+            → row_value row (piece_lines lines.now) ≡ Single (Leaf leaf)
+            → GoesOnInLine (reading_by T.Tables texts.now ds) (Single (Leaf leaf)) self.old self.new) }
     {
         let first = self.first;
         self.first = false;
         self.leave_lists()?;
         match row {
-            Row::Table(_) => push_table(&mut self.walk, texts, &mut self.buffers, lines)?,
-            _ => push_leaf(&mut self.walk, texts, &mut self.buffers, first, row, lines)?,
+            Row::Table(_) => push_table(&mut self.walk, texts, &mut self.buffers, lines),
+            _ => push_leaf(&mut self.walk, texts, &mut self.buffers, first, row, lines),
         }
-        Ok(())
     }
 
     /// The walk, after the exits of the containers and lists that the rows leave open.
     pub(crate) fn into_walk(self) -> Result<Walk<'a, A>, AllocError>
         ensures open { IfOk result (λ walk. still_open walk ≡ open_around self.entry) }
+        ensures stands { IfOk result (λ walk. StandsInEnd self.entry walk) }
     {
         let Parser { walk, open, .. } = self;
         exit_all(walk, open)
@@ -261,6 +298,7 @@ fn exit_all<'a, A: Allocator>(
     open: Vec<Opened, A>,
 ) -> Result<Walk<'a, A>, AllocError>
     ensures open { IfOk result (λ after. still_open after ≡ close_all open.items (still_open walk.entry)) }
+    ensures stays { open.items ≡ [] → IfOk result (λ after. after ≡ walk.entry) }
 {
     let mut walk = walk;
     let mut open = open;

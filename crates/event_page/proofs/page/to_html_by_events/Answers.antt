@@ -1,11 +1,27 @@
 use Rattle.std.proofs.Common.{rules, ap₂, ◌∙◌}
 use Rattle.std.proofs.lemmas.Result.{IfOk-weaker}
+use Rattle.definition_page.specs.TextTables.{text_tables}
 use Rattle.event_check.specs.Matches.{MatchesGrammar}
-use Rattle.event_meaning.specs.Spelled.{html_of_events}
+use Rattle.event_meaning.specs.Spelled.{html_of_events, spelled}
 use Rattle.event_output.specs.Placed.{ArePlaced}
+use Rattle.laws_alike.specs.Spelled.{IsPageOfText}
+use Rattle.laws_alike.proofs.Spelled.{pages_of_texts_print_their_html}
 use Rattle.event_page.proofs.page.to_html_by_events.Goals as goal
 
-pub returns-clause-page : goal.returns-clause-page
+pub returns-clause-same : goal.returns-clause-same
+returns-clause-same g c =
+    let names = g.T.Tables.reference_of c.args.tables.now in
+    let tables = text_tables names (g.T.Tables.punctuation_of c.args.tables.now) in
+    let options = c.args.options.now in
+    let text = c.args.value.now in
+    let events = c.in-Ok.events.items in
+    let of_text : IsPageOfText tables options.parse text (spelled names events text) = search rules in
+    IfOk-weaker c.compile.result _ _
+    (λ page is.
+    is ∙ ap₂ (html_of_events names options.compile) c.as_bytes.ensures.value c.deref.ensures.value
+    ∙ pages_of_texts_print_their_html.same tables options text (spelled names events text) of_text) c.compile.ensures.page
+
+pub returns-clause-page : goal.returns-clause-events
 returns-clause-page g c =
     let names = g.T.Tables.reference_of c.args.tables.now in
     let options = c.args.options.now.compile in
