@@ -1,5 +1,5 @@
 -- After all rows of a text, its events spell its page.
-use Rattle.std.proofs.Common.{◌≡◌, inl, inr, ◌-◌, ℕ, false, List, [], ◌∷◌, refl, sym, ap, ap₂, ◌∙◌, subst, arith, length}
+use Rattle.std.proofs.Common.{◌≡◌, inl, inr, ℕ, List, [], ◌∷◌, refl, sym, ap, ap₂, ◌∙◌, subst, arith, length}
 use Rattle.markdown_options.specs.declared.beside.Kind.{Kind}
 use Rattle.markdown_options.specs.declared.configuration.ParseOptions.{ParseOptions}
 use Rattle.definition_text.specs.Lines.{TextLine, kind_before_text, lines, without_mark}
@@ -14,14 +14,13 @@ use Rattle.event_grammar.specs.Trees.{Growth, Nodes, Part, growth, tree}
 use Rattle.event_meaning.specs.Spelled.{spelled}
 use Rattle.event_lines.specs.declared.walk.Walk.{Walk}
 use Rattle.event_lines.specs.Ends.{written_to}
-use Rattle.event_lines.specs.Standing.{standing}
 use Rattle.event_lines.proofs.Lines.{joined, lines_joined}
 use Rattle.event_output.specs.declared.end.End.{End}
 use Rattle.event_output.specs.declared.output.Output.{Output}
 use Rattle.event_output.specs.Forest.{bytewise}
 use Rattle.event_output.specs.Written.{IsInOrder, end_in, forest_in}
 use Rattle.laws_alike.specs.Spelled.{IsPageOfText}
-use Rattle.laws_laid.specs.Places.{LineRest, Between, unread}
+use Rattle.laws_laid.specs.Places.{Between, unread}
 use Rattle.laws_open_blocks.specs.Lines.{line_at}
 use Rattle.laws_open_blocks.specs.Open.{Opened, bare_blocks, opened}
 use Rattle.laws_open_nodes.specs.Fronts.{IsFront}

@@ -9,7 +9,7 @@ use Rattle.definition_block.specs.Container.{Container}
 use Rattle.definition_block.specs.Definitions.{document_targets}
 use Rattle.definition_block.specs.Lists.{group_items}
 use Rattle.definition_block.specs.Tree.{Blocks, Nil as NoBlock, blocks}
-use Rattle.definition_page.specs.Read.{Reading, on_page, reading}
+use Rattle.definition_page.specs.Read.{Reading, reading}
 use Rattle.definition_page.specs.TextTables.{TextTables}
 use Rattle.text_pieces.specs.declared.piece.Piece.{Piece}
 use Rattle.text_pieces.specs.Pieces.{piece_line, piece_lines}
@@ -33,7 +33,7 @@ use Rattle.event_parser.specs.declared.opened.Opened.{Opened as OpenedHere}
 use Rattle.event_parser.specs.declared.parser.Parser.{Parser}
 use Rattle.event_parser.specs.Document.{AreAhead, HasWritten, IsAmongRows, StandsBefore, WritesBlocks}
 use Rattle.event_parser.specs.Opened.{is_list}
-use Rattle.event_parser.specs.Parsing.{GoesOn, IsNext, IsParsing, StandsInEnd}
+use Rattle.event_parser.specs.Parsing.{GoesOn, IsNext, StandsInEnd}
 use Rattle.event_parser.specs.Stands.{Stands}
 use Rattle.event_parser.proofs.Ahead.{all_ahead, none_ahead, one_ahead}
 use Rattle.event_parser.proofs.RowLines.{lines_of_row, same_value}

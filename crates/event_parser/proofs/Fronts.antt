@@ -17,9 +17,9 @@ use Rattle.engine_events.specs.Columns.{between, mark_size}
 use Rattle.engine_events.specs.declared.event.Name.TheVariants as n
 use Rattle.event_grammar.specs.InGrammar.{node_name}
 use Rattle.event_grammar.specs.References.{named}
-use Rattle.event_grammar.specs.Trees.{Growth, Node, Nodes, Nil, Cons, growth}
+use Rattle.event_grammar.specs.Trees.{Growth, Node, Nodes, Nil, growth}
 use Rattle.event_lines.specs.declared.walk.Walk.{Walk}
-use Rattle.event_lines.specs.Ends.{IsWrittenToLine, WritesUpTo, written_to}
+use Rattle.event_lines.specs.Ends.{WritesUpTo, written_to}
 use Rattle.event_lines.specs.Quiet.{AreQuiet}
 use Rattle.event_lines.specs.Standing.{IsLineStart, Standing, StandsAt, TEXT_MAX, standing}
 use Rattle.event_lines.specs.Steps.{BeginsAt}
@@ -38,7 +38,7 @@ use Rattle.laws_open_nodes.proofs.Fronts.{front_alone, front_ended, front_none, 
 use Rattle.event_leaves.specs.Laid.{AreEnding, HasFrontmatter, WritesFront, WritesFrontLaid}
 use Rattle.event_parser.specs.Document.{StandsAfterMark, StandsBefore}
 use Rattle.event_parser.proofs.Endings.{quiet_mute}
-use Rattle.event_parser.proofs.FrontLines.{FrontParts, SomeFront, no_front, some_front}
+use Rattle.event_parser.proofs.FrontLines.{SomeFront}
 
 -- ---- the byte order mark
 

@@ -1,16 +1,14 @@
 -- The lines that a row takes, alone and before others.
-use Rattle.std.proofs.Common.{◌≡◌, ◌≤◌, ◌+◌, ℕ, true, false, List, [], ◌∷◌, ◌++◌, refl, sym, ap, ap₂, ◌∙◌, subst, arith, length, take}
+use Rattle.std.proofs.Common.{◌≡◌, ◌+◌, ℕ, true, false, List, [], ◌∷◌, ◌++◌, refl, sym, ap, ◌∙◌, subst, arith, length, take}
 use Rattle.std.proofs.Math.Seq.{take-length}
 use Rattle.std.proofs.lemmas.List.{take-append-le}
-use Rattle.definition_text.specs.Columns.{bytes_of}
 use Rattle.definition_text.specs.BlockLines.{BlockLine, own_lines}
 use Rattle.definition_block.specs.Tree.{Paragraph, Heading, IndentedCode, FencedCode, Html, Table, Leaf}
 use Rattle.text_pieces.specs.ParagraphLines.{AreLines}
-use Rattle.text_pieces.specs.Pieces.{whole_lines}
 use Rattle.inline_content.specs.Lines.{AreContentLines}
 use Rattle.block_rows.specs.declared.row.Row.{Row}
 use Rattle.block_rows.specs.declared.row.Row.TheVariants as row
-use Rattle.block_rows.specs.Rows.{BlockRow, Single, EnterFootnote, definition_on, definition_value, first_codes, row_size, row_value}
+use Rattle.block_rows.specs.Rows.{Single, EnterFootnote, definition_on, definition_value, row_size, row_value}
 use Rattle.html_looseness.specs.Printable.{AreHeadingLines, IsPrintableRow}
 use Rattle.html_rows.proofs.Lines.{with_ending}
 use Rattle.event_leaves.specs.Rows.{AreLinesOf, AreOfRow}

@@ -1,12 +1,11 @@
-use Rattle.std.proofs.Common.{◌≡◌, ◌<◌, ◌≤◌, ◌+◌, ℕ, List, [], rules, ap, ◌∙◌, arith, drop, get_or, length, refl}
+use Rattle.std.proofs.Common.{◌+◌, rules, ap, ◌∙◌, arith, drop, refl}
 use Rattle.std.proofs.lemmas.List.{drop_all}
 use Rattle.std.proofs.lemmas.Result.{IfOk-weaker}
-use Rattle.markdown_options.specs.declared.beside.Kind.{Kind}
 use Rattle.definition_block.specs.Definitions.{document_definitions, document_targets}
 use Rattle.definition_block.specs.Tree.{blocks}
 use Rattle.definition_page.specs.TextTables.{text_tables}
 use Rattle.block_rows.specs.declared.row.Row.TheVariants.{Paragraph}
-use Rattle.block_rows.specs.Rows.{RowsValue, rows_of, rows_value, value_with}
+use Rattle.block_rows.specs.Rows.{RowsValue, rows_of}
 use Rattle.block_rows.proofs.RowSteps.{taken_more}
 use Rattle.text_pieces.specs.Pieces.{piece_lines}
 use Rattle.html_rows.proofs.Printable.{blocks_printable}
