@@ -1,11 +1,12 @@
 use Rattle.std.proofs.Common.{rules, ap₂, ◌∙◌}
+use Rattle.std.specs.Prelude.{string_bytes}
 use Rattle.std.proofs.lemmas.Result.{IfOk-weaker}
 use Rattle.definition_page.specs.TextTables.{text_tables}
 use Rattle.event_check.specs.Matches.{MatchesGrammar}
 use Rattle.event_meaning.specs.Spelled.{html_of_events, spelled}
 use Rattle.event_output.specs.Placed.{ArePlaced}
 use Rattle.laws_alike.specs.Spelled.{IsPageOfText}
-use Rattle.laws_alike.proofs.Spelled.{pages_of_texts_print_their_html}
+use Rattle.event_page.proofs.SamePage.{same_page}
 use Rattle.event_page.proofs.page.to_html_by_events.Goals as goal
 
 pub returns-clause-same : goal.returns-clause-same
@@ -18,10 +19,10 @@ returns-clause-same g c =
     let of_text : IsPageOfText tables options.parse text (spelled names events text) = search rules in
     IfOk-weaker c.compile.result _ _
     (λ page is.
-    is ∙ ap₂ (html_of_events names options.compile) c.as_bytes.ensures.value c.deref.ensures.value
-    ∙ pages_of_texts_print_their_html.same tables options text (spelled names events text) of_text) c.compile.ensures.page
+    same_page tables options text events c.as_bytes.result.now c.deref.result.now (string_bytes page) c.as_bytes.ensures.value c.deref.ensures.value is of_text)
+    c.compile.ensures.page
 
-pub returns-clause-page : goal.returns-clause-events
+pub returns-clause-page : goal.returns-clause-page
 returns-clause-page g c =
     let names = g.T.Tables.reference_of c.args.tables.now in
     let options = c.args.options.now.compile in
