@@ -1,4 +1,4 @@
-use Rattle.std.proofs.Common.{rules, ap₂, ◌∙◌}
+use Rattle.std.proofs.Common.{ap₂, ◌∙◌}
 use Rattle.std.specs.Prelude.{string_bytes}
 use Rattle.std.proofs.lemmas.Result.{IfOk-weaker}
 use Rattle.definition_page.specs.TextTables.{text_tables}
@@ -16,7 +16,7 @@ returns-clause-same g c =
     let options = c.args.options.now in
     let text = c.args.value.now in
     let events = c.in-Ok.events.items in
-    let of_text : IsPageOfText tables options.parse text (spelled names events text) = search rules in
+    let of_text : IsPageOfText tables options.parse text (spelled names events text) = c.in-Ok.ensures.spelled in
     IfOk-weaker c.compile.result _ _
     (λ page is.
     same_page tables options text events c.as_bytes.result.now c.deref.result.now (string_bytes page) c.as_bytes.ensures.value c.deref.ensures.value is of_text)
@@ -28,8 +28,8 @@ returns-clause-page g c =
     let options = c.args.options.now.compile in
     let text = c.args.value.now in
     let events = c.in-Ok.events.items in
-    let placed : ArePlaced text events = search rules in
-    let matches : MatchesGrammar names text events = search rules in
+    let placed : ArePlaced text events = c.in-Ok.ensures.placed in
+    let matches : MatchesGrammar names text events = c.in-Ok.ensures.grammar in
     IfOk-weaker c.compile.result _ _
     (λ html same. record {
       events = events;
