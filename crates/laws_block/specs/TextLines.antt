@@ -17,8 +17,8 @@ IsAtxOn on rank ls first last = (on.heading_atx ≡ true) × (leb rank 6 ≡ tru
 abbrev pub IsSetextOn : Constructs → ℕ → List BlockLine → ℕ → ℕ → Type 0
 IsSetextOn on rank ls first last = (on.heading_setext ≡ true) × (leb rank 2 ≡ true) × (1 ≤ length ls) × (last ≡ first + length ls)
 
--- The lines of a leaf: its first line is the one of the first number, and its last line the one of the second. The tree doesn't hold a heading's underline, nor
--- what stands around the label, the destination and the title of a definition.
+-- The lines of a leaf: its first line is the one of the first number, and its last line the one of the second. The tree doesn't hold a heading's underline.
+-- A definition may have any number of lines here.
 abbrev pub IsLeafOn : Constructs → LeafBlock → ℕ → ℕ → Type 0
 IsLeafOn on (Paragraph ls) first last = last ≡ first + (length ls - 1)
 IsLeafOn on (Heading rank ls) first last = IsAtxOn on rank ls first last ⊎ IsSetextOn on rank ls first last
