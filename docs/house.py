@@ -37,7 +37,7 @@ BLOCK = "Paragraph Heading Break IndentedCode FencedCode Html Table Definition".
 CHILD = "Leaf Holds Items ItemList Ending Blank".split()
 CASES = (("leaves", LEAF, 8), ("spans", SPAN, 2), ("the four kinds of inline parts", PART, 4), ("blocks", BLOCK, 6), ("the five kinds of blocks", CHILD, 4))
 # Groups in which no case counts: their names, such as those of events, are others.
-APART = ("tests and examples", "machines", "event")
+APART = ("tests and examples", "machines", "event", "parse", "compile")
 # The leaf, not std's module.
 MATH = re.compile(r"(?<!proofs\.)\bMath\b")
 

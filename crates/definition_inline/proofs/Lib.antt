@@ -8,6 +8,8 @@ pub mod DefinitionParts
 pub mod DefinitionAlone
 pub mod NearestOpener
 pub mod PairBytes
+pub mod PairsTaken
+pub mod PairsNested
 pub mod InlineSizes
 pub mod GfmAutolinkLiteral
 pub mod LabelPairs

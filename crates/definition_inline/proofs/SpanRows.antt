@@ -13,7 +13,9 @@ use Rattle.definition_inline.specs.NextPair.{is_within, is_inside, last_closer, 
 use Rattle.definition_inline.specs.Spans.{Token, Item, Delimiters, runs_of, span_of, Piece, Whole, Left, pieces_from, with_piece, span_to_closer, with_span}
 use Rattle.definition_inline.specs.Spans.{with_spans}
 use Rattle.definition_inline.specs.SpanRows.{SpanRow, Holds, Opens, Closes, bytes_taken, run_rows, rows_from, Nest, nest, OpenSpan, nest_row, nest_spans}
+use Rattle.definition_text.proofs.Each.{Each}
 use Rattle.definition_inline.proofs.NextPair.{are_next, none_past}
+use Rattle.definition_inline.proofs.PairsNested.{AreNested, IsAround, pairs_nested}
 
 -- ---- the rows of pieces
 
@@ -336,35 +338,6 @@ AllHas [] xs = Unit {0}
 AllHas (p ∷ ps) xs = (Has p.opener xs × Has p.closer xs) × AllHas ps xs
 
 -- no pair begins or ends inside of one before it
-abbrev AreNested : List Pair → Type 0
-AreNested [] = Unit {0}
-AreNested (p ∷ ps) = (p.opener < p.closer) × Apart p ps × AreNested ps
-
-all_have : (p : Pair) (qs : List Pair) (a : ℕ) (xs : List Piece) → SortedFrom a xs → p.opener < p.closer → Has p.opener xs → Has p.closer xs → Apart p qs
-    → AllHas qs xs → AllHas qs (with_span xs p)
-all_have p [] a xs s order opener closer apart h = tt
-all_have p (q ∷ qs) a xs s order opener closer apart h = (
-  (has_after p q.opener a xs s order apart.0.0 opener closer h.0.0, has_after p q.closer a xs s order apart.0.1 opener closer h.0.1),
-  all_have p qs a xs s order opener closer apart.1 h.1,
-)
-
-all_pairs : (ps : List Pair) (a : ℕ) (n : Nest) (xs : List Piece) → SortedFrom a xs → AllHas ps xs → AreNested ps
-    → fold nest_row n (rows_of ps xs) ≡ fold nest_row n (rows_of [] (fold with_span xs ps))
-all_pairs [] a n xs s has nested = refl
-all_pairs (p ∷ ps) a n xs s has nested =
-    one_pair p ps a n xs s has.0.0 has.0.1 nested.0 nested.1
-    ∙ all_pairs ps a n (with_span xs p) (sorted_after p a xs s) (all_have p ps a xs s nested.0 has.0.0 has.0.1 nested.1 has.1) nested.2
-
--- ---- the pairs of runs
-
-either_first : (x y : Bool) → (x || y) ≡ false → x ≡ false
-either_first true y h = h
-either_first false y h = refl
-
-either_second : (x y : Bool) → (x || y) ≡ false → y ≡ false
-either_second true y h = absurd (both_ways true h refl)
-either_second false y h = h
-
 beside : (p : Pair) (m : ℕ) → is_within m p ≡ false → Beside p m
 beside p m out =
     elim (cases_lt p.opener m) [
@@ -379,22 +352,28 @@ beside p m out =
       | inr upto ↦ inl (omega arith)
     ]
 
-apart_later : (runs : List Run) (so_far qs : List Pair) (p : Pair) → AreNext runs so_far qs → p.closer ≤ last_closer so_far
-    → ((m : ℕ) → is_inside so_far m ≡ false → is_within m p ≡ false) → Apart p qs
-apart_later runs _ _ p (NoMore so_far none) le out = tt
-apart_later runs _ _ p (NextIs so_far q others next rest) le out =
-    let on : last_closer so_far ≤ q.closer = next.goes_on in (
-      (beside p q.opener (out q.opener next.eligible.uncrossed), inr (omega arith)),
-      apart_later runs (q ∷ so_far) others p rest (omega arith) (λ m h. out m (either_second (is_within m q) (is_inside so_far m) h)),
-    )
+apart : (p : Pair) (qs : List Pair) → Each (IsAround p) qs → Apart p qs
+apart p [] each = tt
+apart p (q ∷ qs) each = ((beside p q.opener each.0.outside, inr each.0.later), apart p qs each.1)
 
-nested : (runs : List Run) (so_far qs : List Pair) → AreNext runs so_far qs → AreNested qs
-nested runs _ _ (NoMore so_far none) = tt
-nested runs _ _ (NextIs so_far p others next rest) = (
-  next.eligible.ordered,
-  apart_later runs (p ∷ so_far) others p rest (omega arith) (λ m h. either_first (is_within m p) (is_inside so_far m) h),
-  nested runs (p ∷ so_far) others rest,
+all_have : (p : Pair) (qs : List Pair) (a : ℕ) (xs : List Piece) → SortedFrom a xs → p.opener < p.closer → Has p.opener xs → Has p.closer xs → Apart p qs
+    → AllHas qs xs → AllHas qs (with_span xs p)
+all_have p [] a xs s order opener closer apart h = tt
+all_have p (q ∷ qs) a xs s order opener closer apart h = (
+  (has_after p q.opener a xs s order apart.0.0 opener closer h.0.0, has_after p q.closer a xs s order apart.0.1 opener closer h.0.1),
+  all_have p qs a xs s order opener closer apart.1 h.1,
 )
+
+all_pairs : (ps : List Pair) (a : ℕ) (n : Nest) (xs : List Piece) → SortedFrom a xs → AllHas ps xs → AreNested ps
+    → fold nest_row n (rows_of ps xs) ≡ fold nest_row n (rows_of [] (fold with_span xs ps))
+all_pairs [] a n xs s has nested = refl
+all_pairs (p ∷ ps) a n xs s has nested =
+    let order = nested.0.ordered in
+    let beside_all = apart p ps nested.1 in
+    one_pair p ps a n xs s has.0.0 has.0.1 order beside_all
+    ∙ all_pairs ps a n (with_span xs p) (sorted_after p a xs s) (all_have p ps a xs s order has.0.0 has.0.1 beside_all has.1) nested.2
+
+-- ---- the pairs of runs
 
 has_all : (runs : List Run) (so_far qs : List Pair) (xs : List Piece) → AreNext runs so_far qs → ((m : ℕ) → m < length runs → Has m xs) → AllHas qs xs
 has_all runs _ _ xs (NoMore so_far none) has = tt
@@ -417,4 +396,4 @@ spans_by_rows ts =
     let has = has_all runs [] ps xs next (λ m lt. has_tokens 0 ts m (omega arith) (omega arith)) in
     sym
     (ap (λ rows. nest_spans rows) (sym (rows_of_tokens ps 0 ts))
-    ∙ ap (λ (n : Nest). n.now) (all_pairs ps 0 (nest Nil []) xs (sorted_tokens 0 ts) has (nested runs [] ps next) ∙ all_text (fold with_span xs ps) Nil []))
+    ∙ ap (λ (n : Nest). n.now) (all_pairs ps 0 (nest Nil []) xs (sorted_tokens 0 ts) has (pairs_nested runs) ∙ all_text (fold with_span xs ps) Nil []))

@@ -5,3 +5,4 @@ pub mod Raw
 pub mod GfmTable
 pub mod Blocks
 pub mod Spelled
+pub mod Left

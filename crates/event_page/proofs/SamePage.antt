@@ -5,8 +5,8 @@ use Rattle.definition_page.specs.Html.{html}
 use Rattle.definition_page.specs.TextTables.{TextTables}
 use Rattle.engine_events.specs.declared.event.Event.{Event}
 use Rattle.event_meaning.specs.Spelled.{html_of_events, spelled}
-use Rattle.laws_alike.specs.Spelled.{IsPageOfText}
-use Rattle.laws_alike.proofs.Spelled.{pages_of_texts_print_their_html}
+use Rattle.parse_alike.specs.Spelled.{IsPageOfText}
+use Rattle.parse_alike.proofs.Spelled.{pages_of_texts_print_their_html}
 
 module _ (tables : TextTables) (options : Options) (text : List ℕ) (events : List Event) where
   printed : IsPageOfText tables options.parse text (spelled tables.names events text)

@@ -4,7 +4,7 @@ use Rattle.engine_events.specs.declared.event.Event.{Event}
 use Rattle.markdown_options.specs.declared.configuration.CompileOptions.{CompileOptions}
 use Rattle.event_check.specs.Matches.{MatchesGrammar}
 use Rattle.event_meaning.specs.Spelled.{html_of_events}
-use Rattle.event_output.specs.Placed.{ArePlaced}
+use Rattle.parse_output.specs.Placed.{ArePlaced}
 
 -- the HTML of events that are placed in the text from its start to its end, and are in the grammar
 pub record IsPageOfEvents (names : List ℕ → Option (List ℕ)) (options : CompileOptions) (text html : List ℕ) : Type 0 where

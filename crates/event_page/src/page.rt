@@ -7,10 +7,10 @@ ghost use Rattle.event_check.specs.declared.error.CompileError.TheVariants.{Memo
 ghost use Rattle.event_page.specs.Page.{IsPageOfEvents};
 ghost use Rattle.laws_safe_page.specs.SafeHtml.{AreSafe, HasOneReading};
 
+use compile_html::compile;
 use event_check::CompileError;
-use event_html::compile;
-use event_parser::{SIZE_MAX, parse};
 use markdown_options::{Options, Tables};
+use parse_events::{SIZE_MAX, parse};
 use std::alloc::Allocator;
 
 /// Returns the HTML of a text by way of its events: `parse`, and then `compile`. It is the page of the

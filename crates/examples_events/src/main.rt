@@ -5,10 +5,10 @@ ghost use Rattle.std.specs.Prelude.{◌≤◌, IfOk, length};
 
 use engine_events::event::{Event, Kind, Name};
 use engine_events::place::Point;
-use event_parser::{SIZE_MAX, parse};
 use markdown_html::compile;
 use markdown_options::{CompileOptions, ParseOptions};
 use markdown_tables::Builtin;
+use parse_events::{SIZE_MAX, parse};
 use std::alloc::{AllocError, Global};
 use std::io::{self, ErrorKind};
 

@@ -3,5 +3,4 @@ pub mod Container
 pub mod Depth
 pub mod Needed
 pub mod Runs
-pub mod Taken
 pub mod Writes

@@ -16,7 +16,7 @@ use Rattle.inline_runs.specs.declared.pair.Pair.{Pair}
 use Rattle.inline_runs.specs.declared.run.Run.{Run}
 use Rattle.inline_runs.specs.declared.spans.RunSpans.{RunSpans}
 use Rattle.inline_rows.specs.Told.{rows_needed}
-use Rattle.inline_rows.proofs.Taken.{bytes_fit}
+use Rattle.definition_inline.proofs.PairsTaken.{bytes_fit}
 
 some_bytes : (double : Bool) → 1 ≤ bytes_by double
 some_bytes true = omega arith

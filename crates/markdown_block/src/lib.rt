@@ -7,12 +7,12 @@
 #![tactic(auto)]
 
 pub use engine_events::{Event, Kind, Point, VOID_EVENTS};
-pub use event_parser::{ParseState, SIZE_MAX, parse};
 pub use markdown_options::{
     Constructs, LineEnding, LineEndingError, Message, ParseOptions, Place, Tables, configuration,
     constants as constant, line_ending, message, unist,
 };
 pub use markdown_tables::{Builtin, Rows, RowsError};
+pub use parse_events::{ParseState, SIZE_MAX, parse};
 
 /// Events: each enters or exits something at a point of the text.
 pub mod event {
@@ -22,5 +22,5 @@ pub mod event {
 
 /// A text to its events, and what it was read by.
 pub mod parser {
-    pub use event_parser::{ParseState, parse};
+    pub use parse_events::{ParseState, parse};
 }

@@ -1,7 +1,7 @@
 -- What a list of events leaves in an array, from the text that was read.
 use Rattle.std.proofs.Common.{◌≡◌, ℕ, List, ◌++◌, map, drop, length, subst}
 use Rattle.engine_events.specs.declared.event.Event.{Event}
-use Rattle.event_output.specs.Placed.{ArePlaced}
+use Rattle.parse_output.specs.Placed.{ArePlaced}
 use Rattle.markdown_c.specs.declared.flat_event.FlatEvent.{FlatEvent}
 use Rattle.markdown_c.specs.FlatEvents.{flat_event}
 use Rattle.markdown_c.specs.ListedEvents.{HasCount, HasEvents}

@@ -7,8 +7,8 @@ ghost use Rattle.markdown_c.specs.ListedEvents.{HasCount, HasEvents};
 use crate::convert::{FLAGS, MEMORY, OK, ROOM, SIZE, UTF8};
 use crate::flags::{ALL, flagged_options};
 use crate::flat_event::{FlatEvent, write_events};
-use event_parser::parse;
 use markdown::{Builtin, fits};
+use parse_events::parse;
 use std::alloc::Global;
 use std::mem::ManuallyDrop;
 

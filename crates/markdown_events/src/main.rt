@@ -6,10 +6,10 @@ mod lines;
 
 use command::Command;
 use engine_events::Event;
-use event_parser::{SIZE_MAX, parse};
 use lines::write_events;
 use markdown_input::{Fault, text, words};
 use markdown_tables::Builtin;
+use parse_events::{SIZE_MAX, parse};
 use std::io::{self, BufWriter};
 use std::process::ExitCode;
 

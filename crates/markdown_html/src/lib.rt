@@ -7,11 +7,11 @@
 //! crate `markdown`.
 #![tactic(auto)]
 
+pub use compile_html::{compile, compile_checked};
 pub use event_check::{
     Checked, CompileError, check_events, gfm_table_align, list_item_loose, list_loose,
 };
 pub use event_grammar::{EventFault, FaultKind};
-pub use event_html::{compile, compile_checked};
 pub use html_escape::encode::encode;
 pub use html_escape::{gfm_tagfilter, sanitize, sanitize_with_protocols};
 pub use markdown_options::{AlignKind, CompileOptions, LineEnding, Tables};
@@ -19,9 +19,9 @@ pub use markdown_tables::Builtin;
 
 /// A list of events to HTML, and lists that are refused.
 pub mod to_html {
+    pub use compile_html::{compile, compile_checked};
     pub use event_check::{Checked, CompileError, check_events};
     pub use event_grammar::{EventFault, FaultKind};
-    pub use event_html::{compile, compile_checked};
 }
 
 /// Tools for a page of one's own.

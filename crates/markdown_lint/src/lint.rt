@@ -3,9 +3,9 @@ use crate::document::Document;
 use crate::finding::Finding;
 use crate::outcome::Outcome;
 use crate::rules::findings_of;
-use event_parser::{SIZE_MAX, parse};
 use markdown_input::{Fault, Flags, text};
 use markdown_tables::Builtin;
+use parse_events::{SIZE_MAX, parse};
 use std::alloc::Global;
 use std::io::{self, BufWriter, Write};
 

@@ -1,7 +1,7 @@
 //! Lines, and what is printed for each.
 use crate::options::{are_safe, options_of};
+use compile_html::compile;
 use event_check::CompileError;
-use event_html::compile;
 use html_safe_page::is_safe_page;
 use markdown_tables::Builtin;
 use std::alloc::{AllocError, Global};

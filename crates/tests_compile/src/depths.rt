@@ -1,9 +1,9 @@
 //! Lists that are 100,000 deep, or have a million events.
 use crate::options::options_of;
+use compile_html::compile;
 use engine_events::event::{Event, Kind, Name};
 use engine_events::place::Point;
 use event_check::CompileError;
-use event_html::compile;
 use markdown_tables::Builtin;
 use std::alloc::{AllocError, Global};
 

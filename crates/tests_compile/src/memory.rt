@@ -1,8 +1,8 @@
 //! Memory that runs out: each request refused in turn.
 use crate::options::options_of;
+use compile_html::compile;
 use engine_events::event::Event;
 use event_check::CompileError;
-use event_html::compile;
 use markdown_tables::Builtin;
 use std::alloc::{Allocator, Global};
 use std::io::{self, ErrorKind};

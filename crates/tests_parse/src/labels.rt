@@ -1,8 +1,8 @@
 //! The labels that texts define, which `ParseState` has.
 use crate::options::every;
-use event_parser::{SIZE_MAX, parse};
 use markdown_options::Message;
 use markdown_tables::Builtin;
+use parse_events::{SIZE_MAX, parse};
 use std::alloc::Global;
 
 /// Texts, the labels of their definitions, and those of their footnotes. Each label is followed by an LF.

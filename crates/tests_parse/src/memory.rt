@@ -2,10 +2,10 @@
 use crate::options::every;
 use crate::texts::{MARK, texts};
 use engine_events::event::Event;
-use event_parser::{SIZE_MAX, parse};
 use linked_list_allocator::LocalHeap;
 use markdown_options::Message;
 use markdown_tables::Builtin;
+use parse_events::{SIZE_MAX, parse};
 use std::alloc::{AllocError, Allocator, Global};
 use tests_memory::Refusing;
 

@@ -6,10 +6,10 @@ use engine_events::event::{Event, Kind, Name};
 use engine_events::place::START;
 use event_grammar::void::is_void;
 use event_page::to_html_by_events;
-use event_parser::{ParseState, SIZE_MAX, parse};
 use markdown::to_html_with_options;
 use markdown_options::{Message, Options};
 use markdown_tables::Builtin;
+use parse_events::{ParseState, SIZE_MAX, parse};
 use std::alloc::Global;
 
 /// What is wrong with the events of a text.

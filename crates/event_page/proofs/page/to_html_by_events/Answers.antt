@@ -4,8 +4,8 @@ use Rattle.std.proofs.lemmas.Result.{IfOk-weaker}
 use Rattle.definition_page.specs.TextTables.{text_tables}
 use Rattle.event_check.specs.Matches.{MatchesGrammar}
 use Rattle.event_meaning.specs.Spelled.{html_of_events, spelled}
-use Rattle.event_output.specs.Placed.{ArePlaced}
-use Rattle.laws_alike.specs.Spelled.{IsPageOfText}
+use Rattle.parse_output.specs.Placed.{ArePlaced}
+use Rattle.parse_alike.specs.Spelled.{IsPageOfText}
 use Rattle.event_page.proofs.SamePage.{same_page}
 use Rattle.event_page.proofs.page.to_html_by_events.Goals as goal
 

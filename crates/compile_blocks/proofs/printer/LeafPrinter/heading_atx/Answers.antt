@@ -1,0 +1,35 @@
+use Rattle.std.proofs.Common.{◌≡◌, ◌≤◌, ◌∙◌, ℕ, false, List, length, sym, ap, subst}
+use Rattle.std.specs.Result.{OnOk}
+use Rattle.engine_events.specs.declared.event.Name.TheVariants as n
+use Rattle.definition_inline.specs.Inline.{Inlines}
+use Rattle.definition_page.specs.BlockPieces.{leaf_block_pieces}
+use Rattle.definition_page.specs.Page.{Heading, PageLeaf}
+use Rattle.event_meaning.specs.Blocks.{heading_atx_of}
+use Rattle.event_meaning.specs.Children.{text_in}
+use Rattle.event_meaning.specs.Texts.{inlines_of}
+use Rattle.html_bytes.specs.Pieces.{in_bytes}
+use Rattle.html_leaves.specs.Prints.{layout_after, page_view}
+use Rattle.compile_blocks.specs.Texts.{text_kids}
+use Rattle.compile_blocks.proofs.Ranks.{size_parts}
+use Rattle.compile_blocks.proofs.TextKids.{text_law, text_sound}
+use Rattle.compile_blocks.proofs.printer.LeafPrinter.heading_atx.Goals as goal
+
+pub returns-clause-printed : goal.returns-clause-printed
+returns-clause-printed g c = λ m ds place kids meant size events sound.
+    let names = g.T.Tables.reference_of c.args.source.now.tables.now in
+    let bytes = c.args.source.now.checked.bytes.now in
+    let page = c.args.self.now.page in
+    let text = text_kids kids in
+    let sequence = text_in bytes n.HeadingAtxSequence kids in
+    let fits = size_parts sequence size in
+    let piece : c.piece_in-sequence.result.now ≡ sequence =
+    c.piece_in-sequence.ensures kids sound.nodes events ∙ ap (λ (bs : List ℕ). text_in bs n.HeadingAtxSequence kids) c.bytes.ensures in
+    let rank : c.rank_of.result ≡ length sequence =
+    c.rank_of.ensures.size (subst (λ (bs : List ℕ). 1 ≤ length bs) (sym piece) fits.0) (subst (λ (bs : List ℕ). length bs ≤ 6) (sym piece) fits.1)
+    ∙ ap length piece in
+    let is : Heading c.rank_of.result (inlines_of names bytes false text) ≡ heading_atx_of names bytes kids =
+    ap (λ (r : ℕ). Heading r (inlines_of names bytes false text)) rank
+    ∙ ap (λ (x : Inlines). Heading (length sequence) x) (sym (text_law names bytes false kids)) in
+    subst (λ (leaf : PageLeaf). OnOk c.heading.result (page_view c.heading.new.self.page
+    ≡ layout_after m.compile page.default_ending (page_view page) (in_bytes (leaf_block_pieces m place leaf))))
+    is (c.heading.ensures.printed m ds place text meant (c.text_within.ensures kids sound.nodes events) (text_sound bytes kids sound))

@@ -1,0 +1,105 @@
+-- Rows and texts that are pushed.
+use Rattle.std.proofs.Common.{◌≡◌, ℕ, ◌+◌, ◌-◌, ◌==◌, Bool, true, false, if◌then◌else◌, List, [], ◌∷◌, ◌++◌, Option, None, Some, refl, sym, ap, ◌∙◌, subst}
+use Rattle.std.specs.Prelude.{Result, OnOk, unwrap_or}
+use Rattle.std.specs.Option.{option_map}
+use Rattle.std.specs.Str.{IsUtf8, is_utf8}
+use Rattle.std.proofs.lemmas.Str.{IsUtf8-from_is_utf8, is_utf8-from_IsUtf8}
+use Rattle.engine_events.specs.Names.{same_name}
+use Rattle.engine_events.specs.declared.event.Event.{Event}
+use Rattle.engine_events.specs.declared.event.Name.{Name}
+use Rattle.engine_events.specs.declared.event.Name.TheVariants as n
+use Rattle.definition_text.specs.Content.{content_codes}
+use Rattle.definition_inline.specs.CharacterReference.{Names, number_of, numbered_text}
+use Rattle.definition_inline.specs.Inline.{Character, Autolink, Html, Literal}
+use Rattle.definition_inline.specs.Inline as inline
+use Rattle.inline_leaves.specs.Leaves.{kind_view}
+use Rattle.inline_leaves.specs.declared.leaf.LiteralKind.{LiteralKind}
+use Rattle.inline_rows.specs.InlineRows.{InlineRow, Part}
+use Rattle.compile_written.specs.Strings.{valid}
+use Rattle.compile_written.proofs.FormedTexts.{valid_is}
+use Rattle.compile_rows.specs.Leaves.{ending_rows, literal_kind, literal_rows, html_part_rows, value_of, has, reference_by, autolink_by}
+
+-- other rows that are the same are pushed, too
+pub along : {X E : Type 0} (r : Result X E) (new old x y : List InlineRow) → x ≡ y → OnOk r (new ≡ old ++ x) → OnOk r (new ≡ old ++ y)
+along r new old x y e h = subst (λ (z : List InlineRow). OnOk r (new ≡ old ++ z)) e h
+
+-- ---- texts
+
+pub valid_text : (piece : List ℕ) → IsUtf8 piece → valid piece ≡ piece
+valid_text piece u = valid_is piece (is_utf8-from_IsUtf8 piece u)
+
+none_by : (piece : List ℕ) (b : Bool) → is_utf8 piece ≡ b → (IsUtf8 piece → ⊥) → valid piece ≡ []
+none_by piece true h absent = absurd (absent (IsUtf8-from_is_utf8 piece h))
+none_by piece false h absent = ap (λ (t : Bool). if t then piece else []) h
+
+pub no_text : (piece : List ℕ) → (IsUtf8 piece → ⊥) → valid piece ≡ []
+no_text piece absent = none_by piece (is_utf8 piece) refl absent
+
+-- ---- references
+
+module _ (names : Names) (bytes : List ℕ) (es : List Event) where
+  abbrev value : List ℕ
+  value = value_of bytes n.CharacterReferenceValue es
+
+  abbrev character : List ℕ → List InlineRow
+  character text = Part (Character text) ∷ []
+
+  pub hexadecimal : (digits : List ℕ) → digits ≡ value → has n.CharacterReferenceMarkerHexadecimal es ≡ true
+      → character (numbered_text (number_of 16 digits)) ≡ character (reference_by names bytes es)
+  hexadecimal digits d h =
+      ap (λ (z : List ℕ). character (numbered_text (number_of 16 z))) d
+      ∙ ap (λ (z : Bool). character (if z then numbered_text (number_of 16 value)
+      else (if has n.CharacterReferenceMarkerNumeric es then numbered_text (number_of 10 value) else unwrap_or (names value) []))) (sym h)
+
+  pub decimal : (digits : List ℕ) → digits ≡ value → has n.CharacterReferenceMarkerHexadecimal es ≡ false → has n.CharacterReferenceMarkerNumeric es ≡ true
+      → character (numbered_text (number_of 10 digits)) ≡ character (reference_by names bytes es)
+  decimal digits d h k =
+      ap (λ (z : List ℕ). character (numbered_text (number_of 10 z))) d
+      ∙ ap (λ (z : Bool). character (if z then numbered_text (number_of 10 value) else unwrap_or (names value) [])) (sym k)
+      ∙ ap (λ (z : Bool). character (if z then numbered_text (number_of 16 value)
+      else (if has n.CharacterReferenceMarkerNumeric es then numbered_text (number_of 10 value) else unwrap_or (names value) []))) (sym h)
+
+  pub named : (text : List ℕ) → text ≡ unwrap_or (names value) [] → has n.CharacterReferenceMarkerHexadecimal es ≡ false
+      → has n.CharacterReferenceMarkerNumeric es ≡ false → character text ≡ character (reference_by names bytes es)
+  named text d h k =
+      ap character d
+      ∙ ap (λ (z : Bool). character (if z then numbered_text (number_of 10 value) else unwrap_or (names value) [])) (sym k)
+      ∙ ap (λ (z : Bool). character (if z then numbered_text (number_of 16 value)
+      else (if has n.CharacterReferenceMarkerNumeric es then numbered_text (number_of 10 value) else unwrap_or (names value) []))) (sym h)
+
+-- ---- autolinks
+
+module _ (bytes : List ℕ) (es : List Event) where
+  abbrev of_email : Bool → List InlineRow
+  of_email z =
+      Part (if z then Autolink true (value_of bytes n.AutolinkEmail es) else Autolink false (value_of bytes n.AutolinkProtocol es)) ∷ []
+
+  pub email_row : (text : List ℕ) → text ≡ value_of bytes n.AutolinkEmail es → has n.AutolinkEmail es ≡ true
+      → Part (Autolink true text) ∷ [] ≡ Part (autolink_by bytes es) ∷ []
+  email_row text d h = ap (λ (z : List ℕ). Part (Autolink true z) ∷ []) d ∙ ap of_email (sym h)
+
+  pub protocol_row : (text : List ℕ) → text ≡ value_of bytes n.AutolinkProtocol es → has n.AutolinkEmail es ≡ false
+      → Part (Autolink false text) ∷ [] ≡ Part (autolink_by bytes es) ∷ []
+  protocol_row text d h = ap (λ (z : List ℕ). Part (Autolink false z) ∷ []) d ∙ ap of_email (sym h)
+
+-- ---- literals and raw HTML
+
+pub literal_row : (linked : Bool) (name : Name) (found : Option LiteralKind) (kind : LiteralKind) (text piece : List ℕ)
+    → option_map kind_view found ≡ literal_kind name → found ≡ Some kind → text ≡ valid piece → linked ≡ false
+    → Part (Literal (kind_view kind) text) ∷ [] ≡ literal_rows linked (literal_kind name) (valid piece)
+literal_row linked name found kind text piece e f t l =
+    ap (λ (z : List ℕ). Part (Literal (kind_view kind) z) ∷ []) t
+    ∙ ap (λ (z : Bool). literal_rows z (Some (kind_view kind)) (valid piece)) (sym l)
+    ∙ ap (λ (z : Option inline.LiteralKind). literal_rows linked z (valid piece)) (sym (ap (option_map kind_view) f) ∙ e)
+
+pub html_data : (name : Name) (text piece : List ℕ) → text ≡ valid piece → same_name name n.HtmlTextData ≡ true
+    → Part (Html (content_codes text)) ∷ [] ≡ html_part_rows name piece
+html_data name text piece t h =
+    ap (λ (z : List ℕ). Part (Html (content_codes z)) ∷ []) t
+    ∙ ap (λ (z : Bool). if z then Part (Html (content_codes (valid piece))) ∷ [] else (if same_name name n.LineEnding then ending_rows piece else [])) (sym h)
+
+pub html_ending : (name : Name) (piece : List ℕ) → same_name name n.HtmlTextData ≡ false → same_name name n.LineEnding ≡ true
+    → ending_rows piece ≡ html_part_rows name piece
+html_ending name piece h k =
+    ap (λ (z : Bool). if z then ending_rows piece else []) (sym k)
+    ∙ ap (λ (z : Bool). if z then Part (Html (content_codes (valid piece))) ∷ [] else (if same_name name n.LineEnding then ending_rows piece else [])) (sym h)

@@ -1,0 +1,14 @@
+use Rattle.std.proofs.Common.{◌≡◌, ◌∙◌, ◌++◌, ◌∷◌, [], ℕ, List, Bool, true, false, sym, ap, refl, map}
+use Rattle.inline_rows.specs.InlineRows.{InlineRow, Part}
+use Rattle.inline_rows.specs.View.{rows_view, data_rows}
+use Rattle.compile_rows.proofs.Pushed.{along}
+use Rattle.engine_events.specs.declared.event.Name.TheVariants as n
+use Rattle.definition_inline.specs.Inline.{Escape}
+use Rattle.compile_rows.specs.Leaves.{value_of}
+use Rattle.compile_rows.proofs.leaf.push_escape.Goals as goal
+
+pub returns : goal.returns
+returns g c at =
+    along c.push_part.result (rows_view at c.push_part.new.rows.items) (rows_view at c.args.rows.now.items) _
+    (map Part (map Escape (value_of c.args.bytes.now n.CharacterEscapeValue c.args.events.now)))
+    (ap (λ (z : List ℕ). map Part (map Escape z)) c.value_of-value.ensures) (c.push_part.ensures at)

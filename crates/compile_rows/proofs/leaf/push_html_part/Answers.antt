@@ -1,0 +1,16 @@
+use Rattle.std.proofs.Common.{◌≡◌, ◌∙◌, ◌++◌, ◌∷◌, [], ℕ, List, Bool, true, false, sym, ap, refl, map}
+use Rattle.inline_rows.specs.InlineRows.{InlineRow, Part}
+use Rattle.inline_rows.specs.View.{rows_view, data_rows}
+use Rattle.compile_rows.specs.Leaves.{html_part_rows}
+use Rattle.compile_rows.proofs.Pushed.{along, html_data, html_ending}
+use Rattle.compile_rows.proofs.leaf.push_html_part.Goals as goal
+
+pub returns-then-eq : goal.returns-then-eq
+returns-then-eq g c at =
+    along c.push_part.result (rows_view at c.push_part.new.rows.items) (rows_view at c.args.rows.now.items) _ (html_part_rows c.args.name c.args.piece.now)
+    (html_data c.args.name _ c.args.piece.now c.text_of.ensures (sym c.eq.ensures ∙ c.if-eq.true)) (c.push_part.ensures at)
+
+pub returns-then-eq-2 : goal.returns-then-eq-2
+returns-then-eq-2 g c at =
+    along c.push_ending.result (rows_view at c.push_ending.new.rows.items) (rows_view at c.args.rows.now.items) _ (html_part_rows c.args.name c.args.piece.now)
+    (html_ending c.args.name c.args.piece.now (sym c.eq.ensures ∙ c.if-eq.false) (sym c.eq-else-eq.ensures ∙ c.if-eq-2.true)) (c.push_ending.ensures at)

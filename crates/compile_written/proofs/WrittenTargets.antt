@@ -1,0 +1,24 @@
+-- The codes of written destinations and titles are their bytes.
+use Rattle.std.proofs.Common.{◌≡◌, ℕ, List, [], ◌++◌, sym, ap, ◌∙◌}
+use Rattle.std.proofs.lemmas.List.Concat.{flat_map-append}
+use Rattle.engine_events.specs.declared.event.Event.{Event}
+use Rattle.definition_text.specs.Content.{content_codes}
+use Rattle.definition_inline.specs.CharacterReference.{Names}
+use Rattle.event_meaning.specs.Strings.{written_byte, written}
+use Rattle.compile_written.specs.Definition.{literal_events, raw_events, title_events, destination_written, title_written}
+use Rattle.compile_written.specs.Strings.{parts_after}
+use Rattle.event_meaning.proofs.Written.{written_codes}
+
+both_codes : (a b : List ℕ) → content_codes (written a ++ written b) ≡ written a ++ written b
+both_codes a b =
+    let joined : written (a ++ b) ≡ written a ++ written b = flat_map-append written_byte a b in
+    ap content_codes (sym joined) ∙ written_codes (a ++ b) ∙ joined
+
+pub destination_codes : (names : Names) (bytes : List ℕ) (events : List Event) (text : List ℕ) → text ≡ [] ++ destination_written names bytes events
+    → content_codes text ≡ destination_written names bytes events
+destination_codes names bytes events text h =
+    ap content_codes h ∙ both_codes (parts_after names bytes 0 (literal_events events)) (parts_after names bytes 0 (raw_events events))
+
+pub title_codes : (names : Names) (bytes : List ℕ) (events : List Event) (text : List ℕ) → text ≡ [] ++ title_written names bytes events
+    → content_codes text ≡ title_written names bytes events
+title_codes names bytes events text h = ap content_codes h ∙ written_codes (parts_after names bytes 0 (title_events events))

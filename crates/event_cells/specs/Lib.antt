@@ -1,4 +1,0 @@
-pub mod Before
-pub mod Cells
-pub mod Delimiters
-pub mod Columns

@@ -1,8 +1,0 @@
-use Rattle.std.proofs.Common.{◌≤◌, length}
-use Rattle.block_starts.specs.View.{container_views}
-use Rattle.event_lines.specs.Standing.{AreQuotesWithin}
-use Rattle.event_lines.proofs.prefix.quotes_end.Given as goal
-
-abbrev pub invariant-loop-depth : goal.invariant-loop-depth
-invariant-loop-depth l =
-    (l.depth ≤ length l.containers) × (AreQuotesWithin l.fn.count (container_views l.containers) → AreQuotesWithin l.depth (container_views l.containers))

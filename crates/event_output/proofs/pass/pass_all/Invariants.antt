@@ -1,9 +1,0 @@
-use Rattle.std.proofs.Common.{◌≡◌, ◌+◌, ◌*◌, ◌≤◌, take}
-use Rattle.std.specs.List.{fold}
-use Rattle.event_output.specs.Spots.{next_spot}
-use Rattle.event_output.proofs.pass.pass_all.Given as goal
-
-abbrev pub invariant-loop-byte : goal.invariant-loop-byte
-invariant-loop-byte l =
-    (l.here ≡ fold (next_spot l.mark) l.fn.spot (take l.byte-index l.bytes)) × (l.here.index ≡ l.fn.spot.index + l.byte-index)
-    × (l.here.line ≤ l.here.index + 1) × (l.here.column ≤ 4 * l.here.index + 1)

@@ -1,8 +1,0 @@
-use Rattle.std.proofs.Common.{refl}
-use Rattle.event_parser.proofs.EndingRows.{blank_ended}
-use Rattle.event_parser.proofs.parser.Parser.blank.Goals as goal
-
-pub returns-clause-goes_on : goal.returns-clause-goes_on
-returns-clause-goes_on g c =
-    blank_ended c.push_blank_line.result c.args.self.now (record c.args.self.now { walk = c.push_blank_line.new.walk })
-    (record { lists = refl; items = refl; places = refl; first = refl }) c.push_blank_line.ensures.written c.push_blank_line.ensures.after

@@ -1,2 +1,0 @@
-//! What a list of events prints, step by step.
-#![tactic(auto)]

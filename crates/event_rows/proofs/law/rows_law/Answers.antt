@@ -1,5 +1,0 @@
-use Rattle.event_rows.proofs.RowsLaw.{rows_law}
-use Rattle.event_rows.proofs.law.rows_law.Goals as goal
-
-pub returns : goal.returns
-returns c = rows_law

@@ -1,7 +1,0 @@
-//! Events of tables.
-#![tactic(auto)]
-
-pub mod cells;
-pub mod gfm_table;
-
-pub use gfm_table::push_table;

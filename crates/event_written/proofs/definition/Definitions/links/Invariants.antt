@@ -1,9 +1,0 @@
-use Rattle.std.proofs.Common.{◌≡◌, take}
-use Rattle.std.specs.Prelude.{map}
-use Rattle.inline_links.specs.View.{link_texts_view}
-use Rattle.event_written.specs.Definition.{target_view}
-use Rattle.event_written.proofs.definition.Definitions.links.Given as goal
-
--- the links of the targets before
-abbrev pub invariant-loop-target : goal.invariant-loop-target
-invariant-loop-target g l = map link_texts_view l.links.items ≡ map target_view (take l.target-index l.target-items)

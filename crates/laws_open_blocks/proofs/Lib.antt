@@ -1,5 +1,0 @@
-pub mod Bare
-pub mod Rows
-pub mod BareRead
-pub mod LineCounts
-pub mod Spread

@@ -1,3 +1,0 @@
-pub mod Open
-pub mod Lines
-pub mod Laws

@@ -1,5 +1,0 @@
-pub mod Levels
-pub mod Steps
-pub mod Laws
-pub mod Fronts
-pub mod Texts

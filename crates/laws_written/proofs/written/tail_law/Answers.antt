@@ -1,5 +1,0 @@
-use Rattle.laws_written.proofs.Tails.{tail_law}
-use Rattle.laws_written.proofs.written.tail_law.Goals as goal
-
-pub returns : goal.returns
-returns c = tail_law

@@ -1,0 +1,168 @@
+-- Inline structures that are alike print the same.
+use Rattle.std.proofs.Common.{◌≡◌, List, [], ◌∷◌, ◌++◌, map, flat_map, refl, sym, ap, ◌∙◌, append_assoc}
+use Rattle.std.proofs.lemmas.List.{append-nil, map-append}
+use Rattle.markdown_options.specs.declared.configuration.CompileOptions.{CompileOptions}
+use Rattle.definition_text.proofs.Each.{Each}
+use Rattle.definition_inline.specs.Inline.{InlineLeaf, Html, Link, Image, Inline, Leaf, Span, Linked, Call, Inlines, Nil, Cons}
+use Rattle.definition_inline.specs.Targets.{leads_to}
+use Rattle.definition_page.specs.InlinePieces.{Meaning, html_says, leaf_says, leaf_pieces, element, link_tag, image_tag, span_name, part_says, description}
+use Rattle.definition_page.specs.InlinePieces.{part_counts, inline_counts, part_pieces, inline_pieces}
+use Rattle.definition_page.specs.Pieces.{Piece, Says}
+use Rattle.definition_page.specs.Tags.{bare_tag, void_tag}
+use Rattle.event_meaning.specs.Texts.{append, leaves}
+use Rattle.parse_alike.specs.HtmlText.{html_leaves}
+use Rattle.parse_alike.specs.Inline.{leaf_parts, IsPartAlike, ArePartsAlike}
+use Rattle.parse_alike.specs.Targets.{AreMeaningsAlike}
+use Rattle.parse_alike.proofs.HtmlText.{HasNoTags, html-said, html_plain}
+use Rattle.parse_alike.proofs.Printed.{of_bytes, printed}
+use Rattle.parse_alike.proofs.Said.{said, said-append, said-printed, both, both-printed, element-printed}
+use Rattle.parse_alike.proofs.Targets.{link_tag-same, image_tag-same, leads_alike, call-same, count-same}
+
+-- pieces, and no more
+alone : (ps : List Piece) → printed ps ≡ printed (ps ++ [])
+alone ps = ap printed (sym (append-nil ps))
+
+-- ---- parts, and others after them
+
+module _ (m : Meaning) where
+  pieces-append : (is js : Inlines) → inline_pieces m (append is js) ≡ inline_pieces m is ++ inline_pieces m js
+  pieces-append Nil js = refl
+  pieces-append (Cons i is) js =
+      ap (λ ps. part_pieces m i ++ ps) (pieces-append is js) ∙ sym (append_assoc (part_pieces m i) (inline_pieces m is) (inline_pieces m js))
+
+  counts-append : (is js : Inlines) → inline_counts m (append is js) ≡ inline_counts m is ++ inline_counts m js
+  counts-append Nil js = refl
+  counts-append (Cons i is) js =
+      ap (λ ps. part_counts m i ++ ps) (counts-append is js) ∙ sym (append_assoc (part_counts m i) (inline_counts m is) (inline_counts m js))
+
+  leaves-pieces : (ls : List InlineLeaf) → Each (HasNoTags m.compile) ls → inline_pieces m (leaves ls) ≡ map Says (flat_map (leaf_says m.compile) ls)
+  leaves-pieces [] p = refl
+  leaves-pieces (l ∷ ls) p =
+      both (leaf_pieces m.compile l) (inline_pieces m (leaves ls)) (map Says (leaf_says m.compile l)) (map Says (flat_map (leaf_says m.compile) ls))
+      p.0 (leaves-pieces ls p.1)
+      ∙ sym (map-append Says (leaf_says m.compile l) (flat_map (leaf_says m.compile) ls))
+
+  leaves-counts : (ls : List InlineLeaf) → inline_counts m (leaves ls) ≡ []
+  leaves-counts [] = refl
+  leaves-counts (l ∷ ls) = leaves-counts ls
+
+  leaf-counts : (l : InlineLeaf) → [] ≡ inline_counts m (leaf_parts l)
+  leaf-counts (Html html) = sym (leaves-counts (html_leaves html))
+  leaf-counts other = refl
+
+module _ (options : CompileOptions) where
+  description-append : (is js : Inlines) → description options (append is js) ≡ description options is ++ description options js
+  description-append Nil js = refl
+  description-append (Cons i is) js =
+      ap (λ ss. part_says options i ++ ss) (description-append is js)
+      ∙ sym (append_assoc (part_says options i) (description options is) (description options js))
+
+  leaves-described : (ls : List InlineLeaf) → description options (leaves ls) ≡ flat_map (leaf_says options) ls
+  leaves-described [] = refl
+  leaves-described (l ∷ ls) = ap (λ ss. leaf_says options l ++ ss) (leaves-described ls)
+
+  leaf-described : (l : InlineLeaf) → said (leaf_says options l) ≡ said (description options (leaf_parts l))
+  leaf-described (Html html) = sym (html-said options html) ∙ ap said (sym (leaves-described (html_leaves html)))
+  leaf-described other = ap said (sym (append-nil (leaf_says options other)))
+
+module _ (m m' : Meaning) (alike : AreMeaningsAlike m m') where
+  leaf-printed : (l : InlineLeaf) → printed (leaf_pieces m'.compile l) ≡ printed (inline_pieces m' (leaf_parts l))
+  leaf-printed (Html html) =
+      let options = m'.compile in
+      let ls = html_leaves html in
+      said-printed (html_says options html)
+      ∙ ap of_bytes (sym (html-said options html))
+      ∙ sym (said-printed (flat_map (leaf_says options) ls))
+      ∙ ap printed (sym (leaves-pieces m' ls (html_plain options html)))
+  leaf-printed other = alone (leaf_pieces m'.compile other)
+
+  -- ---- the description of an image
+
+  mutual
+    part-described : (i : Inline) (js : Inlines) → IsPartAlike m m' i js → said (part_says m.compile i) ≡ said (description m'.compile js)
+    part-described (Leaf l) js p =
+        ap (λ options. said (leaf_says options l)) alike.compile
+        ∙ leaf-described m'.compile l
+        ∙ ap (λ is. said (description m'.compile is)) (sym p)
+    part-described (Span kind kids) js p =
+        parts-described kids p.0 p.2
+        ∙ ap said (sym (append-nil (description m'.compile p.0)))
+        ∙ ap (λ is. said (description m'.compile is)) (sym p.1)
+    part-described (Linked kind target kids) js p =
+        parts-described kids p.1 p.4
+        ∙ ap said (sym (append-nil (description m'.compile p.1)))
+        ∙ ap (λ is. said (description m'.compile is)) (sym p.2)
+    part-described (Call label) js p = ap (λ is. said (description m'.compile is)) (sym p.1)
+
+    parts-described : (is js : Inlines) → ArePartsAlike m m' is js → said (description m.compile is) ≡ said (description m'.compile js)
+    parts-described Nil js p = ap (λ is. said (description m'.compile is)) (sym p)
+    parts-described (Cons i is) js p =
+        let front = description m'.compile p.0 in
+        let others = description m'.compile p.1 in
+        said-append (part_says m.compile i) (description m.compile is)
+        ∙ both (said (part_says m.compile i)) (said (description m.compile is)) (said front) (said others)
+        (part-described i p.0 p.3) (parts-described is p.1 p.4)
+        ∙ sym (said-append front others)
+        ∙ ap said (sym (description-append m'.compile p.0 p.1))
+        ∙ ap (λ is. said (description m'.compile is)) (sym p.2)
+
+  -- ---- the calls that count
+
+  mutual
+    part-counts : (i : Inline) (js : Inlines) → IsPartAlike m m' i js → part_counts m i ≡ inline_counts m' js
+    part-counts (Leaf l) js p = leaf-counts m' l ∙ ap (inline_counts m') (sym p)
+    part-counts (Span kind kids) js p =
+        parts-counts kids p.0 p.2 ∙ sym (append-nil (inline_counts m' p.0)) ∙ ap (inline_counts m') (sym p.1)
+    part-counts (Linked kind target kids) js p =
+        parts-counts kids p.1 p.4 ∙ sym (append-nil (inline_counts m' p.1)) ∙ ap (inline_counts m') (sym p.2)
+    part-counts (Call label) js p =
+        count-same m m' alike label p.0 p.2 ∙ sym (append-nil (part_counts m' (Call p.0))) ∙ ap (inline_counts m') (sym p.1)
+
+    pub parts-counts : (is js : Inlines) → ArePartsAlike m m' is js → inline_counts m is ≡ inline_counts m' js
+    parts-counts Nil js p = ap (inline_counts m') (sym p)
+    parts-counts (Cons i is) js p =
+        both (part_counts m i) (inline_counts m is) (inline_counts m' p.0) (inline_counts m' p.1) (part-counts i p.0 p.3) (parts-counts is p.1 p.4)
+        ∙ sym (counts-append m' p.0 p.1)
+        ∙ ap (inline_counts m') (sym p.2)
+
+  -- ---- pieces
+
+  mutual
+    part-printed : (i : Inline) (js : Inlines) → IsPartAlike m m' i js → printed (part_pieces m i) ≡ printed (inline_pieces m' js)
+    part-printed (Leaf l) js p =
+        ap (λ options. printed (leaf_pieces options l)) alike.compile ∙ leaf-printed l ∙ ap (λ is. printed (inline_pieces m' is)) (sym p)
+    part-printed (Span kind kids) js p =
+        let t = bare_tag (span_name kind) in
+        element-printed t (inline_pieces m kids) (inline_pieces m' p.0) (parts-printed kids p.0 p.2)
+        ∙ alone (element t (inline_pieces m' p.0))
+        ∙ ap (λ is. printed (inline_pieces m' is)) (sym p.1)
+    part-printed (Linked Link target kids) js p =
+        let to = leads_to m.definition target in
+        let to' = leads_to m'.definition p.0 in
+        let kids' = inline_pieces m' p.1 in
+        element-printed (link_tag m to) (inline_pieces m kids) kids' (parts-printed kids p.1 p.4)
+        ∙ ap (λ t. printed (element t kids')) (link_tag-same m m' alike to to' (leads_alike m m' alike target p.0 p.3))
+        ∙ alone (element (link_tag m' to') kids')
+        ∙ ap (λ is. printed (inline_pieces m' is)) (sym p.2)
+    part-printed (Linked Image target kids) js p =
+        let to = leads_to m.definition target in
+        let to' = leads_to m'.definition p.0 in
+        let bytes = void_tag (image_tag m to (description m.compile kids)) in
+        let bytes' = void_tag (image_tag m' to' (description m'.compile p.1)) in
+        let same : bytes ≡ bytes' =
+        image_tag-same m m' alike to to' (description m.compile kids) (description m'.compile p.1) (leads_alike m m' alike target p.0 p.3)
+        (parts-described kids p.1 p.4) in
+        both (of_bytes bytes) (printed (inline_counts m kids)) (of_bytes bytes') (printed (inline_counts m' p.1)) (ap of_bytes same)
+        (ap printed (parts-counts kids p.1 p.4))
+        ∙ alone (part_pieces m' (Linked Image p.0 p.1))
+        ∙ ap (λ is. printed (inline_pieces m' is)) (sym p.2)
+    part-printed (Call label) js p =
+        ap printed (call-same m m' alike label p.0 p.2) ∙ alone (part_pieces m' (Call p.0)) ∙ ap (λ is. printed (inline_pieces m' is)) (sym p.1)
+
+    -- inline structures that are alike print the same
+    pub parts-printed : (is js : Inlines) → ArePartsAlike m m' is js → printed (inline_pieces m is) ≡ printed (inline_pieces m' js)
+    parts-printed Nil js p = ap (λ is. printed (inline_pieces m' is)) (sym p)
+    parts-printed (Cons i is) js p =
+        both-printed (part_pieces m i) (inline_pieces m is) (inline_pieces m' p.0) (inline_pieces m' p.1) (part-printed i p.0 p.3) (parts-printed is p.1 p.4)
+        ∙ ap printed (sym (pieces-append m' p.0 p.1))
+        ∙ ap (λ is. printed (inline_pieces m' is)) (sym p.2)

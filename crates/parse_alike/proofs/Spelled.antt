@@ -1,0 +1,50 @@
+-- A page that is alike to that of a text prints the HTML of the text.
+use Rattle.std.proofs.Common.{◌≡◌, ℕ, List, map, refl, sym, ap, ◌∙◌}
+use Rattle.markdown_options.specs.declared.configuration.Options.{Options}
+use Rattle.definition_text.specs.Lines.{without_mark}
+use Rattle.definition_inline.specs.LabelMatch.{normal_label}
+use Rattle.definition_page.specs.DocumentPieces as document
+use Rattle.definition_page.specs.Html.{html}
+use Rattle.definition_page.specs.InlinePieces.{Meaning}
+use Rattle.definition_page.specs.Page.{Page}
+use Rattle.definition_page.specs.Read.{read}
+use Rattle.definition_page.specs.TextTables.{TextTables}
+use Rattle.event_meaning.specs.Spelled as events
+use Rattle.parse_alike.specs.Page.{ArePagesAlike}
+use Rattle.parse_alike.specs.Spelled.{IsPageOfText, PagesOfTextsPrintTheirHtml}
+use Rattle.parse_alike.specs.Targets.{AreFootnotesAlike}
+use Rattle.parse_alike.proofs.Definition.{alike_definitions_mean_the_same}
+use Rattle.parse_alike.proofs.GfmFootnoteDefinition.{footnotes_read, front_footnotes}
+use Rattle.parse_alike.proofs.Page.{alike_pages_print_the_same}
+
+module _ (tables : TextTables) (options : Options) (text : List ℕ) (spelled : Page) (of_text : IsPageOfText tables options.parse text spelled) where
+  abbrev page : Page
+  page = read tables options.parse text
+
+  abbrev m : Meaning
+  m = document.meaning_of tables options page
+
+  abbrev m' : Meaning
+  m' = events.meaning_of tables.names options.compile spelled
+
+  footnotes_alike : AreFootnotesAlike page.footnotes spelled.footnotes
+  footnotes_alike =
+      ap (map normal_label) (sym (footnotes_read tables options.parse text))
+      ∙ front_footnotes m m' page.blocks spelled.blocks of_text.blocks
+      ∙ ap (map normal_label) (sym of_text.footnotes)
+
+  pages_alike : ArePagesAlike m m' page spelled
+  pages_alike =
+      record {
+        meanings =
+            alike_definitions_mean_the_same.same m m' page.definitions spelled.definitions refl refl of_text.definitions footnotes_alike refl;
+        blocks = of_text.blocks;
+        ends_blank = of_text.ends_blank;
+      }
+
+  html_same : events.page_html tables.names options.compile text spelled ≡ html tables text options
+  html_same =
+      sym (alike_pages_print_the_same.same m m' page spelled pages_alike options.compile (document.default_ending options (without_mark text)))
+
+pub pages_of_texts_print_their_html : PagesOfTextsPrintTheirHtml
+pages_of_texts_print_their_html = record { same = λ tables options text spelled of_text. html_same tables options text spelled of_text }

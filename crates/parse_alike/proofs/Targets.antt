@@ -1,0 +1,69 @@
+-- Links, images and calls with targets and labels that are alike have the same tags.
+use Rattle.std.proofs.Common.{◌≡◌, ℕ, List, ◌∷◌, ◌++◌, Option, None, Some, codes, map, flat_map, refl, sym, ap, ◌∙◌}
+use Rattle.markdown_options.specs.declared.configuration.CompileOptions.{CompileOptions}
+use Rattle.definition_text.specs.Columns.{Code}
+use Rattle.definition_text.specs.Encode.{plain}
+use Rattle.definition_inline.specs.Inline.{Target, Resource, Reference, LinkTexts}
+use Rattle.definition_inline.specs.LabelMatch.{normal_label, place_of, first_match}
+use Rattle.definition_inline.specs.Strings.{string_text}
+use Rattle.definition_inline.specs.Targets.{leads_to}
+use Rattle.definition_page.specs.InlinePieces.{Meaning, link_url, image_url, url_of, title_attributes, title_attribute, link_tag, image_tag, call_at, count_at}
+use Rattle.definition_page.specs.Pieces.{Piece}
+use Rattle.definition_page.specs.Tags.{PrintedPart, Attribute, attribute, attribute_bytes, Tag, tag, void_tag}
+use Rattle.parse_alike.specs.Targets.{AreLabelsAlike, AreLinksAlike, AreTargetsAlike, AreMeaningsAlike, title_text}
+use Rattle.parse_alike.proofs.Said.{said}
+
+-- an attribute for the text of a title
+title_by : (m : Meaning) (title : Option (List Code)) → title_attribute m title ≡ title_attributes (title_text m title)
+title_by m None = refl
+title_by m (Some title) = refl
+
+-- the tag of an image by its attributes, with the bytes of its description
+abbrev image_bytes : Attribute → List ℕ → List Attribute → List ℕ
+image_bytes src alt others =
+    codes "<"
+    ++ (codes "img" ++ (attribute_bytes src ++ ((codes " " ++ codes "alt" ++ codes "=\"" ++ alt ++ codes "\"") ++ flat_map attribute_bytes others)))
+    ++ codes " />"
+
+module _ (m m' : Meaning) (alike : AreMeaningsAlike m m') where
+  titles-same : (a b : LinkTexts) → AreLinksAlike m m' a b → title_attribute m a.title ≡ title_attribute m' b.title
+  titles-same a b p = title_by m a.title ∙ ap title_attributes p.1 ∙ sym (title_by m' b.title)
+
+  pub link_tag-same : (a b : LinkTexts) → AreLinksAlike m m' a b → link_tag m a ≡ link_tag m' b
+  link_tag-same a b p =
+      let tag_with : CompileOptions → List ℕ → List Attribute → Tag = λ options text others.
+      tag (codes "a") (attribute (codes "href") (link_url options (plain text)) ∷ others) in
+      ap (λ (options : CompileOptions). tag (codes "a") (attribute (codes "href") (link_url options (url_of m a)) ∷ title_attribute m a.title)) alike.compile
+      ∙ ap (λ text. tag_with m'.compile text (title_attribute m a.title)) p.0
+      ∙ ap (λ others. tag (codes "a") (attribute (codes "href") (link_url m'.compile (url_of m' b)) ∷ others)) (titles-same a b p)
+
+  pub image_tag-same : (a b : LinkTexts) (alt alt' : List PrintedPart) → AreLinksAlike m m' a b → said alt ≡ said alt'
+      → void_tag (image_tag m a alt) ≡ void_tag (image_tag m' b alt')
+  image_tag-same a b alt alt' p same =
+      let src : CompileOptions → List ℕ → Attribute = λ options text. attribute (codes "src") (image_url options (plain text)) in
+      ap (λ options. image_bytes (src options (string_text m.on m.names a.destination)) (said alt) (title_attribute m a.title)) alike.compile
+      ∙ ap (λ text. image_bytes (src m'.compile text) (said alt) (title_attribute m a.title)) p.0
+      ∙ ap (λ bytes. image_bytes (attribute (codes "src") (image_url m'.compile (url_of m' b))) bytes (title_attribute m a.title)) same
+      ∙ ap (image_bytes (attribute (codes "src") (image_url m'.compile (url_of m' b))) (said alt')) (titles-same a b p)
+
+  -- targets that are alike lead to links that are
+  pub leads_alike : (t t' : Target) → AreTargetsAlike m m' t t' → AreLinksAlike m m' (leads_to m.definition t) (leads_to m'.definition t')
+  leads_alike (Resource d t) (Resource d' t') p = p
+  leads_alike (Resource d t) (Reference b) p = absurd p
+  leads_alike (Reference a) (Resource d' t') p = absurd p
+  leads_alike (Reference a) (Reference b) p = alike.definitions a b p
+
+  -- labels that are alike call one footnote
+  label-same : (by : Option ℕ → List ℕ → List Piece) (a b : List Code) → AreLabelsAlike a b
+      → by (first_match a m.footnotes) (normal_label a) ≡ by (first_match b m'.footnotes) (normal_label b)
+  label-same by a b p =
+      ap (λ labels. by (place_of (normal_label a) labels) (normal_label a)) alike.footnotes
+      ∙ ap (λ label. by (place_of label (map normal_label m'.footnotes)) label) p
+
+  pub call-same : (a b : List Code) → AreLabelsAlike a b
+      → call_at (first_match a m.footnotes) (normal_label a) ≡ call_at (first_match b m'.footnotes) (normal_label b)
+  call-same a b p = label-same call_at a b p
+
+  pub count-same : (a b : List Code) → AreLabelsAlike a b
+      → count_at (first_match a m.footnotes) (normal_label a) ≡ count_at (first_match b m'.footnotes) (normal_label b)
+  count-same a b p = label-same count_at a b p

@@ -1,0 +1,99 @@
+-- After all rows of a text, its events spell its page.
+use Rattle.std.proofs.Common.{◌≡◌, inl, inr, ℕ, List, [], ◌∷◌, refl, sym, ap, ap₂, ◌∙◌, subst, arith, length}
+use Rattle.markdown_options.specs.declared.beside.Kind.{Kind}
+use Rattle.markdown_options.specs.declared.configuration.ParseOptions.{ParseOptions}
+use Rattle.definition_text.specs.Lines.{TextLine, kind_before_text, lines, without_mark}
+use Rattle.definition_block.specs.Definitions.{document_targets}
+use Rattle.definition_block.specs.Lists.{group_items}
+use Rattle.definition_block.specs.Tree.{Blocks, blocks}
+use Rattle.definition_page.specs.Read.{Reading, reading}
+use Rattle.definition_page.specs.TextTables.{TextTables}
+use Rattle.engine_events.specs.declared.event.Event.{Event}
+use Rattle.event_check.specs.Matches.{MatchesGrammar}
+use Rattle.event_grammar.specs.Trees.{Growth, Nodes, Part, growth, tree}
+use Rattle.event_meaning.specs.Spelled.{spelled}
+use Rattle.parse_lines.specs.declared.walk.Walk.{Walk}
+use Rattle.parse_lines.specs.Ends.{written_to}
+use Rattle.parse_lines.proofs.Lines.{joined, lines_joined}
+use Rattle.parse_output.specs.declared.end.End.{End}
+use Rattle.parse_output.specs.declared.output.Output.{Output}
+use Rattle.parse_output.specs.Forest.{bytewise}
+use Rattle.parse_output.specs.Written.{IsInOrder, end_in, forest_in}
+use Rattle.parse_alike.specs.Spelled.{IsPageOfText}
+use Rattle.parse_laid.specs.Places.{Between, unread}
+use Rattle.parse_open.specs.Lines.{line_at}
+use Rattle.parse_open.specs.Open.{Opened, bare_blocks, opened}
+use Rattle.parse_open.specs.Fronts.{IsFront}
+use Rattle.parse_open.specs.Levels.{AreOpen, Spells}
+use Rattle.parse_open.specs.Texts.{text_blocks}
+use Rattle.parse_open.proofs.Texts.{texts_are_spelled}
+use Rattle.parse_events.specs.Document.{StandsBefore}
+use Rattle.parse_events.specs.Stands.{IsAt, Stands}
+
+-- ---- the end of the text
+
+none_unread : (kind : Kind) (ls : List TextLine) → [] ≡ unread kind ls → ls ≡ []
+none_unread kind [] is = refl
+none_unread kind (l ∷ ls) is = let wrong : 0 ≡ length (unread kind (l ∷ ls)) = ap length is in absurd (omega (arith, wrong))
+
+nothing_left : (kind : Kind) (left : List ℕ) → [] ≡ unread kind (lines left) → left ≡ []
+nothing_left kind left is = sym (lines_joined left) ∙ ap joined (none_unread kind (lines left) is)
+
+-- where no line is left, all of the text is written
+pub all_written : {A : Type 0} (text : List ℕ) (o : Opened) (w : Walk A) → IsAt text o (Between []) w → (end_in w.out).index ≡ length text
+all_written text o w at =
+    elim at [
+      | inl here ↦
+          let st = here.0 in
+          let size : w.size ≡ length text = st.over.size in
+          let none : length w.left.now ≡ 0 = ap length (nothing_left st.kind w.left.now st.unread) in
+          omega (arith, ap (λ (x : End). x.index) here.1, size, none)
+      | inr past ↦ absurd past
+    ]
+
+-- ---- the page
+
+none_open : (r : Reading) (text : List ℕ) (front : Nodes) (parts : List Part) → AreOpen r text front [] parts → parts ≡ []
+none_open r text front [] are = refl
+none_open r text front (part ∷ parts) are = absurd are
+
+pub text_spelled : {A : Type 0} (tables : TextTables) (options : ParseOptions) (text : List ℕ) (front : Nodes) (w : Walk A) (events : List Event)
+    → IsFront tables.names text front (text_blocks options text)
+    → Stands (reading tables options (document_targets (text_blocks options text))) text front
+    (opened (group_items (bare_blocks (text_blocks options text))) [] []) [] (Between []) w
+    → MatchesGrammar tables.names text events → bytewise (tree events) ≡ (forest_in text w.out).kids
+    → IsPageOfText tables options text (spelled tables.names events text)
+text_spelled tables options text front w events is st right same =
+    let r = reading tables options (document_targets (text_blocks options text)) in
+    let o = opened (group_items (bare_blocks (text_blocks options text))) [] [] in
+    let g = forest_in text w.out in
+    let line = line_at text (written_to w).index in
+    let closed : g ≡ growth g.kids [] = ap (growth g.kids) (none_open r text front g.outer st.spells.around) in
+    texts_are_spelled tables options text front g.kids line events is (subst (λ (x : Growth). Spells r text front o x line) closed st.spells) (st.ends refl) right
+    same
+
+-- a text that is parsed: of its rest after the byte order mark all rows are written
+pub parsed_spelled : {A : Type 0} (tables : TextTables) (options : ParseOptions) (text : List ℕ) (before : Kind) (rest : List ℕ) (old w : Walk A)
+    (start : StandsBefore options.constructs text before rest old) (events : List Event) → before ≡ kind_before_text text → rest ≡ without_mark text
+    → Stands (reading tables options (document_targets (blocks options.constructs before rest))) text start.front
+    (opened (group_items (bare_blocks (blocks options.constructs before rest))) [] []) [] (Between []) w
+    → MatchesGrammar tables.names text events
+    → (IsInOrder text w.out → (end_in w.out).index ≡ length text → bytewise (tree events) ≡ (forest_in text w.out).kids)
+    → IsPageOfText tables options text (spelled tables.names events text)
+parsed_spelled tables options text before rest old w start events kind is st right written =
+    let same : blocks options.constructs before rest ≡ text_blocks options text = ap₂ (blocks options.constructs) kind is in
+    text_spelled tables options text start.front w events
+    (subst (λ (bs : Blocks). IsFront tables.names text start.front bs) same (start.is_front tables.names))
+    (subst
+    (λ (bs : Blocks). Stands (reading tables options (document_targets bs)) text start.front (opened (group_items (bare_blocks bs)) [] []) [] (Between []) w) same st)
+    right (written st.order (all_written text (opened (group_items (bare_blocks (blocks options.constructs before rest))) [] []) w st.at))
+
+-- what is said of an output and of its text is said of others that are the same
+pub written_same : {A : Type 0} (text bytes : List ℕ) (out own : Output A) (es events : List Event) → bytes ≡ text → out ≡ own → events ≡ es
+    → (IsInOrder bytes out → (end_in out).index ≡ length bytes → bytewise (tree es) ≡ (forest_in bytes out).kids)
+    → IsInOrder text own → (end_in own).index ≡ length text → bytewise (tree events) ≡ (forest_in text own).kids
+written_same {A} text bytes out own es events bytes_are out_is same written order end =
+    let all : IsInOrder text own → (end_in own).index ≡ length text → bytewise (tree es) ≡ (forest_in text own).kids =
+    subst (λ (o : Output A). IsInOrder text o → (end_in o).index ≡ length text → bytewise (tree es) ≡ (forest_in text o).kids) out_is
+    (subst (λ (bs : List ℕ). IsInOrder bs out → (end_in out).index ≡ length bs → bytewise (tree es) ≡ (forest_in bs out).kids) bytes_are written) in
+    ap (λ (xs : List Event). bytewise (tree xs)) same ∙ all order end

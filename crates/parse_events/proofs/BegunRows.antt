@@ -1,0 +1,78 @@
+-- A parser stands in the line on which a row begins.
+use Rattle.std.proofs.Common.{◌≡◌, ◌<◌, ◌≤◌, ℕ, Bool, true, false, List, [], ◌∷◌, Option, refl, sym, ap, ◌∙◌, subst, arith, map}
+use Rattle.std.specs.Prelude.{Result, Ok, Err, OnOk}
+use Rattle.std.proofs.lemmas.Bool.{true≢false}
+use Rattle.markdown_options.specs.declared.line_ending.LineEnding.{LineEnding}
+use Rattle.definition_block.specs.Container.{Container}
+use Rattle.definition_page.specs.Read.{Reading}
+use Rattle.block_rows.specs.Rows.{BlockRow}
+use Rattle.event_grammar.specs.Trees.{Nodes}
+use Rattle.parse_lines.specs.Ends.{EndsInLine, WritesLine}
+use Rattle.parse_lines.specs.Standing.{around, standing}
+use Rattle.parse_lines.specs.Steps.{HasSameOpen}
+use Rattle.parse_lines.specs.Steps.{IsBegun as IsLineBegun}
+use Rattle.parse_laid.specs.Begun.{begun, ends_line, is_in_line}
+use Rattle.parse_laid.specs.Laid.{IsRowLaid}
+use Rattle.parse_laid.specs.Places.{LineRest, Place, AtEnding}
+use Rattle.parse_laid.proofs.Begun.{lines_may_be_begun}
+use Rattle.parse_open.specs.Open.{Level, Opened, bare_container}
+use Rattle.parse_open.proofs.Steps.{always_go_on}
+use Rattle.parse_events.specs.declared.parser.Parser.{Parser}
+use Rattle.parse_events.specs.Parsing.{BeginsRow, GoesOn, GoesOnInLine, IsNext, IsParsing}
+use Rattle.parse_events.specs.Stands.{Stands, containers}
+use Rattle.parse_events.proofs.Kept.{KeepsOpen, parsing_kept}
+use Rattle.parse_events.proofs.Lines.{begun_stands}
+use Rattle.parse_events.proofs.Rows.{only_ends}
+
+-- a row still comes next after its line is begun
+pub next_begun : (r : Reading) (o : Opened) (within inner : List Container) (p to : Place) (row : BlockRow) → ends_line row ≡ false
+    → IsNext r.parse.constructs o within p row inner to → IsNext r.parse.constructs o within (begun r.parse.constructs within p) row inner to
+next_begun r o within inner p to row other next = record {
+  fits = next.fits;
+  laid = lines_may_be_begun.others r.parse.constructs within inner row p to other next.laid;
+  last = next.last;
+}
+
+pub in_line_begun : (r : Reading) (o : Opened) (within inner : List Container) (p to : Place) (row : BlockRow)
+    → IsNext r.parse.constructs o within p row inner to → is_in_line (begun r.parse.constructs within p) ≡ true
+in_line_begun r o within inner p to row next = lines_may_be_begun.in_line r.parse.constructs within inner row p to next.laid
+
+abbrev is_some : List Container → Bool
+is_some [] = false
+is_some (c ∷ cs) = true
+
+-- at the ending of a line, something is open
+open_at_ending : (r : Reading) (o : Opened) (within inner : List Container) (p to : Place) (row : BlockRow) → ends_line row ≡ false
+    → IsRowLaid r.parse.constructs within row p inner to → map bare_container within ≡ containers o.outer
+    → (ending : Option LineEnding) (left : List LineRest) → p ≡ AtEnding ending left → o.outer ≡ [] → ⊥
+open_at_ending r o within inner p to row other laid same ending left is none =
+    let ends = only_ends r.parse.constructs within ending left row inner to other (subst (λ (q : Place). IsRowLaid r.parse.constructs within row q inner to) is laid) in
+    true≢false (
+    ap (λ (cs : List Container). is_some (map bare_container cs)) (sym ends.1) ∙ ap is_some same ∙ ap (λ (ls : List Level). is_some (containers ls)) none)
+
+module _ {A : Type 0} where
+  pub row_begins : (old new : Parser A) → KeepsOpen old new → IsLineBegun (standing old.walk) (standing new.walk) → WritesLine old.walk new.walk
+      → HasSameOpen (standing old.walk) (standing new.walk) → (old.walk.is_in_line ≡ true → new.walk ≡ old.walk) → EndsInLine old.walk new.walk → BeginsRow old new
+  row_begins old new keeps begins writes same stays line r text front o within inner p to row other next was =
+      parsing_kept r text front o within within p (begun r.parse.constructs within p) old new was keeps (
+      begun_stands r text front (always_go_on r text front) o within p old.walk new.walk (in_line_begun r o within inner p to row next)
+      (open_at_ending r o within inner p to row other next.laid was.stands.same) was.stands begins writes same stays line)
+
+  -- a row goes on from a place between lines, too
+  pub begun_goes_on : (old mid new : Parser A) (r : Reading) (row : BlockRow) → ends_line row ≡ false → BeginsRow old mid → GoesOnInLine r row mid new
+      → GoesOn r row old new
+  begun_goes_on old mid new r row other begins goes text front o within inner p to next was =
+      goes text front o within inner (begun r.parse.constructs within p) to (in_line_begun r o within inner p to row next) (next_begun r o within inner p to row other next)
+      (begins r text front o within inner p to row other next was)
+
+  pub value_goes_on : (old mid new : Parser A) (r : Reading) (value row : BlockRow) → value ≡ row → ends_line row ≡ false → BeginsRow old mid
+      → GoesOnInLine r row mid new → GoesOn r value old new
+  value_goes_on old mid new r value row is other begins goes =
+      subst (λ (b : BlockRow). GoesOn r b old new) (sym is) (begun_goes_on old mid new r row other begins goes)
+
+  -- if a call succeeds
+  pub line_begun : {T E : Type 0} (result : Result T E) (old new : Parser A) → KeepsOpen old new → OnOk result (IsLineBegun (standing old.walk) (standing new.walk))
+      → OnOk result (WritesLine old.walk new.walk) → OnOk result (HasSameOpen (standing old.walk) (standing new.walk))
+      → (old.walk.is_in_line ≡ true → OnOk result (new.walk ≡ old.walk)) → OnOk result (EndsInLine old.walk new.walk) → OnOk result (BeginsRow old new)
+  line_begun (Ok x) old new keeps begins writes same stays line = row_begins old new keeps begins writes same stays line
+  line_begun (Err e) old new keeps begins writes same stays line = tt

@@ -1,0 +1,178 @@
+-- A parser writes the blocks of a text row by row: from before the first to the end.
+use Rattle.std.proofs.Common.{◌≡◌, inl, ◌<◌, ◌≤◌, ◌+◌, ◌-◌, ℕ, true, false, List, [], ◌∷◌, ◌++◌, refl, sym, ap, ◌∙◌, subst, arith, drop, get_or, length, map, reverse, take}
+use Rattle.std.proofs.lemmas.Bool.{true≢false}
+use Rattle.std.proofs.lemmas.List.{drop-drop, drop_more, length-drop, length-map, length-take-le, map-append, take-append-drop}
+use Rattle.markdown_options.specs.declared.beside.Kind.{Kind}
+use Rattle.markdown_options.specs.declared.configuration.ParseOptions.{ParseOptions}
+use Rattle.definition_text.specs.BlockLines.{BlockLine}
+use Rattle.definition_block.specs.Container.{Container}
+use Rattle.definition_block.specs.Definitions.{document_targets}
+use Rattle.definition_block.specs.Lists.{group_items}
+use Rattle.definition_block.specs.Tree.{Blocks, Nil as NoBlock, blocks}
+use Rattle.definition_page.specs.Read.{Reading, reading}
+use Rattle.definition_page.specs.TextTables.{TextTables}
+use Rattle.text_pieces.specs.declared.piece.Piece.{Piece}
+use Rattle.text_pieces.specs.Pieces.{piece_line, piece_lines}
+use Rattle.block_rows.specs.declared.row.Row.{Row}
+use Rattle.block_rows.specs.Rows.{BlockRow, RowsValue, row_size, row_value, rows_of, rows_value, value_with}
+use Rattle.event_grammar.specs.Trees.{Growth, Nodes, Nil, growth}
+use Rattle.parse_lines.specs.declared.walk.Walk.{Walk}
+use Rattle.parse_lines.specs.Ends.{written_to}
+use Rattle.parse_output.proofs.Forests.{append-nil}
+use Rattle.html_looseness.specs.declared.loose.Place.{Place as ItemPlace}
+use Rattle.html_looseness.specs.Loose.{places_of}
+use Rattle.html_looseness.specs.Printable.{IsPrintableRow}
+use Rattle.parse_laid.specs.Laid.{unread_lines}
+use Rattle.parse_laid.specs.Places.{Place, Between}
+use Rattle.parse_open.specs.Lines.{line_at}
+use Rattle.parse_open.specs.Open.{Opened, after_row, bare_blocks, opened}
+use Rattle.parse_open.specs.Fronts.{ends_in_blank}
+use Rattle.parse_open.specs.Levels.{Spells}
+use Rattle.parse_leaves.specs.Rows.{AreLinesOf}
+use Rattle.parse_events.specs.declared.opened.Opened.{Opened as OpenedHere}
+use Rattle.parse_events.specs.declared.parser.Parser.{Parser}
+use Rattle.parse_events.specs.Document.{AreAhead, HasWritten, IsAmongRows, StandsBefore, WritesBlocks}
+use Rattle.parse_events.specs.Opened.{is_list}
+use Rattle.parse_events.specs.Parsing.{GoesOn, IsNext, StandsInEnd}
+use Rattle.parse_events.specs.Stands.{Stands}
+use Rattle.parse_events.proofs.Ahead.{all_ahead, none_ahead, one_ahead}
+use Rattle.parse_events.proofs.RowLines.{lines_of_row, same_value}
+
+over_lines : (xs ys : List BlockLine) → drop (length xs) (xs ++ ys) ≡ ys
+over_lines [] ys = refl
+over_lines (x ∷ xs) ys = over_lines xs ys
+
+-- how a document is read that has this text
+abbrev reading_of : TextTables → ParseOptions → Kind → List ℕ → Reading
+reading_of tables options before rest = reading tables options (document_targets (blocks options.constructs before rest))
+
+-- before the first row
+nothing_spelled : (r : Reading) (text : List ℕ) (front : Nodes) (places : List ItemPlace) (line : ℕ)
+    → Spells r text front (opened NoBlock [] places) (growth front []) line
+nothing_spelled r text front places line = record {
+  kids = record { left = Nil; parts = sym (append-nil front); spell = record { blocks = λ m m' means. tt; defined = λ m m' means. tt } };
+  around = tt;
+}
+
+module _ {A : Type 0} where
+  first_stands : (r : Reading) (text : List ℕ) (before : Kind) (rest : List ℕ) (w : Walk A) (start : StandsBefore r.parse.constructs text before rest w)
+      (places : List ItemPlace)
+      → Stands r text start.front (opened NoBlock [] places) [] (Between (unread_lines r.parse.constructs before rest)) w
+  first_stands r text before rest w start places = record {
+    constructs = start.constructs;
+    around = ap reverse start.outside;
+    same = refl;
+    order = start.order;
+    at = inl (start.stands, start.written, tt);
+    spells =
+        subst (λ (g : Growth). Spells r text start.front (opened NoBlock [] places) g (line_at text (written_to w).index)) (sym start.forest)
+        (nothing_spelled r text start.front places (line_at text (written_to w).index));
+    begun = λ is. absurd (true≢false (sym is));
+    ends = λ none. ap (λ (g : Growth). ends_in_blank g.kids) start.forest ∙ (start.is_front r.tables.names).other;
+  }
+
+  pub rows_begin : (tables : TextTables) (options : ParseOptions) (rows : List Row) (ls : List BlockLine) (parser : Parser A) → parser.open.items ≡ []
+      → parser.items.items ≡ [] → reverse parser.places.items ≡ places_of (rows_value rows ls).rows → parser.first ≡ false
+      → HasWritten tables options rows ls rows ls parser.walk parser
+  rows_begin tables options rows ls parser held items places first = λ text before rest start bytes same.
+      let on = options.constructs in
+      let bs = blocks on before rest in
+      let r = reading tables options (document_targets bs) in
+      let known : places_of (rows_value rows ls).rows ≡ places_of (rows_of bs) = ap (λ (v : RowsValue). places_of v.rows) same in
+      record {
+        so_far = opened NoBlock [] (places_of (rows_of bs));
+        within = [];
+        place = Between (unread_lines on before rest);
+        parsing = record {
+          stands = first_stands r text before rest parser.walk start (places_of (rows_of bs));
+          lists = ap (λ (os : List OpenedHere). map is_list (reverse os)) held;
+          items = ap (λ (xs : List ItemPlace). map (λ (x : ItemPlace). x.goes_on) (reverse xs)) items;
+          places = places ∙ known;
+          first = first;
+        };
+        ahead = all_ahead on before rest rows ls bytes same;
+      }
+
+  module _ (r : Reading) (text : List ℕ) (front : Nodes) (all : Blocks) where
+    -- one row more
+    row_passed : (row : Row) (rows : List Row) (xs ys : List BlockLine) (old new : Parser A) → length xs ≡ row_size row
+        → (AreLinesOf row xs → GoesOn r (row_value row xs) old new) → IsAmongRows r text front all (row ∷ rows) (xs ++ ys) old
+        → IsAmongRows r text front all rows ys new
+    row_passed row rows xs ys old new size goes was =
+        let o = was.so_far in
+        let on = r.parse.constructs in
+        let next = one_ahead on all o was.within was.place row rows (xs ++ ys) was.ahead in
+        let same : row_value row (xs ++ ys) ≡ row_value row xs = same_value row xs ys size in
+        let left : drop (row_size row) (xs ++ ys) ≡ ys = ap (λ (k : ℕ). drop k (xs ++ ys)) (sym size) ∙ over_lines xs ys in
+        let lines = lines_of_row row xs size (subst IsPrintableRow same next.3) in
+        record {
+          so_far = after_row o (row_value row xs);
+          within = next.0;
+          place = next.1;
+          parsing =
+              goes lines text front o was.within next.0 was.place next.1
+              (subst (λ (b : BlockRow). IsNext on o was.within was.place b next.0 next.1) same next.2) was.parsing;
+          ahead =
+              subst (λ (b : BlockRow). AreAhead on all (after_row o b) next.0 next.1 rows ys) same
+              (subst (λ (ls : List BlockLine). AreAhead on all (after_row o (row_value row (xs ++ ys))) next.0 next.1 rows ls) left next.4);
+        }
+
+    pub row_more : (row : Row) (rows : List Row) (ps : List Piece) (old new : Parser A) → row_size row ≤ length ps
+        → (AreLinesOf row (piece_lines (take (row_size row) ps)) → GoesOn r (row_value row (piece_lines (take (row_size row) ps))) old new)
+        → IsAmongRows r text front all (row ∷ rows) (piece_lines ps) old
+        → IsAmongRows r text front all rows (piece_lines (drop (row_size row) ps)) new
+    row_more row rows ps old new enough goes was =
+        let n = row_size row in
+        let parts : piece_lines ps ≡ piece_lines (take n ps) ++ piece_lines (drop n ps) =
+        ap piece_lines (sym (take-append-drop n ps)) ∙ map-append piece_line (take n ps) (drop n ps) in
+        let size : length (piece_lines (take n ps)) ≡ n = length-map (take n ps) piece_line ∙ length-take-le n ps enough in
+        row_passed row rows (piece_lines (take n ps)) (piece_lines (drop n ps)) old new size goes
+        (subst (λ (ls : List BlockLine). IsAmongRows r text front all (row ∷ rows) ls old) parts was)
+
+    -- after the last one
+    pub rows_end : (ls : List BlockLine) (parser : Parser A) (w : Walk A) → IsAmongRows r text front all [] ls parser → StandsInEnd parser w
+        → Stands r text front (opened all [] []) [] (Between []) w
+    rows_end ls parser w was ends =
+        let none = none_ahead r.parse.constructs all was.so_far was.within was.place ls was.ahead in
+        let st : Stands r text front was.so_far was.within was.place w =
+        ends r text front was.so_far was.within was.place (ap (λ (o : Opened). o.outer) none.2) was.parsing in
+        subst (λ (o : Opened). Stands r text front o [] (Between []) w) none.2
+        (subst (λ (cs : List Container). Stands r text front was.so_far cs (Between []) w) none.0
+        (subst (λ (p : Place). Stands r text front was.so_far was.within p w) none.1 st))
+
+  module _ (tables : TextTables) (options : ParseOptions) (rows : List Row) (pieces : List Piece) where
+    -- one row more of a text
+    pub row_written : (i taken end : ℕ) (d : Row) (w : Walk A) (old new : Parser A) → i < length rows → end ≡ taken + row_size (get_or rows i d)
+        → end ≤ length pieces
+        → ((before : Kind) (rest : List ℕ) → ((k : ℕ) → get_or rest k 0 < 256)
+        → rows_value rows (piece_lines pieces) ≡ value_with (rows_of (blocks options.constructs before rest)) []
+        → AreLinesOf (get_or rows i d) (piece_lines (take (end - taken) (drop taken pieces)))
+        → GoesOn (reading_of tables options before rest) (row_value (get_or rows i d) (piece_lines (take (end - taken) (drop taken pieces)))) old new)
+        → HasWritten tables options rows (piece_lines pieces) (drop i rows) (piece_lines (drop taken pieces)) w old
+        → HasWritten tables options rows (piece_lines pieces) (drop (i + 1) rows) (piece_lines (drop end pieces)) w new
+    row_written i taken end d w old new some is fits goes was = λ text before rest start bytes same.
+        let row = get_or rows i d in
+        let n = row_size row in
+        let bs = blocks options.constructs before rest in
+        let r = reading_of tables options before rest in
+        let all = group_items (bare_blocks bs) in
+        let ps = drop taken pieces in
+        let size : end - taken ≡ n = omega (arith, is) in
+        let enough : n ≤ length ps = omega (arith, length-drop taken pieces, is, fits) in
+        let after : drop n ps ≡ drop end pieces = drop-drop n taken pieces ∙ ap (λ (k : ℕ). drop k pieces) (sym is) in
+        let before_row : IsAmongRows r text start.front all (row ∷ drop (i + 1) rows) (piece_lines ps) old =
+        subst (λ (rs : List Row). IsAmongRows r text start.front all rs (piece_lines ps) old) (drop_more rows i d some) (was text before rest start bytes same) in
+        let go = subst (λ (k : ℕ). AreLinesOf row (piece_lines (take k ps)) → GoesOn r (row_value row (piece_lines (take k ps))) old new) size
+        (goes before rest bytes same) in
+        subst (λ (qs : List Piece). IsAmongRows r text start.front all (drop (i + 1) rows) (piece_lines qs) new) after
+        (row_more r text start.front all row (drop (i + 1) rows) ps old new enough go before_row)
+
+    -- all rows of a text
+    pub rows_written : (left : List Row) (lines : List BlockLine) (w after : Walk A) (parser : Parser A) → left ≡ [] → StandsInEnd parser after
+        → HasWritten tables options rows (piece_lines pieces) left lines w parser → WritesBlocks tables options rows (piece_lines pieces) w after
+    rows_written left lines w after parser none ends was = λ text before rest start bytes same.
+        let bs = blocks options.constructs before rest in
+        let r = reading_of tables options before rest in
+        let all = group_items (bare_blocks bs) in
+        rows_end r text start.front all lines parser after
+        (subst (λ (rs : List Row). IsAmongRows r text start.front all rs lines parser) none (was text before rest start bytes same)) ends

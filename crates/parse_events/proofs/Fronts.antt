@@ -1,0 +1,207 @@
+-- What is in front of the blocks of a text is written: a byte order mark and frontmatter.
+use Rattle.std.proofs.Common.{◌≡◌, inl, inr, ◌<◌, ◌≤◌, ◌+◌, ◌-◌, ◌^◌, ℕ, Bool, true, false, ◌&&◌, List, [], ◌∷◌, ◌++◌, Option, None, Some, eqb, refl, sym, ap, ap₂, ◌∙◌, subst, arith, length, get_or, length-append}
+use Rattle.std.specs.Prelude.{if◌then◌else◌}
+use Rattle.std.specs.List.{fold}
+use Rattle.std.proofs.lemmas.Bool.{cases_Bool, cond-true, cond-false, and_parts, eqb-true}
+use Rattle.markdown_options.specs.declared.beside.Kind.{Kind}
+use Rattle.markdown_options.specs.declared.beside.Kind.TheVariants.{Whitespace}
+use Rattle.markdown_options.specs.declared.configuration.Constructs.{Constructs}
+use Rattle.markdown_options.specs.declared.line_ending.LineEnding.{LineEnding}
+use Rattle.definition_text.specs.Lines.{TextLine, has_mark, lines, without_mark}
+use Rattle.definition_inline.specs.CharacterReference.{Names}
+use Rattle.definition_block.specs.Frontmatter.{after_frontmatter}
+use Rattle.definition_block.specs.Definitions.{DefinitionCut, cut_into}
+use Rattle.definition_block.specs.Tree.{Blocks, blocks, children, children_after, with_paragraph}
+use Rattle.definition_block.specs.Tree as tree
+use Rattle.engine_events.specs.Columns.{between, mark_size}
+use Rattle.engine_events.specs.declared.event.Name.TheVariants as n
+use Rattle.event_grammar.specs.InGrammar.{node_name}
+use Rattle.event_grammar.specs.References.{named}
+use Rattle.event_grammar.specs.Trees.{Growth, Node, Nodes, Nil, growth}
+use Rattle.parse_lines.specs.declared.walk.Walk.{Walk}
+use Rattle.parse_lines.specs.Ends.{WritesUpTo, written_to}
+use Rattle.parse_lines.specs.Quiet.{AreQuiet}
+use Rattle.parse_lines.specs.Standing.{IsLineStart, Standing, StandsAt, TEXT_MAX, standing}
+use Rattle.parse_lines.specs.Steps.{BeginsAt}
+use Rattle.parse_lines.proofs.Lines.{joined}
+use Rattle.parse_lines.proofs.Spots.{bytes_after}
+use Rattle.parse_output.specs.declared.end.End.{End}
+use Rattle.parse_output.specs.Ends.{Follows, end_at, first_end}
+use Rattle.parse_output.specs.Forest.{append, one, void_nodes, with_nodes}
+use Rattle.parse_output.specs.Spots.{next_spot, start}
+use Rattle.parse_output.specs.Written.{IsInOrder, forest_in}
+use Rattle.parse_output.proofs.Forests.{append-assoc}
+use Rattle.parse_laid.specs.Laid.{unread_after}
+use Rattle.parse_laid.specs.Places.{Between, unread}
+use Rattle.parse_open.specs.Fronts.{IsFront, SpellsNothing}
+use Rattle.parse_open.proofs.Fronts.{front_alone, front_ended, front_none, nothing_both, nothing_mark, nothing_mute}
+use Rattle.parse_leaves.specs.Laid.{AreEnding, HasFrontmatter, WritesFront, WritesFrontLaid}
+use Rattle.parse_events.specs.Document.{StandsAfterMark, StandsBefore}
+use Rattle.parse_events.proofs.Endings.{quiet_mute}
+use Rattle.parse_events.proofs.FrontLines.{SomeFront}
+
+-- ---- the byte order mark
+
+-- a text begins with this mark, if it has one, and its first line begins after that
+pub record MarkParts (text : List ℕ) : Type 0 where
+  pub mark : List ℕ
+  pub parts : text ≡ mark ++ without_mark text
+  pub first : IsLineStart text (length mark)
+
+no_mark : (text : List ℕ) → has_mark text ≡ false → mark_size text ≡ 0 → MarkParts text
+no_mark text none size = record {
+  mark = [];
+  parts = sym (cond-false (has_mark text) _ _ none);
+  first = record { column = refl; mark = omega (arith, size); apart = λ some. absurd (omega (arith, some)) };
+}
+
+pub mark_parts : (text : List ℕ) → MarkParts text
+mark_parts [] = no_mark [] refl refl
+mark_parts (a ∷ []) = no_mark (a ∷ []) refl refl
+mark_parts (a ∷ b ∷ []) = no_mark (a ∷ b ∷ []) refl refl
+mark_parts (a ∷ b ∷ c ∷ others) =
+    let text = a ∷ b ∷ c ∷ others in
+    let test = (eqb a 239 && eqb b 187) && eqb c 191 in
+    elim (cases_Bool test) [
+      | inl is ↦
+          let size : mark_size text ≡ 3 = cond-true test _ _ is in
+          let last : c ≡ 191 = eqb-true c 191 (and_parts (eqb a 239 && eqb b 187) (eqb c 191) is).1 in
+          record {
+            mark = a ∷ b ∷ c ∷ [];
+            parts = ap (λ (xs : List ℕ). a ∷ b ∷ c ∷ xs) (sym (cond-true test _ _ is));
+            first = record {
+              column = ap (λ (m : ℕ). (fold (next_spot m) start (between 0 3 text)).column) size;
+              mark = omega (arith, size);
+              apart = λ some return feed. absurd (omega (arith, last, return));
+            };
+          }
+      | inr isnt ↦ no_mark text isnt (cond-false test _ _ isnt)
+    ]
+
+-- the rest of a text after its byte order mark is made of bytes, too
+pub rest_bytes : (text rest : List ℕ) → rest ≡ without_mark text → ((k : ℕ) → get_or text k 0 < 256) → (k : ℕ) → get_or rest k 0 < 256
+rest_bytes text rest is bytes =
+    let mp = mark_parts text in
+    let parts : text ≡ mp.mark ++ rest = mp.parts ∙ ap (λ (xs : List ℕ). mp.mark ++ xs) (sym is) in
+    bytes_after mp.mark rest (subst (λ (xs : List ℕ). (k : ℕ) → get_or xs k 0 < 256) parts bytes)
+
+after_nodes : (g h : Growth) (ns ms : Nodes) → g ≡ growth ns [] → h ≡ with_nodes g ms → h ≡ growth (append ns ms) []
+after_nodes g h ns ms is grown = grown ∙ ap (λ (x : Growth). with_nodes x ms) is
+
+none_after : (g : Growth) (ns : Nodes) → g ≡ growth Nil [] → with_nodes g ns ≡ growth ns []
+none_after g ns is = ap (λ (x : Growth). with_nodes x ns) is
+
+-- ---- frontmatter
+
+front_is : (names : Names) (text : List ℕ) (bs : Blocks) (mark space : Nodes) (node : Node) (ending : Option LineEnding) (ns : Nodes)
+    → SpellsNothing names text mark → AreQuiet space → node_name node ≡ n.Frontmatter → named n.Definition (one node) ≡ []
+    → AreEnding text n.LineEnding ending ns → (ending ≡ None → bs ≡ tree.Nil) → IsFront names text (append mark (append space (append (one node) ns))) bs
+front_is names text bs mark space node None ns nothing quiet is none are last =
+    let front = append mark space in
+    let nodes : append mark (append space (append (one node) ns)) ≡ append front (one node) =
+    ap (λ (xs : Nodes). append mark (append space (append (one node) xs))) are ∙ sym (append-assoc mark space (one node)) in
+    subst (λ (xs : Nodes). IsFront names text xs bs) (sym nodes)
+    (front_alone names text bs front node (nothing_both names text mark space nothing (nothing_mute names text space (quiet_mute space quiet))) is none (last refl))
+front_is names text bs mark space node (Some e) ns nothing quiet is none are last =
+    let front = append mark space in
+    let nodes : append mark (append space (append (one node) ns)) ≡ append front (append (one node) (one are.0)) =
+    ap (λ (xs : Nodes). append mark (append space (append (one node) xs))) are.1 ∙ sym (append-assoc mark space (append (one node) (one are.0))) in
+    subst (λ (xs : Nodes). IsFront names text xs bs) (sym nodes)
+    (front_ended names text bs front node e are.0 (nothing_both names text mark space nothing (nothing_mute names text space (quiet_mute space quiet))) is none
+    (record { named = are.2; empty = are.3; bytes = are.4 }))
+
+-- no line makes no block
+either_cut : (b : Bool) → (if b then cut_into tree.Nil [] else cut_into tree.Nil []) ≡ cut_into tree.Nil []
+either_cut true = refl
+either_cut false = refl
+
+no_children : (on : Constructs) (before : Kind) → children on before [] ≡ tree.Nil
+no_children on before = ap (λ (d : DefinitionCut). tree.join tree.Nil (with_paragraph d)) (either_cut on.definition)
+
+-- nothing is left after frontmatter without a last ending
+no_blocks : (on : Constructs) (before : Kind) (rest : List ℕ) (others : List TextLine) → after_frontmatter on (lines rest) ≡ Some others → others ≡ []
+    → blocks on before rest ≡ tree.Nil
+no_blocks on before rest others found none =
+    ap (children_after on before (lines rest)) (found ∙ ap (λ (ls : List TextLine). Some ls) none) ∙ no_children on Whitespace
+
+module _ {A : Type 0} where
+  -- a walk at the start of a text, whose byte order mark is written then
+  pub after_mark : (on : Constructs) (text : List ℕ) (before : Kind) (rest : List ℕ) (size : ℕ) (old new : Walk A) → length text ≤ TEXT_MAX
+      → ((k : ℕ) → get_or text k 0 < 256) → rest ≡ without_mark text → size ≡ length text - length rest
+      → old.on.now ≡ on → old.size ≡ length text → old.left.now ≡ rest → BeginsAt (length text) rest (standing old) → written_to old ≡ first_end
+      → IsInOrder text old.out → forest_in text old.out ≡ growth Nil [] → (standing old).outermost ≡ [] → standing new ≡ standing old
+      → ((written_to old).index + size < 2 ^ 64 → written_to new ≡ end_at ((written_to old).index + size) 0)
+      → ((written_to old).index + size < 2 ^ 64 → WritesUpTo n.ByteOrderMark (end_at ((written_to old).index + size) 0) old new)
+      → StandsAfterMark on text before rest new
+  after_mark on text before rest size old new fits bytes is sizes constructs all left begins start order forest outside same end writes =
+      let mp = mark_parts text in
+      let parts : text ≡ mp.mark ++ rest = mp.parts ∙ ap (λ (xs : List ℕ). mp.mark ++ xs) (sym is) in
+      let long : length text ≡ length mp.mark + length rest = ap length parts ∙ length-append mp.mark rest in
+      let zero : (written_to old).index ≡ 0 = ap (λ (x : End). x.index) start in
+      let short : (written_to old).index + size < 2 ^ 64 = omega (arith, zero, sizes, fits) in
+      let to = end_at ((written_to old).index + size) 0 in
+      let follows : Follows text (written_to old) to = subst (λ (x : End). Follows text x to) (sym start) (record {
+        forward = omega arith;
+        within = omega (arith, zero, sizes);
+        columns = λ at. omega arith;
+        whole = inl refl;
+      }) in
+      let written = writes short text order follows in
+      let nodes = void_nodes text n.ByteOrderMark (written_to old) to in
+      let st : StandsAt text (Between (unread before (lines rest))) (standing old) = begins text mp.mark before fits refl bytes parts mp.first in
+      record {
+        front = nodes;
+        nothing = λ names. nothing_mark names text (written_to old) to;
+        constructs = ap (λ (s : Standing). s.on) same ∙ constructs;
+        outside = ap (λ (s : Standing). s.outermost) same ∙ outside;
+        left = ap (λ (s : Standing). s.left) same ∙ left;
+        order = written.order;
+        stands = subst (StandsAt text (Between (unread before (lines rest)))) (sym same) st;
+        written =
+            end short
+            ∙ ap (λ (k : ℕ). end_at k 0)
+            (omega (arith, zero, sizes, long, ap (λ (s : Standing). s.size) same, all, ap (λ (s : Standing). length s.left) same, ap length left));
+        forest = written.forest ∙ none_after (forest_in text old.out) nodes forest;
+      }
+
+  -- a text that has no frontmatter
+  pub before_all : (on : Constructs) (text : List ℕ) (before : Kind) (rest : List ℕ) (w : Walk A) → after_frontmatter on (lines rest) ≡ None
+      → StandsAfterMark on text before rest w → StandsBefore on text before rest w
+  before_all on text before rest w none was = record {
+    front = was.front;
+    is_front = λ names. front_none names text (blocks on before rest) was.front (was.nothing names);
+    constructs = was.constructs;
+    outside = was.outside;
+    order = was.order;
+    stands = subst (λ (ls : Option (List TextLine)). StandsAt text (Between (unread_after before (lines rest) ls)) (standing w)) (sym none) was.stands;
+    written = was.written;
+    forest = was.forest;
+  }
+
+  -- a text that begins with it, of which these bytes are the frontmatter
+  pub before_others : (on : Constructs) (text : List ℕ) (before : Kind) (rest left own : List ℕ) (old new : Walk A) (some : SomeFront on rest left)
+      → own ≡ joined some.parts.front → WritesFrontLaid (length (lines own)) old new → StandsAfterMark on text before rest old → StandsBefore on text before rest new
+  before_others on text before rest left own old new some is writes was =
+      let fp = some.parts in
+      let count : length (lines own) ≡ length fp.front = ap (λ (xs : List ℕ). length (lines xs)) is ∙ ap length fp.own in
+      let has : HasFrontmatter old.on.now fp.front (lines old.left.now) some.others = record {
+        parts = ap lines was.left ∙ fp.parts;
+        found = ap₂ (λ (c : Constructs) (xs : List ℕ). after_frontmatter c (lines xs)) was.constructs was.left ∙ some.found;
+      } in
+      let st : StandsAt text (Between (unread before (lines old.left.now))) (standing old) =
+      subst (λ (xs : List ℕ). StandsAt text (Between (unread before (lines xs))) (standing old)) (sym was.left) was.stands in
+      let written : WritesFront text some.others old new = writes text before fp.front some.others count has st was.outside was.written was.order in
+      let nodes = append written.before (append (one written.node) written.nodes) in
+      record {
+        front = append was.front nodes;
+        is_front = λ names.
+            front_is names text (blocks on before rest) was.front written.before written.node written.ending written.nodes (was.nothing names) written.are_quiet
+            written.is_front written.definitions written.are_ending (λ none. no_blocks on before rest some.others some.found (written.last none));
+        constructs = written.around.0 ∙ was.constructs;
+        outside = written.around.1 ∙ was.outside;
+        order = written.writes.order;
+        stands =
+            subst (λ (ls : Option (List TextLine)). StandsAt text (Between (unread_after before (lines rest) ls)) (standing new)) (sym some.found) written.stands;
+        written = written.written;
+        forest = after_nodes (forest_in text old.out) (forest_in text new.out) was.front nodes was.forest written.writes.forest;
+      }

@@ -1,0 +1,156 @@
+-- What is open in a document, one more of it or one less.
+use Rattle.std.proofs.Common.{◌≡◌, arith, ℕ, zero, suc, ◌+◌, List, [], ◌∷◌, ◌++◌, true, false, refl, sym, ap, subst, ◌∙◌, get_or, length}
+use Rattle.std.proofs.lemmas.Bool.{true≢false}
+use Rattle.engine_events.specs.Names.{is_listed}
+use Rattle.engine_events.specs.declared.event.Name.{Name}
+use Rattle.engine_events.specs.declared.event.Name.TheVariants as n
+use Rattle.event_grammar.specs.Grammar.{block_names}
+use Rattle.parse_output.specs.Open.{Mark, Entered, closed}
+use Rattle.parse_output.specs.Children.{between_names, holds_blocks, holds_lines, may_enter, may_hold}
+use Rattle.parse_output.proofs.Classes.{blocks_lines, blocks_may, lines_may}
+use Rattle.parse_events.specs.declared.opened.Opened.{Opened}
+use Rattle.parse_events.specs.declared.opened.Opened.TheVariants as held
+use Rattle.parse_events.specs.Opened.{AreHeld, close_all, ends_in_list, enter_all, is_last_list, is_list, opened_name}
+
+pub close_last : (os : List Opened) (o : Opened) (marks : List Mark) → close_all (os ++ o ∷ []) marks ≡ close_all os (closed (opened_name o) marks)
+close_last [] o marks = refl
+close_last (first ∷ os) o marks = ap (closed (opened_name first)) (close_last os o marks)
+
+enter_last : (os : List Opened) (o : Opened) (marks : List Mark) → enter_all (os ++ o ∷ []) marks ≡ Entered (opened_name o) ∷ enter_all os marks
+enter_last [] o marks = refl
+enter_last (first ∷ os) o marks = enter_last os o (Entered (opened_name first) ∷ marks)
+
+closed_entered : (o : Opened) (marks : List Mark) → closed (opened_name o) (Entered (opened_name o) ∷ marks) ≡ marks
+closed_entered held.Quote marks = refl
+closed_entered held.Item marks = refl
+closed_entered held.Footnote marks = refl
+closed_entered held.OrderedList marks = refl
+closed_entered held.UnorderedList marks = refl
+
+pub none_held : (marks : List Mark) → holds_blocks marks ≡ true → AreHeld [] marks
+none_held marks holds = record { entered = refl; blocks = holds }
+
+-- one more
+pub around_more : (os : List Opened) (o : Opened) (marks : List Mark) → close_all (os ++ o ∷ []) (Entered (opened_name o) ∷ marks) ≡ close_all os marks
+around_more os o marks = close_last os o (Entered (opened_name o) ∷ marks) ∙ ap (close_all os) (closed_entered o marks)
+
+pub held_more : (os : List Opened) (o : Opened) (marks : List Mark) → AreHeld os marks → AreHeld (os ++ o ∷ []) (Entered (opened_name o) ∷ marks)
+held_more os o marks are = record {
+  entered =
+      ap (λ ms. Entered (opened_name o) ∷ ms) are.entered ∙ sym (enter_last os o (close_all os marks))
+      ∙ ap (enter_all (os ++ o ∷ [])) (sym (around_more os o marks));
+  blocks = ap holds_blocks (around_more os o marks) ∙ are.blocks;
+}
+
+pub quote_held : (os : List Opened) (marks : List Mark) → AreHeld os marks → AreHeld (os ++ held.Quote ∷ []) (Entered n.BlockQuote ∷ marks)
+quote_held os marks are = held_more os held.Quote marks are
+
+pub footnote_held : (os : List Opened) (marks : List Mark) → AreHeld os marks
+    → AreHeld (os ++ held.Footnote ∷ []) (Entered n.GfmFootnoteDefinition ∷ marks)
+footnote_held os marks are = held_more os held.Footnote marks are
+
+pub item_held : (os : List Opened) (marks : List Mark) → AreHeld os marks → AreHeld (os ++ held.Item ∷ []) (Entered n.ListItem ∷ marks)
+item_held os marks are = held_more os held.Item marks are
+
+-- one less
+pub held_less : (os : List Opened) (o : Opened) (marks : List Mark) → AreHeld (os ++ o ∷ []) marks → AreHeld os (closed (opened_name o) marks)
+held_less os o marks are =
+    let base = close_all (os ++ o ∷ []) marks in
+    record {
+      entered =
+          ap (closed (opened_name o)) (are.entered ∙ enter_last os o base) ∙ closed_entered o (enter_all os base)
+          ∙ ap (enter_all os) (close_last os o marks);
+      blocks = ap holds_blocks (sym (close_last os o marks)) ∙ are.blocks;
+    }
+
+-- what may stand in the innermost
+item_may : (o : Opened) → is_list o ≡ true → may_enter (Entered (opened_name o) ∷ []) n.ListItem ≡ true
+unfolding may_enter may_hold
+item_may held.Quote is = is
+item_may held.Item is = is
+item_may held.Footnote is = is
+item_may held.OrderedList is = refl
+item_may held.UnorderedList is = refl
+
+own_blocks : (o : Opened) → is_list o ≡ false → holds_blocks (Entered (opened_name o) ∷ []) ≡ true
+unfolding may_enter may_hold holds_blocks
+own_blocks held.Quote is = refl
+own_blocks held.Item is = refl
+own_blocks held.Footnote is = refl
+own_blocks held.OrderedList is = sym is
+own_blocks held.UnorderedList is = sym is
+
+own_lines : (o : Opened) → holds_lines (Entered (opened_name o) ∷ []) ≡ true
+unfolding may_enter may_hold holds_lines
+own_lines held.Quote = refl
+own_lines held.Item = refl
+own_lines held.Footnote = refl
+own_lines held.OrderedList = refl
+own_lines held.UnorderedList = refl
+
+items_within : (o : Opened) (os : List Opened) (marks : List Mark) → is_last_list o os ≡ true → may_enter (enter_all (o ∷ os) marks) n.ListItem ≡ true
+unfolding may_enter
+items_within o [] marks is = item_may o is
+items_within o (next ∷ os) marks is = items_within next os (Entered (opened_name o) ∷ marks) is
+
+blocks_within : (o : Opened) (os : List Opened) (marks : List Mark) → is_last_list o os ≡ false → holds_blocks (enter_all (o ∷ os) marks) ≡ true
+unfolding may_enter holds_blocks
+blocks_within o [] marks is = own_blocks o is
+blocks_within o (next ∷ os) marks is = blocks_within next os (Entered (opened_name o) ∷ marks) is
+
+lines_within : (o : Opened) (os : List Opened) (marks : List Mark) → holds_lines (enter_all (o ∷ os) marks) ≡ true
+unfolding may_enter holds_lines
+lines_within o [] marks = own_lines o
+lines_within o (next ∷ os) marks = lines_within next os (Entered (opened_name o) ∷ marks)
+
+items_all : (os : List Opened) (marks : List Mark) → ends_in_list os ≡ true → may_enter (enter_all os marks) n.ListItem ≡ true
+items_all [] marks is = absurd (true≢false (sym is))
+items_all (o ∷ os) marks is = items_within o os marks is
+
+blocks_all : (os : List Opened) (marks : List Mark) → holds_blocks marks ≡ true → ends_in_list os ≡ false → holds_blocks (enter_all os marks) ≡ true
+blocks_all [] marks holds is = holds
+blocks_all (o ∷ os) marks holds is = blocks_within o os marks is
+
+lines_all : (os : List Opened) (marks : List Mark) → holds_blocks marks ≡ true → holds_lines (enter_all os marks) ≡ true
+lines_all [] marks holds = blocks_lines marks holds
+lines_all (o ∷ os) marks holds = lines_within o os marks
+
+pub held_items : (os : List Opened) (marks : List Mark) → AreHeld os marks → ends_in_list os ≡ true → may_enter marks n.ListItem ≡ true
+held_items os marks are is =
+    subst (λ ms. may_enter ms n.ListItem ≡ true) (sym are.entered) (items_all os (close_all os marks) is)
+
+pub held_blocks : (os : List Opened) (marks : List Mark) → AreHeld os marks → ends_in_list os ≡ false → holds_blocks marks ≡ true
+held_blocks os marks are is = subst (λ ms. holds_blocks ms ≡ true) (sym are.entered) (blocks_all os (close_all os marks) are.blocks is)
+
+pub held_lines : (os : List Opened) (marks : List Mark) → AreHeld os marks → holds_lines marks ≡ true
+held_lines os marks are = subst (λ ms. holds_lines ms ≡ true) (sym are.entered) (lines_all os (close_all os marks) are.blocks)
+
+pub held_may : (os : List Opened) (marks : List Mark) (name : Name) → AreHeld os marks → is_listed between_names name ≡ true → may_enter marks name ≡ true
+held_may os marks name are listed = lines_may marks name (held_lines os marks are) listed
+
+-- a list, and an item in it
+list_listed : (o : Opened) → is_list o ≡ true → is_listed (between_names ++ block_names) (opened_name o) ≡ true
+list_listed held.Quote is = refl
+list_listed held.Item is = absurd (true≢false (sym is))
+list_listed held.Footnote is = refl
+list_listed held.OrderedList is = refl
+list_listed held.UnorderedList is = refl
+
+pub list_child : (o : Opened) (marks : List Mark) → is_list o ≡ true → holds_blocks marks ≡ true → may_enter marks (opened_name o) ≡ true
+list_child o marks is holds = blocks_may marks (opened_name o) holds (list_listed o is)
+
+pub list_holds_item : (o : Opened) (marks : List Mark) → is_list o ≡ true → may_enter (Entered (opened_name o) ∷ marks) n.ListItem ≡ true
+unfolding may_enter
+list_holds_item o marks is = item_may o is
+
+-- the last of these
+pub none_is : (os : List Opened) → length os ≡ 0 → ends_in_list os ≡ false
+none_is [] none = refl
+none_is (o ∷ os) none = absurd (omega (arith, none))
+
+pub last_is : (os : List Opened) (i : ℕ) (d : Opened) → length os ≡ i + 1 → ends_in_list os ≡ is_list (get_or os i d)
+last_is [] i d is = absurd (omega (arith, is))
+last_is (o ∷ []) zero d is = refl
+last_is (o ∷ []) (suc i) d is = absurd (omega (arith, is))
+last_is (o ∷ next ∷ os) zero d is = absurd (omega (arith, is))
+last_is (o ∷ next ∷ os) (suc i) d is = last_is (next ∷ os) i d (omega (arith, is))

@@ -1,0 +1,122 @@
+-- A walk stands after the start of a container, if that is written.
+use Rattle.std.proofs.Common.{◌≡◌, inl, inr, ◌≤◌, ℕ, Bool, List, [], ◌∷◌, ◌++◌, Option, None, Some, refl, sym, ap, ◌∙◌, arith, drop}
+use Rattle.std.specs.Prelude.{if◌then◌else◌}
+use Rattle.std.proofs.lemmas.Bool.{true≢false}
+use Rattle.definition_text.specs.Columns.{whole}
+use Rattle.definition_text.specs.Lines.{ending_text}
+use Rattle.definition_inline.specs.LabelMatch.{normal_label}
+use Rattle.definition_block.specs.Container.{Container, Quote, Item, Footnote}
+use Rattle.definition_block.specs.ListItem.{number_of}
+use Rattle.definition_block.specs.Tree.{Nil as NoBlock}
+use Rattle.definition_page.specs.Read.{Reading}
+use Rattle.engine_events.specs.Names.{same_name}
+use Rattle.engine_events.specs.declared.event.Name.{Name}
+use Rattle.engine_events.specs.declared.event.Name.TheVariants as n
+use Rattle.event_grammar.specs.InGrammar.{kids_of, node_name}
+use Rattle.event_grammar.specs.References.{named}
+use Rattle.event_grammar.specs.Trees.{Growth, Node, Nodes}
+use Rattle.event_meaning.specs.Blocks.{label_of}
+use Rattle.event_meaning.specs.Children.{child, inside_of, kids_in, text_in}
+use Rattle.parse_lines.specs.declared.walk.Walk.{Walk}
+use Rattle.parse_lines.specs.Ends.{IsWrittenToRest, WritesStart, bare_end, rest_start, written_to}
+use Rattle.parse_lines.specs.Prefixes.{IsPrefixOf}
+use Rattle.parse_lines.specs.Standing.{StandsAt, around, standing}
+use Rattle.parse_lines.proofs.Quiet.{quiet_named}
+use Rattle.parse_lines.proofs.Written.{bare_follows, bare_start}
+use Rattle.parse_output.specs.declared.end.End.{End}
+use Rattle.parse_output.specs.Ends.{enter_at}
+use Rattle.parse_output.specs.Forest.{one, with_nodes}
+use Rattle.parse_output.specs.Written.{end_in, forest_in}
+use Rattle.parse_output.proofs.Marks.{same_self}
+use Rattle.parse_laid.specs.Places.{LineRest, Within}
+use Rattle.parse_open.specs.Lines.{line_at}
+use Rattle.parse_open.specs.Open.{InContainer, Opened, bare_container, is_in_list, level, within}
+use Rattle.parse_open.specs.Levels.{HasNumber, HasStart, IsFirstOf, IsNamed, innermost, is_item}
+use Rattle.parse_open.specs.Steps.{IsStartName, LevelsGoOn}
+use Rattle.parse_events.specs.Stands.{Stands}
+use Rattle.parse_events.proofs.Containers.{spells_start}
+use Rattle.parse_events.proofs.LastBlank.{inside_ends}
+use Rattle.parse_events.proofs.Leaves.{line_in_text}
+use Rattle.parse_events.proofs.Lines.{rest_line_at}
+
+-- ---- the first prefix of a container
+
+own_kids : (name : Name) (node : Node) → node_name node ≡ name → kids_in name (one node) ≡ kids_of node
+own_kids name node is =
+    ap (λ (b : Bool). inside_of (if b then Some node else None)) (ap (λ (a : Name). same_name a name) is ∙ same_self name)
+
+pub prefix_named : (text : List ℕ) (c : Container) (first : Node) → IsPrefixOf text c first → IsStartName (node_name first)
+prefix_named text Quote first is = inl is.0
+prefix_named text (Item item) first is = inr (inl is.is_named)
+prefix_named text (Footnote label) first is = inr (inr is.is_named)
+
+pub prefix_defines : (text : List ℕ) (c : Container) (first : Node) → IsPrefixOf text c first → named n.Definition (one first) ≡ []
+prefix_defines text Quote first is = quiet_named n.Definition (one first) refl (inr is, tt)
+prefix_defines text (Item item) first is = is.others n.Definition refl
+prefix_defines text (Footnote label) first is = is.others n.Definition refl
+
+module _ (r : Reading) (text : List ℕ) (front : Nodes) where
+  own_number : (number : Option ℕ) (first : Node) → node_name first ≡ n.ListItemPrefix
+      → ((k : ℕ) → number ≡ Some k → number_of (text_in text n.ListItemValue (kids_of first)) ≡ k) → HasNumber r text front number (one first)
+  own_number None first is value = tt
+  own_number (Some k) first is value =
+      ap (λ (kids : Nodes). number_of (text_in text n.ListItemValue kids)) (own_kids n.ListItemPrefix first is) ∙ value k refl
+
+  pub prefix_start : (c : Container) (goes_on : Bool) (name : Name) (first : Node) → IsPrefixOf text c first
+      → HasStart r text front (InContainer (bare_container c) goes_on) name NoBlock (one first)
+  prefix_start Quote goes_on name first is = is.0
+  prefix_start (Item item) goes_on name first is = (is.is_named, own_number item.number first is.is_named is.value)
+  prefix_start (Footnote label) goes_on name first is = (
+    is.is_named,
+    ap normal_label (sym (ap (λ (kids : Nodes). label_of r.tables.names text (child n.GfmFootnoteDefinitionLabelString (kids_in n.GfmFootnoteDefinitionLabel kids)))
+        (own_kids n.GfmFootnoteDefinitionPrefix first is.is_named) ∙ is.label_is r.tables.names)),
+  )
+
+-- where the white space ahead ends
+module _ {A : Type 0} (text : List ℕ) (here : LineRest) (left : List LineRest) (w : Walk A) where
+  pub bare_in_line : StandsAt text (Within here left) (standing w) → IsWrittenToRest w
+      → ((written_to w).index ≤ (bare_end w).index) × ((bare_end w).index ≤ w.line_end)
+  bare_in_line st wr =
+      let line = st.line in
+      let after = ending_text (standing w).ending ++ (standing w).left in
+      let start = (standing w).rest in
+      let at : start ≡ drop st.columns (whole line.content) = st.rest ∙ st.suffix in
+      let is = bare_start text line.before line.content after st.columns w.line_end start (bare_end w) refl in
+      let follows = (bare_follows text line.before line.content after st.columns w.line_end start (bare_end w) line.parts line.end at is).forward in
+      let same : (written_to w).index ≡ (rest_start w.line_end start).index = ap (λ (x : End). x.index) wr in
+      (omega (arith, follows, same), omega arith)
+
+module _ {A : Type 0} (r : Reading) (text : List ℕ) (front : Nodes) (go : LevelsGoOn r text front) where
+  pub container_starts : (o : Opened) (outer : List Container) (c : Container) (goes_on : Bool) (here there : LineRest) (left others : List LineRest) (name : Name)
+      (old new : Walk A) → is_in_list o.outer ≡ is_item (InContainer (bare_container c) goes_on) → IsNamed (InContainer (bare_container c) goes_on) name
+      → IsFirstOf r text front (InContainer (bare_container c) goes_on) o.kids (innermost (forest_in text old.out).outer)
+      → Stands r text front o outer (Within here left) old → WritesStart text name (IsPrefixOf text c) (bare_end old) old.out new.out → IsWrittenToRest new
+      → StandsAt text (Within there others) (standing new) → around (standing new) ≡ c ∷ around (standing old) → new.on.now ≡ old.on.now
+      → Stands r text front (within (InContainer (bare_container c) goes_on) o) (c ∷ outer) (Within there others) new
+  container_starts o outer c goes_on here there left others name old new stands is first_of was start wr st inside on =
+      elim was.at [
+        | inl at ↦
+            let bounds = bare_in_line text here left old at.0 at.1 in
+            let index : (end_in start.before).index ≡ (bare_end old).index = ap (λ (x : End). x.index) start.begins in
+            record {
+              constructs = on ∙ was.constructs;
+              around = inside ∙ ap (λ (cs : List Container). c ∷ cs) was.around;
+              same = ap (λ (cs : List Container). bare_container c ∷ cs) was.same;
+              order = start.writes.order;
+              at = inl (st, wr, tt);
+              spells =
+                  spells_start r text front go o (bare_container c) goes_on (enter_at text name (end_in start.before)) (forest_in text old.out)
+                  (forest_in text start.before) (forest_in text new.out) start.space.nodes start.first (written_to old).index (written_to new).index
+                  (inl was.begun) start.space.quiet start.space.writes.forest
+                  (start.writes.forest ∙ ap (λ (g : Growth). with_nodes g (one start.first)) start.enters.forest)
+                  stands is first_of
+                  (let most = line_in_text text (standing old) at.0.line in omega (arith, most, index, bounds.1))
+                  (prefix_named text c start.first start.is_prefix) (prefix_defines text c start.first start.is_prefix)
+                  (prefix_start r text front c goes_on name start.first start.is_prefix)
+                  (ap (line_at text) index ∙ rest_line_at text here left old (bare_end old).index at.0 at.1 bounds.0 bounds.1)
+                  was.spells;
+              begun = λ listed none. true≢false (sym listed);
+              ends = λ none. inside_ends (Within there others) NoBlock (forest_in text new.out).kids (level (InContainer (bare_container c) goes_on) o.kids) o.outer none;
+            }
+        | inr past ↦ absurd past
+      ]

@@ -1,0 +1,206 @@
+//! From a text to its events.
+ghost use Rattle.std.specs.Prelude.{◌≡◌, ◌≤◌, [], IfErr, IfOk, List, None, OnOk, Some, false, length, true, ℕ};
+ghost use Rattle.definition_page.specs.TextTables.{text_tables};
+ghost use Rattle.definition_block.specs.Frontmatter.{after_frontmatter};
+ghost use Rattle.definition_text.specs.Lines.{TextLine, lines, without_mark as bytes_after_mark};
+ghost use Rattle.event_meaning.specs.Spelled.{spelled};
+ghost use Rattle.parse_alike.specs.Spelled.{IsPageOfText};
+ghost use Rattle.text_pieces.specs.Pieces.{piece_lines};
+ghost use Rattle.parse_events.specs.Document.{StandsAfterMark, StandsBefore, WritesBlocks};
+ghost use Rattle.markdown_options.specs.Mdx.{has_mdx};
+ghost use Rattle.markdown_options.specs.Messages.{IsOutOfMemory};
+ghost use Rattle.block_rows.specs.Rows.{rows_size};
+ghost use Rattle.event_check.specs.Matches.{MatchesGrammar};
+ghost use Rattle.parse_output.specs.Placed.{ArePlaced};
+ghost use Rattle.parse_output.specs.Children.{HaveChildren, holds_blocks};
+ghost use Rattle.parse_lines.specs.Open.{still_open};
+ghost use Rattle.parse_events.specs.Nested.{IsNested};
+ghost use Rattle.parse_events.specs.Labels.{definition_labels, footnote_labels, text_blocks};
+ghost use Rattle.parse_events.specs.State.{IsReadBy, definitions_of, footnotes_of};
+
+use crate::in_grammar::in_grammar;
+use crate::labels::Labels;
+use crate::parser::Parser;
+use crate::state::ParseState;
+use block_parser::{BlockRows, block_rows};
+use block_rows::Row;
+use block_starts::frontmatter::without_frontmatter;
+use block_targets::{definition_contents, document_definitions, document_footnotes};
+use engine_events::Event;
+use engine_events::event::Name;
+use html_looseness::places;
+use markdown_options::{Constructs, Kind, Message, ParseOptions, Tables};
+use parse_leaves::{Buffers, Texts, push_frontmatter};
+use parse_lines::Walk;
+use parse_lines::cut::up_to;
+use std::alloc::{AllocError, Allocator};
+use text_lines::without_mark;
+use text_pieces::Piece;
+
+/// The largest size of a text, in bytes.
+pub const SIZE_MAX: usize = usize::MAX / 8;
+
+/// Reads a text. Returns its events, and the labels that are defined in it.
+///
+/// The text must have at most `SIZE_MAX` bytes. No construct of MDX may be on, which
+/// `Constructs::has_mdx` tests. The only error is `out of memory`.
+///
+/// The list is checked against the grammar of events before it is returned. If it had a fault, the call
+/// would fail with `out of memory`; no text is known where it has.
+pub fn parse<'a, T: Tables, A: Allocator + Clone>(
+    alloc: A,
+    value: &'a str,
+    options: &'a ParseOptions,
+    tables: &'a T,
+) -> Result<(Vec<Event, A>, ParseState<'a, T, A>), Message>
+    requires size { length value.now ≤ SIZE_MAX }
+    requires without_mdx { has_mdx options.now.constructs ≡ false }
+    ensures placed { IfOk result (λ parsed. ArePlaced value.now parsed.0.items) }
+    ensures nested { IfOk result (λ parsed. IsNested parsed.0.items) }
+    ensures children { IfOk result (λ parsed. HaveChildren parsed.0.items) }
+    ensures grammar { IfOk result (λ parsed. MatchesGrammar (T.reference_of tables.now) value.now parsed.0.items) }
+    ensures spelled { IfOk result (λ parsed. let names = T.reference_of tables.now in
+        IsPageOfText (text_tables names (T.punctuation_of tables.now)) options.now value.now (spelled names parsed.0.items value.now)) }
+    ensures read_by { IfOk result (λ parsed. IsReadBy parsed.1 options.now tables.now value.now) }
+    ensures definitions { IfOk result (λ parsed. definitions_of parsed.1 ≡ definition_labels (text_blocks options.now.constructs value.now)) }
+    ensures footnotes { IfOk result (λ parsed. footnotes_of parsed.1 ≡ footnote_labels (text_blocks options.now.constructs value.now)) }
+    ensures memory { IfErr result IsOutOfMemory }
+{
+    let parsed = parse_text(alloc, value, options, tables)?;
+    Ok(parsed)
+}
+
+/// Reads a text.
+#[tactic(auto, using(crate::proofs::NestedLaw::nested, crate::proofs::LabelRows::defined_by, crate::proofs::LabelRows::begun_by, crate::proofs::Outermost::document_paragraph, crate::proofs::Outermost::document_blocks))]
+fn parse_text<'a, T: Tables, A: Allocator + Clone>(
+    alloc: A,
+    value: &'a str,
+    options: &'a ParseOptions,
+    tables: &'a T,
+) -> Result<(Vec<Event, A>, ParseState<'a, T, A>), AllocError>
+    requires size { length value.now ≤ SIZE_MAX }
+    ensures placed { IfOk result (λ parsed. ArePlaced value.now parsed.0.items) }
+    ensures nested { IfOk result (λ parsed. IsNested parsed.0.items) }
+    ensures children { IfOk result (λ parsed. HaveChildren parsed.0.items) }
+    ensures grammar { IfOk result (λ parsed. MatchesGrammar (T.reference_of tables.now) value.now parsed.0.items) }
+    ensures spelled { IfOk result (λ parsed. let names = T.reference_of tables.now in
+        IsPageOfText (text_tables names (T.punctuation_of tables.now)) options.now value.now (spelled names parsed.0.items value.now)) }
+    ensures read_by { IfOk result (λ parsed. IsReadBy parsed.1 options.now tables.now value.now) }
+    ensures definitions { IfOk result (λ parsed. definitions_of parsed.1 ≡ definition_labels (text_blocks options.now.constructs value.now)) }
+    ensures footnotes { IfOk result (λ parsed. footnotes_of parsed.1 ≡ footnote_labels (text_blocks options.now.constructs value.now)) }
+{
+    let (before, text) = without_mark(value);
+    let BlockRows { rows, pieces } = block_rows(alloc.clone()?, before, text, &options.constructs)?;
+    let labels = Labels::of_rows(alloc.clone()?, &rows, &pieces)?;
+    let walk = begin(alloc.clone()?, value, before, text, options)?;
+    let walk = push_blocks(alloc.clone()?, walk, options, tables, &rows, &pieces)?;
+    let written = walk.into_output().finish(value.as_bytes())?;
+    let events = in_grammar(alloc, written, value, tables)?;
+    let Labels {
+        definitions,
+        footnotes,
+        ..
+    } = labels;
+    let state = ParseState {
+        options,
+        tables,
+        bytes: value.as_bytes(),
+        definitions,
+        gfm_footnote_definitions: footnotes,
+    };
+    Ok((events, state))
+}
+
+/// A walk over the lines of a text, after its byte order mark and its frontmatter. `text` is what
+/// follows the mark.
+#[tactic(auto, using(crate::proofs::Outermost::document_mark))]
+fn begin<'a, A: Allocator + Clone>(
+    alloc: A,
+    value: &'a str,
+    before: Kind,
+    text: &'a str,
+    options: &'a ParseOptions,
+) -> Result<Walk<'a, A>, AllocError>
+    requires size { length value.now ≤ SIZE_MAX }
+    requires text { text.now ≡ bytes_after_mark value.now }
+    ensures open { IfOk result (λ walk. still_open walk ≡ []) }
+    ensures begins { IfOk result (λ walk. StandsBefore options.now.constructs value.now before text.now walk) }
+{
+    let mut walk = Walk::new(alloc, &options.constructs, value.len(), text)?;
+    walk.token(Name::ByteOrderMark, value.len().saturating_sub(text.len()))?;
+    push_front(&mut walk, &options.constructs, before, text)?;
+    Ok(walk)
+}
+
+/// The frontmatter of a text without a byte order mark, if it has one. No line is begun.
+#[tactic(auto, using(crate::proofs::Outermost::document_frontmatter, crate::proofs::Outermost::document_lines))]
+fn push_front<A: Allocator>(
+    walk: &mut Walk<'_, A>,
+    on: &Constructs,
+    before: Kind,
+    text: &str,
+) -> Result<(), AllocError>
+    requires open { still_open walk.old ≡ [] }
+    ensures open { OnOk result (still_open walk.new ≡ []) }
+    ensures begins { OnOk result ((value : List ℕ) → StandsAfterMark on.now value before text.now walk.old
+        → StandsBefore on.now value before text.now walk.new) }
+{
+    let left = after_front(on, before, text);
+    let size = text.len().saturating_sub(left.len());
+    if size == 0 {
+        return Ok(());
+    }
+    push_frontmatter(walk, up_to(text, size))
+}
+
+/// What the frontmatter of a text leaves of it: all, if it has none.
+fn after_front<'a>(on: &Constructs, before: Kind, text: &'a str) -> &'a str
+    ensures all { after_frontmatter on.now (lines text.now) ≡ None → result.now ≡ text.now }
+    ensures left { (others : List TextLine) → after_frontmatter on.now (lines text.now) ≡ Some others → lines result.now ≡ others }
+{
+    let (_, left) = without_frontmatter(on, before, text);
+    left
+}
+
+/// Writes the blocks of these rows, whose lines are given.
+#[tactic(auto, using(block_rows::proofs::RowSteps::taken_more, crate::proofs::Held::none_held))]
+fn push_blocks<'a, T: Tables, A: Allocator + Clone>(
+    alloc: A,
+    walk: Walk<'a, A>,
+    options: &'a ParseOptions,
+    tables: &'a T,
+    rows: &[Row],
+    pieces: &[Piece<'a>],
+) -> Result<Walk<'a, A>, AllocError>
+    requires enough { rows_size rows.now ≤ length pieces.now }
+    requires blocks { holds_blocks (still_open walk) ≡ true }
+    ensures open { IfOk result (λ after. still_open after ≡ still_open walk.entry) }
+    ensures written { IfOk result (λ after. WritesBlocks (text_tables (T.reference_of tables.now) (T.punctuation_of tables.now)) options.now rows.now
+        (piece_lines pieces.now) walk.entry after) }
+{
+    let contents = definition_contents(alloc.clone()?, rows, pieces)?;
+    let definitions = document_definitions(alloc.clone()?, &contents)?;
+    let may_define = options.constructs.gfm_footnote_definition;
+    let footnotes = document_footnotes(alloc.clone()?, may_define, rows, pieces)?;
+    let texts = Texts {
+        options,
+        tables,
+        labels: &definitions.labels,
+        footnotes: &footnotes.labels,
+    };
+    let mut parser = Parser {
+        walk,
+        buffers: Buffers::new(alloc.clone()?)?,
+        open: Vec::new(alloc.clone()?),
+        items: Vec::new(alloc.clone()?),
+        places: places(alloc, rows)?,
+        first: false,
+    };
+    let mut taken = 0;
+    for row in rows {
+        let end = taken + row.size();
+        parser.row(&texts, *row, &pieces[taken..end])?;
+        taken = end;
+    }
+    parser.into_walk()
+}

@@ -1,0 +1,108 @@
+-- What is written of an autolink (CommonMark 6.5).
+use Rattle.std.proofs.Common.{◌≡◌, ◌<◌, ℕ, Bool, true, false, ◌||◌, List, [], ◌∷◌, ◌++◌, refl, ap, ap₂, subst, ◌∙◌, append_assoc, length, arith}
+use Rattle.std.specs.List.{list_any}
+use Rattle.std.proofs.lemmas.List.Folds.{list_any-append}
+use Rattle.engine_events.specs.Names.{same_name}
+use Rattle.engine_events.specs.declared.event.Name.{Name}
+use Rattle.engine_events.specs.declared.event.Name.TheVariants as n
+use Rattle.definition_text.specs.Lines.{ends_line}
+use Rattle.definition_inline.specs.CharacterReference.{Names}
+use Rattle.definition_inline.specs.Inline.{Autolink}
+use Rattle.event_grammar.specs.Trees.{Nodes, Around}
+use Rattle.parse_output.specs.declared.end.End.{End}
+use Rattle.parse_output.specs.Ends.{enter_at, exit_at}
+use Rattle.parse_output.specs.Forest.{append, one, void_nodes}
+use Rattle.parse_output.specs.Written.{end_in}
+use Rattle.event_meaning.specs.Children.{text_of}
+use Rattle.event_meaning.specs.Texts.{inlines_of, leaves}
+use Rattle.parse_lines.specs.declared.walk.Walk.{Walk}
+use Rattle.parse_lines.specs.Content.{EntersInLine, ExitsInLine, StandsInLine, WritesInLine, end_after}
+use Rattle.parse_lines.specs.InContent.{IsWhole, StandsInContent, Stop}
+use Rattle.parse_lines.specs.Standing.{standing}
+use Rattle.parse_lines.proofs.InContent.{line_in_content}
+use Rattle.parse_lines.proofs.InLine.{lines_around, lines_both}
+use Rattle.parse_strings.specs.Plain.{ArePlain}
+use Rattle.parse_strings.specs.References.{token}
+use Rattle.parse_strings.proofs.PlainNodes.{plain_both, plain_none, plain_one}
+use Rattle.parse_strings.proofs.Spelled.{still_whole, token_text, void_one}
+use Rattle.parse_inline.specs.Leaves.{Anywhere, WritesFront, address_name, in_angles}
+use Rattle.parse_inline.proofs.Fronts.{WritesNext, next_here}
+
+-- a `<`, an address and a `>`
+abbrev autolink_kids : List ℕ → Bool → ℕ → ℕ → ℕ → ℕ → Nodes
+autolink_kids text email i j k size =
+    append (one (token text n.AutolinkMarker i 1)) (append (one (token text (address_name email) j size)) (one (token text n.AutolinkMarker k 1)))
+
+autolink_spells : (names : Names) (text : List ℕ) (linked email : Bool) (address : List ℕ) (i j k : ℕ) (a b : End)
+    → text_of text (token text (address_name email) j (length address)) ≡ address
+    → inlines_of names text linked (one (Around (enter_at text n.Autolink a) (autolink_kids text email i j k (length address)) (exit_at text n.Autolink b)))
+    ≡ leaves (Autolink email address ∷ [])
+autolink_spells names text linked true address i j k a b is = ap (λ t. leaves (Autolink true t ∷ [])) is
+autolink_spells names text linked false address i j k a b is = ap (λ t. leaves (Autolink false t ∷ [])) is
+
+address_plain : (text : List ℕ) (email : Bool) (i j k size : ℕ) → ArePlain (autolink_kids text email i j k size)
+address_plain text true i j k size =
+    plain_both (one (token text n.AutolinkMarker i 1)) _ (plain_one _ refl plain_none)
+    (plain_both (one (token text n.AutolinkEmail j size)) (one (token text n.AutolinkMarker k 1)) (plain_one _ refl plain_none) (plain_one _ refl plain_none))
+address_plain text false i j k size =
+    plain_both (one (token text n.AutolinkMarker i 1)) _ (plain_one _ refl plain_none)
+    (plain_both (one (token text n.AutolinkProtocol j size)) (one (token text n.AutolinkMarker k 1)) (plain_one _ refl plain_none)
+    (plain_one _ refl plain_none))
+
+address_data : (email : Bool) → same_name (address_name email) n.Data ≡ false
+address_data true = refl
+address_data false = refl
+
+address_prefix : (email : Bool) → same_name (address_name email) n.BlockQuotePrefix ≡ false
+address_prefix true = refl
+address_prefix false = refl
+
+module _ {A : Type 0} (names : Names) (text : List ℕ) (stop : Stop) where
+  pub autolink_front : (email : Bool) (name : Name) (a b c d e f : Walk A) (address content : List ℕ) (size : ℕ) → name ≡ address_name email
+      → size ≡ length address
+      → 0 < length address → list_any ends_line address ≡ false → StandsInContent text (in_angles address ++ content) stop a → IsWhole a
+      → standing f ≡ standing a
+      → ((line : List ℕ) → StandsInLine text line a → EntersInLine text n.Autolink line a b) → WritesNext text n.AutolinkMarker 1 b c
+      → WritesNext text name size c d
+      → WritesNext text n.AutolinkMarker 1 d e → ((line : List ℕ) → StandsInLine text line e → ExitsInLine text n.Autolink line e f)
+      → WritesFront names text (in_angles address) content Anywhere (Autolink email address ∷ []) stop a f
+  autolink_front email name a b c d e f address content size named is some dark st whole same enters first value second exits =
+      let inner : list_any ends_line (address ++ 62 ∷ []) ≡ false =
+      list_any-append ends_line address (62 ∷ []) ∙ ap (λ t. t || list_any ends_line (62 ∷ [])) dark in
+      let ahead = line_in_content text stop a (in_angles address) content st inner in
+      let line = ahead.line in
+      let entered = enters (in_angles address ++ line) ahead.stands in
+      let m = first (60 ∷ []) ((address ++ 62 ∷ []) ++ line) refl refl entered.stands in
+      let at_value = subst (λ xs. StandsInLine text xs c) (append_assoc address (62 ∷ []) line) m.stands in
+      let prefix : same_name name n.BlockQuotePrefix ≡ false = ap (λ x. same_name x n.BlockQuotePrefix) named ∙ address_prefix email in
+      let v = value address (62 ∷ line) is prefix at_value in
+      let l = second (62 ∷ []) line refl refl v.stands in
+      let x = exits line l.stands in
+      let owed = λ (y : End). y.owed in
+      let whole_b : IsWhole b = ap owed entered.end ∙ whole in
+      let whole_c : IsWhole c = ap owed m.end ∙ still_whole (end_in b.out) 1 whole_b in
+      let whole_d : IsWhole d = ap owed v.end ∙ still_whole (end_in c.out) (length address) whole_c in
+      let whole_e : IsWhole e = ap owed l.end ∙ still_whole (end_in d.out) 1 whole_d in
+      let one_m = void_one text n.AutolinkMarker (end_in b.out) 1 whole_b (omega arith) refl in
+      let one_v =
+      ap₂ (λ y k. void_nodes text y (end_in c.out) (end_after (end_in c.out) k)) named is
+      ∙ void_one text (address_name email) (end_in c.out) (length address) whole_c some (address_data email) in
+      let one_l = void_one text n.AutolinkMarker (end_in d.out) 1 whole_d (omega arith) refl in
+      let i = (end_in b.out).index in
+      let j = (end_in c.out).index in
+      let k = (end_in d.out).index in
+      let kids = autolink_kids text email i j k (length address) in
+      let later = lines_both text c d e address (62 ∷ []) line _ _
+      (subst (λ ns. WritesInLine text address ns (62 ∷ line) c d) one_v v) (subst (λ ns. WritesInLine text (62 ∷ []) ns line d e) one_l l) in
+      let all = lines_both text b c e (60 ∷ []) (address ++ 62 ∷ []) line _ _
+      (subst (λ ns. WritesInLine text (60 ∷ []) ns ((address ++ 62 ∷ []) ++ line) b c) one_m m) later in
+      let node = Around (enter_at text n.Autolink (end_in a.out)) kids (exit_at text n.Autolink (end_in e.out)) in
+      record {
+        nodes = one node;
+        writes = ahead.lifts (one node) f same (lines_around text a b e f n.Autolink (in_angles address) line kids entered all x refl);
+        whole = ap owed x.end ∙ whole_e;
+        plain = plain_one node refl (address_plain text email i j k (length address));
+        spells = λ linked may.
+            autolink_spells names text linked email address i j k (end_in a.out) (end_in e.out)
+            (token_text text (address_name email) j address (62 ∷ line) (next_here text (address ++ 62 ∷ line) c at_value whole_c));
+      }

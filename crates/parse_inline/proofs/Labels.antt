@@ -1,0 +1,219 @@
+-- What the nodes of links, images and calls spell.
+use Rattle.std.proofs.Common.{◌≡◌, ◌||◌, ℕ, Bool, true, false, List, [], ◌∷◌, ◌++◌, Option, None, Some, inl, inr, refl, sym, ap, ap₂, subst, ◌∙◌}
+use Rattle.std.specs.Prelude.{is_some, if◌then◌else◌}
+use Rattle.std.specs.Option.{option_map, option_or}
+use Rattle.std.proofs.lemmas.Bool.{cond-false, cond-true}
+use Rattle.engine_events.specs.Names.{same_name, is_listed}
+use Rattle.engine_events.specs.declared.event.Name.{Name}
+use Rattle.engine_events.specs.declared.event.Name.TheVariants as n
+use Rattle.definition_text.specs.Columns.{Code}
+use Rattle.definition_text.specs.Content.{content_codes}
+use Rattle.definition_inline.specs.CharacterReference.{Names}
+use Rattle.definition_inline.specs.Inline as inline
+use Rattle.definition_inline.specs.Inline.{Target, Resource, Reference, LinkedKind, Link, Image}
+use Rattle.definition_inline.specs.Scan.{InlineContext}
+use Rattle.definition_inline.specs.Strings.{string_text}
+use Rattle.definition_page.specs.InlinePieces.{Meaning}
+use Rattle.event_grammar.specs.InGrammar.{node_name}
+use Rattle.event_grammar.specs.References.{label_text, named, named_in, own, own_in}
+use Rattle.event_grammar.specs.Trees.{Node, Nodes, Around, Nil, Cons}
+use Rattle.event_meaning.specs.Children.{inside_of}
+use Rattle.event_meaning.specs.Strings.{string_of, written}
+use Rattle.event_meaning.specs.Texts.{inlines_of, label_codes, label_or_none, part, resource_of, target_of, text_names, text_within}
+use Rattle.parse_output.specs.declared.end.End.{End}
+use Rattle.parse_output.specs.Ends.{enter_at, exit_at}
+use Rattle.parse_output.specs.Forest.{cut, one}
+use Rattle.parse_links.specs.Tails.{title_string}
+use Rattle.parse_strings.specs.Plain.{ArePlain, tail_names}
+use Rattle.parse_alike.specs.LabelMatch.{HaveSameWords}
+use Rattle.parse_alike.specs.Strings.{HaveTextsOfBytes, IsOfBytes, rewritten, rewritten_title}
+use Rattle.parse_alike.specs.Targets.{AreLabelsAlike, AreTargetsAlike, title_text}
+use Rattle.parse_alike.proofs.LabelMatch.{same_words_are_alike}
+use Rattle.parse_alike.proofs.Strings.{written_strings_are_alike}
+use Rattle.parse_inline.specs.Rows.{InLinked, SpellsTarget, is_link, linked_name}
+use Rattle.parse_inline.specs.Texts.{AreMeanings}
+use Rattle.parse_inline.proofs.Plain.{HaveNoOther, named_one, own_one, plain_media}
+
+-- a label: a mark, its text and its end
+pub record Label : Type 0 where
+  pub first : Node
+  pub last : Node
+  pub kids : Nodes
+  pub a : End
+  pub b : End
+  pub c : End
+  pub d : End
+
+-- what is known of its nodes
+pub record IsLabel (l : Label) : Type 0 where
+  pub no_text : is_listed text_names (node_name l.first) ≡ false
+  pub no_label : same_name (node_name l.first) n.Label ≡ false
+  pub first : ArePlain (one l.first)
+  pub last : ArePlain (one l.last)
+  pub kids : ArePlain l.kids
+
+module _ (text : List ℕ) where
+  abbrev pub own_node : Label → Node
+  own_node l = Around (enter_at text n.LabelText l.b) l.kids (exit_at text n.LabelText l.c)
+
+  abbrev pub label_node : Label → Node
+  label_node l = Around (enter_at text n.Label l.a) (Cons l.first (Cons (own_node l) (Cons l.last Nil))) (exit_at text n.Label l.d)
+
+  module _ (l : Label) (is : IsLabel l) (ns : Nodes) where
+    -- ---- what is found in it
+
+    first_none : (name : Name) → is_listed tail_names name ≡ true → own_in name l.first ≡ None
+    first_none name listed = sym (own_one name l.first) ∙ is.first.tails name listed
+
+    last_none : (name : Name) → is_listed tail_names name ≡ true → own_in name l.last ≡ None
+    last_none name listed = sym (own_one name l.last) ∙ is.last.tails name listed
+
+    -- other names than its own are found behind it
+    own_behind : (name : Name) → is_listed tail_names name ≡ true → same_name n.Label name ≡ false → same_name n.LabelText name ≡ false
+        → own name (Cons (label_node l) ns) ≡ own name ns
+    own_behind name listed no_label no_text =
+        let inside = Cons l.first (Cons (own_node l) (Cons l.last Nil)) in
+        let own_none : own_in name (own_node l) ≡ None =
+        cond-false (same_name n.LabelText name) (Some (own_node l)) (own name l.kids) no_text ∙ is.kids.tails name listed in
+        let none : own name inside ≡ None =
+        ap (λ o. option_or o (own name (Cons (own_node l) (Cons l.last Nil)))) (first_none name listed)
+        ∙ ap (λ o. option_or o (own name (Cons l.last Nil))) own_none ∙ is.last.tails name listed in
+        ap (λ o. option_or o (own name ns)) (cond-false (same_name n.Label name) (Some (label_node l)) (own name inside) no_label ∙ none)
+
+    own_text : own n.LabelText (Cons (label_node l) ns) ≡ Some (own_node l)
+    own_text =
+        ap (λ o. option_or (option_or o (own n.LabelText (Cons (own_node l) (Cons l.last Nil)))) (own n.LabelText ns)) (first_none n.LabelText refl)
+
+    none_named : (name : Name) → same_name n.Label name ≡ false → same_name n.LabelText name ≡ false → named name (one l.first) ≡ [] → named name l.kids ≡ []
+        → named name (one l.last) ≡ [] → named name ns ≡ [] → named name (Cons (label_node l) ns) ≡ []
+    none_named name no_label no_text first kids last none =
+        let inside = Cons l.first (Cons (own_node l) (Cons l.last Nil)) in
+        let own_is : named_in name (own_node l) ≡ [] = cond-false (same_name n.LabelText name) (own_node l ∷ named name l.kids) (named name l.kids) no_text ∙
+        kids in
+        let label_is : named_in name (label_node l) ≡ [] =
+        cond-false (same_name n.Label name) (label_node l ∷ named name inside) (named name inside) no_label
+        ∙ ap₂ (λ xs ys. xs ++ ys) (sym (named_one name l.first) ∙ first) (ap₂ (λ xs ys. xs ++ ys) own_is last) in
+        ap₂ (λ xs ys. xs ++ ys) label_is none
+
+    pub no_other : HaveNoOther ns → HaveNoOther (Cons (label_node l) ns)
+    no_other none = record {
+      definitions = none_named n.Definition refl refl is.first.definitions is.kids.definitions is.last.definitions none.definitions;
+      columns = none_named n.GfmTableDelimiterCellValue refl refl is.first.columns is.kids.columns is.last.columns none.columns;
+    }
+
+    -- ---- what it spells
+
+    skip_first : (names : Names) (linked : Bool) (m : Node) (others : Nodes) → is_listed text_names (node_name m) ≡ false
+        → same_name (node_name m) n.Label ≡ false
+        → text_within names text linked (Cons m others) ≡ text_within names text linked others
+    skip_first names linked (Around enter kids exit) others no_text no_label =
+        cond-false (is_listed text_names enter.name) _ _ no_text ∙ cond-false (same_name enter.name n.Label) _ _ no_label
+
+    within_label : (names : Names) (linked : Bool) → text_within names text linked (Cons (label_node l) ns) ≡ inlines_of names text linked l.kids
+    within_label names linked = skip_first names linked l.first (Cons (own_node l) (Cons l.last Nil)) is.no_text is.no_label
+
+    -- the text of the label, where no other label and no resource is behind it
+    text_codes : (names : Names) → own n.Resource ns ≡ None → own n.ReferenceString ns ≡ None
+        → label_codes names text (Cons (label_node l) ns) ≡ content_codes (label_text text (own_node l))
+    text_codes names no_resource no_string =
+        let all = Cons (label_node l) ns in
+        let resource : own n.Resource all ≡ None = own_behind n.Resource refl refl refl ∙ no_resource in
+        let string : own n.ReferenceString all ≡ None = own_behind n.ReferenceString refl refl refl ∙ no_string in
+        ap (λ o. label_or_none names text (if is_some o then None else option_or (option_map (label_text text) (own n.ReferenceString all))
+        (option_map (label_text text) (own n.LabelText all)))) resource
+        ∙ ap (λ o. label_or_none names text (option_or (option_map (label_text text) o) (option_map (label_text text) (own n.LabelText all)))) string
+        ∙ ap (λ o. label_or_none names text (option_map (label_text text) o)) own_text
+
+    -- another label
+    string_codes : (names : Names) (node : Node) → own n.Resource ns ≡ None → own n.ReferenceString ns ≡ Some node
+        → label_codes names text (Cons (label_node l) ns) ≡ content_codes (label_text text node)
+    string_codes names node no_resource string_is =
+        let all = Cons (label_node l) ns in
+        let resource : own n.Resource all ≡ None = own_behind n.Resource refl refl refl ∙ no_resource in
+        let string : own n.ReferenceString all ≡ Some node = own_behind n.ReferenceString refl refl refl ∙ string_is in
+        ap (λ o. label_or_none names text (if is_some o then None else option_or (option_map (label_text text) (own n.ReferenceString all))
+        (option_map (label_text text) (own n.LabelText all)))) resource
+        ∙ ap (λ o. label_or_none names text (option_or (option_map (label_text text) o) (option_map (label_text text) (own n.LabelText all)))) string
+
+    by_reference : (names : Names) → own n.Resource ns ≡ None
+        → target_of names text (Cons (label_node l) ns) ≡ Reference (label_codes names text (Cons (label_node l) ns))
+    by_reference names no_resource =
+        let all = Cons (label_node l) ns in
+        cond-false (is_some (own n.Resource all)) (resource_of names text all) (Reference (label_codes names text all))
+        (ap is_some (own_behind n.Resource refl refl refl ∙ no_resource))
+
+    -- where it leads
+    module _ (context : InlineContext) (own_codes : List Code) (words : HaveSameWords own_codes (content_codes (label_text text (own_node l))))
+        (texts : HaveTextsOfBytes context.names) (m m' : Meaning) (meant : AreMeanings context.options.constructs context.names m m') where
+      abbrev all : Nodes
+      all = Cons (label_node l) ns
+
+      title_same : (title : Option (List Code)) → title_string context.options.constructs context.names title ≡ title_text m title
+      title_same None = refl
+      title_same (Some title) = ap₂ (λ on names. string_text on names title) (sym meant.on) (sym meant.names)
+
+      pub target_alike : (target : Target) → SpellsTarget context text target own_codes ns → AreTargetsAlike m m' target (target_of context.names text all)
+      target_alike (Resource destination title) (read, is_destination, is_title, spells) =
+          let there : is_some (own n.Resource all) ≡ true = ap is_some (own_behind n.Resource refl refl refl) ∙ spells.is_there in
+          let place : string_of context.names text (inside_of (own n.ResourceDestinationString all)) ≡ string_text m.on m.names destination =
+          ap (λ o. string_of context.names text (inside_of o)) (own_behind n.ResourceDestinationString refl refl refl)
+          ∙ spells.destination ∙ ap (string_text context.options.constructs context.names) is_destination
+          ∙ ap₂ (λ on names. string_text on names destination) (sym meant.on) (sym meant.names) in
+          let named_so : string_of context.names text (inside_of (own n.ResourceTitleString all)) ≡ title_text m title =
+          ap (λ o. string_of context.names text (inside_of o)) (own_behind n.ResourceTitleString refl refl refl)
+          ∙ spells.title ∙ ap (title_string context.options.constructs context.names) is_title ∙ title_same title in
+          let made : target_of context.names text all ≡ Resource (rewritten m destination) (rewritten_title m title) =
+          cond-true (is_some (own n.Resource all)) (resource_of context.names text all) (Reference (label_codes context.names text all)) there
+          ∙ ap₂ (λ d t. Resource (written d) (Some (written t))) place named_so in
+          let place_bytes : IsOfBytes (string_text m.on m.names destination) =
+          subst IsOfBytes (ap (string_text context.options.constructs context.names) is_destination
+          ∙ ap₂ (λ on names. string_text on names destination) (sym meant.on) (sym meant.names)) (spells.destination_bytes texts) in
+          let title_bytes : IsOfBytes (title_text m title) =
+          subst IsOfBytes (ap (title_string context.options.constructs context.names) is_title ∙ title_same title) (spells.title_bytes texts) in
+          subst (AreTargetsAlike m m' (Resource destination title)) (sym made)
+          (written_strings_are_alike.targets m m' destination title meant.spelled_on place_bytes title_bytes)
+      target_alike (Reference label) (no_resource, none, no_column, inl (no_string, same)) =
+          let codes : label_codes context.names text all ≡ content_codes (label_text text (own_node l)) = text_codes context.names no_resource no_string in
+          let alike : AreLabelsAlike label (label_codes context.names text all) =
+          same_words_are_alike.alike label (label_codes context.names text all)
+          (subst (HaveSameWords label) (sym codes) (subst (λ x. HaveSameWords x (content_codes (label_text text (own_node l)))) (sym same) words)) in
+          subst (AreTargetsAlike m m' (Reference label)) (sym (by_reference context.names no_resource)) alike
+      target_alike (Reference label) (no_resource, none, no_column, inr (node, string, same)) =
+          let codes : label_codes context.names text all ≡ content_codes (label_text text node) = string_codes context.names node no_resource string in
+          let alike : AreLabelsAlike label (label_codes context.names text all) =
+          same_words_are_alike.alike label (label_codes context.names text all) (subst (HaveSameWords label) (sym codes) same) in
+          subst (AreTargetsAlike m m' (Reference label)) (sym (by_reference context.names no_resource)) alike
+
+    -- ---- the whole
+
+    abbrev pub linked_nodes : LinkedKind → End → End → Nodes
+    linked_nodes kind from to = cut (Around (enter_at text (linked_name kind) from) (Cons (label_node l) ns) (exit_at text (linked_name kind) to))
+
+    pub linked_spelled : (names : Names) (kind : LinkedKind) (linked : Bool) (target : Target) (inside : _) (from to : End)
+        → inlines_of names text linked (linked_nodes kind from to)
+        ≡ part (inline.Linked kind (target_of names text (Cons (label_node l) ns))
+        (inlines_of names text (linked || is_link (InLinked kind target inside)) l.kids))
+    linked_spelled names Link linked target inside from to =
+        ap (λ js. part (inline.Linked Link (target_of names text (Cons (label_node l) ns)) js)) (within_label names (linked || true))
+    linked_spelled names Image linked target inside from to =
+        ap (λ js. part (inline.Linked Image (target_of names text (Cons (label_node l) ns)) js)) (within_label names (linked || false))
+
+    pub linked_plain : (kind : LinkedKind) (from to : End) → HaveNoOther ns → ArePlain (linked_nodes kind from to)
+    linked_plain Link from to none =
+        plain_media (enter_at text n.Link from) (exit_at text n.Link to) (Cons (label_node l) ns) refl refl refl (no_other none)
+    linked_plain Image from to none =
+        plain_media (enter_at text n.Image from) (exit_at text n.Image to) (Cons (label_node l) ns) refl refl refl (no_other none)
+
+-- a call, behind whose label nothing is
+module _ (text : List ℕ) (l : Label) (is : IsLabel l) where
+  abbrev pub call_nodes : End → End → Nodes
+  call_nodes from to = cut (Around (enter_at text n.GfmFootnoteCall from) (one (label_node text l)) (exit_at text n.GfmFootnoteCall to))
+
+  pub call_spelled : (names : Names) (linked : Bool) (from to : End)
+      → inlines_of names text linked (call_nodes from to) ≡ part (inline.Call (content_codes (label_text text (own_node text l))))
+  call_spelled names linked from to = ap (λ label. part (inline.Call label)) (text_codes text l is Nil names refl refl)
+
+  pub call_plain : (from to : End) → ArePlain (call_nodes from to)
+  call_plain from to =
+      plain_media (enter_at text n.GfmFootnoteCall from) (exit_at text n.GfmFootnoteCall to) (one (label_node text l)) refl refl refl
+      (no_other text l is Nil (record { definitions = refl; columns = refl }))

@@ -1,0 +1,329 @@
+-- What is written of each construct that holds no other, where it is laid.
+use Rattle.std.proofs.Common.{inl, inr, ◌≡◌, append_assoc, eqb, ℕ, ◌<◌, Bool, true, false, List, [], ◌∷◌, ◌++◌, refl, sym, ap, ap₂, subst, ◌∙◌, take}
+use Rattle.std.proofs.Common.{drop, length, map, arith}
+use Rattle.std.specs.Prelude.{◌||◌, if◌then◌else◌, slice_index}
+use Rattle.std.specs.List.{list_any}
+use Rattle.std.proofs.lemmas.Bool.{cases_Bool, true≢false}
+use denote.Enum.Bare.{same_true}
+use Rattle.engine_events.specs.contracts.event.Name.{the_type}
+use Rattle.std.proofs.lemmas.List.{take-append-drop}
+use Rattle.markdown_options.specs.LineEndings.{ending_bytes}
+use Rattle.markdown_options.specs.declared.line_ending.LineEnding.{LineEnding}
+use Rattle.markdown_options.specs.declared.line_ending.LineEnding.TheVariants as endings
+use Rattle.engine_events.specs.Names.{same_name, is_listed}
+use Rattle.engine_events.specs.declared.event.Name.{Name}
+use Rattle.engine_events.specs.declared.event.Name.TheVariants as n
+use Rattle.definition_text.specs.Columns.{bare, indent, is_white}
+use Rattle.definition_text.specs.Content.{content_codes, is_eol, line_ending_code}
+use Rattle.definition_text.specs.InlineCode.{InlineCode, codes_of}
+use Rattle.definition_text.specs.Lines.{ends_line}
+use Rattle.definition_inline.specs.CharacterReference.{Names}
+use Rattle.definition_inline.specs.Inline as inline
+use Rattle.definition_inline.specs.Inline.{Data, Escape, InlineLeaf, Leaf}
+use Rattle.definition_inline.specs.Scan.{InlineContext}
+use Rattle.definition_inline.proofs.Scanning.{drop-codes_of}
+use Rattle.definition_page.specs.InlinePieces.{Meaning}
+use Rattle.parse_output.specs.declared.end.End.{End}
+use Rattle.event_grammar.specs.Trees.{Nil}
+use Rattle.parse_output.specs.Forest.{data_nodes}
+use Rattle.parse_output.specs.Written.{end_in}
+use Rattle.event_meaning.specs.Texts as texts
+use Rattle.event_meaning.specs.Texts.{leaves, part, text_part}
+use Rattle.parse_lines.specs.declared.walk.Walk.{Walk}
+use Rattle.parse_lines.specs.Content.{StandsInLine, WritesInLine, end_after}
+use Rattle.parse_lines.specs.InContent.{IsApart, IsWhole, StandsInContent, Stop}
+use Rattle.parse_lines.specs.Standing.{standing}
+use Rattle.parse_lines.proofs.InContent.{contents_none, line_in_content}
+use Rattle.parse_strings.proofs.Codes.{alone_codes, codes_split, feed_codes, line_bytes}
+use Rattle.parse_strings.proofs.PlainNodes.{plain_none, sought_names}
+use Rattle.parse_strings.proofs.Spelled.{still_whole}
+use Rattle.parse_alike.specs.HtmlText.{html_leaves}
+use Rattle.parse_alike.specs.Inline.{ArePartsAlike}
+use Rattle.parse_rows.specs.Bytes.{AreBytesAt, Passes}
+use Rattle.inline_leaves.specs.Leaves.{kind_view}
+use Rattle.inline_leaves.specs.declared.leaf.LeafPart.{LeafPart}
+use Rattle.inline_leaves.specs.declared.leaf.LiteralKind.{LiteralKind}
+use Rattle.inline_leaves.specs.declared.leaf.LiteralKind.TheVariants.{Www, Protocol, Email}
+use Rattle.inline_leaves.proofs.Codes.{after_codes, prefix_codes}
+use Rattle.parse_rows.specs.Parts.{EndsLine, HasPartForm, escaped}
+use Rattle.parse_rows.specs.Rows.{IsData, IsPartLaid}
+use Rattle.parse_rows.proofs.Parts.{parts_law}
+use Rattle.parse_rows.proofs.Bytes.{inline_bytes_law, text_bytes_law}
+use Rattle.parse_rows.proofs.Leaves.{break_bytes_law, line_bytes_law}
+use Rattle.inline_rows.specs.View.{spelled_view}
+use Rattle.inline_rows.specs.declared.row.SpelledLeaf.{SpelledLeaf}
+use Rattle.inline_rows.specs.declared.row.SpelledLeaf.TheVariants as spelled
+use Rattle.parse_written.specs.Laid.{IsLeafLaid}
+use Rattle.parse_written.specs.Leaves.{AreAllSpaces, HasForm, IsAutolink, IsHtml}
+use Rattle.parse_written.proofs.Forms.{leaf_law}
+use Rattle.parse_written.specs.Written.{AreCodes, EndNoLine, IsText}
+use Rattle.parse_written.proofs.Codes.{codes_are}
+use Rattle.parse_inline.specs.Leaves.{Anywhere, WritesFront, WritesLeaves, WritesPart, WritesSpelled, in_angles, line_end, literal_names}
+use Rattle.parse_inline.specs.Lines.{AreCutBetween}
+use Rattle.parse_inline.proofs.Data.{dark_text, data_plain, data_spells}
+use Rattle.parse_inline.proofs.Fronts.{WritesNext, leaves_of_front, token_front}
+use Rattle.parse_inline.proofs.LeavesAlike.{data_alike, escapes_alike, leaf_alike}
+use Rattle.parse_inline.proofs.LineEnds.{indent_dark, indent_parts, indent_size}
+
+abbrev AreSmall : List ℕ → Type 0
+AreSmall bytes = (k : ℕ) → slice_index bytes k < 256
+
+-- codes that end no line are the first bytes
+record IsFirst (front bytes : List ℕ) (to : List InlineCode) : Type 0 where
+  parts : bytes ≡ front ++ drop (length front) bytes
+  left : AreBytesAt (drop (length front) bytes) to
+
+passed_first : (front bytes : List ℕ) (to : List InlineCode) → Passes front bytes to → IsFirst front bytes to
+passed_first front bytes to p = record {
+  parts = sym (take-append-drop (length front) bytes) ∙ ap (λ xs. xs ++ drop (length front) bytes) p.front;
+  left = p.left;
+}
+
+codes_first : (front bytes : List ℕ) (from to : List InlineCode) → AreBytesAt bytes from → AreCodes front from to → EndNoLine front → IsFirst front bytes to
+codes_first front bytes from to at codes inline = passed_first front bytes to (inline_bytes_law front bytes from to at codes inline)
+
+escaped_line : (bs : List ℕ) → EndNoLine (escaped bs) → EndNoLine bs
+escaped_line [] inline = tt
+escaped_line (b ∷ bs) inline = (inline.1.0, escaped_line bs inline.1.1)
+
+line_append : (xs ys : List ℕ) → EndNoLine xs → EndNoLine ys → EndNoLine (xs ++ ys)
+line_append [] ys first second = second
+line_append (x ∷ xs) ys first second = (first.0, line_append xs ys first.1 second)
+
+-- no LF is after CR, where their codes say so
+return_apart : (rest cs : List ℕ) → content_codes (13 ∷ rest) ≡ 13 ∷ cs → content_codes (13 ∷ rest) ≡ 13 ∷ content_codes rest
+return_apart [] cs is = alone_codes 13 [] refl refl
+return_apart (b ∷ bs) cs is = elim (cases_Bool (eqb b 10)) [
+  | inl feed ↦
+      let first : 257 ≡ 13 = ap (λ xs. slice_index xs 0) (sym (feed_codes 13 b bs refl feed) ∙ is) in
+      absurd (omega (arith, first))
+  | inr other ↦ alone_codes 13 (b ∷ bs) refl other
+]
+
+apart_by : (e : LineEnding) (rest cs : List ℕ) → content_codes (ending_bytes e ++ rest) ≡ line_ending_code e ∷ cs → IsApart e rest
+apart_by endings.LineFeed rest cs is = refl
+apart_by endings.CarriageReturnLineFeed rest cs is = feed_codes 13 10 rest refl refl
+apart_by endings.CarriageReturn rest cs is = return_apart rest cs is
+
+-- bytes whose codes end with `>`
+html_end : (html codes : List ℕ) → content_codes html ≡ codes ++ 62 ∷ [] → (front : List ℕ) × (html ≡ front ++ 62 ∷ [])
+html_end html codes is =
+    let cut = codes_split codes (62 ∷ []) html is in
+    (cut.front, cut.parts ∙ ap (λ xs. cut.front ++ xs) (sym (line_bytes cut.after (ap (list_any is_eol) cut.last)) ∙ cut.last))
+
+-- the first of some names, or one of the others
+one_of : (P : Name → Type 0) (first : Name) (others : List Name) (name : Name) → P first → (is_listed others name ≡ true → P name)
+    → is_listed (first ∷ others) name ≡ true → P name
+one_of P first others name here later listed = elim (cases_Bool (same_name first name)) [
+  | inl same ↦ subst P (same_true the_type tt first name same) here
+  | inr other ↦ later (ap (λ t. t || is_listed others name) (sym other) ∙ listed)
+]
+
+-- what is known of its name
+record LiteralName (kind : LiteralKind) (name : Name) : Type 0 where
+  no_data : same_name name n.Data ≡ false
+  no_prefix : same_name name n.BlockQuotePrefix ≡ false
+  unsought : is_listed sought_names name ≡ false
+  spells : (names : Names) (text front : List ℕ) (linked : Bool) → linked ≡ false
+      → texts.append (text_part names text linked name front Nil inline.Nil) inline.Nil ≡ leaves (inline.Literal (kind_view kind) front ∷ [])
+
+outside : (kind : inline.LiteralKind) (front : List ℕ) (linked : Bool) → linked ≡ false
+    → texts.append (if linked then leaves (map Data front) else part (Leaf (inline.Literal kind front))) inline.Nil ≡ leaves (inline.Literal kind front ∷ [])
+outside kind front linked is =
+    ap (λ t. texts.append (if t then leaves (map Data front) else part (Leaf (inline.Literal kind front))) inline.Nil) is
+
+literal_of_kind : (kind : LiteralKind) (name : Name) → is_listed (literal_names kind) name ≡ true → LiteralName kind name
+literal_of_kind Www name listed =
+    one_of (LiteralName Www) n.GfmAutolinkLiteralWww [] name
+    (record { no_data = refl; no_prefix = refl; unsought = refl; spells = λ names text front linked is. outside inline.Www front linked is })
+    (λ none. absurd (true≢false (sym none))) listed
+literal_of_kind Email name listed =
+    one_of (LiteralName Email) n.GfmAutolinkLiteralEmail [] name
+    (record { no_data = refl; no_prefix = refl; unsought = refl; spells = λ names text front linked is. outside inline.Email front linked is })
+    (λ none. absurd (true≢false (sym none))) listed
+literal_of_kind Protocol name listed =
+    one_of (LiteralName Protocol) n.GfmAutolinkLiteralMailto (n.GfmAutolinkLiteralXmpp ∷ n.GfmAutolinkLiteralProtocol ∷ []) name
+    (record { no_data = refl; no_prefix = refl; unsought = refl; spells = λ names text front linked is. outside inline.Protocol front linked is })
+    (one_of (LiteralName Protocol) n.GfmAutolinkLiteralXmpp (n.GfmAutolinkLiteralProtocol ∷ []) name
+    (record { no_data = refl; no_prefix = refl; unsought = refl; spells = λ names text front linked is. outside inline.Protocol front linked is })
+    (one_of (LiteralName Protocol) n.GfmAutolinkLiteralProtocol [] name
+    (record { no_data = refl; no_prefix = refl; unsought = refl; spells = λ names text front linked is. outside inline.Protocol front linked is })
+    (λ none. absurd (true≢false (sym none))))) listed
+
+-- a construct of this shape, where these bytes are ahead
+pub part_from : {A : Type 0} (context : InlineContext) (text bytes xs : List ℕ) (of shape : LeafPart) (from to : List InlineCode) (stop : Stop) (a b : Walk A) → xs ≡ bytes
+    → of ≡ shape → IsPartLaid context of from to → AreBytesAt bytes from → StandsInContent text bytes stop a
+    → (HasPartForm context shape from to → AreBytesAt xs from → StandsInContent text xs stop a → WritesPart context.names text xs shape to stop a b)
+    → WritesPart context.names text bytes of to stop a b
+part_from context text bytes xs of shape from to stop a b same is laid at st written =
+    subst (λ ys. WritesPart context.names text ys of to stop a b) same
+    (subst (λ p. WritesPart context.names text xs p to stop a b) (sym is)
+    (written (parts_law context shape from to (subst (λ p. IsPartLaid context p from to) is laid)) (subst (λ ys. AreBytesAt ys from) (sym same) at)
+    (subst (λ ys. StandsInContent text ys stop a) (sym same) st)))
+
+-- form of a leaf that is laid, but for a line ending
+laid_form : (context : InlineContext) (leaf : SpelledLeaf) (from to : List InlineCode) → IsLeafLaid context (spelled_view leaf) from to
+    → HasForm context (spelled_view leaf) from to
+laid_form context (spelled.Code t) from to laid = leaf_law context (spelled_view (spelled.Code t)) from to laid
+laid_form context (spelled.Math t) from to laid = leaf_law context (spelled_view (spelled.Math t)) from to laid
+laid_form context (spelled.Check done) from to laid = leaf_law context (spelled_view (spelled.Check done)) from to laid
+
+-- the same of a construct that a list of events spells
+pub spelled_from : {A : Type 0} (context : InlineContext) (text bytes xs : List ℕ) (of shape : SpelledLeaf) (from to : List InlineCode) (stop : Stop)
+    (a b : Walk A)
+    → xs ≡ bytes → of ≡ shape → IsLeafLaid context (spelled_view of) from to → AreBytesAt bytes from → StandsInContent text bytes stop a
+    → (HasForm context (spelled_view shape) from to → AreBytesAt xs from → StandsInContent text xs stop a
+    → WritesSpelled context.names text xs shape to stop a b)
+    → WritesSpelled context.names text bytes of to stop a b
+spelled_from context text bytes xs of shape from to stop a b same is laid at st written =
+    subst (λ ys. WritesSpelled context.names text ys of to stop a b) same
+    (subst (λ p. WritesSpelled context.names text xs p to stop a b) (sym is)
+    (written (laid_form context shape from to (subst (λ p. IsLeafLaid context (spelled_view p) from to) is laid))
+    (subst (λ ys. AreBytesAt ys from) (sym same) at)
+    (subst (λ ys. StandsInContent text ys stop a) (sym same) st)))
+
+module _ {A : Type 0} (names : Names) (text bytes : List ℕ) (from to : List InlineCode) (stop : Stop) (a b : Walk A) (at : AreBytesAt bytes from)
+    (st : StandsInContent text bytes stop a) (whole : IsWhole a) where
+  -- what is written of the first bytes
+  leaves_first : (front : List ℕ) (MayBe : Bool → Type 0) (ls : List InlineLeaf) → IsFirst front bytes to
+      → (StandsInContent text (front ++ drop (length front) bytes) stop a → WritesFront names text front (drop (length front) bytes) MayBe ls stop a b)
+      → (parts : List InlineLeaf) → ((m m' : Meaning) → ArePartsAlike m m' (leaves parts) (leaves ls)) → WritesLeaves names text bytes MayBe parts to stop a b
+  leaves_first front MayBe ls first written parts alike =
+      leaves_of_front names text stop a b bytes front (drop (length front) bytes) MayBe ls parts to first.parts first.left
+      (written (subst (λ xs. StandsInContent text xs stop a) first.parts st)) alike
+
+  pub escape_part : (front : List ℕ) → IsData (escaped front) from to
+      → ((content : List ℕ) → list_any ends_line front ≡ false → StandsInContent text (escaped front ++ content) stop a → IsWhole a
+      → WritesFront names text (escaped front) content Anywhere (map Escape front) stop a b)
+      → WritesLeaves names text bytes Anywhere (map Escape front) to stop a b
+  escape_part front is written =
+      leaves_first (escaped front) Anywhere (map Escape front) (codes_first (escaped front) bytes from to at is.codes is.inline)
+      (λ here. written (drop (length (escaped front)) bytes) (dark_text front (escaped_line front is.inline)) here whole) (map Escape front)
+      (λ m m'. escapes_alike m m' front)
+
+  pub data_part : (front : List ℕ) → IsData front from to → standing b ≡ standing a
+      → ((xs line : List ℕ) → length front ≡ length xs → StandsInLine text (xs ++ line) a
+      → WritesInLine text xs (data_nodes text (end_in a.out) (end_after (end_in a.out) (length front))) line a b)
+      → WritesLeaves names text bytes Anywhere (map Data front) to stop a b
+  data_part front is same written =
+      let content = drop (length front) bytes in
+      let dark = dark_text front is.inline in
+      leaves_first front Anywhere (map Data front) (codes_first front bytes from to at is.codes is.inline)
+      (λ here.
+      let ahead = line_in_content text stop a front content here dark in
+      let w = written front ahead.line refl ahead.stands in
+      record {
+        nodes = data_nodes text (end_in a.out) (end_after (end_in a.out) (length front));
+        writes = ahead.lifts _ b same w;
+        whole = ap (λ (e : End). e.owed) w.end ∙ still_whole (end_in a.out) (length front) whole;
+        plain = data_plain text (end_in a.out) (end_after (end_in a.out) (length front));
+        spells = λ linked may. data_spells names text linked stop a front content here dark whole;
+      })
+      (map Data front) (λ m m'. data_alike m m' front)
+
+  pub autolink_part : (email : Bool) (address : List ℕ) → IsAutolink address from to
+      → ((content : List ℕ) → 0 < length address → list_any ends_line address ≡ false → StandsInContent text (in_angles address ++ content) stop a → IsWhole a
+      → WritesFront names text (in_angles address) content Anywhere (inline.Autolink email address ∷ []) stop a b)
+      → WritesLeaves names text bytes Anywhere (inline.Autolink email address ∷ []) to stop a b
+  autolink_part email address is written =
+      let inside = line_append address (62 ∷ []) is.inline (refl, tt) in
+      leaves_first (in_angles address) Anywhere (inline.Autolink email address ∷ []) (codes_first (in_angles address) bytes from to at is.codes (refl, inside))
+      (λ here. written (drop (length (in_angles address)) bytes) is.some (dark_text address is.inline) here whole)
+      (inline.Autolink email address ∷ []) (λ m m'. leaf_alike m m' (inline.Autolink email address) (leaves (inline.Autolink email address ∷ [])) refl)
+
+  pub token_part : (name : Name) (front : List ℕ) (MayBe : Bool → Type 0) (l : InlineLeaf) → IsText front from to → ((m m' : Meaning)
+      → ArePartsAlike m m' (leaves (l ∷ [])) (leaves (l ∷ [])))
+      → same_name name n.Data ≡ false → same_name name n.BlockQuotePrefix ≡ false → is_listed sought_names name ≡ false
+      → ((linked : Bool) → MayBe linked → texts.append (text_part names text linked name front Nil inline.Nil) inline.Nil ≡ leaves (l ∷ []))
+      → standing b ≡ standing a → WritesNext text name (length front) a b → WritesLeaves names text bytes MayBe (l ∷ []) to stop a b
+  token_part name front MayBe l is alike no_data no_prefix unsought spells same written =
+      leaves_first front MayBe (l ∷ []) (codes_first front bytes from to at is.codes is.inline)
+      (λ here. token_front names text stop a b name front (drop (length front) bytes) (length front) MayBe (l ∷ []) refl is.some
+      (dark_text front is.inline) no_data no_prefix
+      unsought spells here whole same written)
+      (l ∷ []) alike
+
+  pub literal_part : (kind : LiteralKind) (name : Name) (front : List ℕ) → is_listed (literal_names kind) name ≡ true → IsText front from to
+      → standing b ≡ standing a
+      → WritesNext text name (length front) a b
+      → WritesLeaves names text bytes (λ linked. linked ≡ false) (inline.Literal (kind_view kind) front ∷ []) to stop a b
+  literal_part kind name front listed is same written =
+      let known = literal_of_kind kind name listed in
+      let l = inline.Literal (kind_view kind) front in
+      token_part name front (λ linked. linked ≡ false) l is (λ m m'. leaf_alike m m' l (leaves (l ∷ [])) refl) known.no_data known.no_prefix known.unsought
+      (λ linked outer. known.spells names text front linked outer) same written
+
+  pub escaped_break_part : IsText (92 ∷ []) from to → standing b ≡ standing a → WritesNext text n.HardBreakEscape 1 a b
+      → WritesLeaves names text bytes Anywhere (inline.EscapedBreak ∷ []) to stop a b
+  escaped_break_part is same written =
+      token_part n.HardBreakEscape (92 ∷ []) Anywhere inline.EscapedBreak is
+      (λ m m'. leaf_alike m m' inline.EscapedBreak (leaves (inline.EscapedBreak ∷ [])) refl) refl refl
+      refl (λ linked may. refl) same written
+
+  pub break_part : (size : ℕ) → size ≡ indent bytes → AreAllSpaces from to → standing b ≡ standing a → WritesNext text n.HardBreakTrailing size a b
+      → WritesLeaves names text bytes Anywhere (inline.TrailingBreak ∷ []) to stop a b
+  break_part size is all same written =
+      let front = take (indent bytes) bytes in
+      let some : 0 < length front = omega (arith, all.some, all.all, ap indent at, prefix_codes is_white refl refl bytes, indent_size bytes) in
+      leaves_of_front names text stop a b bytes front (bare bytes) Anywhere (inline.TrailingBreak ∷ []) (inline.TrailingBreak ∷ []) to
+      (sym (indent_parts bytes))
+      (break_bytes_law bytes from to at all)
+      (token_front names text stop a b n.HardBreakTrailing front (bare bytes) size Anywhere (inline.TrailingBreak ∷ []) (is ∙ indent_size bytes) some
+      (indent_dark bytes) refl refl refl
+      (λ linked may. refl) (subst (λ xs. StandsInContent text xs stop a) (sym (indent_parts bytes)) st) whole same written)
+      (λ m m'. leaf_alike m m' inline.TrailingBreak (leaves (inline.TrailingBreak ∷ [])) refl)
+
+  pub line_end_part : (ending : LineEnding) → AreSmall bytes → EndsLine (line_ending_code ending) from to
+      → ((rest : List ℕ) → drop (indent bytes) bytes ≡ ending_bytes ending ++ rest → IsApart ending rest → StandsInContent text bytes stop a → IsWhole a
+      → WritesFront names text (line_end bytes ending rest) (bare rest) Anywhere (inline.LineEnd (line_ending_code ending) ∷ []) stop a b)
+      → WritesLeaves names text bytes Anywhere (inline.LineEnd (line_ending_code ending) ∷ []) to stop a b
+  line_end_part ending small is written =
+      let law = line_bytes_law ending bytes from to small at is in
+      let start : codes_of is.start ≡ content_codes (drop (indent bytes) bytes) =
+      ap codes_of is.spaces ∙ drop-codes_of (indent (codes_of from)) from ∙ ap (λ cs. drop (indent cs) cs) at ∙ after_codes is_white refl refl bytes in
+      let codes : content_codes (ending_bytes ending ++ law.rest) ≡ line_ending_code ending ∷ codes_of is.line.rest =
+      ap content_codes (sym law.parts) ∙ sym start ∙ codes_are (line_ending_code ending ∷ []) is.start is.line.rest is.line.ending in
+      let front = line_end bytes ending law.rest in
+      let parts : bytes ≡ front ++ bare law.rest =
+      sym (indent_parts bytes)
+      ∙ ap (λ xs. take (indent bytes) bytes ++ xs)
+      (law.parts ∙ ap (λ xs. ending_bytes ending ++ xs) (sym (indent_parts law.rest))
+      ∙ sym (append_assoc (ending_bytes ending) (take (indent law.rest) law.rest) (bare law.rest)))
+      ∙ sym (append_assoc (take (indent bytes) bytes) (ending_bytes ending ++ take (indent law.rest) law.rest) (bare law.rest)) in
+      let l = inline.LineEnd (line_ending_code ending) in
+      leaves_of_front names text stop a b bytes front (bare law.rest) Anywhere (l ∷ []) (l ∷ []) to parts law.left
+      (written law.rest law.parts (apart_by ending law.rest (codes_of is.line.rest) codes) st whole) (λ m m'. leaf_alike m m' l (leaves (l ∷ [])) refl)
+
+  pub html_part : (html region : List ℕ) → AreSmall html → AreSmall bytes → region ≡ take (length html) bytes → IsHtml (content_codes html) from to
+      → ((front content : List ℕ) → region ≡ front ++ 62 ∷ [] → AreCutBetween region content → StandsInContent text (region ++ content) stop a → IsWhole a
+      → WritesFront names text region content Anywhere (html_leaves (content_codes region)) stop a b)
+      → WritesLeaves names text bytes Anywhere (inline.Html (content_codes html) ∷ []) to stop a b
+  html_part html region small_html small region_is is written =
+      let p = text_bytes_law html bytes from to small_html small at is.codes in
+      let content = drop (length html) bytes in
+      let same : region ≡ html = region_is ∙ p.front in
+      let (front, closed) = html_end html is.front is.closed in
+      let parts : bytes ≡ region ++ content =
+      sym (take-append-drop (length html) bytes) ∙ ap (λ xs. xs ++ content) (sym region_is) in
+      let cut : AreCutBetween region content =
+      ap content_codes (sym parts)
+      ∙ sym at
+      ∙ codes_are (content_codes html) from to is.codes
+      ∙ ap₂ (λ (xs ys : List ℕ). xs ++ ys) (ap content_codes (sym same)) p.left in
+      let l = inline.Html (content_codes html) in
+      leaves_of_front names text stop a b bytes region content Anywhere (html_leaves (content_codes region)) (l ∷ []) to parts p.left
+      (written front content (same ∙ closed) cut (subst (λ xs. StandsInContent text xs stop a) parts st) whole)
+      (λ m m'. leaf_alike m m' l (leaves (html_leaves (content_codes region))) (ap (λ xs. leaves (html_leaves (content_codes xs))) same))
+
+  pub nothing_part : from ≡ to → WritesLeaves names text bytes Anywhere [] to stop a a
+  nothing_part is = record {
+    front = [];
+    after = bytes;
+    parts = refl;
+    left = subst (AreBytesAt bytes) is at;
+    nodes = Nil;
+    writes = contents_none text stop a bytes st;
+    whole = whole;
+    plain = plain_none;
+    spells = λ linked may m m'. refl;
+  }

@@ -1,0 +1,294 @@
+-- What is written of code and math (CommonMark 6.1).
+use Rattle.std.proofs.Common.{inl, inr, ◌≡◌, ◌⊎◌, ℕ, suc, ◌+◌, ◌-◌, ◌≤◌, ◌<◌, Bool, true, false, not, ◌&&◌, ◌||◌, List, [], ◌∷◌, ◌++◌, Some, refl}
+use Rattle.std.proofs.Common.{sym, ap, ap₂, subst, ◌∙◌, append_assoc, drop, take, length, arith}
+use Rattle.std.specs.Prelude.{◌==◌, unwrap_or}
+use Rattle.std.specs.List.{list_any}
+use Rattle.std.proofs.Math.Seq.{take-append_seam}
+use Rattle.std.proofs.lemmas.Bool.{and_parts, cases_Bool, cond-true, cond-false, eqb-true, or_from, or_parts}
+use Rattle.std.proofs.lemmas.Bool.Decides.{nat_tests}
+use Rattle.std.proofs.lemmas.List.{length-append, length-take-le, take-append-drop}
+use Rattle.std.proofs.lemmas.List.Sums.{prefix_len-le-length}
+use denote.Enum.Bare.{same_true}
+use Rattle.engine_events.specs.Names.{same_name, is_listed}
+use Rattle.engine_events.specs.contracts.event.Name.{the_type}
+use Rattle.engine_events.specs.declared.event.Name.{Name}
+use Rattle.engine_events.specs.declared.event.Name.TheVariants as n
+use Rattle.definition_text.specs.Columns.{is_white}
+use Rattle.definition_text.specs.Content.{after_return_code, content_codes}
+use Rattle.definition_text.specs.InlineCode.{InlineCode}
+use Rattle.definition_text.specs.Lines.{ends_line}
+use Rattle.definition_text.specs.Runs.{after_run, run}
+use Rattle.definition_inline.specs.CharacterReference.{Names}
+use Rattle.definition_inline.specs.CodeText.{code_text, run_of, without_padding}
+use Rattle.definition_inline.specs.Inline as inline
+use Rattle.event_grammar.specs.Trees.{Nodes, Around}
+use Rattle.parse_output.specs.declared.end.End.{End}
+use Rattle.parse_output.specs.Ends.{enter_at, exit_at}
+use Rattle.parse_output.specs.Forest.{append, one}
+use Rattle.parse_output.specs.Written.{end_in}
+use Rattle.event_meaning.specs.Texts.{code_of, inlines_of, leaves}
+use Rattle.parse_lines.specs.declared.walk.Walk.{Walk}
+use Rattle.parse_lines.specs.Content.{EntersInLine, ExitsInLine, StandsInLine}
+use Rattle.parse_lines.specs.InContent.{IsWhole, StandsInContent, Stop, WritesInContent}
+use Rattle.parse_lines.specs.Standing.{standing}
+use Rattle.parse_lines.proofs.InContent.{contents_around, contents_both, line_enters, line_exits}
+use Rattle.parse_strings.specs.References.{token}
+use Rattle.parse_strings.proofs.PlainNodes.{plain_both, plain_none, plain_one, sought_names}
+use Rattle.definition_page.specs.InlinePieces.{Meaning}
+use Rattle.parse_alike.specs.Inline.{ArePartsAlike}
+use Rattle.parse_rows.specs.Bytes.{AreBytesAt, IsRawInBytes}
+use Rattle.parse_inline.specs.Leaves.{Anywhere, WritesLeaves}
+use Rattle.parse_inline.specs.Lines.{AreCutBetween, IsChunk, IsCodeChunk, WritesLines, are_raw_names, is_raw_marker, line_names, raw_leaf}
+use Rattle.parse_inline.proofs.Fronts.{WritesNext, token_in}
+use Rattle.parse_inline.proofs.Kids.{code_between}
+use Rattle.parse_inline.proofs.LeavesAlike.{leaf_alike}
+use Rattle.parse_inline.proofs.Plain.{cut_one}
+use Rattle.parse_inline.proofs.RawTexts.{dark_whole}
+
+-- ---- names
+
+either_true : (a b : Bool) → (a || b) ≡ true → (a ≡ true) ⊎ (b ≡ true)
+either_true true b is = inl refl
+either_true false b is = inr is
+
+raw_by : (P : Name → Name → Name → Type 0) (text sequence chunk : Name) → are_raw_names text sequence chunk ≡ true
+    → P n.CodeText n.CodeTextSequence n.CodeTextData
+    → P n.MathText n.MathTextSequence n.MathTextData → P text sequence chunk
+raw_by P text sequence chunk are code math =
+    elim (either_true (same_name text n.CodeText && (same_name sequence n.CodeTextSequence && same_name chunk n.CodeTextData)) _ are) [
+      | inl is ↦
+          let one = and_parts (same_name text n.CodeText) _ is in
+          let two = and_parts (same_name sequence n.CodeTextSequence) _ one.1 in
+          subst (λ x. P x sequence chunk) (sym (same_true the_type tt text n.CodeText one.0))
+          (subst (λ x. P n.CodeText x chunk) (sym (same_true the_type tt sequence n.CodeTextSequence two.0))
+          (subst (λ x. P n.CodeText n.CodeTextSequence x) (sym (same_true the_type tt chunk n.CodeTextData two.1)) code))
+      | inr is ↦
+          let one = and_parts (same_name text n.MathText) _ is in
+          let two = and_parts (same_name sequence n.MathTextSequence) _ one.1 in
+          subst (λ x. P x sequence chunk) (sym (same_true the_type tt text n.MathText one.0))
+          (subst (λ x. P n.MathText x chunk) (sym (same_true the_type tt sequence n.MathTextSequence two.0))
+          (subst (λ x. P n.MathText n.MathTextSequence x) (sym (same_true the_type tt chunk n.MathTextData two.1)) math))
+    ]
+
+-- what is known of them
+record RawNames (text sequence chunk : Name) : Type 0 where
+  chunks : IsCodeChunk chunk
+  text_data : same_name text n.Data ≡ false
+  text_prefix : same_name text n.BlockQuotePrefix ≡ false
+  text_sought : is_listed sought_names text ≡ false
+  sequence_data : same_name sequence n.Data ≡ false
+  sequence_prefix : same_name sequence n.BlockQuotePrefix ≡ false
+  sequence_sought : is_listed sought_names sequence ≡ false
+  sequence_other : is_listed (line_names chunk) sequence ≡ false
+  spells : (names : Names) (bytes : List ℕ) (linked : Bool) (from to : End) (kids : Nodes)
+      → inlines_of names bytes linked (one (Around (enter_at bytes text from) kids (exit_at bytes text to))) ≡ leaves (raw_leaf text (code_of names bytes sequence kids) ∷ [])
+  alike : (m m' : Meaning) (printed : List ℕ) → ArePartsAlike m m' (leaves (raw_leaf text printed ∷ [])) (leaves (raw_leaf text printed ∷ []))
+
+raw_names : (text sequence chunk : Name) → are_raw_names text sequence chunk ≡ true → RawNames text sequence chunk
+raw_names text sequence chunk are =
+    raw_by RawNames text sequence chunk are
+    (record {
+      chunks = inl refl;
+      text_data = refl;
+      text_prefix = refl;
+      text_sought = refl;
+      sequence_data = refl;
+      sequence_prefix = refl;
+      sequence_sought = refl;
+      sequence_other = refl;
+      spells = λ names bytes linked from to kids. refl;
+      alike = λ m m' printed. leaf_alike m m' (inline.Code printed) (leaves (inline.Code printed ∷ [])) refl;
+    })
+    (record {
+      chunks = inr refl;
+      text_data = refl;
+      text_prefix = refl;
+      text_sought = refl;
+      sequence_data = refl;
+      sequence_prefix = refl;
+      sequence_sought = refl;
+      sequence_other = refl;
+      spells = λ names bytes linked from to kids. refl;
+      alike = λ m m' printed. leaf_alike m m' (inline.Math printed) (leaves (inline.Math printed ∷ [])) refl;
+    })
+
+-- ---- runs
+
+marker_dark : (m : ℕ) → is_raw_marker m ≡ true → ends_line m ≡ false
+marker_dark m is = grind (arith, nat_tests)
+
+marker_black : (m : ℕ) → is_raw_marker m ≡ true → is_white m ≡ false
+marker_black m is = grind (arith, nat_tests)
+
+run_dark : (m : ℕ) (xs : List ℕ) → ends_line m ≡ false → list_any ends_line (take (run m xs) xs) ≡ false
+run_dark m [] dark = refl
+run_dark m (x ∷ xs) dark = elim (cases_Bool (x == m)) [
+  | inl same ↦
+      let size : run m (x ∷ xs) ≡ suc (run m xs) = cond-true (x == m) (1 + run m xs) 0 same ∙ omega arith in
+      ap (λ k. list_any ends_line (take k (x ∷ xs))) size
+      ∙ or_from (ends_line x) (list_any ends_line (take (run m xs) xs)) (ap ends_line (eqb-true x m same) ∙ dark) (run_dark m xs dark)
+  | inr other ↦ ap (λ k. list_any ends_line (take k (x ∷ xs))) (cond-false (x == m) (1 + run m xs) 0 other)
+]
+
+-- a run begins with its byte
+run_first : (m : ℕ) (xs : List ℕ) → 0 < run m xs → (others : List ℕ) × (xs ≡ m ∷ others)
+run_first m [] some = absurd (omega (arith, some))
+run_first m (x ∷ xs) some = elim (cases_Bool (x == m)) [
+  | inl same ↦ (xs, ap (λ y. y ∷ xs) (eqb-true x m same))
+  | inr other ↦ absurd (omega (arith, some, cond-false (x == m) (1 + run m xs) 0 other))
+]
+
+-- the next run is in the bytes, and has its size
+pub record NextRun (m size : ℕ) (xs end : List ℕ) : Type 0 where
+  pub front : List ℕ
+  pub parts : xs ≡ front ++ end
+  pub size_is : run m end ≡ size
+
+next_run : (m size : ℕ) (within : Bool) (xs end : List ℕ) → run_of m size within xs ≡ Some end → NextRun m size xs end
+next_run m size within [] end is = absurd cc
+next_run m size within (x ∷ xs) end is = elim (cases_Bool (not within && (run m (x ∷ xs) == size))) [
+  | inl here ↦
+      let some : Some (x ∷ xs) ≡ Some end = sym (cond-true (not within && (run m (x ∷ xs) == size)) (Some (x ∷ xs)) (run_of m size (x == m) xs) here) ∙ is in
+      let same : x ∷ xs ≡ end = cc in
+      record {
+        front = [];
+        parts = same;
+        size_is = ap (run m) (sym same) ∙ eqb-true (run m (x ∷ xs)) size (and_parts (not within) _ here).1;
+      }
+  | inr later ↦
+      let p = next_run m size (x == m) xs end
+      (sym (cond-false (not within && (run m (x ∷ xs) == size)) (Some (x ∷ xs)) (run_of m size (x == m) xs) later) ∙ is) in
+      record { front = x ∷ p.front; parts = ap (λ ys. x ∷ ys) p.parts; size_is = p.size_is }
+]
+
+-- no line ending is cut before a byte that is none
+pub cut_before : (bytes : List ℕ) (m : ℕ) (others : List ℕ) → ends_line m ≡ false → AreCutBetween bytes (m ∷ others)
+cut_before [] m others dark = refl
+cut_before (b ∷ bs) m others dark =
+    let after = content_codes (m ∷ others) in
+    let more = content_codes (bs ++ m ∷ others) in
+    let inner = content_codes bs in
+    let later : more ≡ inner ++ after = cut_before bs m others dark in
+    elim (cases_Bool (b == 13)) [
+      | inr apart ↦
+          cond-false (b == 13) (after_return_code (bs ++ m ∷ others) more) (b ∷ more) apart
+          ∙ ap (λ cs. b ∷ cs) later
+          ∙ ap (λ cs. cs ++ after) (sym (cond-false (b == 13) (after_return_code bs inner) (b ∷ inner) apart))
+      | inl return ↦
+          cond-true (b == 13) (after_return_code (bs ++ m ∷ others) more) (b ∷ more) return
+          ∙ behind bs later
+          ∙ ap (λ cs. cs ++ after) (sym (cond-true (b == 13) (after_return_code bs inner) (b ∷ inner) return))
+    ]
+  where
+    behind : (xs : List ℕ) → content_codes (xs ++ m ∷ others) ≡ content_codes xs ++ content_codes (m ∷ others)
+        → after_return_code (xs ++ m ∷ others) (content_codes (xs ++ m ∷ others)) ≡ after_return_code xs (content_codes xs) ++ content_codes (m ∷ others)
+    behind [] is =
+        cond-false (m == 10) (257 ∷ drop 1 (content_codes (m ∷ others))) (13 ∷ content_codes (m ∷ others)) (or_parts (m == 10) (m == 13) dark).0
+    behind (x ∷ xs) is =
+        let all = content_codes ((x ∷ xs) ++ m ∷ others) in
+        let inner = content_codes (x ∷ xs) in
+        elim (cases_Bool (x == 10)) [
+          | inr other ↦
+              cond-false (x == 10) (257 ∷ drop 1 all) (13 ∷ all) other
+              ∙ ap (λ cs. 13 ∷ cs) is
+              ∙ ap (λ cs. cs ++ content_codes (m ∷ others)) (sym (cond-false (x == 10) (257 ∷ drop 1 inner) (13 ∷ inner) other))
+          | inl feed ↦
+              let single : (x == 13) ≡ false = ap (λ y. y == 13) (eqb-true x 10 feed) in
+              let first : inner ≡ x ∷ content_codes xs = cond-false (x == 13) (after_return_code xs (content_codes xs)) (x ∷ content_codes xs) single in
+              cond-true (x == 10) (257 ∷ drop 1 all) (13 ∷ all) feed
+              ∙ ap (λ cs. 257 ∷ drop 1 cs) (is ∙ ap (λ cs. cs ++ content_codes (m ∷ others)) first)
+              ∙ ap (λ cs. (257 ∷ drop 1 cs) ++ content_codes (m ∷ others)) (sym first)
+              ∙ ap (λ cs. cs ++ content_codes (m ∷ others)) (sym (cond-true (x == 10) (257 ∷ drop 1 inner) (13 ∷ inner) feed))
+        ]
+
+module _ {A : Type 0} (names : Names) (text : List ℕ) (stop : Stop) where
+  pub raw_written : (a b c d e f : Walk A) (name sequence chunk : Name) (marker : ℕ) (printed bytes inside end inner : List ℕ) (to : List InlineCode) (size : ℕ)
+      → are_raw_names name sequence chunk ≡ true → is_raw_marker marker ≡ true → IsRawInBytes marker printed bytes to → size ≡ run marker bytes
+      → inside ≡ drop size bytes
+      → (0 < size → end ≡ unwrap_or (run_of marker size false inside) []) → inner ≡ take (length inside - length end) inside → StandsInContent text bytes stop a
+      → IsWhole a → standing b ≡ standing a → ((line : List ℕ) → StandsInLine text line a → EntersInLine text name line a b) → standing c ≡ standing b
+      → WritesNext text sequence size b c
+      → ((content : List ℕ) → IsChunk chunk → AreCutBetween inner content → StandsInContent text (inner ++ content) stop c
+      → WritesLines names text chunk false inner content stop c d)
+      → standing e ≡ standing d → WritesNext text sequence size d e → standing f ≡ standing e
+      → ((line : List ℕ) → StandsInLine text line e → ExitsInLine text name line e f)
+      → WritesLeaves names text bytes Anywhere (raw_leaf name printed ∷ []) to stop a f
+  raw_written a b c d e f name sequence chunk marker printed bytes inside end inner to size are marks raw size_is inside_is end_is inner_is st whole same_b enters same_c
+      first lines same_e second same_f exits =
+      let known = raw_names name sequence chunk are in
+      let dark = marker_dark marker marks in
+      let some : 0 < size = omega (arith, raw.some, size_is) in
+      let inside_at : inside ≡ after_run marker bytes = inside_is ∙ ap (λ k. drop k bytes) size_is in
+      let found : run_of marker size false inside ≡ Some raw.end = ap₂ (λ k (xs : List ℕ). run_of marker k false xs) size_is inside_at ∙ raw.next in
+      let last : end ≡ raw.end = end_is some ∙ ap (λ o. unwrap_or o []) found in
+      let next = next_run marker size false inside raw.end found in
+      let end_size : length inside - length end ≡ length next.front =
+      omega (arith, ap length next.parts, length-append next.front raw.end, ap length last) in
+      let inner_at : inner ≡ next.front = inner_is ∙ ap₂ (λ k (xs : List ℕ). take k xs) end_size next.parts ∙ take-append_seam next.front raw.end in
+      let opening = take size bytes in
+      let closing = take size raw.end in
+      let after = drop size raw.end in
+      let opening_size : size ≡ length opening =
+      sym (length-take-le size bytes (subst (λ k. k ≤ length bytes) (sym size_is) (prefix_len-le-length (λ x. x == marker) bytes))) in
+      let closing_size : size ≡ length closing =
+      sym (length-take-le size raw.end (subst (λ k. k ≤ length raw.end) next.size_is (prefix_len-le-length (λ x. x == marker) raw.end))) in
+      let opening_dark : list_any ends_line opening ≡ false = ap (λ k. list_any ends_line (take k bytes)) size_is ∙ run_dark marker bytes dark in
+      let closing_dark : list_any ends_line closing ≡ false = ap (λ k. list_any ends_line (take k raw.end)) (sym next.size_is) ∙ run_dark marker raw.end dark in
+      let end_parts : raw.end ≡ closing ++ after = sym (take-append-drop size raw.end) in
+      let inside_parts : inside ≡ inner ++ (closing ++ after) = next.parts ∙ ap₂ (λ (xs ys : List ℕ). xs ++ ys) (sym inner_at) end_parts in
+      let front = opening ++ (inner ++ closing) in
+      let tail = inner ++ (closing ++ after) in
+      let parts : bytes ≡ opening ++ tail =
+      sym (take-append-drop size bytes) ∙ ap (λ xs. opening ++ xs) (sym inside_is ∙ inside_parts) in
+      let entered = line_enters text stop a b name bytes st same_b enters in
+      let t =
+      token_in names text stop b c sequence opening tail size opening_size
+      (omega (arith, some, opening_size)) opening_dark known.sequence_data known.sequence_prefix
+      (subst (λ xs. StandsInContent text xs stop b) parts entered.stands) (ap (λ (x : End). x.owed) entered.end ∙ whole) same_c first in
+      let (others, begins) = run_first marker raw.end (omega (arith, next.size_is, some)) in
+      let cut : AreCutBetween inner (closing ++ after) =
+      subst (AreCutBetween inner) (sym begins ∙ end_parts) (cut_before inner marker others dark) in
+      let w = lines (closing ++ after) (inl known.chunks) cut t.writes.stands in
+      let whole_d =
+      dark_whole text marker others stop d (marker_black marker marks)
+      (subst (λ xs. StandsInContent text xs stop d) (sym end_parts ∙ begins) w.writes.stands) in
+      let u =
+      token_in names text stop d e sequence closing after size closing_size
+      (omega (arith, some, closing_size)) closing_dark known.sequence_data known.sequence_prefix
+      w.writes.stands whole_d same_e second in
+      let exited = line_exits text stop e f name after u.writes.stands same_f exits in
+      let t_node = token text sequence (end_in b.out).index (length opening) in
+      let u_node = token text sequence (end_in d.out).index (length closing) in
+      let kids = append (one t_node) (append w.nodes (one u_node)) in
+      let inner_written = contents_both text stop c d e inner closing after w.nodes (one u_node) w.writes u.writes in
+      let joined : tail ≡ (inner ++ closing) ++ after = sym (append_assoc inner closing after) in
+      let kids_written = contents_both text stop b c e opening (inner ++ closing) after (one t_node) (append w.nodes (one u_node))
+      (subst (λ xs. WritesInContent text opening (one t_node) xs stop b c) joined t.writes) inner_written in
+      let all : bytes ≡ front ++ after = parts ∙ ap (λ xs. opening ++ xs) joined ∙ sym (append_assoc opening (inner ++ closing) after) in
+      let entered_here = line_enters text stop a b name (front ++ after) (subst (λ xs. StandsInContent text xs stop a) all st) same_b enters in
+      let node = Around (enter_at text name (end_in a.out)) kids (exit_at text name (end_in e.out)) in
+      let read : code_of names text sequence kids ≡ printed =
+      code_between names text (line_names chunk) sequence t_node u_node w.nodes w.named known.sequence_other refl refl
+      ∙ ap without_padding (w.code refl known.chunks)
+      ∙ ap (λ xs. code_text (content_codes xs)) (inner_is ∙ ap₂ (λ (x y : List ℕ). take (length x - length y) x) inside_at last)
+      ∙ raw.read in
+      record {
+        front = front;
+        after = after;
+        parts = all;
+        left = subst (λ k. AreBytesAt (drop k raw.end) to) (sym size_is) raw.left;
+        nodes = one node;
+        writes =
+            subst (λ ns. WritesInContent text front ns after stop a f)
+            (cut_one (enter_at text name (end_in a.out)) (exit_at text name (end_in e.out)) kids known.text_data)
+            (contents_around text stop a b e f name front after kids entered_here kids_written exited known.text_prefix);
+        whole = ap (λ (x : End). x.owed) exited.end ∙ u.whole;
+        plain =
+            plain_one node known.text_sought
+            (plain_both (one t_node) (append w.nodes (one u_node)) (plain_one t_node known.sequence_sought plain_none)
+            (plain_both w.nodes (one u_node) w.plain (plain_one u_node known.sequence_sought plain_none)));
+        spells = λ linked may m m'.
+            subst (ArePartsAlike m m' (leaves (raw_leaf name printed ∷ [])))
+            (sym (known.spells names text linked (end_in a.out) (end_in e.out) kids ∙ ap (λ p. leaves (raw_leaf name p ∷ [])) read))
+            (known.alike m m' printed);
+      }

@@ -1,0 +1,24 @@
+use Rattle.std.proofs.Common.{[], ◌∷◌, refl}
+use Rattle.engine_events.specs.declared.event.Name.TheVariants as n
+use Rattle.parse_strings.proofs.PlainNodes.{plain_void}
+use Rattle.parse_inline.specs.Rows.{void_next}
+use Rattle.parse_output.specs.Written.{end_in}
+use Rattle.parse_lines.specs.Content.{end_after}
+use Rattle.parse_inline.proofs.Calls.{entering, exiting, marking, on_ok_both, texting}
+use Rattle.parse_inline.proofs.label.end_mark.Goals as goal
+
+pub returns-clause-written : goal.returns-clause-written
+returns-clause-written g c =
+    on_ok_both c.exit.result
+    (λ stays written. λ text content stop st whole.
+    let old = c.args.walk.now in
+    let a = c.enter.new.self in
+    let b = c.text.new.self in
+    let new = c.exit.new.self in
+    let enters = entering text stop old a n.LabelEnd (93 ∷ content) (c.in_ok-enter.ensures.stays, c.in_ok-enter.ensures.written) st in
+    let within = texting text stop a b n.LabelMarker 1 (93 ∷ []) content refl refl refl (c.in_ok-text.ensures.stays, c.in_ok-text.ensures.written)
+    enters.stands in
+    let exits = exiting text stop b new n.LabelEnd content (stays, written) within.writes.stands in
+    marking text stop old a b new n.LabelEnd (93 ∷ []) content (void_next text n.LabelMarker 1 a) (record { no_quote = refl; no_data = refl; other = refl })
+    (plain_void text n.LabelMarker (end_in a.out) (end_after (end_in a.out) 1) refl refl) enters within exits whole)
+    c.exit.ensures.stays c.exit.ensures.written

@@ -1,0 +1,18 @@
+use Rattle.std.proofs.Common.{◌≡◌, ◌++◌, List, ℕ, false, length, map, take, drop}
+use Rattle.std.specs.List.{list_any}
+use Rattle.definition_text.specs.Lines.{ends_line}
+use Rattle.definition_inline.specs.CharacterReference.{Names}
+use Rattle.definition_inline.specs.Inline.{Escape}
+use Rattle.parse_lines.specs.InContent.{IsWhole, StandsInContent, Stop}
+use Rattle.parse_lines.specs.Open.{still_open}
+use Rattle.parse_rows.specs.Parts.{escaped}
+use Rattle.parse_inline.specs.Leaves.{Anywhere, WritesFront}
+use Rattle.parse_inline.proofs.leaf.push_escapes.Given as goal
+
+abbrev pub invariant-loop-done : goal.invariant-loop-done
+invariant-loop-done g l = record {
+  opened : still_open l.walk ≡ still_open l.fn.walk;
+  written : (names : Names) (text front content : List ℕ) (stop : Stop) → l.count ≡ length front → list_any ends_line front ≡ false
+      → StandsInContent text (escaped front ++ content) stop l.fn.walk → IsWhole l.fn.walk
+      → WritesFront names text (escaped (take l._done front)) (escaped (drop l._done front) ++ content) Anywhere (map Escape (take l._done front)) stop l.fn.walk l.walk;
+}

@@ -1,0 +1,16 @@
+use Rattle.std.proofs.Common.{◌≡◌, ◌++◌, List, ℕ, length}
+use Rattle.definition_inline.specs.CharacterReference.{Names}
+use Rattle.parse_lines.specs.InContent.{StandsInContent, Stop}
+use Rattle.parse_lines.specs.Open.{still_open}
+use Rattle.parse_inline.specs.Lines.{AreCutBetween, IsChunk, WritesLinesTo}
+use Rattle.parse_inline.proofs.lines.push_lines.Given as goal
+
+abbrev pub invariant-loop-rest : goal.invariant-loop-rest
+invariant-loop-rest g l = record {
+  opened : still_open l.walk ≡ still_open l.fn.walk;
+  written : (names : Names) (text content : List ℕ) (stop : Stop) → IsChunk l.name → AreCutBetween l.bytes content
+      → StandsInContent text (l.bytes ++ content) stop l.fn.walk → WritesLinesTo names text l.name l.indented l.bytes l.rest content stop l.fn.walk l.walk;
+}
+
+abbrev pub decreases-loop-rest : goal.decreases-loop-rest
+decreases-loop-rest g l = length l.rest

@@ -1,0 +1,57 @@
+-- A text in an event of its own.
+use Rattle.std.proofs.Common.{◌≡◌, ℕ, false, List, sym, ap, ◌∙◌, subst, drop, ◌≤◌, ◌+◌}
+use Rattle.std.specs.List.{prefix_len}
+use Rattle.engine_events.specs.Names.{same_name}
+use Rattle.engine_events.specs.declared.event.Name.{Name}
+use Rattle.engine_events.specs.declared.event.Name.TheVariants as n
+use Rattle.definition_inline.specs.Inline.{Inlines}
+use Rattle.definition_page.specs.Read.{Reading}
+use Rattle.definition_text.specs.Columns.{is_white}
+use Rattle.parse_output.specs.declared.end.End.{End}
+use Rattle.parse_output.specs.Written.{Exits, IsInOrder, Writes, end_in}
+use Rattle.parse_output.proofs.Written.{writes_around}
+use Rattle.parse_lines.specs.declared.walk.Walk.{Walk}
+use Rattle.parse_lines.specs.Content.{EntersInLine, StandsInLine}
+use Rattle.parse_lines.specs.Ends.{written_to}
+use Rattle.parse_lines.specs.InContent.{StandsInContent}
+use Rattle.parse_lines.specs.Standing.{Standing, StandsAt, standing}
+use Rattle.parse_lines.proofs.ContentLines.{content_done}
+use Rattle.parse_lines.proofs.InContent.{line_enters}
+use Rattle.parse_leaves.specs.Entered.{WritesContentIn}
+use Rattle.parse_leaves.specs.Texts.{WritesContent}
+use Rattle.parse_leaves.proofs.TextLeaves.{cut_one}
+
+pub text_in_event : {A : Type 0} (r : Reading) (name : Name) (content : List ℕ) (is : Inlines) (old b c new : Walk A) → same_name name n.Data ≡ false
+    → standing b ≡ standing old → ((text line : List ℕ) → StandsInLine text line old → EntersInLine text name line old b)
+    → WritesContent r content is b c → standing new ≡ standing c → written_to new ≡ written_to c
+    → ((text : List ℕ) → IsInOrder text c.out → Exits text name c.out new.out) → WritesContentIn r name content is old new
+text_in_event r name content is old b c new other same_b enters writes same end exits text stop st le =
+    let on = r.parse.constructs in
+    let names = r.tables.names in
+    let entered = line_enters text stop old b name (drop old.place content) st same_b (enters text) in
+    let place = entered.place in
+    let written =
+    writes text stop (subst (λ k. StandsInContent text (drop k content) stop b) (sym place) entered.stands)
+    (subst (λ k. k ≤ prefix_len is_white content) (sym place) le) in
+    let done = content_done text stop c written.writes.stands in
+    let from = end_in old.out in
+    let to = end_in c.out in
+    let ns = written.nodes in
+    record {
+      nodes = ns;
+      from = from;
+      to = to;
+      writes =
+          subst (Writes text old.out new.out) (cut_one text name from to ns other)
+          (writes_around text old.out b.out c.out new.out name ns entered.enters written.writes.writes (exits text written.writes.writes.order));
+      spells = written.spells;
+      plain = written.plain;
+      at = subst (StandsAt text stop.place) (sym same) done.at;
+      whole = ap (λ (e : End). e.owed) end ∙ done.whole;
+      index =
+          ap (λ (e : End). e.index + stop.behind) end ∙ done.index ∙ ap (λ (s : Standing). s.line_end) (sym same);
+      around = (
+        ap (λ (s : Standing). s.on) same ∙ written.writes.around.0 ∙ entered.around.0,
+        ap (λ (s : Standing). s.outermost) same ∙ written.writes.around.1 ∙ entered.around.1,
+      );
+    }

@@ -1,0 +1,46 @@
+-- Texts that are written one after another (CommonMark 6).
+use Rattle.std.proofs.Common.{ℕ, false, List, [], ◌++◌, sym, subst}
+use Rattle.std.proofs.lemmas.List.{append-nil}
+use Rattle.markdown_options.specs.declared.configuration.Constructs.{Constructs}
+use Rattle.definition_inline.specs.CharacterReference.{Names}
+use Rattle.definition_inline.specs.Inline.{Inlines}
+use Rattle.event_grammar.specs.Trees.{Nodes}
+use Rattle.event_meaning.specs.Texts.{append as append_inlines, inlines_of}
+use Rattle.parse_output.specs.Forest.{append}
+use Rattle.parse_lines.specs.declared.walk.Walk.{Walk}
+use Rattle.parse_lines.specs.InContent.{Stop, WritesInContent}
+use Rattle.parse_lines.specs.Quiet.{AreQuiet}
+use Rattle.parse_lines.proofs.InContent.{contents_both}
+use Rattle.parse_strings.proofs.PlainNodes.{plain_both, plain_quiet}
+use Rattle.parse_inline.specs.Texts.{WritesText}
+use Rattle.parse_alike.specs.Inline.{ArePartsAlike}
+use Rattle.parse_alike.proofs.Composed.{alike_parts_compose}
+use Rattle.parse_leaves.proofs.Spelled.{after_quiet, inlines_append}
+
+module _ {A : Type 0} (on : Constructs) (names : Names) (text : List ℕ) (stop : Stop) (a b c : Walk A) (front after : List ℕ) where
+  -- nodes that spell nothing, and then all that is left of a text
+  pub quiet_then : (ns : Nodes) (is : Inlines) → AreQuiet ns → WritesInContent text front ns after stop a b → WritesText on names text after is [] stop b c
+      → WritesText on names text (front ++ after) is [] stop a c
+  quiet_then ns is quiet first second = record {
+    nodes = append ns second.nodes;
+    writes =
+        contents_both text stop a b c front after [] ns second.nodes
+        (subst (λ bs. WritesInContent text front ns bs stop a b) (sym (append-nil after)) first) second.writes;
+    spells = λ m m' means. subst (ArePartsAlike m m' is) (sym (after_quiet names text false ns second.nodes quiet)) (second.spells m m' means);
+    plain = plain_both ns second.nodes (plain_quiet ns quiet) second.plain;
+  }
+
+  -- some of a text, and then all that is left of it
+  pub texts_both : (is js : Inlines) → WritesText on names text front is after stop a b → WritesText on names text after js [] stop b c
+      → WritesText on names text (front ++ after) (append_inlines is js) [] stop a c
+  texts_both is js first second = record {
+    nodes = append first.nodes second.nodes;
+    writes =
+        contents_both text stop a b c front after [] first.nodes second.nodes
+        (subst (λ bs. WritesInContent text front first.nodes bs stop a b) (sym (append-nil after)) first.writes) second.writes;
+    spells = λ m m' means.
+        subst (ArePartsAlike m m' (append_inlines is js)) (sym (inlines_append names text false first.nodes second.nodes))
+        (alike_parts_compose.joined m m' is (inlines_of names text false first.nodes) js (inlines_of names text false second.nodes)
+        (first.spells m m' means) (second.spells m m' means));
+    plain = plain_both first.nodes second.nodes first.plain second.plain;
+  }

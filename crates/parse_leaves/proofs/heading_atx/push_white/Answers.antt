@@ -1,0 +1,14 @@
+use Rattle.std.proofs.Common.{◌≤◌, length, refl, subst, sym}
+use Rattle.engine_events.specs.declared.event.Name.TheVariants.{SpaceOrTab}
+use Rattle.definition_text.specs.Columns.{indent}
+use Rattle.parse_leaves.specs.Calls.{TokenCall}
+use Rattle.parse_leaves.proofs.OnLine.{some_on}
+use Rattle.parse_leaves.proofs.heading_atx.push_white.Goals as goal
+
+pub returns-clause-written : goal.returns-clause-written
+returns-clause-written g c = λ text ending left on.
+    let bytes = c.args.bytes.now in
+    let token = c.in_ok-token.ensures in
+    let size = c.white_size-size.ensures in
+    some_on text ending left c.args.walk.now c.token.new.self SpaceOrTab bytes (indent bytes) refl (subst (λ k. k ≤ length bytes) size.size size.within)
+    (subst (λ k. TokenCall SpaceOrTab k c.args.walk.now c.token.new.self) size.size (token.stays, token.end, token.written)) on

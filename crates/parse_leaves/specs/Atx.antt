@@ -1,0 +1,33 @@
+-- What is written of a heading by `#` (CommonMark 4.2).
+use Rattle.std.specs.Prelude.{◌≡◌, ℕ, false, List, [], Option}
+use Rattle.markdown_options.specs.declared.configuration.Constructs.{Constructs}
+use Rattle.markdown_options.specs.declared.line_ending.LineEnding.{LineEnding}
+use Rattle.engine_events.specs.declared.event.Name.TheVariants as n
+use Rattle.definition_inline.specs.CharacterReference.{Names}
+use Rattle.definition_inline.specs.Inline.{Inlines, Nil as NoInlines}
+use Rattle.definition_page.specs.InlinePieces.{Meaning}
+use Rattle.event_grammar.specs.References.{named}
+use Rattle.event_grammar.specs.Trees.{Nodes}
+use Rattle.event_meaning.specs.Texts.{text_within}
+use Rattle.parse_output.specs.Forest.{append}
+use Rattle.parse_alike.specs.Inline.{ArePartsAlike}
+use Rattle.parse_laid.specs.Places.{LineRest}
+use Rattle.parse_lines.specs.declared.walk.Walk.{Walk}
+use Rattle.parse_inline.specs.Texts.{AreMeanings}
+use Rattle.parse_leaves.specs.Before.{WritesOnLine}
+
+-- The text of a heading is written in an event, or nothing if it is empty, and these bytes are left of the line.
+pub record WritesHeadingText {A : Type 0} (on : Constructs) (names : Names) (text : List ℕ) (is : Inlines) (ending : Option LineEnding) (left : List LineRest)
+    (behind : List ℕ) (old new : Walk A) : Type 0 where
+  pub nodes : Nodes
+  pub line : WritesOnLine text ending left nodes behind old new
+  pub spells : (others : Nodes) → text_within names text false others ≡ NoInlines → (m m' : Meaning) → AreMeanings on names m m'
+      → ArePartsAlike m m' is (text_within names text false (append nodes others))
+  pub definitions : named n.Definition nodes ≡ []
+
+-- What follows the text is written, up to the end of the line, and spells nothing.
+pub record WritesClosing {A : Type 0} (text : List ℕ) (ending : Option LineEnding) (left : List LineRest) (old new : Walk A) : Type 0 where
+  pub nodes : Nodes
+  pub line : WritesOnLine text ending left nodes [] old new
+  pub none : (names : Names) → text_within names text false nodes ≡ NoInlines
+  pub definitions : named n.Definition nodes ≡ []

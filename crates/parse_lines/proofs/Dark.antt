@@ -1,0 +1,127 @@
+-- Bytes of a line that are no white space, by their columns.
+use Rattle.std.proofs.Common.{◌≡◌, ℕ, ◌+◌, ◌-◌, ◌<◌, ◌≤◌, ◌^◌, zero, suc, Bool, false, not, List, [], ◌∷◌, refl, sym, ap, ◌∙◌, subst, arith, drop, take, length}
+use Rattle.std.specs.List.{list_any, prefix_len}
+use Rattle.std.proofs.lemmas.Bool.{cond-true, cond-false, or_parts}
+use Rattle.std.proofs.lemmas.List.{drop-drop}
+use Rattle.engine_events.specs.declared.event.Name.{Name}
+use Rattle.engine_events.specs.declared.event.Name.TheVariants.{SpaceOrTab}
+use Rattle.definition_text.specs.Columns.{Rest, bytes_of, is_byte, is_tab_column, is_white, whole}
+use Rattle.parse_output.specs.declared.end.End.{End}
+use Rattle.parse_output.specs.declared.output.Output.{Output}
+use Rattle.parse_output.specs.Ends.{Follows, end_at}
+use Rattle.parse_output.specs.Forest.{void_nodes}
+use Rattle.parse_output.specs.Written.{IsInOrder, Writes, end_in}
+use Rattle.parse_lines.specs.Standing.{IsLineOf}
+use Rattle.parse_lines.specs.Ends.{rest_start}
+use Rattle.parse_lines.proofs.Columns.{dark_is_byte, dark_owes_none}
+use Rattle.parse_lines.proofs.ContentLines.{start_owed}
+use Rattle.parse_lines.proofs.Ends.{left_within, line_follows, start_whole}
+
+-- codes that are no white space are bytes
+pub dark_bytes : (xs : Rest) → list_any is_white xs ≡ false → bytes_of xs ≡ xs
+dark_bytes [] h = refl
+dark_bytes (x ∷ xs) h =
+    let parts = or_parts (is_white x) (list_any is_white xs) h in
+    cond-true (is_byte x) _ _ (ap (λ (b : Bool). not b) (dark_is_byte x parts.0)) ∙ ap (λ (ys : Rest). x ∷ ys) (dark_bytes xs parts.1)
+
+module _ (text before content after : List ℕ) (line_end : ℕ) (line : IsLineOf text before content after) (end : line_end ≡ length before + length content) where
+  -- where a column of the line is in the text
+  abbrev pub column_end : ℕ → End
+  column_end n = rest_start line_end (drop n (whole content))
+
+  -- so many codes from a column on are no white space
+  pub record IsDark (n k : ℕ) : Type 0 where
+    pub within : k ≤ length (drop n (whole content))
+    pub dark : list_any is_white (take k (drop n (whole content))) ≡ false
+    pub none : prefix_len is_tab_column (drop n (whole content)) ≡ 0
+
+  pub record IsFurther (n k : ℕ) : Type 0 where
+    pub there : end_at ((column_end n).index + k) 0 ≡ column_end (n + k)
+    pub none : prefix_len is_tab_column (drop (n + k) (whole content)) ≡ 0
+
+  one_further : (n x : ℕ) (xs : Rest) → drop n (whole content) ≡ x ∷ xs → is_white x ≡ false → IsFurther n 1
+  one_further n x xs is dark =
+      let byte = dark_is_byte x dark in
+      let later : drop (n + 1) (whole content) ≡ xs = sym (drop-drop 1 n (whole content)) ∙ ap (drop 1) is in
+      let none = dark_owes_none 0 content n x xs line.bytes is dark in
+      let first : bytes_of (x ∷ xs) ≡ x ∷ bytes_of xs = cond-true (is_byte x) _ _ (ap (λ (b : Bool). not b) byte) in
+      let here : column_end n ≡ end_at (line_end - length (bytes_of (x ∷ xs))) 0 =
+      ap (rest_start line_end) is ∙ start_whole line_end (x ∷ xs) (cond-false (is_tab_column x) _ _ byte) in
+      let there : column_end (n + 1) ≡ end_at (line_end - length (bytes_of xs)) 0 = ap (rest_start line_end) later ∙ start_whole line_end xs none in
+      let within = left_within content n line.bytes in
+      let size : length (bytes_of (drop n (whole content))) ≡ length (bytes_of (x ∷ xs)) = ap (λ (r : Rest). length (bytes_of r)) is in
+      let index : (column_end n).index + 1 ≡ line_end - length (bytes_of xs) =
+      omega (arith, ap (λ (e : End). e.index) here, ap length first, within, size, end) in
+      record {
+        there = ap (λ (k : ℕ). end_at k 0) index ∙ sym there;
+        none = ap (prefix_len is_tab_column) later ∙ none;
+      }
+
+  further_from : (xs : Rest) (n k : ℕ) → drop n (whole content) ≡ xs → k ≤ length xs → list_any is_white (take k xs) ≡ false
+      → prefix_len is_tab_column (drop n (whole content)) ≡ 0 → IsFurther n k
+  further_from xs n zero is within dark none =
+      let same : n ≡ n + 0 = omega arith in
+      let index : (column_end n).index + 0 ≡ (column_end n).index = omega arith in
+      let owed : (column_end n).owed ≡ 0 = start_owed line_end (drop n (whole content)) ∙ none in
+      record {
+        there = ap (λ (k : ℕ). end_at k 0) index ∙ ap (end_at (column_end n).index) (sym owed) ∙ ap column_end same;
+        none = ap (λ (m : ℕ). prefix_len is_tab_column (drop m (whole content))) (sym same) ∙ none;
+      }
+  further_from [] n (suc k) is within dark none = absurd (omega (arith, within))
+  further_from (x ∷ xs) n (suc k) is within dark none =
+      let parts = or_parts (is_white x) (list_any is_white (take k xs)) dark in
+      let one = one_further n x xs is parts.0 in
+      let later : drop (n + 1) (whole content) ≡ xs = sym (drop-drop 1 n (whole content)) ∙ ap (drop 1) is in
+      let more = further_from xs (n + 1) k later (omega (arith, within)) parts.1 one.none in
+      let all : (n + 1) + k ≡ n + suc k = omega arith in
+      let index : (column_end n).index + suc k ≡ (column_end (n + 1)).index + k = omega (arith, ap (λ (e : End). e.index) one.there) in
+      record {
+        there = ap (λ (m : ℕ). end_at m 0) index ∙ more.there ∙ ap column_end all;
+        none = ap (λ (m : ℕ). prefix_len is_tab_column (drop m (whole content))) (sym all) ∙ more.none;
+      }
+
+  -- each takes one byte and one column
+  pub further : (n k : ℕ) → IsDark n k → IsFurther n k
+  further n k d = further_from (drop n (whole content)) n k refl d.within d.dark d.none
+
+  -- ---- what is written of them
+
+  module _ {A : Type 0} where
+    -- all before a column is written
+    pub record IsAtColumn (n : ℕ) (o : Output A) : Type 0 where
+      pub at : end_in o ≡ column_end n
+      pub order : IsInOrder text o
+
+    pub token_step : (name : Name) (n k : ℕ) (a b : Output A) → IsDark n k → IsAtColumn n a
+        → ((end_in a).index + k < 2 ^ 64 → end_in b ≡ end_at ((end_in a).index + k) 0)
+        → ((end_in a).index + k < 2 ^ 64 → IsInOrder text a → Follows text (end_in a) (end_at ((end_in a).index + k) 0)
+        → Writes text a b (void_nodes text name (end_in a) (end_at ((end_in a).index + k) 0)))
+        → Writes text a b (void_nodes text name (column_end n) (column_end (n + k))) × IsAtColumn (n + k) b
+    token_step name n k a b dark at ends writes =
+        let to = further n k dark in
+        let there : end_at ((end_in a).index + k) 0 ≡ column_end (n + k) = ap (λ (e : End). end_at (e.index + k) 0) at.at ∙ to.there in
+        let follows = line_follows text before content after line_end n (n + k) line end (omega arith) in
+        let fits : (end_in a).index + k < 2 ^ 64 = omega (arith, ap (λ (e : End). e.index) there, follows.within, line.fits) in
+        let first : Follows text (end_in a) (end_at ((end_in a).index + k) 0) =
+        subst (λ (e : End). Follows text e (end_at ((end_in a).index + k) 0)) (sym at.at) (subst (Follows text (column_end n)) (sym there) follows) in
+        let written = writes fits at.order first in (
+          subst (λ (e : End). Writes text a b (void_nodes text name e (column_end (n + k)))) at.at
+              (subst (λ (e : End). Writes text a b (void_nodes text name (end_in a) e)) there written),
+          record { at = ends fits ∙ there; order = written.order },
+        )
+
+    pub space_step : (n k : ℕ) (rest : Rest) (a b : Output A) → rest ≡ drop (n + k) (whole content) → IsAtColumn n a
+        → end_in b ≡ rest_start line_end rest
+        → (IsInOrder text a → Follows text (end_in a) (rest_start line_end rest)
+        → Writes text a b (void_nodes text SpaceOrTab (end_in a) (rest_start line_end rest)))
+        → Writes text a b (void_nodes text SpaceOrTab (column_end n) (column_end (n + k))) × IsAtColumn (n + k) b
+    space_step n k rest a b is at ends writes =
+        let there : rest_start line_end rest ≡ column_end (n + k) = ap (rest_start line_end) is in
+        let follows = line_follows text before content after line_end n (n + k) line end (omega arith) in
+        let first : Follows text (end_in a) (rest_start line_end rest) =
+        subst (λ (e : End). Follows text e (rest_start line_end rest)) (sym at.at) (subst (Follows text (column_end n)) (sym there) follows) in
+        let written = writes at.order first in (
+          subst (λ (e : End). Writes text a b (void_nodes text SpaceOrTab e (column_end (n + k)))) at.at
+              (subst (λ (e : End). Writes text a b (void_nodes text SpaceOrTab (end_in a) e)) there written),
+          record { at = ends ∙ there; order = written.order },
+        )

@@ -1,0 +1,35 @@
+use Rattle.std.proofs.Common.{◌≡◌, false, Some, refl, sym, subst}
+use Rattle.markdown_options.specs.declared.container.Container.{Container as CodeContainer}
+use Rattle.definition_block.specs.ContainerLine.{container_line}
+use Rattle.definition_block.specs.Containers.{continues}
+use Rattle.block_starts.specs.View.{container_view, rest_of}
+use Rattle.parse_lines.specs.declared.walk.Walk.{Walk}
+use Rattle.parse_lines.specs.Ends.{WritesQuiet, rest_start, written_to}
+use Rattle.parse_lines.proofs.Suffixes.{continues_white}
+use Rattle.parse_lines.proofs.Containers.{no_quote}
+use Rattle.parse_lines.proofs.Written.{space_written}
+use Rattle.parse_lines.proofs.walk.Walk.prefix.Goals as goal
+use Rattle.parse_lines.proofs.walk.Walk.prefix.Goals.{in-Quote+in_ok-quote_prefix-in-Quote, in_default+in_ok-space_to-in_default}
+
+pub returns-clause-written : goal.returns-clause-written
+returns-clause-written g c text before content after n kind at is =
+    let old = c.args.self.now in
+    let rest = rest_of c.args.after in
+    let to = rest_start old.line_end rest in
+    elim c.match-container.branch [
+      | in-Quote+in_ok-quote_prefix-in-Quote w ↦
+          let way = subst
+          (λ (k : CodeContainer). continues old.on.now (container_view k) false (rest_of old.rest) ≡ Some (container_line rest kind))
+          w.in-Quote.is is in
+          subst (λ (x : Walk g.row.A.Denot). WritesQuiet text old.out x.out × (written_to x ≡ to)) (sym w.self-is)
+          (w.in_ok-quote_prefix-in-Quote.ensures.written text before content after n kind at way)
+      | in_default+in_ok-space_to-in_default w ↦
+          let space = w.in_ok-space_to-in_default.ensures in
+          let other = no_quote c.args.container w.in_default.not-Quote in
+          let further = continues_white old.on.now (container_view c.args.container) (rest_of old.rest) (container_line rest kind) other is in
+          subst (λ (x : Walk g.row.A.Denot). WritesQuiet text old.out x.out × (written_to x ≡ to)) (sym w.self-is) (
+            space_written text before content after n old.line_end (rest_of old.rest) rest old.out w.space_to.new.self.out to at.line at.end at.rest at.written
+                at.order further refl (space.written text),
+            space.end,
+          )
+    ]

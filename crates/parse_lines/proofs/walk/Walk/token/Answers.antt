@@ -1,0 +1,21 @@
+use Rattle.std.proofs.Common.{◌+◌, ◌^◌, ◌<◌, ap, ◌∙◌, sym, subst}
+use Rattle.std.proofs.lemmas.Result.{on_ok_weaker}
+use Rattle.parse_output.specs.declared.end.End.{End}
+use Rattle.parse_output.specs.Ends.{Follows, end_at}
+use Rattle.parse_output.specs.Forest.{void_nodes}
+use Rattle.parse_output.specs.Written.{Writes}
+use Rattle.parse_lines.specs.Ends.{written_to}
+use Rattle.parse_lines.proofs.walk.Walk.token.Goals as goal
+
+pub returns-clause-written : goal.returns-clause-written
+returns-clause-written g c =
+    let old = c.args.self.now in
+    let at = c.end.ensures in
+    on_ok_weaker c.token.result
+    (λ written. λ fits. λ text order follows.
+    let is = c.after-end.ensures (subst (λ (x : End). x.index + c.args.size < 2 ^ 64) (sym at) fits)
+    ∙ ap (λ (x : End). end_at (x.index + c.args.size) 0) at in
+    subst (λ (x : End). Writes text old.out c.token.new.self (void_nodes text c.args.name (written_to old) x)) is (
+    written text order (subst (λ (x : End). Follows text (written_to old) x) (sym is) follows)
+    ))
+    c.token.ensures.written

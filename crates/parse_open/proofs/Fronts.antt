@@ -1,0 +1,115 @@
+-- What is in front of the blocks of a document: a byte order mark, white space, frontmatter.
+use Rattle.std.proofs.Common.{◌≡◌, inl, inr, ℕ, Bool, true, false, List, [], ◌∷◌, ◌++◌, refl, ap, ap₂, ◌∙◌}
+use Rattle.std.specs.Prelude.{if◌then◌else◌}
+use Rattle.markdown_options.specs.LineEndings.{ending_bytes}
+use Rattle.markdown_options.specs.declared.line_ending.LineEnding.{LineEnding}
+use Rattle.markdown_options.specs.declared.line_ending.LineEnding.TheVariants.{CarriageReturnLineFeed, CarriageReturn, LineFeed}
+use Rattle.engine_events.specs.Names.{same_name}
+use Rattle.engine_events.specs.declared.event.Name.{Name}
+use Rattle.engine_events.specs.declared.event.Name.TheVariants as n
+use Rattle.definition_block.specs.Tree as tree
+use Rattle.definition_inline.specs.CharacterReference.{Names}
+use Rattle.definition_page.specs.Page as page
+use Rattle.event_grammar.specs.InGrammar.{node_name}
+use Rattle.event_grammar.specs.References.{named}
+use Rattle.event_grammar.specs.Trees.{Node, Nodes, Around, Nil}
+use Rattle.event_meaning.specs.Blocks as spelled
+use Rattle.event_meaning.specs.Blocks.{block_of, blocks_from, blocks_of, start_of}
+use Rattle.event_meaning.specs.Children.{ends_in, text_of}
+use Rattle.event_meaning.specs.Raw.{ending_of}
+use Rattle.parse_output.specs.declared.end.End.{End}
+use Rattle.parse_output.specs.Ends.{enter_at, exit_at, same_end}
+use Rattle.parse_output.specs.Forest.{append, cut, one, void_nodes}
+use Rattle.parse_open.specs.Fronts.{IsFront, SpellsNothing}
+use Rattle.parse_open.specs.Levels.{AreMute}
+use Rattle.parse_open.specs.Steps.{IsEndingNode}
+use Rattle.parse_open.proofs.Ends.{ends_after, ends_one, mute_ends}
+use Rattle.parse_open.proofs.Nodes.{blocks_both, mute_blocks, mute_named, named_both}
+
+module _ (names : Names) (text : List ℕ) where
+  pub nothing_none : SpellsNothing names text Nil
+  nothing_none = record { blocks = refl; none = refl; other = refl }
+
+  pub nothing_mute : (ns : Nodes) → AreMute ns → SpellsNothing names text ns
+  nothing_mute ns are = record { blocks = mute_blocks names text true ns are; none = mute_named ns are; other = mute_ends ns are }
+
+  pub nothing_both : (ns ms : Nodes) → SpellsNothing names text ns → SpellsNothing names text ms → SpellsNothing names text (append ns ms)
+  nothing_both ns ms p q =
+      record {
+        blocks = blocks_both names text true ns ms ∙ ap₂ spelled.join p.blocks q.blocks;
+        none = named_both n.Definition ns ms ∙ ap₂ (λ (xs ys : List Node). xs ++ ys) p.none q.none;
+        other = ends_after n.BlankLineEnding false ns ms ∙ ap (λ (b : Bool). ends_in n.BlankLineEnding b ms) p.other ∙ q.other;
+      }
+
+  mark_if : (b : Bool) (from to : End)
+      → SpellsNothing names text (if b then Nil else cut (Around (enter_at text n.ByteOrderMark from) Nil (exit_at text n.ByteOrderMark to)))
+  mark_if true from to = nothing_none
+  mark_if false from to = record { blocks = refl; none = refl; other = refl }
+
+  -- a byte order mark, if there is one
+  pub nothing_mark : (from to : End) → SpellsNothing names text (void_nodes text n.ByteOrderMark from to)
+  nothing_mark from to = mark_if (same_end to from) from to
+
+  pub front_none : (bs : tree.Blocks) (front : Nodes) → SpellsNothing names text front → IsFront names text front bs
+  front_none bs front is = record { blocks = inl is.blocks; none = is.none; other = is.other }
+
+  -- ---- frontmatter
+
+  front_blocks : (node : Node) → node_name node ≡ n.Frontmatter → blocks_of names text true (one node) ≡ page.Cons (page.Leaf page.Definition) page.Nil
+  front_blocks (Around enter kids exit) is =
+      let t = text_of text (Around enter kids exit) in
+      ap (λ (a : Name). spelled.join (block_of names text true a t kids (blocks_from names text (start_of a) kids)) page.Nil) is
+
+  not_blank : (name : Name) (node : Node) → node_name node ≡ name → same_name name n.BlankLineEnding ≡ false
+      → same_name (node_name node) n.BlankLineEnding ≡ false
+  not_blank name node is other = ap (λ (a : Name). same_name a n.BlankLineEnding) is ∙ other
+
+  -- whose last line has no ending
+  pub front_alone : (bs : tree.Blocks) (before : Nodes) (node : Node) → SpellsNothing names text before → node_name node ≡ n.Frontmatter
+      → named n.Definition (one node) ≡ [] → bs ≡ tree.Nil → IsFront names text (append before (one node)) bs
+  front_alone bs before node nothing is none empty =
+      record {
+        blocks = inr (inr (blocks_both names text true before (one node) ∙ ap₂ spelled.join nothing.blocks (front_blocks node is), empty));
+        none = named_both n.Definition before (one node) ∙ ap₂ (λ (xs ys : List Node). xs ++ ys) nothing.none none;
+        other = ends_one before node (not_blank n.Frontmatter node is refl);
+      }
+
+  ending_same : (e : LineEnding) → ending_of (ending_bytes e) ≡ e
+  ending_same CarriageReturnLineFeed = refl
+  ending_same CarriageReturn = refl
+  ending_same LineFeed = refl
+
+  ending_blocks : (e : LineEnding) (node : Node) → IsEndingNode text n.LineEnding e node
+      → blocks_of names text true (one node) ≡ page.Cons (page.Ending e) page.Nil
+  ending_blocks e (Around enter kids exit) is =
+      let node = Around enter kids exit in
+      ap (λ (a : Name). spelled.join (block_of names text true a (text_of text node) kids (blocks_from names text (start_of a) kids)) page.Nil) is.named
+      ∙ ap (λ (bs : List ℕ). page.Cons (page.Ending (ending_of bs)) page.Nil) is.bytes
+      ∙ ap (λ (x : LineEnding). page.Cons (page.Ending x) page.Nil) (ending_same e)
+
+  ending_named : (e : LineEnding) (node : Node) → IsEndingNode text n.LineEnding e node → named n.Definition (one node) ≡ []
+  ending_named e (Around enter kids exit) is =
+      ap (λ (b : Bool). (if b then Around enter kids exit ∷ named n.Definition kids else named n.Definition kids) ++ [])
+      (ap (λ (a : Name). same_name a n.Definition) is.named)
+      ∙ ap (λ (ks : Nodes). named n.Definition ks ++ []) is.empty
+
+  -- and with it
+  pub front_ended : (bs : tree.Blocks) (before : Nodes) (node : Node) (e : LineEnding) (ending : Node) → SpellsNothing names text before
+      → node_name node ≡ n.Frontmatter → named n.Definition (one node) ≡ [] → IsEndingNode text n.LineEnding e ending
+      → IsFront names text (append before (append (one node) (one ending))) bs
+  front_ended bs before node e ending nothing is none ends =
+      let both = append (one node) (one ending) in
+      record {
+        blocks = inr (inl (
+          e,
+          blocks_both names text true before both ∙ ap₂ spelled.join nothing.blocks
+              (blocks_both names text true (one node) (one ending) ∙ ap₂ spelled.join (front_blocks node is) (ending_blocks e ending ends)),
+        ));
+        none =
+            named_both n.Definition before both
+            ∙ ap₂ (λ (xs ys : List Node). xs ++ ys) nothing.none
+            (named_both n.Definition (one node) (one ending) ∙ ap₂ (λ (xs ys : List Node). xs ++ ys) none (ending_named e ending ends));
+        other =
+            ends_after n.BlankLineEnding false before both
+            ∙ not_blank n.LineEnding ending ends.named refl;
+      }

@@ -1,0 +1,11 @@
+pub mod Bare
+pub mod Rows
+pub mod BareRead
+pub mod LineCounts
+pub mod Spread
+pub mod Nodes
+pub mod Steps
+pub mod Page
+pub mod Ends
+pub mod Fronts
+pub mod Texts

@@ -1,0 +1,46 @@
+-- The events of a text spell its page.
+use Rattle.std.proofs.Common.{◌≡◌, ℕ, false, List, [], refl, sym, ◌∙◌, subst}
+use Rattle.markdown_options.specs.declared.configuration.ParseOptions.{ParseOptions}
+use Rattle.definition_block.specs.Definitions.{document_targets}
+use Rattle.definition_block.specs.Lists.{group_items}
+use Rattle.definition_page.specs.Page as page
+use Rattle.definition_page.specs.Read.{ends_blank, reading}
+use Rattle.definition_page.specs.TextTables.{TextTables}
+use Rattle.event_grammar.specs.Trees.{Nodes, growth}
+use Rattle.event_meaning.specs.Spelled.{page_of}
+use Rattle.parse_alike.specs.Meanings.{AreMeanings}
+use Rattle.parse_alike.specs.Spelled.{IsPageOfText, meaning_read, meaning_spelled}
+use Rattle.parse_bytewise.proofs.Events.{events_spell_the_same}
+use Rattle.parse_open.specs.Open.{bare_blocks, opened}
+use Rattle.parse_open.proofs.BareRead.{bare_blocks_read}
+use Rattle.parse_open.specs.Fronts.{IsFront, IsSpelledPage, ends_in_blank}
+use Rattle.parse_open.specs.Levels.{Spells}
+use Rattle.parse_open.specs.Texts.{TextsAreSpelled, text_blocks}
+use Rattle.parse_open.proofs.Page.{pages_are_spelled}
+
+module _ (tables : TextTables) (options : ParseOptions) (text : List ℕ) where
+  text_meanings : (p : page.Page) → AreMeanings options.constructs tables.names (meaning_read tables options text) (meaning_spelled tables options text p)
+  text_meanings p = record { on = refl; names = refl; spelled_on = refl; spelled_names = refl }
+
+  nodes_spelled : (front ns : Nodes) (line : ℕ) → IsFront tables.names text front (text_blocks options text)
+      → Spells (reading tables options (document_targets (text_blocks options text))) text front
+      (opened (group_items (bare_blocks (text_blocks options text))) [] []) (growth ns []) line
+      → ends_in_blank ns ≡ ends_blank false (group_items (bare_blocks (text_blocks options text)))
+      → IsPageOfText tables options text (page_of tables.names text ns)
+  nodes_spelled front ns line is spells ends =
+      let bs = text_blocks options text in
+      let p = page_of tables.names text ns in
+      let m = meaning_read tables options text in
+      let m' = meaning_spelled tables options text p in
+      let all : IsSpelledPage tables options text bs p = pages_are_spelled tables options text bs front ns line is spells in
+      record {
+        blocks = all.blocks m m' (text_meanings p);
+        definitions = all.defined m m' (text_meanings p);
+        footnotes = refl;
+        ends_blank = sym (bare_blocks_read.blank bs) ∙ sym ends;
+      }
+
+pub texts_are_spelled : TextsAreSpelled
+texts_are_spelled = λ tables options text front ns line events is spells ends right same.
+    subst (IsPageOfText tables options text) (sym (events_spell_the_same tables.names text events ns right same))
+    (nodes_spelled tables options text front ns line is spells ends)

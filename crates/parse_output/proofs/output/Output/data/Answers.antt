@@ -1,0 +1,21 @@
+use Rattle.std.proofs.Common.{◌≡◌, ◌+◌, ◌-◌, length, get_or, set, arith, refl, sym, subst, ap, ◌∙◌}
+use Rattle.parse_output.specs.Ends.{first_end}
+use Rattle.parse_output.specs.Forest.{AreInOrder, IsData, forest}
+use Rattle.parse_output.proofs.Forests.{longer}
+use Rattle.parse_output.proofs.output.Output.data.Goals as goal
+
+pub returns-clause-written : goal.returns-clause-written
+returns-clause-written g c =
+    let self = c.args.self.now in
+    let ds = self.drafts.items in
+    let i = c.len-count.result - 1 in
+    let end = c.args.end in
+    let d = c.index.result.now in
+    let is : i + 1 ≡ length ds = omega (arith, c.len-count.ensures, c.if-count-eq0.false) in
+    let of_data : IsData (get_or ds i d) = subst IsData c.index.ensures (c.if-not-is_data.ensures.data refl) in
+    λ text order follows.
+    let long = longer text ds i d self.end end is of_data self.ends order follows in
+    record {
+      order = subst (λ e. AreInOrder text first_end (set ds i e)) (sym c.draft_to.ensures.same) long.order;
+      forest = ap (λ e. forest text (set ds i e)) c.draft_to.ensures.same ∙ long.forest;
+    }

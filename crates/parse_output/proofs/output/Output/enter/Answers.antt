@@ -1,0 +1,14 @@
+use Rattle.std.proofs.Common.{sym, subst, ap, ◌∙◌}
+use Rattle.parse_output.specs.declared.draft.Draft.TheVariants as draft
+use Rattle.parse_output.specs.Ends.{first_end}
+use Rattle.parse_output.specs.Forest.{AreInOrder, forest}
+use Rattle.parse_output.proofs.Forests.{entered_forest, order_more}
+use Rattle.parse_output.proofs.output.Output.enter.Goals as goal
+
+pub returns-clause-written : goal.returns-clause-written
+returns-clause-written g c =
+    let self = c.args.self.now in
+    λ text order. record {
+      order = subst (AreInOrder text first_end) (sym c.in_ok-push.ensures.items) (order_more text self.drafts.items (draft.Enter c.args.name) order tt);
+      forest = ap (forest text) c.in_ok-push.ensures.items ∙ entered_forest text self.drafts.items c.args.name self.end self.ends;
+    }

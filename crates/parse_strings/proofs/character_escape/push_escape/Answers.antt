@@ -1,0 +1,22 @@
+use Rattle.std.proofs.Common.{◌∷◌, [], false, refl, ◌∙◌}
+use Rattle.std.proofs.lemmas.Bool.{or_from}
+use Rattle.definition_text.specs.Lines.{ends_line}
+use Rattle.parse_lines.proofs.InContent.{line_in_content}
+use Rattle.parse_lines.proofs.Steps.{both_ok}
+use Rattle.parse_strings.proofs.Parts.{node_in}
+use Rattle.parse_strings.proofs.Strings.{writes_escape}
+use Rattle.parse_strings.proofs.character_escape.push_escape.Goals as goal
+
+pub returns-clause-written : goal.returns-clause-written
+returns-clause-written g c =
+    both_ok c.exit.result
+    (λ exits stays names text content byte stop dark st whole.
+    let ahead = line_in_content text stop c.args.walk.now (92 ∷ byte ∷ []) content st (or_from (ends_line byte) false dark refl) in
+    let line = ahead.line in
+    let enters = c.in_ok-enter.ensures.written text (92 ∷ byte ∷ line) ahead.stands in
+    let marker = c.in_ok-text.ensures.written text (92 ∷ []) (byte ∷ line) refl refl enters.stands in
+    let value = c.in_ok-text-2.ensures.written text (byte ∷ []) line refl refl marker.stands in
+    let same = stays ∙ c.in_ok-text-2.ensures.stays ∙ c.in_ok-text.ensures.stays ∙ c.in_ok-enter.ensures.stays in
+    node_in text stop names _ _ _ _ _ content ahead same
+    (writes_escape names text _ _ _ _ _ byte line whole enters marker value (exits text line value.stands)))
+    c.exit.ensures.written c.exit.ensures.stays

@@ -1,0 +1,35 @@
+use Rattle.std.proofs.Common.{◌≡◌, ◌++◌, ◌∷◌, [], length, drop, arith, refl, ap, ◌∙◌, append_assoc}
+use Rattle.parse_lines.proofs.InContent.{line_in_content}
+use Rattle.parse_lines.proofs.Steps.{both_ok}
+use Rattle.parse_output.specs.declared.end.End.{End}
+use Rattle.parse_lines.specs.Content.{end_after}
+use Rattle.parse_strings.proofs.Parts.{node_in}
+use Rattle.parse_strings.proofs.Spelled.{still_whole}
+use Rattle.parse_strings.proofs.ReferenceSteps.{stands_by, writes_reference}
+use Rattle.parse_strings.proofs.character_reference.push_reference.Goals as goal
+
+pub returns-clause-written : goal.returns-clause-written
+returns-clause-written g c =
+    both_ok c.exit.result
+    (λ exits stays names text marks value after content first stop is are some sized dark st within.
+    let ahead = line_in_content text stop c.args.walk.now (38 ∷ (marks ++ (value ++ 59 ∷ []))) content st dark in
+    let line = ahead.line in
+    let bare : c.bytes_from.result.now ≡ marks ++ first ∷ after = c.bytes_from.ensures.rest ∙ ap (drop 1) is in
+    let enters = c.in_ok-enter.ensures.written text _ ahead.stands in
+    let marker = c.in_ok-text.ensures.written text (38 ∷ []) ((marks ++ (value ++ 59 ∷ [])) ++ line) refl refl enters.stands in
+    let whole = ap (λ (e : End). e.owed) (marker.end ∙ ap (λ e. end_after e 1) enters.end) ∙ still_whole _ 1 within in
+    let at_marks = stands_by text _ _ _ (append_assoc marks (value ++ 59 ∷ []) line) marker.stands in
+    let marked = c.in_ok-marker.ensures.written text marks (first ∷ after) ((value ++ 59 ∷ []) ++ line) bare are
+    (record { stands = at_marks; whole = whole }) in
+    let at_value = stands_by text _ _ _ (append_assoc value (59 ∷ []) line) marked.writes.stands in
+    let size : c.saturating_sub-2.result ≡ length value =
+    omega (arith, c.saturating_sub-2.ensures, c.saturating_sub.ensures, sized, c.in_ok-marker.ensures.size marks (first ∷ after) bare are) in
+    let valued = c.in_ok-text-2.ensures.written text value (59 ∷ line) size refl at_value in
+    let closed = c.in_ok-text-3.ensures.written text (59 ∷ []) line refl refl valued.stands in
+    let same =
+    stays ∙ c.in_ok-text-3.ensures.stays ∙ c.in_ok-text-2.ensures.stays ∙ c.in_ok-marker.ensures.stays ∙ c.in_ok-text.ensures.stays ∙
+    c.in_ok-enter.ensures.stays in
+    node_in text stop names _ _ _ _ _ content ahead same
+    (writes_reference names text _ _ _ _ _ _ _ marks value line first c.saturating_sub-2.result within are some size enters marker marked valued closed
+    (exits text line closed.stands)))
+    c.exit.ensures.written c.exit.ensures.stays

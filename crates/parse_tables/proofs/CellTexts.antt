@@ -1,0 +1,144 @@
+-- The text of a cell.
+use Rattle.std.proofs.Common.{◌≡◌, ◌<◌, ◌≤◌, ℕ, zero, suc, ◌+◌, Bool, false, ◌||◌, List, [], ◌∷◌, ◌++◌, Option, None, drop, get_or, map, replicate, refl, sym, ap, ap₂, subst, ◌∙◌, arith, eqb}
+use Rattle.std.specs.List.{list_any, prefix_len}
+use Rattle.std.proofs.lemmas.Bool.{cond-false, ne_eqb, or_parts}
+use Rattle.std.proofs.lemmas.List.{append-nil, get_or-drop}
+use Rattle.markdown_options.specs.declared.beside.Kind.{Kind}
+use Rattle.markdown_options.specs.declared.line_ending.LineEnding.{LineEnding}
+use Rattle.definition_text.specs.BlockLines.{BlockLine, block_line, own_lines}
+use Rattle.definition_text.specs.Columns.{code_byte, is_white}
+use Rattle.definition_text.specs.Content.{content_text}
+use Rattle.definition_text.specs.InlineCode.{inline_content, with_kinds}
+use Rattle.definition_text.specs.Lines.{ends_line}
+use Rattle.text_pieces.specs.ParagraphLines.{HaveNoEnding}
+use Rattle.parse_output.specs.Ends.{end_at}
+use Rattle.parse_output.specs.Written.{end_in}
+use Rattle.parse_laid.specs.Places.{LineRest}
+use Rattle.parse_lines.specs.declared.walk.Walk.{Walk}
+use Rattle.parse_lines.specs.Content.{AreNext}
+use Rattle.definition_block.specs.GfmTable.{cell}
+use Rattle.definition_inline.specs.Scan.{inlines}
+use Rattle.definition_page.specs.Read.{Reading, context_of}
+use Rattle.engine_events.specs.declared.event.Name.TheVariants as n
+use Rattle.event_grammar.specs.Trees.{Around, Node}
+use Rattle.event_meaning.specs.Texts.{inlines_of}
+use Rattle.parse_output.specs.Ends.{enter_at, exit_at}
+use Rattle.parse_output.specs.Forest.{one}
+use Rattle.inline_content.specs.Lines.{AreContentLines}
+use Rattle.parse_alike.specs.Inline.{ArePartsAlike}
+use Rattle.parse_alike.proofs.Composed.{alike_parts_compose}
+use Rattle.parse_lines.specs.Content.{BeginsLineAfter, EntersInLine, ExitsInLine, StandsInLine}
+use Rattle.parse_lines.specs.InContent.{StandsInContent, WritesInContent}
+use Rattle.parse_lines.specs.Standing.{standing}
+use Rattle.parse_leaves.specs.Texts.{WritesContent, read_content}
+use Rattle.parse_tables.specs.Before.{IsBefore}
+use Rattle.parse_tables.proofs.Parts.{part_entered, part_left, stop_before}
+use Rattle.parse_tables.proofs.Steps.{dark_front}
+use Rattle.parse_tables.specs.Cells.{WritesInCell}
+
+-- the line of a cell: columns of a tab, and bytes
+abbrev pub cell_line : ℕ → List ℕ → Option LineEnding → Kind → BlockLine
+cell_line owed bytes ending before = block_line (replicate owed 256 ++ bytes) ending before
+
+-- ---- its content, as the definition reads a cell
+
+pub content_is : (is_punctuation : ℕ → Bool) (before after : Kind) (codes : List ℕ) (ending : Option LineEnding)
+    → inline_content is_punctuation after (own_lines (block_line codes ending before ∷ [])) ≡ with_kinds is_punctuation None before after (map code_byte codes)
+content_is is_punctuation before after codes ending =
+    append-nil (with_kinds is_punctuation None before after (map code_byte (codes ++ [])))
+    ∙ ap (λ xs. with_kinds is_punctuation None before after (map code_byte xs)) (append-nil codes)
+
+pub text_is : (codes : List ℕ) (ending : Option LineEnding) (before : Kind) → content_text (block_line codes ending before ∷ []) ≡ map code_byte codes
+text_is codes ending before = append-nil (map code_byte codes ++ []) ∙ append-nil (map code_byte codes)
+
+-- small bytes, of which none is a column of a tab
+AreSmall : List ℕ → Type 0
+AreSmall bytes = (k : ℕ) → get_or bytes k 0 < 256
+
+bytes_same : (bytes : List ℕ) → ((k : ℕ) → get_or bytes k 0 < 256) → map code_byte bytes ≡ bytes
+bytes_same [] h = refl
+bytes_same (b ∷ bs) h =
+    let small = h 0 in
+    ap₂ (λ (x : ℕ) xs. x ∷ xs) (cond-false (eqb b 256) 32 b (ne_eqb b 256 (λ e. omega (arith, small, e)))) (bytes_same bs (λ k. h (suc k)))
+
+pub dropped : (owed : ℕ) (bytes : List ℕ) → ((k : ℕ) → get_or bytes k 0 < 256) → drop owed (map code_byte (replicate owed 256 ++ bytes)) ≡ bytes
+dropped zero bytes h = bytes_same bytes h
+dropped (suc owed) bytes h = dropped owed bytes h
+
+pub white_columns : (owed : ℕ) (bytes : List ℕ) → owed ≤ prefix_len is_white (map code_byte (replicate owed 256 ++ bytes))
+white_columns zero bytes = omega arith
+white_columns (suc owed) bytes = let more = white_columns owed bytes in omega (arith, more)
+
+-- ---- its bytes are those of a line
+
+next_small : (text line : List ℕ) (i : ℕ) → ((k : ℕ) → get_or text k 0 < 256) → AreNext text (end_at i 0) line → (k : ℕ) → get_or line k 0 < 256
+next_small text [] i bytes are k = omega arith
+next_small text (b ∷ line) i bytes are zero =
+    let same : get_or text (i + 0) 0 ≡ b = sym (get_or-drop i text 0 0) ∙ ap (λ (xs : List ℕ). get_or xs 0 0) are.0 in
+    let small = bytes (i + 0) in
+    omega (arith, same, small)
+next_small text (b ∷ line) i bytes are (suc k) = next_small text line (i + 1) bytes are.1 k
+
+pub front_small : (xs ys : List ℕ) → ((k : ℕ) → get_or (xs ++ ys) k 0 < 256) → (k : ℕ) → get_or xs k 0 < 256
+front_small [] ys h k = omega arith
+front_small (x ∷ xs) ys h zero = h 0
+front_small (x ∷ xs) ys h (suc k) = front_small xs ys (λ j. h (suc j)) k
+
+pub before_small : {A : Type 0} (text line : List ℕ) (ending : Option LineEnding) (left : List LineRest) (w : Walk A) → IsBefore text line ending left w
+    → (k : ℕ) → get_or line k 0 < 256
+before_small text line ending left w b =
+    next_small text line (end_in w.out).index b.at.line.over.bytes (subst (λ (o : ℕ). AreNext text (end_at (end_in w.out).index o) line) b.bare b.next)
+
+pub no_ending : (owed : ℕ) (bytes : List ℕ) → ((k : ℕ) → get_or bytes k 0 < 256) → list_any ends_line bytes ≡ false → HaveNoEnding (replicate owed 256 ++ bytes)
+no_ending (suc owed) bytes h dark = (refl, no_ending owed bytes h dark)
+no_ending zero [] h dark = tt
+no_ending zero (b ∷ bs) h dark =
+    let parts = or_parts (ends_line b) (list_any ends_line bs) dark in
+    let small = h 0 in (
+      ap₂ (λ x y. x || y) parts.0 (ne_eqb b 257 (λ e. omega (arith, small, e))),
+      no_ending zero bs (λ k. h (suc k)) parts.1,
+    )
+
+-- ---- the event of the text
+
+module _ {A : Type 0} (r : Reading) (text behind : List ℕ) (ending : Option LineEnding) (left : List LineRest) where
+  -- the text of a cell is written in an event
+  pub in_cell_written : (old begun entered texted new : Walk A) (owed : ℕ) (bytes : List ℕ) (found : Option LineEnding) (before after : Kind)
+      → IsBefore text (bytes ++ behind) ending left old → BeginsLineAfter owed old begun → standing begun ≡ standing old → owed < 256
+      → (begun.place ≡ owed) × (begun.out ≡ old.out)
+      → ((line : List ℕ) → StandsInLine text line begun → EntersInLine text n.GfmTableCellText line begun entered) → standing entered ≡ standing begun
+      → (AreContentLines (cell_line owed bytes found before ∷ [])
+      → WritesContent r (content_text (cell_line owed bytes found before ∷ []))
+      (read_content r false (inline_content r.tables.is_punctuation after (own_lines (cell_line owed bytes found before ∷ [])))) entered texted)
+      → ((line : List ℕ) → StandsInLine text line texted → ExitsInLine text n.GfmTableCellText line texted new) → standing new ≡ standing texted
+      → WritesInCell r text (cell (replicate owed 256 ++ bytes) before after) behind ending left old new
+  in_cell_written old begun entered texted new owed bytes found before after b begins same few out enters stays content exits leaves =
+      let codes = replicate owed 256 ++ bytes in
+      let small = front_small bytes behind (before_small text (bytes ++ behind) ending left old b) in
+      let dark = dark_front bytes behind b.dark in
+      let stop = stop_before ending left behind in
+      let e = part_entered text ending left behind old begun entered n.GfmTableCellText owed bytes b begins same few enters stays in
+      let place : entered.place ≡ owed = e.place ∙ out.0 in
+      let all : content_text (cell_line owed bytes found before ∷ []) ≡ map code_byte codes = text_is codes found before in
+      let ahead : drop entered.place (content_text (cell_line owed bytes found before ∷ [])) ≡ bytes =
+      ap₂ (λ (k : ℕ) xs. drop k xs) place all ∙ dropped owed bytes small in
+      let within : entered.place ≤ prefix_len is_white (content_text (cell_line owed bytes found before ∷ [])) =
+      subst (λ (xs : List ℕ). entered.place ≤ prefix_len is_white xs) (sym all)
+      (subst (λ (k : ℕ). k ≤ prefix_len is_white (map code_byte codes)) (sym place) (white_columns owed bytes)) in
+      let is = read_content r false (inline_content r.tables.is_punctuation after (own_lines (cell_line owed bytes found before ∷ []))) in
+      let w = content (no_ending owed bytes small dark) text stop (subst (λ (xs : List ℕ). StandsInContent text xs stop entered) (sym ahead) e.stands) within in
+      let inside : WritesInContent text bytes w.nodes [] stop entered texted =
+      subst (λ (xs : List ℕ). WritesInContent text xs w.nodes [] stop entered texted) ahead w.writes in
+      let parts = content_is r.tables.is_punctuation before after codes found in
+      record {
+        nodes = one (Around (enter_at text n.GfmTableCellText (end_in old.out)) w.nodes (exit_at text n.GfmTableCellText (end_in texted.out)));
+        writes = part_left text ending left behind old begun entered texted new n.GfmTableCellText bytes w.nodes b out.1 same e inside exits leaves;
+        spells = λ m m' are.
+            alike_parts_compose.in_cells m m' (inlines (context_of r) (with_kinds r.tables.is_punctuation None before after (map code_byte codes)))
+            (inlines_of r.tables.names text false w.nodes)
+            (subst (λ c. ArePartsAlike m m' (inlines (context_of r) c) (inlines_of r.tables.names text false w.nodes)) parts (w.spells m m' are));
+        in_row = record {
+          definitions = ap (λ (xs : List Node). xs ++ []) w.plain.definitions;
+          columns = ap (λ (xs : List Node). xs ++ []) w.plain.columns;
+        };
+      }

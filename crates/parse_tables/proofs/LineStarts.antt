@@ -1,0 +1,140 @@
+-- Where a line is begun, what is left of it is ahead.
+use Rattle.std.proofs.Common.{◌≡◌, ℕ, zero, suc, ◌+◌, ◌-◌, ◌≤◌, List, [], ◌∷◌, ◌++◌, Option, drop, length, length-append, replicate, refl, sym, ap, ap₂, subst, ◌∙◌, arith, false}
+use Rattle.std.specs.List.{list_any, prefix_len}
+use Rattle.std.proofs.lemmas.List.{drop-drop, length-replicate}
+use Rattle.definition_text.specs.Ascii.{space}
+use Rattle.definition_text.specs.Lines.{ends_line}
+use Rattle.definition_text.specs.Columns.{Rest, bare, bytes_of, indent, is_tab_column, whole}
+use Rattle.engine_events.specs.declared.event.Name.TheVariants.{SpaceOrTab}
+use Rattle.parse_output.specs.declared.end.End.{End}
+use Rattle.parse_output.specs.Ends.{Follows, end_at}
+use Rattle.parse_output.specs.Forest.{void_nodes}
+use Rattle.parse_output.specs.Written.{IsInOrder, Writes, end_in}
+use Rattle.parse_laid.specs.Places.{LineRest, AtEnding, Within}
+use Rattle.parse_lines.specs.declared.walk.Walk.{Walk}
+use Rattle.parse_lines.specs.Content.{AreNext, end_after}
+use Rattle.parse_lines.specs.Ends.{IsWrittenToRest, WritesUpTo, rest_start, written_to}
+use Rattle.parse_lines.specs.Standing.{Standing, StandsAt, standing}
+use Rattle.parse_lines.proofs.Ahead.{after_both, after_bytes, follows_after, next_after, owed_after}
+use Rattle.parse_lines.proofs.Columns.{bare_owes_none}
+use Rattle.parse_lines.proofs.ContentLines.{start_owed}
+use Rattle.parse_lines.proofs.Ends.{left_within, start_whole}
+use Rattle.parse_lines.proofs.Next.{left_bytes, left_next}
+use Rattle.parse_lines.proofs.NextLine.{left_dark, left_to_end}
+use Rattle.parse_lines.proofs.Steps.{at_ending}
+use Rattle.parse_lines.proofs.Written.{bare_follows, bare_start}
+use Rattle.parse_tables.specs.Before.{IsBefore, WritesTo}
+use Rattle.parse_tables.proofs.Steps.{dark_after, same_open}
+
+-- the place after so many spaces of these, which are as many as a tab owes
+after_spaces : (from : End) (owed line_end : ℕ) (bytes : List ℕ) → from.owed ≡ owed → end_after from (length (replicate owed space ++ bytes)) ≡ end_at line_end 0
+    → (end_after from owed ≡ end_at (line_end - length bytes) 0) × ((line_end - length bytes) + length bytes ≡ line_end)
+after_spaces from owed line_end bytes is all =
+    let e = end_after from owed in
+    let none : e.owed ≡ 0 = owed_after from.index from.owed owed ∙ omega (arith, is) in
+    let size : length (replicate owed space ++ bytes) ≡ owed + length bytes =
+    length-append (replicate owed space) bytes ∙ ap (λ (k : ℕ). k + length bytes) (length-replicate owed space) in
+    let there : end_at (e.index + length bytes) 0 ≡ end_at line_end 0 =
+    sym (after_bytes e.index (length bytes))
+    ∙ ap (λ (o : ℕ). end_after (end_at e.index o) (length bytes)) (sym none)
+    ∙ after_both from owed (length bytes)
+    ∙ ap (end_after from) (sym size)
+    ∙ all in
+    let index : e.index + length bytes ≡ line_end = ap (λ (x : End). x.index) there in
+    let back : e.index ≡ line_end - length bytes = omega (arith, index) in
+    (ap₂ end_at back none, omega (arith, index))
+
+module _ {A : Type 0} (text : List ℕ) (here : LineRest) (left : List LineRest) (old new : Walk A) (at : StandsAt text (Within here left) (standing old)) where
+  -- the columns and bytes that are left
+  rest_next : AreNext text (rest_start old.line_end here.rest) (left_bytes here.rest)
+  rest_next =
+      subst (λ (r : Rest). AreNext text (rest_start old.line_end r) (left_bytes r)) (sym at.suffix)
+      (left_next text at.line.before at.line.content _ old.line_end at.columns at.line.parts at.line.end)
+
+  rest_end : end_after (rest_start old.line_end here.rest) (length (left_bytes here.rest)) ≡ end_at old.line_end 0
+  rest_end =
+      ap (λ (r : Rest). end_after (rest_start old.line_end r) (length (left_bytes r))) at.suffix
+      ∙ left_to_end text at.line.before at.line.content _ old.line_end at.columns at.line.parts at.line.end
+
+  rest_dark : list_any ends_line (left_bytes here.rest) ≡ false
+  rest_dark =
+      ap (λ (r : Rest). list_any ends_line (left_bytes r)) at.suffix ∙ left_dark text at.line.before at.line.content _ at.columns at.line.parts
+
+  -- after the columns of a tab that is cut
+  pub before_rest : IsWrittenToRest old → IsInOrder text old.out → standing new ≡ standing old
+      → written_to new ≡ end_at (old.line_end - length (bytes_of here.rest)) 0
+      → WritesUpTo SpaceOrTab (end_at (old.line_end - length (bytes_of here.rest)) 0) old new
+      → WritesTo text (bytes_of here.rest) here.beside.ending left
+      (void_nodes text SpaceOrTab (written_to old) (end_at (old.line_end - length (bytes_of here.rest)) 0)) old new
+  before_rest written order same end writes =
+      let owed = prefix_len is_tab_column here.rest in
+      let spaces = replicate owed space in
+      let bytes = bytes_of here.rest in
+      let from = rest_start old.line_end here.rest in
+      let is : written_to old ≡ from = written ∙ ap (rest_start old.line_end) at.rest in
+      let places = after_spaces from owed old.line_end bytes (start_owed old.line_end here.rest) rest_end in
+      let size : length spaces ≡ owed = length-replicate owed space in
+      let to : end_after from (length spaces) ≡ end_at (old.line_end - length bytes) 0 = ap (end_after from) size ∙ places.0 in
+      let follows : Follows text (written_to old) (end_at (old.line_end - length bytes) 0) =
+      subst (λ (e : End). Follows text e (end_at (old.line_end - length bytes) 0)) (sym is)
+      (subst (Follows text from) to (follows_after text spaces bytes from rest_next)) in
+      let w = writes text order follows in
+      let line_end : new.line_end ≡ old.line_end = ap (λ (s : Standing). s.line_end) same in
+      let index = ap (λ (e : End). e.index) end in
+      record {
+        writes = w;
+        before = record {
+          at = subst (StandsAt text (AtEnding here.beside.ending left)) (sym same) (at_ending text here left (standing old) at);
+          order = w.order;
+          next = subst (λ (e : End). AreNext text e bytes) (to ∙ sym end) (next_after text spaces bytes from rest_next);
+          bare = ap (λ (e : End). e.owed) end;
+          end = ap (λ (k : ℕ). k + length bytes) index ∙ places.1 ∙ sym line_end;
+          dark = dark_after spaces bytes rest_dark;
+        };
+        around = same_open text here.beside.ending left old new same;
+      }
+
+  -- after the white space
+  pub before_bare : IsWrittenToRest old → IsInOrder text old.out → standing new ≡ standing old
+      → written_to new ≡ end_at (old.line_end - length (bytes_of (bare here.rest))) 0
+      → WritesUpTo SpaceOrTab (end_at (old.line_end - length (bytes_of (bare here.rest))) 0) old new
+      → WritesTo text (bytes_of (bare here.rest)) here.beside.ending left
+      (void_nodes text SpaceOrTab (written_to old) (end_at (old.line_end - length (bytes_of (bare here.rest))) 0)) old new
+  before_bare written order same end writes =
+      let rest = bare here.rest in
+      let bytes = bytes_of rest in
+      let n = at.columns + indent here.rest in
+      let suffix : rest ≡ drop n (whole at.line.content) = ap (drop (indent here.rest)) at.suffix ∙ drop-drop (indent here.rest) at.columns (whole at.line.content) in
+      let from = rest_start old.line_end here.rest in
+      let to = end_at (old.line_end - length bytes) 0 in
+      let is : written_to old ≡ from = written ∙ ap (rest_start old.line_end) at.rest in
+      let start = bare_start text [] [] [] 0 old.line_end here.rest to refl in
+      let follows : Follows text (written_to old) to =
+      subst (λ (e : End). Follows text e to) (sym is)
+      (bare_follows text at.line.before at.line.content _ at.columns old.line_end here.rest to at.line.parts at.line.end at.suffix start) in
+      let w = writes text order follows in
+      let next : AreNext text (rest_start old.line_end rest) (left_bytes rest) =
+      subst (λ (r : Rest). AreNext text (rest_start old.line_end r) (left_bytes r)) (sym suffix)
+      (left_next text at.line.before at.line.content _ old.line_end n at.line.parts at.line.end) in
+      let whole_bytes : left_bytes rest ≡ bytes = ap (λ (k : ℕ). replicate k space ++ bytes) (bare_owes_none here.rest) in
+      let dark : list_any ends_line bytes ≡ false =
+      ap (list_any ends_line) (sym whole_bytes) ∙ ap (λ (r : Rest). list_any ends_line (left_bytes r)) suffix
+      ∙ left_dark text at.line.before at.line.content _ n at.line.parts in
+      let fits : length bytes ≤ length at.line.content =
+      subst (λ (r : Rest). length (bytes_of r) ≤ length at.line.content) (sym suffix) (left_within at.line.content n at.line.parts.bytes) in
+      let line_end : new.line_end ≡ old.line_end = ap (λ (s : Standing). s.line_end) same in
+      let index = ap (λ (e : End). e.index) end in
+      let last = at.line.end in
+      record {
+        writes = w;
+        before = record {
+          at = subst (StandsAt text (AtEnding here.beside.ending left)) (sym same) (at_ending text here left (standing old) at);
+          order = w.order;
+          next = subst (λ (e : End). AreNext text e bytes) (sym start ∙ sym end)
+              (subst (AreNext text (rest_start old.line_end rest)) whole_bytes next);
+          bare = ap (λ (e : End). e.owed) end;
+          end = omega (arith, index, line_end, fits, last);
+          dark = dark;
+        };
+        around = same_open text here.beside.ending left old new same;
+      }
