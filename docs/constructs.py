@@ -18,20 +18,22 @@ TOP = os.path.dirname(os.path.dirname(os.path.realpath(__file__)))
 PAGE = os.path.join(TOP, "docs", "CONSTRUCTS.md")
 SWITCHES = "crates/markdown_options/src/configuration.rt"
 
-ROOMS = ("Definition", "Reader", "Printer", "Proofs", "Laws", "Tests", "Events")
+ROOMS = ("Definition", "Reader", "Printer", "Events", "States", "Proofs", "Laws", "Tests")
 # The rooms that each construct needs. Not each has proofs of its own: many functions are proved with none.
 NEEDED = ("Definition", "Reader", "Printer", "Laws", "Tests")
 # The room of the code of a crate, by its name's prefix; the first that fits counts.
 PREFIXES = {
     "definition_": "Definition",
-    "state_": "Events",
+    "state_": "States",
+    "parse_": "Events",
+    "compile_": "Events",
     "text_": "Reader",
     "block_": "Reader",
     "inline_": "Reader",
     "html_": "Printer",
     "laws_": "Laws",
     "examples_": "Tests",
-    "tests_states": "Events",
+    "tests_states": "States",
     "tests_": "Tests",
 }
 # Files that have no construct's name, and whose they are: what several constructs share, and further files of one. A path
@@ -207,7 +209,7 @@ def room_of(crate, part):
     """The room of a file, or None."""
     room = next((it for prefix, it in PREFIXES.items() if crate.startswith(prefix)), None)
     is_proof = part == "proofs" or part == "specs" and room != "Definition"
-    return "Proofs" if is_proof and room in ("Definition", "Reader", "Printer") else room
+    return "Proofs" if is_proof and room in ("Definition", "Reader", "Printer", "Events") else room
 
 
 def law_names(path):
@@ -277,12 +279,6 @@ def grammar(paths):
     return [*dict.fromkeys(rule for it in paths if it.endswith(".rt") for rule in grammar_of(it))]
 
 
-def code(text):
-    """A text as code in a table."""
-    fence, space = ("``", " ") if "`" in text else ("`", "")
-    return fence + space + text.replace("|", "\\|") + space + fence
-
-
 def link(name, path):
     """A link to a file. Its words are its crate, and the name of the file where that isn't the construct's."""
     _, crate, _, file = path.split("/", 3)
@@ -296,24 +292,39 @@ def own_first(name, paths):
     return sorted(paths, key=lambda it: stem_of(os.path.basename(it)) != name)
 
 
-def cell(name, room, found):
-    """The links of a construct in a room."""
-    once = dict.fromkeys(link(name, it) for it in own_first(name, found.get((name, room), [])))
-    return "<br>".join(once) if once else WITHOUT.get((name, room), "")
+def files(name, room, found):
+    """The links of a construct in a room, one a line, or why it has none."""
+    once = [*dict.fromkeys(link(name, it) for it in own_first(name, found.get((name, room), [])))]
+    if once:
+        return [f"- {room}:", *(f"  {it}," for it in once[:-1]), f"  {once[-1]}"]
+    return [f"- {room}: {WITHOUT[name, room]}"] if (name, room) in WITHOUT else []
 
 
-def row(name, rooms, found):
-    """The row of a construct, and whether it has a grammar."""
+def section(name, rooms, found):
+    """The section of a construct, and whether it has a grammar."""
     rules = grammar(own_first(name, found.get((name, "Reader"), [])))
-    cells = [f"`{name}`", *(cell(name, room, found) for room in rooms), "<br>".join(map(code, rules))]
-    return f"| {' | '.join(cells)} |", bool(rules)
+    lines = ["", f"## `{name}`", ""]
+    lines += [*(f"    {it}" for it in rules), ""] if rules else []
+    for room in rooms:
+        lines += files(name, room, found)
+    return lines, bool(rules)
 
 
 HEAD = """# Constructs
 
 A file has the name of its construct, which is the name of its switch in `Constructs`: `code_text.rt` in code, `CodeText.antt` in specifications. The prefix of its crate says what is done there. So an entry names a crate, and the file only where that has another name: it is shared by several constructs, or one more of this one.
 
-Not in the table, since it holds all of them: what a block prints is defined in [`BlockPieces.antt`](../crates/definition_page/specs/BlockPieces.antt), what a part of a text prints in [`InlinePieces.antt`](../crates/definition_page/specs/InlinePieces.antt), and both are read to a page in [`Read.antt`](../crates/definition_page/specs/Read.antt).
+| Entry | Files |
+|---|---|
+| Definition | what the construct is, as definitions |
+| Reader | from a text to rows |
+| Printer | from rows to HTML |
+| Events | from rows to events (`parse_`), and from events to HTML (`compile_`) |
+| States | the machines of the road by states |
+| Proofs | specifications and lemmas of these |
+| Laws, Tests | what follows for every text; texts and pages |
+
+Not listed, since it holds all of them: what a block prints is defined in [`BlockPieces.antt`](../crates/definition_page/specs/BlockPieces.antt), what a part of a text prints in [`InlinePieces.antt`](../crates/definition_page/specs/InlinePieces.antt), and both are read to a page in [`Read.antt`](../crates/definition_page/specs/Read.antt).
 
 `docs/constructs.py` writes this page, and fails where a construct lacks a file that it needs.
 """
@@ -368,11 +379,11 @@ def page():
     found = places(set(names))
     standing = [it for it in names if any((it, room) in found for room in NEEDED)]
     rooms = [it for it in ROOMS if any((name, it) in found for name in standing)]
-    lines = [HEAD, f"| Construct | {' | '.join(rooms)} | Grammar |", "|---" * (len(rooms) + 2) + "|"]
+    lines = [HEAD.rstrip("\n")]
     gaps = [*stale_entries(names)]
     for name in standing:
-        line, has_grammar = row(name, rooms, found)
-        lines.append(line)
+        more, has_grammar = section(name, rooms, found)
+        lines += more
         if is_read(name, found):
             lacking = [it for it in NEEDED if (name, it) not in found and (name, it) not in WITHOUT]
             gaps += [f"{name} has no {it.lower()}" for it in lacking]
