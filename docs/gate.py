@@ -19,7 +19,7 @@ TOP = os.path.dirname(os.path.dirname(os.path.realpath(__file__)))
 PAGE = os.path.join(TOP, "docs", "GATE.md")
 BEGIN, END = "<!-- table -->", "<!-- end of table -->"
 # What the gate may take, in minutes of processor time.
-BUDGET = 300
+BUDGET = 220
 INTERVAL = 0.25
 TICKS = os.sysconf("SC_CLK_TCK")
 
