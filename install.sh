@@ -48,6 +48,14 @@ done
 if [ -n "$library" ]; then folder=${folder:-$HOME/.local}; else folder=${folder:-$HOME/.local/bin}; fi
 mkdir -p "$folder"
 folder=$(cd "$folder" && pwd)
+command -v rt > /dev/null || {
+    cat >&2 <<'END'
+install.sh: there is no `rt` on the PATH. Nothing is built here without the Rattle
+toolchain, since only what is proved is built. Put its bin folder on the PATH, or
+install a package that was made where it is (docs/LIBRARY.md, "Packages").
+END
+    exit 2
+}
 cd "$(dirname "$0")"
 scratch=$(mktemp -d)
 trap 'rm -rf "$scratch"' EXIT

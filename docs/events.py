@@ -18,10 +18,13 @@ SOURCES = os.path.join(TOP, "crates", "event_grammar", "src")
 NAMES = os.path.join(TOP, "crates", "engine_events", "src", "event.rt")
 # Where the names are listed once more, in the order of their numbers, and how.
 LISTS = {
-    "include/markdown.h": r'EACH\(\w+, "(\w+)"\)',
+    "include/markdown.h": r'EACH\(\w+, "(\w+)", \d+\)',
     "crates/markdown_c/specs/EventNumbers.antt": r"(?m)^name_number names\.(\w+) = \d+$",
     "examples/python/markdown_c.py": r"\b([A-Z]\w+)(?=[ \n])",
 }
+HEADER = os.path.join(TOP, "include", "markdown.h")
+# The numbers of the header that are released.
+NUMBERS = os.path.join(TOP, ".ci", "numbers")
 RUN = os.path.join(TOP, "crates", "tests_events", "stdin")
 # The text of the example, as it is written in the stored run.
 EXAMPLE = "> *a*\\0A> b"
@@ -59,13 +62,24 @@ def check_lists():
             text = re.search(r'EVENT_NAMES = """(.*?)"""', text, re.S)[1]
         if re.findall(form, text) != event_names():
             fail(f"{path} has other names of events than crates/engine_events/src/event.rt")
-    header = re.findall(r'EACH\((\w+), "(\w+)"\)', text_of(os.path.join(TOP, "include", "markdown.h")))
+    header = re.findall(r'EACH\((\w+), "(\w+)", (\d+)\)', text_of(HEADER))
     numbers = re.findall(r"= (\d+)$", text_of(os.path.join(TOP, "crates/markdown_c/specs/EventNumbers.antt")), re.M)[-len(header):]
     if [int(it) for it in numbers] != list(range(len(header))):
         fail("EventNumbers.antt skips a number")
-    for number, name in header:
-        if number != re.sub(r"(?<=[a-z0-9])(?=[A-Z])", "_", name).upper():
-            fail(f"include/markdown.h: {number} isn't {name}")
+    for place, (constant, name, number) in enumerate(header):
+        if constant != re.sub(r"(?<=[a-z0-9])(?=[A-Z])", "_", name).upper() or number != str(place):
+            fail(f"include/markdown.h: {constant} isn't {name}, or its number isn't {place}")
+
+
+def check_numbers():
+    """Fails where a number of the header isn't the one that it was when it was first released."""
+    text = text_of(HEADER)
+    now = dict(re.findall(r"\b(MARKDOWN_[A-Z0-9_]+) = (\d+)", text))
+    now.update((f"MARKDOWN_EVENT_{constant}", number) for constant, number in re.findall(r'EACH\((\w+), "\w+", (\d+)\)', text))
+    for line in text_of(NUMBERS).splitlines():
+        constant, _, number = line.partition(" ")
+        if constant != "#" and now.get(constant) != number:
+            fail(f"include/markdown.h: {constant} was {number}, and numbers never change")
 
 
 def constants(source):
@@ -249,6 +263,7 @@ def main(words):
         sys.exit(__doc__)
     wanted = page()
     check_lists()
+    check_numbers()
     if words and text_of(PAGE) != wanted:
         fail("docs/EVENTS.md is not what docs/events.py writes: run it")
     if not words:

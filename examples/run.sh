@@ -61,7 +61,7 @@ check "C" compile -o "$scratch/convert" "$here/c/convert.c"
 tries "C" "$scratch/convert"
 check "C: the version" tells_version
 if works nm --version; then check "the functions of the library" exports "markdown_convert markdown_list_events markdown_version "; fi
-if works objdump --version; then check "the name of the library" names_itself libmarkdown-proved.so.0; fi
+if works objdump --version; then check "the name of the library" names_itself libmarkdown-proved.so.0.1; fi
 check "C: events" compile -o "$scratch/events" "$here/c/events.c"
 check "C: events" lists_events "$scratch/events"
 check "C: a callback that stops" stops "$scratch/events"

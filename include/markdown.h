@@ -181,170 +181,170 @@ static inline int markdown_is_supported(void)
 #endif
 }
 
-/* The names of events, in the order of their numbers. */
+/* The names of events, in the order of their numbers. A number never changes; a new name gets the next one. */
 #define MARKDOWN_EVENT_NAMES(EACH) \
-    EACH(ATTENTION_SEQUENCE, "AttentionSequence") \
-    EACH(AUTOLINK, "Autolink") \
-    EACH(AUTOLINK_EMAIL, "AutolinkEmail") \
-    EACH(AUTOLINK_MARKER, "AutolinkMarker") \
-    EACH(AUTOLINK_PROTOCOL, "AutolinkProtocol") \
-    EACH(BLANK_LINE_ENDING, "BlankLineEnding") \
-    EACH(BLOCK_QUOTE, "BlockQuote") \
-    EACH(BLOCK_QUOTE_MARKER, "BlockQuoteMarker") \
-    EACH(BLOCK_QUOTE_PREFIX, "BlockQuotePrefix") \
-    EACH(BYTE_ORDER_MARK, "ByteOrderMark") \
-    EACH(CHARACTER_ESCAPE, "CharacterEscape") \
-    EACH(CHARACTER_ESCAPE_MARKER, "CharacterEscapeMarker") \
-    EACH(CHARACTER_ESCAPE_VALUE, "CharacterEscapeValue") \
-    EACH(CHARACTER_REFERENCE, "CharacterReference") \
-    EACH(CHARACTER_REFERENCE_MARKER, "CharacterReferenceMarker") \
-    EACH(CHARACTER_REFERENCE_MARKER_HEXADECIMAL, "CharacterReferenceMarkerHexadecimal") \
-    EACH(CHARACTER_REFERENCE_MARKER_NUMERIC, "CharacterReferenceMarkerNumeric") \
-    EACH(CHARACTER_REFERENCE_MARKER_SEMI, "CharacterReferenceMarkerSemi") \
-    EACH(CHARACTER_REFERENCE_VALUE, "CharacterReferenceValue") \
-    EACH(CODE_FENCED, "CodeFenced") \
-    EACH(CODE_FENCED_FENCE, "CodeFencedFence") \
-    EACH(CODE_FENCED_FENCE_INFO, "CodeFencedFenceInfo") \
-    EACH(CODE_FENCED_FENCE_META, "CodeFencedFenceMeta") \
-    EACH(CODE_FENCED_FENCE_SEQUENCE, "CodeFencedFenceSequence") \
-    EACH(CODE_FLOW_CHUNK, "CodeFlowChunk") \
-    EACH(CODE_INDENTED, "CodeIndented") \
-    EACH(CODE_TEXT, "CodeText") \
-    EACH(CODE_TEXT_DATA, "CodeTextData") \
-    EACH(CODE_TEXT_SEQUENCE, "CodeTextSequence") \
-    EACH(CONTENT, "Content") \
-    EACH(DATA, "Data") \
-    EACH(DEFINITION, "Definition") \
-    EACH(DEFINITION_DESTINATION, "DefinitionDestination") \
-    EACH(DEFINITION_DESTINATION_LITERAL, "DefinitionDestinationLiteral") \
-    EACH(DEFINITION_DESTINATION_LITERAL_MARKER, "DefinitionDestinationLiteralMarker") \
-    EACH(DEFINITION_DESTINATION_RAW, "DefinitionDestinationRaw") \
-    EACH(DEFINITION_DESTINATION_STRING, "DefinitionDestinationString") \
-    EACH(DEFINITION_LABEL, "DefinitionLabel") \
-    EACH(DEFINITION_LABEL_MARKER, "DefinitionLabelMarker") \
-    EACH(DEFINITION_LABEL_STRING, "DefinitionLabelString") \
-    EACH(DEFINITION_MARKER, "DefinitionMarker") \
-    EACH(DEFINITION_TITLE, "DefinitionTitle") \
-    EACH(DEFINITION_TITLE_MARKER, "DefinitionTitleMarker") \
-    EACH(DEFINITION_TITLE_STRING, "DefinitionTitleString") \
-    EACH(EMPHASIS, "Emphasis") \
-    EACH(EMPHASIS_SEQUENCE, "EmphasisSequence") \
-    EACH(EMPHASIS_TEXT, "EmphasisText") \
-    EACH(FRONTMATTER, "Frontmatter") \
-    EACH(FRONTMATTER_CHUNK, "FrontmatterChunk") \
-    EACH(FRONTMATTER_FENCE, "FrontmatterFence") \
-    EACH(FRONTMATTER_SEQUENCE, "FrontmatterSequence") \
-    EACH(GFM_AUTOLINK_LITERAL_EMAIL, "GfmAutolinkLiteralEmail") \
-    EACH(GFM_AUTOLINK_LITERAL_MAILTO, "GfmAutolinkLiteralMailto") \
-    EACH(GFM_AUTOLINK_LITERAL_PROTOCOL, "GfmAutolinkLiteralProtocol") \
-    EACH(GFM_AUTOLINK_LITERAL_WWW, "GfmAutolinkLiteralWww") \
-    EACH(GFM_AUTOLINK_LITERAL_XMPP, "GfmAutolinkLiteralXmpp") \
-    EACH(GFM_FOOTNOTE_CALL, "GfmFootnoteCall") \
-    EACH(GFM_FOOTNOTE_CALL_LABEL, "GfmFootnoteCallLabel") \
-    EACH(GFM_FOOTNOTE_CALL_MARKER, "GfmFootnoteCallMarker") \
-    EACH(GFM_FOOTNOTE_DEFINITION, "GfmFootnoteDefinition") \
-    EACH(GFM_FOOTNOTE_DEFINITION_LABEL, "GfmFootnoteDefinitionLabel") \
-    EACH(GFM_FOOTNOTE_DEFINITION_LABEL_MARKER, "GfmFootnoteDefinitionLabelMarker") \
-    EACH(GFM_FOOTNOTE_DEFINITION_LABEL_STRING, "GfmFootnoteDefinitionLabelString") \
-    EACH(GFM_FOOTNOTE_DEFINITION_MARKER, "GfmFootnoteDefinitionMarker") \
-    EACH(GFM_FOOTNOTE_DEFINITION_PREFIX, "GfmFootnoteDefinitionPrefix") \
-    EACH(GFM_STRIKETHROUGH, "GfmStrikethrough") \
-    EACH(GFM_STRIKETHROUGH_SEQUENCE, "GfmStrikethroughSequence") \
-    EACH(GFM_STRIKETHROUGH_TEXT, "GfmStrikethroughText") \
-    EACH(GFM_TABLE, "GfmTable") \
-    EACH(GFM_TABLE_BODY, "GfmTableBody") \
-    EACH(GFM_TABLE_CELL, "GfmTableCell") \
-    EACH(GFM_TABLE_CELL_DIVIDER, "GfmTableCellDivider") \
-    EACH(GFM_TABLE_CELL_TEXT, "GfmTableCellText") \
-    EACH(GFM_TABLE_DELIMITER_CELL, "GfmTableDelimiterCell") \
-    EACH(GFM_TABLE_DELIMITER_CELL_VALUE, "GfmTableDelimiterCellValue") \
-    EACH(GFM_TABLE_DELIMITER_FILLER, "GfmTableDelimiterFiller") \
-    EACH(GFM_TABLE_DELIMITER_MARKER, "GfmTableDelimiterMarker") \
-    EACH(GFM_TABLE_DELIMITER_ROW, "GfmTableDelimiterRow") \
-    EACH(GFM_TABLE_HEAD, "GfmTableHead") \
-    EACH(GFM_TABLE_ROW, "GfmTableRow") \
-    EACH(GFM_TASK_LIST_ITEM_CHECK, "GfmTaskListItemCheck") \
-    EACH(GFM_TASK_LIST_ITEM_MARKER, "GfmTaskListItemMarker") \
-    EACH(GFM_TASK_LIST_ITEM_VALUE_CHECKED, "GfmTaskListItemValueChecked") \
-    EACH(GFM_TASK_LIST_ITEM_VALUE_UNCHECKED, "GfmTaskListItemValueUnchecked") \
-    EACH(HARD_BREAK_ESCAPE, "HardBreakEscape") \
-    EACH(HARD_BREAK_TRAILING, "HardBreakTrailing") \
-    EACH(HEADING_ATX, "HeadingAtx") \
-    EACH(HEADING_ATX_SEQUENCE, "HeadingAtxSequence") \
-    EACH(HEADING_ATX_TEXT, "HeadingAtxText") \
-    EACH(HEADING_SETEXT, "HeadingSetext") \
-    EACH(HEADING_SETEXT_TEXT, "HeadingSetextText") \
-    EACH(HEADING_SETEXT_UNDERLINE, "HeadingSetextUnderline") \
-    EACH(HEADING_SETEXT_UNDERLINE_SEQUENCE, "HeadingSetextUnderlineSequence") \
-    EACH(HTML_FLOW, "HtmlFlow") \
-    EACH(HTML_FLOW_DATA, "HtmlFlowData") \
-    EACH(HTML_TEXT, "HtmlText") \
-    EACH(HTML_TEXT_DATA, "HtmlTextData") \
-    EACH(IMAGE, "Image") \
-    EACH(LABEL, "Label") \
-    EACH(LABEL_END, "LabelEnd") \
-    EACH(LABEL_IMAGE, "LabelImage") \
-    EACH(LABEL_IMAGE_MARKER, "LabelImageMarker") \
-    EACH(LABEL_LINK, "LabelLink") \
-    EACH(LABEL_MARKER, "LabelMarker") \
-    EACH(LABEL_TEXT, "LabelText") \
-    EACH(LINE_ENDING, "LineEnding") \
-    EACH(LINK, "Link") \
-    EACH(LIST_ITEM, "ListItem") \
-    EACH(LIST_ITEM_MARKER, "ListItemMarker") \
-    EACH(LIST_ITEM_PREFIX, "ListItemPrefix") \
-    EACH(LIST_ITEM_VALUE, "ListItemValue") \
-    EACH(LIST_ORDERED, "ListOrdered") \
-    EACH(LIST_UNORDERED, "ListUnordered") \
-    EACH(MARK, "Mark") \
-    EACH(MARK_SEQUENCE, "MarkSequence") \
-    EACH(MARK_TEXT, "MarkText") \
-    EACH(MATH_FLOW, "MathFlow") \
-    EACH(MATH_FLOW_CHUNK, "MathFlowChunk") \
-    EACH(MATH_FLOW_FENCE, "MathFlowFence") \
-    EACH(MATH_FLOW_FENCE_META, "MathFlowFenceMeta") \
-    EACH(MATH_FLOW_FENCE_SEQUENCE, "MathFlowFenceSequence") \
-    EACH(MATH_TEXT, "MathText") \
-    EACH(MATH_TEXT_DATA, "MathTextData") \
-    EACH(MATH_TEXT_SEQUENCE, "MathTextSequence") \
-    EACH(MDX_ESM, "MdxEsm") \
-    EACH(MDX_FLOW_EXPRESSION, "MdxFlowExpression") \
-    EACH(MDX_JSX_FLOW_TAG, "MdxJsxFlowTag") \
-    EACH(MDX_JSX_TEXT_TAG, "MdxJsxTextTag") \
-    EACH(MDX_TEXT_EXPRESSION, "MdxTextExpression") \
-    EACH(PARAGRAPH, "Paragraph") \
-    EACH(REFERENCE, "Reference") \
-    EACH(REFERENCE_MARKER, "ReferenceMarker") \
-    EACH(REFERENCE_STRING, "ReferenceString") \
-    EACH(RESOURCE, "Resource") \
-    EACH(RESOURCE_DESTINATION, "ResourceDestination") \
-    EACH(RESOURCE_DESTINATION_LITERAL, "ResourceDestinationLiteral") \
-    EACH(RESOURCE_DESTINATION_LITERAL_MARKER, "ResourceDestinationLiteralMarker") \
-    EACH(RESOURCE_DESTINATION_RAW, "ResourceDestinationRaw") \
-    EACH(RESOURCE_DESTINATION_STRING, "ResourceDestinationString") \
-    EACH(RESOURCE_MARKER, "ResourceMarker") \
-    EACH(RESOURCE_TITLE, "ResourceTitle") \
-    EACH(RESOURCE_TITLE_MARKER, "ResourceTitleMarker") \
-    EACH(RESOURCE_TITLE_STRING, "ResourceTitleString") \
-    EACH(SPACE_OR_TAB, "SpaceOrTab") \
-    EACH(STRONG, "Strong") \
-    EACH(STRONG_SEQUENCE, "StrongSequence") \
-    EACH(STRONG_TEXT, "StrongText") \
-    EACH(THEMATIC_BREAK, "ThematicBreak") \
-    EACH(THEMATIC_BREAK_SEQUENCE, "ThematicBreakSequence")
+    EACH(ATTENTION_SEQUENCE, "AttentionSequence", 0) \
+    EACH(AUTOLINK, "Autolink", 1) \
+    EACH(AUTOLINK_EMAIL, "AutolinkEmail", 2) \
+    EACH(AUTOLINK_MARKER, "AutolinkMarker", 3) \
+    EACH(AUTOLINK_PROTOCOL, "AutolinkProtocol", 4) \
+    EACH(BLANK_LINE_ENDING, "BlankLineEnding", 5) \
+    EACH(BLOCK_QUOTE, "BlockQuote", 6) \
+    EACH(BLOCK_QUOTE_MARKER, "BlockQuoteMarker", 7) \
+    EACH(BLOCK_QUOTE_PREFIX, "BlockQuotePrefix", 8) \
+    EACH(BYTE_ORDER_MARK, "ByteOrderMark", 9) \
+    EACH(CHARACTER_ESCAPE, "CharacterEscape", 10) \
+    EACH(CHARACTER_ESCAPE_MARKER, "CharacterEscapeMarker", 11) \
+    EACH(CHARACTER_ESCAPE_VALUE, "CharacterEscapeValue", 12) \
+    EACH(CHARACTER_REFERENCE, "CharacterReference", 13) \
+    EACH(CHARACTER_REFERENCE_MARKER, "CharacterReferenceMarker", 14) \
+    EACH(CHARACTER_REFERENCE_MARKER_HEXADECIMAL, "CharacterReferenceMarkerHexadecimal", 15) \
+    EACH(CHARACTER_REFERENCE_MARKER_NUMERIC, "CharacterReferenceMarkerNumeric", 16) \
+    EACH(CHARACTER_REFERENCE_MARKER_SEMI, "CharacterReferenceMarkerSemi", 17) \
+    EACH(CHARACTER_REFERENCE_VALUE, "CharacterReferenceValue", 18) \
+    EACH(CODE_FENCED, "CodeFenced", 19) \
+    EACH(CODE_FENCED_FENCE, "CodeFencedFence", 20) \
+    EACH(CODE_FENCED_FENCE_INFO, "CodeFencedFenceInfo", 21) \
+    EACH(CODE_FENCED_FENCE_META, "CodeFencedFenceMeta", 22) \
+    EACH(CODE_FENCED_FENCE_SEQUENCE, "CodeFencedFenceSequence", 23) \
+    EACH(CODE_FLOW_CHUNK, "CodeFlowChunk", 24) \
+    EACH(CODE_INDENTED, "CodeIndented", 25) \
+    EACH(CODE_TEXT, "CodeText", 26) \
+    EACH(CODE_TEXT_DATA, "CodeTextData", 27) \
+    EACH(CODE_TEXT_SEQUENCE, "CodeTextSequence", 28) \
+    EACH(CONTENT, "Content", 29) \
+    EACH(DATA, "Data", 30) \
+    EACH(DEFINITION, "Definition", 31) \
+    EACH(DEFINITION_DESTINATION, "DefinitionDestination", 32) \
+    EACH(DEFINITION_DESTINATION_LITERAL, "DefinitionDestinationLiteral", 33) \
+    EACH(DEFINITION_DESTINATION_LITERAL_MARKER, "DefinitionDestinationLiteralMarker", 34) \
+    EACH(DEFINITION_DESTINATION_RAW, "DefinitionDestinationRaw", 35) \
+    EACH(DEFINITION_DESTINATION_STRING, "DefinitionDestinationString", 36) \
+    EACH(DEFINITION_LABEL, "DefinitionLabel", 37) \
+    EACH(DEFINITION_LABEL_MARKER, "DefinitionLabelMarker", 38) \
+    EACH(DEFINITION_LABEL_STRING, "DefinitionLabelString", 39) \
+    EACH(DEFINITION_MARKER, "DefinitionMarker", 40) \
+    EACH(DEFINITION_TITLE, "DefinitionTitle", 41) \
+    EACH(DEFINITION_TITLE_MARKER, "DefinitionTitleMarker", 42) \
+    EACH(DEFINITION_TITLE_STRING, "DefinitionTitleString", 43) \
+    EACH(EMPHASIS, "Emphasis", 44) \
+    EACH(EMPHASIS_SEQUENCE, "EmphasisSequence", 45) \
+    EACH(EMPHASIS_TEXT, "EmphasisText", 46) \
+    EACH(FRONTMATTER, "Frontmatter", 47) \
+    EACH(FRONTMATTER_CHUNK, "FrontmatterChunk", 48) \
+    EACH(FRONTMATTER_FENCE, "FrontmatterFence", 49) \
+    EACH(FRONTMATTER_SEQUENCE, "FrontmatterSequence", 50) \
+    EACH(GFM_AUTOLINK_LITERAL_EMAIL, "GfmAutolinkLiteralEmail", 51) \
+    EACH(GFM_AUTOLINK_LITERAL_MAILTO, "GfmAutolinkLiteralMailto", 52) \
+    EACH(GFM_AUTOLINK_LITERAL_PROTOCOL, "GfmAutolinkLiteralProtocol", 53) \
+    EACH(GFM_AUTOLINK_LITERAL_WWW, "GfmAutolinkLiteralWww", 54) \
+    EACH(GFM_AUTOLINK_LITERAL_XMPP, "GfmAutolinkLiteralXmpp", 55) \
+    EACH(GFM_FOOTNOTE_CALL, "GfmFootnoteCall", 56) \
+    EACH(GFM_FOOTNOTE_CALL_LABEL, "GfmFootnoteCallLabel", 57) \
+    EACH(GFM_FOOTNOTE_CALL_MARKER, "GfmFootnoteCallMarker", 58) \
+    EACH(GFM_FOOTNOTE_DEFINITION, "GfmFootnoteDefinition", 59) \
+    EACH(GFM_FOOTNOTE_DEFINITION_LABEL, "GfmFootnoteDefinitionLabel", 60) \
+    EACH(GFM_FOOTNOTE_DEFINITION_LABEL_MARKER, "GfmFootnoteDefinitionLabelMarker", 61) \
+    EACH(GFM_FOOTNOTE_DEFINITION_LABEL_STRING, "GfmFootnoteDefinitionLabelString", 62) \
+    EACH(GFM_FOOTNOTE_DEFINITION_MARKER, "GfmFootnoteDefinitionMarker", 63) \
+    EACH(GFM_FOOTNOTE_DEFINITION_PREFIX, "GfmFootnoteDefinitionPrefix", 64) \
+    EACH(GFM_STRIKETHROUGH, "GfmStrikethrough", 65) \
+    EACH(GFM_STRIKETHROUGH_SEQUENCE, "GfmStrikethroughSequence", 66) \
+    EACH(GFM_STRIKETHROUGH_TEXT, "GfmStrikethroughText", 67) \
+    EACH(GFM_TABLE, "GfmTable", 68) \
+    EACH(GFM_TABLE_BODY, "GfmTableBody", 69) \
+    EACH(GFM_TABLE_CELL, "GfmTableCell", 70) \
+    EACH(GFM_TABLE_CELL_DIVIDER, "GfmTableCellDivider", 71) \
+    EACH(GFM_TABLE_CELL_TEXT, "GfmTableCellText", 72) \
+    EACH(GFM_TABLE_DELIMITER_CELL, "GfmTableDelimiterCell", 73) \
+    EACH(GFM_TABLE_DELIMITER_CELL_VALUE, "GfmTableDelimiterCellValue", 74) \
+    EACH(GFM_TABLE_DELIMITER_FILLER, "GfmTableDelimiterFiller", 75) \
+    EACH(GFM_TABLE_DELIMITER_MARKER, "GfmTableDelimiterMarker", 76) \
+    EACH(GFM_TABLE_DELIMITER_ROW, "GfmTableDelimiterRow", 77) \
+    EACH(GFM_TABLE_HEAD, "GfmTableHead", 78) \
+    EACH(GFM_TABLE_ROW, "GfmTableRow", 79) \
+    EACH(GFM_TASK_LIST_ITEM_CHECK, "GfmTaskListItemCheck", 80) \
+    EACH(GFM_TASK_LIST_ITEM_MARKER, "GfmTaskListItemMarker", 81) \
+    EACH(GFM_TASK_LIST_ITEM_VALUE_CHECKED, "GfmTaskListItemValueChecked", 82) \
+    EACH(GFM_TASK_LIST_ITEM_VALUE_UNCHECKED, "GfmTaskListItemValueUnchecked", 83) \
+    EACH(HARD_BREAK_ESCAPE, "HardBreakEscape", 84) \
+    EACH(HARD_BREAK_TRAILING, "HardBreakTrailing", 85) \
+    EACH(HEADING_ATX, "HeadingAtx", 86) \
+    EACH(HEADING_ATX_SEQUENCE, "HeadingAtxSequence", 87) \
+    EACH(HEADING_ATX_TEXT, "HeadingAtxText", 88) \
+    EACH(HEADING_SETEXT, "HeadingSetext", 89) \
+    EACH(HEADING_SETEXT_TEXT, "HeadingSetextText", 90) \
+    EACH(HEADING_SETEXT_UNDERLINE, "HeadingSetextUnderline", 91) \
+    EACH(HEADING_SETEXT_UNDERLINE_SEQUENCE, "HeadingSetextUnderlineSequence", 92) \
+    EACH(HTML_FLOW, "HtmlFlow", 93) \
+    EACH(HTML_FLOW_DATA, "HtmlFlowData", 94) \
+    EACH(HTML_TEXT, "HtmlText", 95) \
+    EACH(HTML_TEXT_DATA, "HtmlTextData", 96) \
+    EACH(IMAGE, "Image", 97) \
+    EACH(LABEL, "Label", 98) \
+    EACH(LABEL_END, "LabelEnd", 99) \
+    EACH(LABEL_IMAGE, "LabelImage", 100) \
+    EACH(LABEL_IMAGE_MARKER, "LabelImageMarker", 101) \
+    EACH(LABEL_LINK, "LabelLink", 102) \
+    EACH(LABEL_MARKER, "LabelMarker", 103) \
+    EACH(LABEL_TEXT, "LabelText", 104) \
+    EACH(LINE_ENDING, "LineEnding", 105) \
+    EACH(LINK, "Link", 106) \
+    EACH(LIST_ITEM, "ListItem", 107) \
+    EACH(LIST_ITEM_MARKER, "ListItemMarker", 108) \
+    EACH(LIST_ITEM_PREFIX, "ListItemPrefix", 109) \
+    EACH(LIST_ITEM_VALUE, "ListItemValue", 110) \
+    EACH(LIST_ORDERED, "ListOrdered", 111) \
+    EACH(LIST_UNORDERED, "ListUnordered", 112) \
+    EACH(MARK, "Mark", 113) \
+    EACH(MARK_SEQUENCE, "MarkSequence", 114) \
+    EACH(MARK_TEXT, "MarkText", 115) \
+    EACH(MATH_FLOW, "MathFlow", 116) \
+    EACH(MATH_FLOW_CHUNK, "MathFlowChunk", 117) \
+    EACH(MATH_FLOW_FENCE, "MathFlowFence", 118) \
+    EACH(MATH_FLOW_FENCE_META, "MathFlowFenceMeta", 119) \
+    EACH(MATH_FLOW_FENCE_SEQUENCE, "MathFlowFenceSequence", 120) \
+    EACH(MATH_TEXT, "MathText", 121) \
+    EACH(MATH_TEXT_DATA, "MathTextData", 122) \
+    EACH(MATH_TEXT_SEQUENCE, "MathTextSequence", 123) \
+    EACH(MDX_ESM, "MdxEsm", 124) \
+    EACH(MDX_FLOW_EXPRESSION, "MdxFlowExpression", 125) \
+    EACH(MDX_JSX_FLOW_TAG, "MdxJsxFlowTag", 126) \
+    EACH(MDX_JSX_TEXT_TAG, "MdxJsxTextTag", 127) \
+    EACH(MDX_TEXT_EXPRESSION, "MdxTextExpression", 128) \
+    EACH(PARAGRAPH, "Paragraph", 129) \
+    EACH(REFERENCE, "Reference", 130) \
+    EACH(REFERENCE_MARKER, "ReferenceMarker", 131) \
+    EACH(REFERENCE_STRING, "ReferenceString", 132) \
+    EACH(RESOURCE, "Resource", 133) \
+    EACH(RESOURCE_DESTINATION, "ResourceDestination", 134) \
+    EACH(RESOURCE_DESTINATION_LITERAL, "ResourceDestinationLiteral", 135) \
+    EACH(RESOURCE_DESTINATION_LITERAL_MARKER, "ResourceDestinationLiteralMarker", 136) \
+    EACH(RESOURCE_DESTINATION_RAW, "ResourceDestinationRaw", 137) \
+    EACH(RESOURCE_DESTINATION_STRING, "ResourceDestinationString", 138) \
+    EACH(RESOURCE_MARKER, "ResourceMarker", 139) \
+    EACH(RESOURCE_TITLE, "ResourceTitle", 140) \
+    EACH(RESOURCE_TITLE_MARKER, "ResourceTitleMarker", 141) \
+    EACH(RESOURCE_TITLE_STRING, "ResourceTitleString", 142) \
+    EACH(SPACE_OR_TAB, "SpaceOrTab", 143) \
+    EACH(STRONG, "Strong", 144) \
+    EACH(STRONG_SEQUENCE, "StrongSequence", 145) \
+    EACH(STRONG_TEXT, "StrongText", 146) \
+    EACH(THEMATIC_BREAK, "ThematicBreak", 147) \
+    EACH(THEMATIC_BREAK_SEQUENCE, "ThematicBreakSequence", 148)
 
 /* MARKDOWN_EVENT_ATTENTION_SEQUENCE and so on, and how many there are. */
 enum {
-#define MARKDOWN_EVENT_NUMBER(number, name) MARKDOWN_EVENT_##number,
-    MARKDOWN_EVENT_NAMES(MARKDOWN_EVENT_NUMBER)
-#undef MARKDOWN_EVENT_NUMBER
+#define MARKDOWN_EVENT_CONSTANT(constant, name, number) MARKDOWN_EVENT_##constant = number,
+    MARKDOWN_EVENT_NAMES(MARKDOWN_EVENT_CONSTANT)
+#undef MARKDOWN_EVENT_CONSTANT
     MARKDOWN_EVENT_COUNT
 };
 
 /* Returns the name of an event by its number, as "Paragraph", or NULL if there is none. */
 static inline const char *markdown_event_name(uint32_t number)
 {
-#define MARKDOWN_EVENT_TEXT(number, name) name,
+#define MARKDOWN_EVENT_TEXT(constant, name, number) name,
     static const char *const names[] = {MARKDOWN_EVENT_NAMES(MARKDOWN_EVENT_TEXT)};
 #undef MARKDOWN_EVENT_TEXT
     return number < MARKDOWN_EVENT_COUNT ? names[number] : NULL;

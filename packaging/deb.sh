@@ -1,12 +1,13 @@
 #!/bin/sh
 # Makes packages for Debian of installed programs and library, and prints their paths: markdown-proved (the programs),
-# libmarkdown-proved0 (the shared library) and libmarkdown-proved-dev (header, static library, pkg-config).
+# libmarkdown-proved0.1 (the shared library) and libmarkdown-proved-dev (header, static library, pkg-config).
 #
 #     packaging/deb.sh PROGRAMS FOLDER OUT
 #
 # PROGRAMS is what `./install.sh --all PROGRAMS` has made, FOLDER what `./install.sh --library FOLDER` has made. Debian has other
 # packages `markdown` and `libmarkdown2`. So the program markdown is /usr/bin/markdown-proved, and /usr/bin/markdown is an
-# alternative that leads to it. The others keep their names. $DEBFULLNAME and $DEBEMAIL name the maintainer, $SOURCE_DATE_EPOCH the time of the build.
+# alternative that leads to it. The others keep their names. $DEBFULLNAME and $DEBEMAIL name the maintainer, $SOURCE_DATE_EPOCH the
+# time of the build, $HOMEPAGE the address of the project, which has its source.
 set -eu
 [ $# = 3 ] || { echo "usage: packaging/deb.sh PROGRAMS FOLDER OUT" >&2; exit 2; }
 programs=$1 folder=$2 out=$(cd "$3" && pwd)
@@ -22,8 +23,12 @@ umask 022
 scratch=$(mktemp -d)
 trap 'rm -rf "$scratch"' EXIT
 so=libmarkdown-proved.so.$upstream
-soname=libmarkdown-proved.so.${upstream%%.*}
-package=libmarkdown-proved${upstream%%.*}
+case $upstream in 0.*) abi=${upstream%.*} ;; *) abi=${upstream%%.*} ;; esac
+soname=libmarkdown-proved.so.$abi
+package=libmarkdown-proved$abi
+
+# The notices of what is in the programs and in the library of others.
+"$here/../bin/notices" markdown_program markdown_events markdown_lint > "$scratch/notices"
 
 # Makes a package of the tree $scratch/NAME: its name, section and first words of its description; further fields; more of the
 # description.
@@ -39,11 +44,13 @@ make_package() {
         printf 'License: Expat\n'
         sed '/^MIT License$/d; /^Copyright/d; s/^$/./; s/^/ /' "$here/../LICENSE" | sed '1,/^ \.$/{/^ \.$/d}' | sed '1{/^ \.$/d}'
     } > "$doc/copyright"
+    gzip -9n < "$scratch/notices" > "$doc/NOTICES.gz"
     printf 'markdown-proved (%s) unstable; urgency=medium\n\n  * Package version %s.\n\n -- %s  %s\n' "$version" "$upstream" \
         "$maintainer" "$(date -uR -d "@$SOURCE_DATE_EPOCH")" | gzip -9n > "$doc/changelog.Debian.gz"
     {
         printf 'Package: %s\nSource: markdown-proved\nVersion: %s\nArchitecture: %s\nMaintainer: %s\n' "$name" "$version" "$architecture" "$maintainer"
-        printf 'Installed-Size: %s\n%s\nSection: %s\nPriority: optional\nDescription: %s\n%s\n' "$(du -sk "$root/usr" | cut -f1)" "$fields" "$section" "$summary" "$more"
+        printf 'Installed-Size: %s\n%s\nSection: %s\nPriority: optional\nDescription: %s\n%s\n' "$(du -sk "$root/usr" | cut -f1)" "$fields${HOMEPAGE:+
+Homepage: $HOMEPAGE}" "$section" "$summary" "$more"
     } > "$root/DEBIAN/control"
     (cd "$root" && find usr -type f -print0 | sort -z | xargs -0 md5sum) > "$root/DEBIAN/md5sums"
     dpkg-deb --root-owner-group --build "$root" "$out/${name}_${version}_$architecture.deb" > /dev/null
@@ -106,7 +113,7 @@ install -D -m644 "$folder/lib/$so" "$root/usr/lib/$triple/$so"
 strip --strip-unneeded --remove-section=.comment "$root/usr/lib/$triple/$so"
 ln -s "$so" "$root/usr/lib/$triple/$soname"
 mkdir "$root/DEBIAN"
-echo "libmarkdown-proved ${upstream%%.*} $package (>= $upstream)" > "$root/DEBIAN/shlibs"
+echo "libmarkdown-proved $abi $package (>= $upstream)" > "$root/DEBIAN/shlibs"
 echo "activate-noawait ldconfig" > "$root/DEBIAN/triggers"
 make_package "$package" libs "proved converter from Markdown to HTML (shared library)" "Depends: $(needs "$root/usr/lib/$triple/$so")
 Multi-Arch: same" "$ABOUT

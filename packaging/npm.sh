@@ -3,7 +3,7 @@
 #
 #     packaging/npm.sh FOLDER OUT
 #
-# FOLDER is what bin/wasm has made. The package has no script that runs when it is installed.
+# FOLDER is what bin/wasm has made. $HOMEPAGE is the address of the project, which has its source. The package has no script that runs when it is installed.
 set -eu
 folder=${1:?usage: packaging/npm.sh FOLDER OUT} out=${2:?usage: packaging/npm.sh FOLDER OUT}
 top=$(cd "$(dirname "$0")/.." && pwd)
@@ -11,8 +11,9 @@ version=$(sed -n 's/^#define MARKDOWN_VERSION_TEXT "\(.*\)"$/\1/p' "$top/include
 scratch=$(mktemp -d)
 trap 'rm -rf "$scratch"' EXIT
 mkdir "$scratch/package"
-cp "$folder/markdown.wasm" "$folder/markdown.mjs" "$folder/markdown.d.mts" "$top/LICENSE" "$scratch/package"
-sed "s/@VERSION@/$version/" "$top/packaging/node/package.json" > "$scratch/package/package.json"
+cp "$folder/markdown.wasm" "$folder/markdown.mjs" "$folder/markdown.d.mts" "$folder/NOTICES" "$top/LICENSE" "$scratch/package"
+# Where the source is, if $HOMEPAGE says so.
+sed "s/@VERSION@/$version/; s|@HOMEPAGE@|${HOMEPAGE:-}|; ${HOMEPAGE:+#}/\"homepage\"/d" "$top/packaging/node/package.json" > "$scratch/package/package.json"
 cp "$top/packaging/node/README.md" "$scratch/package"
 path=$out/markdown-proved-$version.tgz
 tar --sort=name --owner=0 --group=0 --numeric-owner --mtime=@0 --mode=a+rX,u+w,go-w -C "$scratch" -cf - package | gzip -9n > "$path"

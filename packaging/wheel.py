@@ -4,6 +4,7 @@
     packaging/wheel.py FOLDER OUT
 
 FOLDER is what `./install.sh --library FOLDER` has made. The wheel is for the oldest glibc that the library runs with.
+$HOMEPAGE is the address of the project, which has its source.
 """
 import base64
 import hashlib
@@ -48,12 +49,15 @@ Classifier: Programming Language :: Python :: 3
 Classifier: Topic :: Text Processing :: Markup :: Markdown
 Classifier: Typing :: Typed
 """
+if os.environ.get("HOMEPAGE"):
+    metadata += f"Project-URL: Homepage, {os.environ['HOMEPAGE']}\n"
 wheel = f"Wheel-Version: 1.0\nGenerator: wheel.py\nRoot-Is-Purelib: false\nTag: {tag}\n"
 files = {f"{NAME}/{name}": read(f"{top}/packaging/python/{NAME}/{name}") for name in ("__init__.py", "__main__.py", "py.typed")}
 files[f"{NAME}/libmarkdown-proved.so"] = read(library)
 files[f"{info}/METADATA"] = metadata.encode()
 files[f"{info}/WHEEL"] = wheel.encode()
 files[f"{info}/LICENSE"] = read(f"{top}/LICENSE")
+files[f"{info}/NOTICES"] = read(f"{folder}/share/doc/markdown-proved/NOTICES")
 rows = [f"{name},sha256={digest(data)},{len(data)}" for name, data in files.items()]
 files[f"{info}/RECORD"] = ("\n".join([*rows, f"{info}/RECORD,,"]) + "\n").encode()
 
