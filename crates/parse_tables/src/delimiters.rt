@@ -16,7 +16,7 @@ use text_bytes::{run, white_size};
 
 /// A row of delimiters: the rest of the line.
 #[tactic(auto, using(parse_output::proofs::Classes::enters_in), unfolding(parse_output::specs::Children::may_hold))]
-pub fn push_delimiters<A: Allocator>(walk: &mut Walk<'_, A>) -> Result<(), AllocError>
+pub(crate) fn push_delimiters<A: Allocator>(walk: &mut Walk<'_, A>) -> Result<(), AllocError>
     requires child { may_enter (still_open walk.old) GfmTableDelimiterRow ≡ true }
     requires space { may_enter (still_open walk.old) SpaceOrTab ≡ true }
     ensures open { OnOk result (still_open walk.new ≡ still_open walk.old) }

@@ -5,5 +5,4 @@ pub mod cells;
 pub mod delimiters;
 pub mod gfm_table;
 
-pub use delimiters::push_delimiters;
 pub use gfm_table::push_table;
