@@ -1,8 +1,9 @@
 #!/usr/bin/env python3
 """Runs the gate and takes the time of each crate, or writes the table of GATE.md from what that said.
 
-usage: docs/gate.py run LOG      runs `rt ci` at the top of the repository; LOG gets what it says, and times at the end
-       docs/gate.py write LOG    writes the table of docs/GATE.md from LOG, which may be the output of `rt ci` alone
+usage: docs/gate.py run LOG [--anew]   runs `rt ci [--anew]` at the top of the repository; LOG gets what it says, and times at the end
+       docs/gate.py write LOG          writes the table of docs/GATE.md from LOG, which may be the output of `rt ci` alone
+       docs/gate.py change CRATE..     prints what a change of each of these crates costs, with all above it, by the table of docs/GATE.md
 
 `rt ci` tells no times. So `run` looks at its jobs four times a second: a job is a process that it starts, with all that
 this one starts, and its time is processor time. What a job takes after the last look at it is missed.
@@ -107,11 +108,11 @@ def processors():
     return len(os.sched_getaffinity(0))
 
 
-def run(path):
+def run(path, *more):
     started = time.monotonic()
     with open(path, "w", encoding="utf-8") as log:
         how = {"stdout": subprocess.PIPE, "stderr": subprocess.STDOUT, "text": True, "errors": "replace"}
-        gate = subprocess.Popen(["rt", "ci"], cwd=TOP, **how)
+        gate = subprocess.Popen(["rt", "ci", *more], cwd=TOP, **how)
         copier = threading.Thread(target=copy_lines, args=(gate.stdout, log))
         copier.start()
         watch = Watch(gate.pid)
@@ -225,9 +226,47 @@ def write(path):
     return 0
 
 
+# What a change costs.
+
+
+def dependencies():
+    """The crates of crates.txt, and those that each stands on, also by way of others."""
+    below = {}
+    with open(os.path.join(TOP, "crates.txt"), encoding="utf-8") as file:
+        for name, uses in re.findall(r"(?m)^([a-z0-9_]+)[^:#\n]*:(.*)$", file.read()):
+            below[name] = {name}.union(*(below.get(it, set()) for it in uses.split()))
+    return below
+
+
+def written_seconds():
+    """The seconds of the table of GATE.md by crate: of its proof, its tests and its edits."""
+    with open(PAGE, encoding="utf-8") as file:
+        table = file.read().partition(f"{BEGIN}\n")[2].partition(f"{END}\n")[0]
+    rows = re.findall(r"(?m)^\| `(\w+)` \| \d* \| (\d*) \| [^|]* \| (\d*) \| \d* \| (\d*) \|$", table)
+    return {name: [int(it or 0) for it in times] for name, *times in rows}
+
+
+def change(names):
+    below, seconds = dependencies(), written_seconds()
+    print("| A change in | Crates above | Proofs | With tests and edits |")
+    print("|---|---:|---:|---:|")
+    for name in names:
+        if name not in below:
+            sys.exit(f"crates.txt has no crate {name}")
+        changed = [it for it, uses in below.items() if name in uses]
+        proofs = sum(seconds.get(it, [0])[0] for it in changed)
+        every = sum(sum(seconds.get(it, [])) for it in changed)
+        print(f"| `{name}` | {len(changed) - 1} | {proofs / 60:.0f} min | {every / 60:.0f} min |")
+    return 0
+
+
 def main(words):
-    if len(words) == 2 and words[0] in ("run", "write"):
-        return run(words[1]) if words[0] == "run" else write(words[1])
+    if words[:1] == ["run"] and words[2:] in ([], ["--anew"]) and len(words) > 1:
+        return run(*words[1:])
+    if words[:1] == ["write"] and len(words) == 2:
+        return write(words[1])
+    if words[:1] == ["change"] and len(words) > 1:
+        return change(words[1:])
     sys.exit(__doc__)
 
 
