@@ -8,12 +8,12 @@ use Rattle.engine_events.specs.declared.event.Name.{Name}
 use Rattle.definition_inline.specs.CharacterReference.{Names}
 use Rattle.definition_inline.specs.Inline.{Target, LinkTexts}
 use Rattle.event_grammar.specs.References.{media_names}
-use Rattle.compile_rows.specs.RawTexts.{sequence_of, raw_after, whole_by}
+use Rattle.compile_strings.specs.RawTexts.{sequence_of, raw_after, whole_by}
 use Rattle.compile_rows.specs.Ahead.{AreLeft, AreStringsOf}
-use Rattle.compile_rows.specs.Spelled.{Spelled, no_spelled, first_raw, first_target, joined_before, raws_view, spelled_by, targets_view}
+use Rattle.compile_strings.specs.Spelled.{Spelled, no_spelled, first_raw, first_target, joined_before, raws_view, spelled_by, targets_view}
 use Rattle.compile_rows.specs.declared.rows.PartStrings.{PartStrings}
 use Rattle.compile_rows.specs.declared.rows.Walk.{Walk}
-use Rattle.compile_rows.specs.declared.spelled.SpelledStrings.{SpelledStrings}
+use Rattle.compile_strings.specs.declared.spelled.SpelledStrings.{SpelledStrings}
 
 -- ---- one of a list, from its front on
 

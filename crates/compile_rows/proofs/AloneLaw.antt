@@ -1,28 +1,28 @@
 -- The rows of an event whose text has no rows of its own are those of what it spells.
-use Rattle.std.proofs.Common.{◌≡◌, ℕ, ◌==◌, Bool, true, false, ◌||◌, not, List, [], ◌∷◌, ◌++◌, map, Option, Some, refl, sym, ap, ◌∙◌}
+use Rattle.std.proofs.Common.{◌≡◌, ℕ, ◌==◌, Bool, false, ◌||◌, not, List, [], ◌∷◌, ◌++◌, map, Some, refl, sym, ap, ◌∙◌}
 use Rattle.engine_events.specs.Names.{same_name, is_listed}
 use Rattle.engine_events.specs.declared.event.Event.{Event}
-use Rattle.engine_events.specs.declared.event.Kind.TheVariants.{Exit}
 use Rattle.engine_events.specs.declared.event.Name.{Name}
 use Rattle.engine_events.specs.declared.event.Name.TheVariants as n
 use Rattle.definition_inline.specs.CharacterReference.{Names}
 use Rattle.definition_inline.specs.CodeText.{without_padding}
 use Rattle.definition_inline.specs.Inline.{Target, LinkTexts, InlineLeaf, Www, Protocol, Email, Data, Escape, Character, Code, Math, TaskCheck, Inlines}
-use Rattle.inline_rows.specs.InlineRows.{InlineRow, Part, CallRow, inline_rows}
+use Rattle.inline_rows.specs.InlineRows.{Part, CallRow, inline_rows}
 use Rattle.inline_rows.specs.View.{data_rows}
 use Rattle.event_grammar.specs.References.{media_names}
-use Rattle.event_grammar.specs.Trees.{Node, Nodes, Around, events_of, IsNode, AreNodes}
+use Rattle.event_grammar.specs.Trees.{Nodes, Around, events_of, IsNode}
 use Rattle.event_meaning.specs.Children.{text_of, text_in}
 use Rattle.event_meaning.specs.Texts.{text_part}
 use Rattle.compile_written.specs.Texts.{IsTextNode}
 use Rattle.compile_written.proofs.ChildLaw.{text_is}
-use Rattle.compile_rows.specs.Places.{span_of, is_around}
+use Rattle.event_grammar.specs.Spans.{span_of}
+use Rattle.compile_rows.specs.Places.{is_around}
 use Rattle.compile_rows.specs.Leaves.{literal_rows, ending_rows}
 use Rattle.compile_rows.specs.Texts.{HasEndings}
 use Rattle.compile_rows.specs.Rows.{part_rows}
 use Rattle.compile_rows.proofs.InlineRows.{leaves_rows, endings_rows}
 use Rattle.compile_rows.proofs.Leaves.{within, stands, own_text, value_is, has_is, reference_is, autolink_is, literal_is, html_is, raw_is}
-use Rattle.compile_rows.proofs.TargetLaw.{label_law}
+use Rattle.compile_strings.proofs.TargetLaw.{label_law}
 
 module _ (names : Names) (bytes : List ℕ) (leads : Target → LinkTexts) (in_link : Bool) (k : ℕ) (enter : Event) (kids : Nodes) (exit : Event)
     (rest : List Event) (is : Inlines) (node : IsNode (Around enter kids exit)) (t : IsTextNode bytes (Around enter kids exit))
@@ -84,10 +84,4 @@ module _ (names : Names) (bytes : List ℕ) (leads : Target → LinkTexts) (in_l
   alone_law n.GfmTaskListItemCheck a e =
       ap (λ (z : Bool). Part (TaskCheck z) ∷ []) (has_is names bytes kids (events_of kids ++ exit ∷ rest) (within enter kids exit rest node.3 node.1)
       t.1 n.GfmTaskListItemValueChecked)
-  alone_law n.Emphasis a e = absurd (let f : true ≡ false = a in cc)
-  alone_law n.Strong a e = absurd (let f : true ≡ false = a in cc)
-  alone_law n.GfmStrikethrough a e = absurd (let f : true ≡ false = a in cc)
-  alone_law n.Mark a e = absurd (let f : true ≡ false = a in cc)
-  alone_law n.Link a e = absurd (let f : true ≡ false = a in cc)
-  alone_law n.Image a e = absurd (let f : true ≡ false = a in cc)
-  alone_law name a e = refl
+  alone_law name a e = let other : is_around name ≡ false = a in cc

@@ -15,7 +15,7 @@ use Rattle.compile_written.specs.Strings.{valid}
 use Rattle.inline_rows.specs.InlineRows.{InlineRow}
 use Rattle.inline_rows.specs.View.{data_rows}
 use Rattle.compile_rows.specs.Places.{place, entered}
-use Rattle.compile_rows.specs.RawTexts.{begins, is_exit}
+use Rattle.compile_strings.specs.RawTexts.{begins, is_exit}
 use Rattle.compile_rows.specs.Rows.{enter_rows, rows_by}
 use Rattle.compile_rows.specs.declared.rows.Mode.TheVariants.{Text}
 use Rattle.compile_rows.specs.declared.rows.Place.{Place}

@@ -1,6 +1,6 @@
 -- Events that hold no text with rows of its own: their rows by events and by their nodes.
-use Rattle.std.proofs.Common.{◌≡◌, ℕ, ◌+◌, ◌-◌, ◌==◌, Bool, true, false, ◌&&◌, ◌||◌, not, if◌then◌else◌, List, [], ◌∷◌, ◌++◌, drop, map, codes}
-use Rattle.std.proofs.Common.{Option, None, Some, refl, sym, ap, ◌∙◌, append_assoc, subst}
+use Rattle.std.proofs.Common.{◌≡◌, ℕ, ◌+◌, ◌-◌, Bool, true, false, not, if◌then◌else◌, List, [], ◌∷◌, ◌++◌, map}
+use Rattle.std.proofs.Common.{Option, None, Some, refl, sym, ap, ◌∙◌, append_assoc}
 use Rattle.std.specs.Prelude.{is_some, unwrap_or}
 use Rattle.std.specs.Str.{is_utf8}
 use Rattle.std.proofs.lemmas.Str.{IsUtf8-nil, is_utf8-from_IsUtf8}
@@ -12,17 +12,15 @@ use Rattle.engine_events.specs.declared.event.Name.{Name}
 use Rattle.engine_events.specs.declared.event.Name.TheVariants as n
 use Rattle.definition_text.specs.Content.{content_codes}
 use Rattle.definition_inline.specs.CharacterReference.{Names, number_of, numbered_text}
-use Rattle.definition_inline.specs.Inline.{Target, LinkTexts, InlineLeaf, LiteralKind, Data, Literal, Html, Autolink, Leaf}
-use Rattle.definition_inline.specs.Inline as inline
+use Rattle.definition_inline.specs.Inline.{Target, LinkTexts, LiteralKind, Data, Html, Autolink}
 use Rattle.inline_rows.specs.InlineRows.{InlineRow, Part, inline_rows}
-use Rattle.inline_rows.specs.View.{data_rows}
 use Rattle.event_grammar.specs.declared.spot.Spot.{Spot}
 use Rattle.event_grammar.specs.Checks.{spot_of}
 use Rattle.event_grammar.specs.InGrammar.{node_name}
-use Rattle.event_grammar.specs.Trees.{Node, Nodes, Around, Nil, Cons, node_events, events_of, IsNode, AreNodes}
+use Rattle.event_grammar.specs.Trees.{Node, Nodes, Around, Nil, Cons, events_of, IsNode, AreNodes}
 use Rattle.event_meaning.specs.Children.{child, text_of, text_or_none, text_in, spaced_text_of, before_child, after_child}
 use Rattle.event_meaning.specs.Strings.{reference_text_of}
-use Rattle.event_meaning.specs.Texts.{code_part, code_parts, html_part, html_parts, autolink_of, literal_of, append}
+use Rattle.event_meaning.specs.Texts.{code_part, code_parts, html_part, html_parts, autolink_of, literal_of}
 use Rattle.event_references.proofs.TextLaw.{split}
 use Rattle.compile_written.specs.Child.{from_child, text_first}
 use Rattle.compile_written.specs.Strings.{valid, is_some_event}
@@ -31,9 +29,9 @@ use Rattle.compile_written.specs.Within.{AreWithin, StandsFirst}
 use Rattle.compile_written.proofs.ChildLaw.{child_within, text_is, text_in_is}
 use Rattle.compile_written.proofs.FormedTexts.{valid_is}
 use Rattle.compile_rows.specs.Leaves.{literal_rows, html_part_rows, html_next, html_after, value_of, has, reference_by, autolink_by, ending_rows}
-use Rattle.compile_rows.specs.RawTexts.{is_chunk, spot_next, exit_spot, spaces, raw_next, chunk_between, chunk_first, raw_part_first, raw_after}
+use Rattle.compile_strings.specs.RawTexts.{spot_next, exit_spot, raw_next, chunk_between, chunk_first, raw_part_first, raw_after}
 use Rattle.compile_rows.specs.Texts.{HasEndings, HaveEndings}
-use Rattle.compile_rows.proofs.Passes.{PassesOver, passes, nonzero, less}
+use Rattle.compile_strings.proofs.Passes.{PassesOver, passes, nonzero, less}
 use Rattle.compile_rows.proofs.InlineRows.{append_rows, leaves_rows, endings_rows}
 
 module _ (enter : Event) (kids : Nodes) (exit : Event) (rest : List Event) (nodes : AreNodes kids) (x : exit.kind ≡ Exit) where

@@ -1,9 +1,7 @@
 -- Rows and texts that are pushed.
-use Rattle.std.proofs.Common.{◌≡◌, ℕ, ◌+◌, ◌-◌, ◌==◌, Bool, true, false, if◌then◌else◌, List, [], ◌∷◌, ◌++◌, Option, None, Some, refl, sym, ap, ◌∙◌, subst}
+use Rattle.std.proofs.Common.{◌≡◌, ℕ, Bool, true, false, if◌then◌else◌, List, [], ◌∷◌, ◌++◌, Option, Some, sym, ap, ◌∙◌, subst}
 use Rattle.std.specs.Prelude.{Result, OnOk, unwrap_or}
 use Rattle.std.specs.Option.{option_map}
-use Rattle.std.specs.Str.{IsUtf8, is_utf8}
-use Rattle.std.proofs.lemmas.Str.{IsUtf8-from_is_utf8, is_utf8-from_IsUtf8}
 use Rattle.engine_events.specs.Names.{same_name}
 use Rattle.engine_events.specs.declared.event.Event.{Event}
 use Rattle.engine_events.specs.declared.event.Name.{Name}
@@ -16,24 +14,11 @@ use Rattle.inline_leaves.specs.Leaves.{kind_view}
 use Rattle.inline_leaves.specs.declared.leaf.LiteralKind.{LiteralKind}
 use Rattle.inline_rows.specs.InlineRows.{InlineRow, Part}
 use Rattle.compile_written.specs.Strings.{valid}
-use Rattle.compile_written.proofs.FormedTexts.{valid_is}
 use Rattle.compile_rows.specs.Leaves.{ending_rows, literal_kind, literal_rows, html_part_rows, value_of, has, reference_by, autolink_by}
 
 -- other rows that are the same are pushed, too
 pub along : {X E : Type 0} (r : Result X E) (new old x y : List InlineRow) → x ≡ y → OnOk r (new ≡ old ++ x) → OnOk r (new ≡ old ++ y)
 along r new old x y e h = subst (λ (z : List InlineRow). OnOk r (new ≡ old ++ z)) e h
-
--- ---- texts
-
-pub valid_text : (piece : List ℕ) → IsUtf8 piece → valid piece ≡ piece
-valid_text piece u = valid_is piece (is_utf8-from_IsUtf8 piece u)
-
-none_by : (piece : List ℕ) (b : Bool) → is_utf8 piece ≡ b → (IsUtf8 piece → ⊥) → valid piece ≡ []
-none_by piece true h absent = absurd (absent (IsUtf8-from_is_utf8 piece h))
-none_by piece false h absent = ap (λ (t : Bool). if t then piece else []) h
-
-pub no_text : (piece : List ℕ) → (IsUtf8 piece → ⊥) → valid piece ≡ []
-no_text piece absent = none_by piece (is_utf8 piece) refl absent
 
 -- ---- references
 

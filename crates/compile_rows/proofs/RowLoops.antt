@@ -11,13 +11,13 @@ use Rattle.inline_rows.specs.InlineRows.{InlineRow}
 use Rattle.inline_rows.specs.View.{rows_view}
 use Rattle.compile_rows.specs.Ahead.{AreLeft}
 use Rattle.compile_rows.specs.Places.{place, entered, exited}
-use Rattle.compile_rows.specs.RawTexts.{sequence_of}
+use Rattle.compile_strings.specs.RawTexts.{sequence_of}
 use Rattle.compile_rows.specs.Rows.{enter_rows, exit_rows, rows_by}
-use Rattle.compile_rows.specs.Spelled.{AreSpelled, first_raw, first_target, raws_by, raws_next, raws_view, targets_by, targets_next, targets_view}
+use Rattle.compile_strings.specs.Spelled.{AreSpelled, first_raw, first_target, raws_by, raws_next, raws_view, targets_by, targets_next, targets_view}
 use Rattle.compile_rows.specs.declared.rows.Mode.TheVariants.{Text}
 use Rattle.compile_rows.specs.declared.rows.Place.{Place}
 use Rattle.compile_rows.specs.declared.rows.Walk.{Walk}
-use Rattle.compile_rows.specs.declared.spelled.SpelledStrings.{SpelledStrings}
+use Rattle.compile_strings.specs.declared.spelled.SpelledStrings.{SpelledStrings}
 use Rattle.compile_rows.proofs.Walks.{enters, exits}
 
 module _ (names : Names) (bytes : List ℕ) (leads : Target → LinkTexts) (e : Event) (es own : List Event) (split : own ≡ e ∷ es) where

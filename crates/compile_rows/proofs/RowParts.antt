@@ -15,9 +15,10 @@ use Rattle.compile_written.specs.Child.{text_first}
 use Rattle.compile_written.specs.Strings.{valid}
 use Rattle.compile_rows.specs.Leaves.{has, leaf_rows}
 use Rattle.compile_rows.specs.Places.{in_text, is_in_text}
-use Rattle.compile_rows.specs.RawTexts.{sequence_of, raw_after}
-use Rattle.compile_rows.specs.Rows.{raw_leaf, label_by, target_by, alone_rows, part_rows, enter_in, enter_rows, exit_in, exit_rows}
-use Rattle.compile_rows.specs.Spelled.{Spelled, spelled, nowhere, spelled_by}
+use Rattle.compile_strings.specs.RawTexts.{sequence_of, raw_after}
+use Rattle.compile_rows.specs.Rows.{raw_leaf, alone_rows, part_rows, enter_in, enter_rows, exit_in, exit_rows}
+use Rattle.compile_strings.specs.Targets.{label_by, target_by}
+use Rattle.compile_strings.specs.Spelled.{Spelled, spelled, nowhere, spelled_by}
 use Rattle.compile_rows.specs.contracts.rows.Mode.{the_type}
 use Rattle.compile_rows.specs.declared.rows.Mode.{Mode}
 use Rattle.compile_rows.specs.declared.rows.Mode.TheVariants.{Text, Before, Behind}

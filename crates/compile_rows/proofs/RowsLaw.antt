@@ -1,6 +1,6 @@
 -- The law of rows: the rows of the events of a text are those of the inline structure that the events spell.
 use Rattle.std.proofs.Common.{◌≡◌, ℕ, ◌+◌, ◌==◌, Bool, true, false, ◌||◌, not, if◌then◌else◌, ◌⊎◌, inl, inr, List, [], ◌∷◌, ◌++◌}
-use Rattle.std.proofs.Common.{refl, sym, ap, ◌∙◌, append_assoc}
+use Rattle.std.proofs.Common.{Option, Some, None, refl, sym, ap, subst, ◌∙◌, append_assoc}
 use Rattle.std.proofs.lemmas.List.{append-nil}
 use Rattle.std.proofs.Math.Bool.{or-false}
 use Rattle.engine_events.specs.Names.{same_name, is_listed}
@@ -18,25 +18,24 @@ use Rattle.event_meaning.specs.Children.{text_of}
 use Rattle.event_meaning.specs.Texts.{text_names, target_of, text_part, inlines_of, text_within}
 use Rattle.event_references.proofs.TextLaw.{split}
 use Rattle.compile_written.specs.Texts.{IsTextNode, AreTexts}
-use Rattle.compile_rows.specs.Places.{place, span_of, is_around, links_in, links_after, entered, exited}
+use Rattle.event_grammar.specs.Spans.{span_names, span_of}
+use Rattle.compile_rows.specs.Places.{place, is_around, links_in, links_after, entered, exited}
 use Rattle.compile_rows.specs.Texts.{HasEndings, HaveEndings}
-use Rattle.compile_rows.specs.Rows.{target_by, part_rows, enter_rows, exit_rows, rows_by}
+use Rattle.compile_rows.specs.Rows.{part_rows, enter_rows, exit_rows, rows_by}
+use Rattle.compile_strings.specs.Targets.{target_by}
 use Rattle.compile_rows.specs.declared.rows.Mode.TheVariants.{Text, Before, Behind}
 use Rattle.compile_rows.specs.declared.rows.Place.{Place}
 use Rattle.compile_rows.proofs.InlineRows.{append_rows}
-use Rattle.compile_rows.proofs.Passes.{nonzero, less}
+use Rattle.compile_strings.proofs.Passes.{nonzero, less}
 use Rattle.compile_rows.proofs.Walks.{enters, exits, skipped, behind}
 use Rattle.compile_rows.proofs.AloneLaw.{alone_law}
-use Rattle.compile_rows.proofs.TargetLaw.{target_law}
+use Rattle.compile_strings.proofs.TargetLaw.{target_law}
 
 -- ---- names
 
 -- the names of what is around a text, and the others
 pub data IsAround : Name → Type 0 where
-  Emphasis : IsAround n.Emphasis
-  Strong : IsAround n.Strong
-  Strikethrough : IsAround n.GfmStrikethrough
-  Mark : IsAround n.Mark
+  TheSpan : (kind : SpanKind) → IsAround (span_names kind).event
   TheLink : IsAround n.Link
   TheImage : IsAround n.Image
 
@@ -44,14 +43,19 @@ or_true : (b : Bool) → (b || true) ≡ true
 or_true true = refl
 or_true false = refl
 
+-- a name that has a span is that of the span's event; one that has none isn't around a text
+abbrev IsNameOf : Option SpanKind → Name → Type 0
+IsNameOf (Some kind) name = name ≡ (span_names kind).event
+IsNameOf None name = is_around name ≡ false
+
+by_span : (span : Option SpanKind) (name : Name) → IsNameOf span name → IsAround name ⊎ (is_around name ≡ false)
+by_span (Some kind) name is = inl (subst IsAround (sym is) (TheSpan kind))
+by_span None name is = inr is
+
 around_or : (name : Name) → IsAround name ⊎ (is_around name ≡ false)
-around_or n.Emphasis = inl Emphasis
-around_or n.Strong = inl Strong
-around_or n.GfmStrikethrough = inl Strikethrough
-around_or n.Mark = inl Mark
 around_or n.Link = inl TheLink
 around_or n.Image = inl TheImage
-around_or name = inr refl
+around_or name = by_span (span_of name) name refl
 
 module _ (names : Names) (bytes : List ℕ) (leads : Target → LinkTexts) (in_link : Bool) where
   abbrev walk : Place → List Event → List InlineRow
@@ -91,21 +95,22 @@ module _ (names : Names) (bytes : List ℕ) (leads : Target → LinkTexts) (in_l
       exits names bytes leads in_link (place Behind 0 k) exit rest x
       ∙ ap (λ (z : Name). exit_rows (place Behind 0 k) z ++ walk (exited (place Behind 0 k) z) rest) e
 
+  in_span : (kind : SpanKind) (k : ℕ) (kids : Nodes) (exit : Event) (rest : List Event) → Within kids → exit.kind ≡ Exit
+      → walk (place Behind 0 k) (exit ∷ rest) ≡ Leave ∷ walk (place Text 0 k) rest
+      → EnterSpan kind ∷ walk (place Before 0 k) (events_of kids ++ exit ∷ rest)
+      ≡ EnterSpan kind ∷ (((rows (text_within names bytes (linked k || false) kids) ++ Leave ∷ []) ++ []) ++ walk (place Text 0 k) rest)
+  in_span kind k kids exit rest = enclosed (EnterSpan kind) k k (linked k || false) kids exit rest (sym (or-false (linked k)))
+
   around : (name : Name) → IsAround name → (k : ℕ) (text : List ℕ) (enter : Event) (kids : Nodes) (exit : Event) (rest : List Event) → Within kids
       → exit.kind ≡ Exit → exit.name ≡ name
       → (is_listed media_names name ≡ true → target_by names bytes (events_of kids ++ exit ∷ rest) ≡ target_of names bytes kids)
       → enter_rows names bytes leads in_link (place Text 0 k) name (enter ∷ (events_of kids ++ exit ∷ rest))
       ++ walk (entered (place Text 0 k) name) (events_of kids ++ exit ∷ rest)
       ≡ rows (text_part names bytes (linked k) name text kids (text_within names bytes (linked k || same_name name n.Link) kids)) ++ walk (place Text 0 k) rest
-  around name Emphasis k text enter kids exit rest ih x e t =
-      enclosed (EnterSpan inline.Emphasis) k k (linked k || false) kids exit rest (sym (or-false (linked k))) ih x (after_as n.Emphasis k exit rest x e)
-  around name Strong k text enter kids exit rest ih x e t =
-      enclosed (EnterSpan inline.Strong) k k (linked k || false) kids exit rest (sym (or-false (linked k))) ih x (after_as n.Strong k exit rest x e)
-  around name Strikethrough k text enter kids exit rest ih x e t =
-      enclosed (EnterSpan inline.Strikethrough) k k (linked k || false) kids exit rest (sym (or-false (linked k))) ih x
-      (after_as n.GfmStrikethrough k exit rest x e)
-  around name Mark k text enter kids exit rest ih x e t =
-      enclosed (EnterSpan inline.Mark) k k (linked k || false) kids exit rest (sym (or-false (linked k))) ih x (after_as n.Mark k exit rest x e)
+  around name (TheSpan inline.Emphasis) k text enter kids exit rest ih x e t =
+      in_span inline.Emphasis k kids exit rest ih x (after_as (span_names inline.Emphasis).event k exit rest x e)
+  around name (TheSpan kind) k text enter kids exit rest ih x e t =
+      in_span kind k kids exit rest ih x (after_as (span_names kind).event k exit rest x e)
   around name TheLink k text enter kids exit rest ih x e t =
       enclosed (EnterLinked Link (leads (target_by names bytes (events_of kids ++ exit ∷ rest)))) k (k + 1) (linked k || true) kids exit rest
       (ap (λ (z : Bool). in_link || not z) (nonzero k) ∙ or_true in_link ∙ sym (or_true (linked k))) ih x

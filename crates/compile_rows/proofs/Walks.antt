@@ -13,7 +13,7 @@ use Rattle.compile_rows.specs.Rows.{enter_rows, exit_rows, rows_next, rows_by, e
 use Rattle.compile_rows.specs.declared.rows.Mode.{Mode}
 use Rattle.compile_rows.specs.declared.rows.Mode.TheVariants.{Behind}
 use Rattle.compile_rows.specs.declared.rows.Place.{Place}
-use Rattle.compile_rows.proofs.Passes.{PassesOver, passes, nonzero, less}
+use Rattle.compile_strings.proofs.Passes.{PassesOver, passes, nonzero, less}
 
 module _ (names : Names) (bytes : List ℕ) (leads : Target → LinkTexts) (in_link : Bool) where
   abbrev walk : Place → List Event → List InlineRow

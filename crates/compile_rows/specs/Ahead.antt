@@ -7,11 +7,11 @@ use Rattle.engine_events.specs.declared.event.Name.{Name}
 use Rattle.definition_inline.specs.CharacterReference.{Names}
 use Rattle.definition_inline.specs.Inline.{Target, LinkTexts}
 use Rattle.event_grammar.specs.References.{media_names}
-use Rattle.compile_rows.specs.RawTexts.{sequence_of, raw_after}
-use Rattle.compile_rows.specs.Spelled.{Spelled, no_spelled, raws_view, spelled_by, targets_view}
+use Rattle.compile_strings.specs.RawTexts.{sequence_of, raw_after}
+use Rattle.compile_strings.specs.Spelled.{Spelled, no_spelled, raws_view, spelled_by, targets_view}
 use Rattle.compile_rows.specs.declared.rows.PartStrings.{PartStrings}
 use Rattle.compile_rows.specs.declared.rows.Walk.{Walk}
-use Rattle.compile_rows.specs.declared.spelled.SpelledStrings.{SpelledStrings}
+use Rattle.compile_strings.specs.declared.spelled.SpelledStrings.{SpelledStrings}
 
 -- the strings of the part of a text with this name, by the events after its enter
 pub record AreStringsOf {A : Type 0} (names : Names) (bytes : List ℕ) (leads : Target → LinkTexts) (at : ℕ → LinkTexts) (part : PartStrings A) (name : Name)

@@ -2,10 +2,5 @@ pub mod Ahead
 pub mod Places
 pub mod Leaves
 pub mod Columns
-pub mod RawTexts
-pub mod Targets
-pub mod LabelEnd
 pub mod Texts
 pub mod Rows
-pub mod Spelled
-pub mod Joined

@@ -1,10 +1,10 @@
 -- Where a walk over the events of a text is: which events have rows.
-use Rattle.std.specs.Prelude.{ℕ, ◌+◌, ◌-◌, Bool, true, false, ◌==◌, ◌&&◌, ◌||◌, if◌then◌else◌, Option, None, Some, is_some}
+use Rattle.std.specs.Prelude.{ℕ, ◌+◌, ◌-◌, Bool, true, false, ◌==◌, ◌&&◌, ◌||◌, if◌then◌else◌, is_some}
 use Rattle.engine_events.specs.Names.{same_name, is_listed}
 use Rattle.engine_events.specs.declared.event.Name.{Name}
 use Rattle.engine_events.specs.declared.event.Name.TheVariants as n
-use Rattle.definition_inline.specs.Inline.{SpanKind, Emphasis, Strong, Strikethrough, Mark}
 use Rattle.event_grammar.specs.References.{media_names}
+use Rattle.event_grammar.specs.Spans.{span_of}
 use Rattle.event_meaning.specs.Texts.{text_names}
 use Rattle.compile_rows.specs.declared.rows.Mode.{Mode}
 use Rattle.compile_rows.specs.declared.rows.Mode.TheVariants.{Text, Before, Behind}
@@ -12,14 +12,6 @@ use Rattle.compile_rows.specs.declared.rows.Place.{Place}
 
 abbrev pub place : Mode → ℕ → ℕ → Place
 place mode skipped links = record { mode = mode; skipped = skipped; links = links }
-
-abbrev pub span_of : Name → Option SpanKind
-span_of name =
-    if same_name name n.Emphasis then Some Emphasis
-    else (if same_name name n.Strong then Some Strong
-    else (if same_name name n.GfmStrikethrough then Some Strikethrough
-    else (if same_name name n.Mark then Some Mark
-    else None)))
 
 -- whether the text of an event of this name has rows, between a row for its start and one for its end
 abbrev pub is_around : Name → Bool

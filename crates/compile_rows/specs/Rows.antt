@@ -8,14 +8,13 @@ use Rattle.engine_events.specs.declared.event.Name.{Name}
 use Rattle.engine_events.specs.declared.event.Name.TheVariants as n
 use Rattle.definition_inline.specs.CharacterReference.{Names}
 use Rattle.definition_inline.specs.CodeText.{without_padding}
-use Rattle.definition_inline.specs.Inline.{Target, Resource, Reference, LinkTexts, InlineLeaf, Code, Math, TaskCheck, SpanKind, Link, Image}
+use Rattle.definition_inline.specs.Inline.{Target, LinkTexts, InlineLeaf, Code, Math, TaskCheck, SpanKind, Link, Image}
 use Rattle.inline_rows.specs.InlineRows.{InlineRow, Part, EnterSpan, EnterLinked, Leave, CallRow}
-use Rattle.event_meaning.specs.Strings.{written}
-use Rattle.event_meaning.specs.Texts.{label_or_none}
-use Rattle.compile_rows.specs.Places.{span_of, entered, exited}
+use Rattle.event_grammar.specs.Spans.{span_of}
+use Rattle.compile_rows.specs.Places.{entered, exited}
 use Rattle.compile_rows.specs.Leaves.{has, leaf_rows}
-use Rattle.compile_rows.specs.RawTexts.{sequence_of, raw_after}
-use Rattle.compile_rows.specs.Targets.{own_from, has_own, string_first, label_after}
+use Rattle.compile_strings.specs.RawTexts.{sequence_of, raw_after}
+use Rattle.compile_strings.specs.Targets.{label_by, target_by}
 use Rattle.compile_rows.specs.declared.rows.Mode.{Mode}
 use Rattle.compile_rows.specs.declared.rows.Mode.TheVariants.{Text}
 use Rattle.compile_rows.specs.declared.rows.Place.{Place}
@@ -33,24 +32,12 @@ abbrev pub exit_rows : Place → Name → List InlineRow
 exit_rows p name = if p.skipped == 0 then exit_in p.mode name else []
 
 module _ (names : Names) (bytes : List ℕ) where
-  -- the label by the events after the enter of a link, an image or a call
-  abbrev pub label_by : List Event → List ℕ
-  label_by events = label_or_none names bytes (label_after bytes events)
-
-  -- where a link or an image leads, by the events after its enter
-  abbrev pub target_by : List Event → Target
-  target_by events =
-      if has_own (own_from n.Resource 0 events)
-      then Resource (written (string_first names bytes (own_from n.ResourceDestinationString 0 events)))
-      (Some (written (string_first names bytes (own_from n.ResourceTitleString 0 events))))
-      else Reference (label_by events)
-
   module _ (leads : Target → LinkTexts) (in_link : Bool) where
     -- an event that holds no text with rows of its own, by the events from its enter on
     abbrev pub alone_rows : Option Name → Name → ℕ → List Event → List InlineRow
     alone_rows (Some sequence) name links events = Part (raw_leaf name (without_padding (raw_after bytes sequence false 0 (drop 1 events)))) ∷ []
     alone_rows None name links events =
-        if same_name name n.GfmFootnoteCall then CallRow (label_by (drop 1 events)) ∷ []
+        if same_name name n.GfmFootnoteCall then CallRow (label_by names bytes (drop 1 events)) ∷ []
         else (if same_name name n.GfmTaskListItemCheck then Part (TaskCheck (has n.GfmTaskListItemValueChecked (drop 1 events))) ∷ []
         else leaf_rows names bytes (in_link || not (links == 0)) name events)
 
@@ -58,8 +45,8 @@ module _ (names : Names) (bytes : List ℕ) where
     abbrev pub part_rows : Option SpanKind → Name → ℕ → List Event → List InlineRow
     part_rows (Some span) name links events = EnterSpan span ∷ []
     part_rows None name links events =
-        if same_name name n.Link then EnterLinked Link (leads (target_by (drop 1 events))) ∷ []
-        else (if same_name name n.Image then EnterLinked Image (leads (target_by (drop 1 events))) ∷ []
+        if same_name name n.Link then EnterLinked Link (leads (target_by names bytes (drop 1 events))) ∷ []
+        else (if same_name name n.Image then EnterLinked Image (leads (target_by names bytes (drop 1 events))) ∷ []
         else alone_rows (sequence_of name) name links events)
 
     abbrev pub enter_in : Mode → Name → ℕ → List Event → List InlineRow

@@ -12,7 +12,8 @@ ghost use Rattle.compile_rows.specs.Leaves.{ending_rows, literal_kind, literal_r
 ghost use Rattle.compile_rows.specs.Leaves.{html_after, leaf_of, leaf_rows};
 ghost use Rattle.engine_events.specs.declared.event.Name.TheVariants as names;
 
-use crate::texts::{TextEvents, text_of};
+use compile_strings::TextEvents;
+use compile_strings::texts::text_of;
 use compile_written::child::{child, inside, text_first};
 use engine_events::event::{Event, Kind, Name};
 use inline_leaves::{LeafPart, LiteralKind};

@@ -7,10 +7,11 @@ ghost use Rattle.definition_inline.specs.Inline.{Target, LinkTexts};
 ghost use Rattle.event_grammar.specs.Trees.{Nodes, AreNodes, events_of};
 ghost use Rattle.event_meaning.specs.Texts.{inlines_of, text_names};
 ghost use Rattle.compile_rows.specs.Ahead.{AreStringsOf};
-ghost use Rattle.compile_rows.specs.Places.{place, span_of, is_around, is_counted, entered_in, exited_in};
-ghost use Rattle.compile_rows.specs.RawTexts.{sequence_of};
+ghost use Rattle.event_grammar.specs.Spans.{span_of};
+ghost use Rattle.compile_rows.specs.Places.{place, is_around, is_counted, entered_in, exited_in};
+ghost use Rattle.compile_strings.specs.RawTexts.{sequence_of};
 ghost use Rattle.compile_rows.specs.Rows.{raw_leaf, alone_rows, part_rows, enter_rows, rows_by};
-ghost use Rattle.compile_rows.specs.Spelled.{AreSpelled, raws_by, targets_by};
+ghost use Rattle.compile_strings.specs.Spelled.{AreSpelled, raws_by, targets_by};
 ghost use Rattle.compile_rows.specs.Texts.{HaveEndings};
 ghost use Rattle.compile_rows.specs.declared.rows.Mode.{Mode as AMode};
 ghost use Rattle.compile_rows.specs.declared.rows.Mode.TheVariants as modes;
@@ -18,14 +19,14 @@ ghost use Rattle.compile_written.specs.Texts.{AreTexts};
 ghost use Rattle.inline_rows.specs.InlineRows.{inline_rows};
 ghost use Rattle.inline_rows.specs.View.{row_view, rows_view, spelled_view};
 
-use crate::attention::span_of;
-use crate::label_end::is_media;
 use crate::leaf::{has, push_leaf};
-use crate::raw_text::{begins, is_exit, sequence_of, whole_piece};
-use crate::spelled::SpelledStrings;
-use crate::texts::{TextEvents, text_of};
+use compile_strings::label_end::is_media;
+use compile_strings::raw_text::{begins, is_exit, sequence_of, whole_piece};
+use compile_strings::texts::text_of;
+use compile_strings::{SpelledStrings, TextEvents};
 use compile_written::child::{inside, text_first};
 use engine_events::event::{Event, Kind, Name};
+use event_grammar::spans::span_of;
 use inline_rows::{InlineRow, SpelledLeaf};
 use markdown_options::Tables;
 use std::alloc::{AllocError, Allocator};
@@ -336,9 +337,9 @@ impl<'a, A: Allocator + Clone> Walk<'a, A> {
     ghost use Rattle.event_grammar.specs.References.{media_names};
     ghost use Rattle.compile_rows.specs.Ahead.{AreLeft};
     ghost use Rattle.compile_rows.specs.Places.{entered, exited};
-    ghost use Rattle.compile_rows.specs.RawTexts.{sequence_of, raw_after};
+    ghost use Rattle.compile_strings.specs.RawTexts.{sequence_of, raw_after};
     ghost use Rattle.compile_rows.specs.Rows.{enter_rows, exit_rows};
-    ghost use Rattle.compile_rows.specs.Spelled.{Spelled, first_raw, first_target, raws_view};
+    ghost use Rattle.compile_strings.specs.Spelled.{Spelled, first_raw, first_target, raws_view};
     ghost use Rattle.inline_rows.specs.View.{rows_view};
 
     /// The event is entered that the events begin with. Most are skipped, or are data.

@@ -1,5 +1,5 @@
 use Rattle.std.proofs.Common.{◌∙◌, sym}
-use Rattle.compile_rows.proofs.Pushed.{valid_text, no_text}
+use Rattle.compile_strings.proofs.ValidTexts.{valid_text, no_text}
 use Rattle.compile_blocks.proofs.piece.text_of.Goals as goal
 
 pub returns-in-Ok : goal.returns-in-Ok

@@ -1,6 +1,6 @@
-use Rattle.std.proofs.Common.{◌≡◌, ◌∙◌, ◌++◌, ◌∷◌, [], ℕ, List, Bool, true, false, sym, ap, refl, map}
-use Rattle.inline_rows.specs.InlineRows.{InlineRow, Part}
-use Rattle.inline_rows.specs.View.{rows_view, data_rows}
+use Rattle.std.proofs.Common.{ℕ, List, ap, map}
+use Rattle.inline_rows.specs.InlineRows.{Part}
+use Rattle.inline_rows.specs.View.{rows_view}
 use Rattle.compile_rows.proofs.Pushed.{along}
 use Rattle.engine_events.specs.declared.event.Name.TheVariants as n
 use Rattle.definition_inline.specs.Inline.{Escape}

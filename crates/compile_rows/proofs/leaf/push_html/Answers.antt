@@ -1,6 +1,5 @@
-use Rattle.std.proofs.Common.{◌≡◌, ◌++◌, ◌∙◌, sym, ap, ℕ, List, arith, get_or, drop}
+use Rattle.std.proofs.Common.{◌++◌, ◌∙◌, ap, ℕ, List, arith, get_or}
 use Rattle.std.proofs.lemmas.List.{take_rest}
-use Rattle.engine_events.specs.declared.event.Event.{Event}
 use Rattle.event_grammar.proofs.Runs.{no_event}
 use Rattle.compile_written.specs.Child.{text_first}
 use Rattle.inline_rows.specs.View.{rows_view}

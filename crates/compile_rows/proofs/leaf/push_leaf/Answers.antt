@@ -1,5 +1,5 @@
-use Rattle.std.proofs.Common.{◌≡◌, ◌∙◌, ◌++◌, ◌∷◌, [], ℕ, List, Bool, true, false, sym, ap, refl, map}
-use Rattle.inline_rows.specs.InlineRows.{InlineRow, Part}
+use Rattle.std.proofs.Common.{◌∙◌, ◌∷◌, [], ℕ, List, sym, ap, map}
+use Rattle.inline_rows.specs.InlineRows.{Part}
 use Rattle.inline_rows.specs.View.{rows_view, data_rows}
 use Rattle.engine_events.specs.declared.event.Event.{Event}
 use Rattle.engine_events.specs.declared.event.Name.TheVariants as n

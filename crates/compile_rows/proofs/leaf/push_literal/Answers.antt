@@ -1,6 +1,4 @@
-use Rattle.std.proofs.Common.{◌≡◌, ◌∙◌, ◌++◌, ◌∷◌, [], ℕ, List, Bool, true, false, sym, ap, refl, map}
-use Rattle.inline_rows.specs.InlineRows.{InlineRow, Part}
-use Rattle.inline_rows.specs.View.{rows_view, data_rows}
+use Rattle.inline_rows.specs.View.{rows_view}
 use Rattle.compile_written.specs.Strings.{valid}
 use Rattle.compile_rows.specs.Leaves.{literal_kind, literal_rows}
 use Rattle.compile_rows.proofs.Pushed.{along, literal_row}

@@ -1,6 +1,6 @@
-use Rattle.std.proofs.Common.{◌≡◌, ◌∙◌, ◌++◌, ◌∷◌, [], ℕ, List, Bool, true, false, sym, ap, refl, map}
-use Rattle.inline_rows.specs.InlineRows.{InlineRow, Part}
-use Rattle.inline_rows.specs.View.{rows_view, data_rows}
+use Rattle.std.proofs.Common.{◌∙◌, ◌∷◌, [], ℕ, List, sym, ap}
+use Rattle.inline_rows.specs.InlineRows.{Part}
+use Rattle.inline_rows.specs.View.{rows_view}
 use Rattle.std.specs.Prelude.{unwrap_or}
 use Rattle.definition_inline.specs.Inline.{Character}
 use Rattle.compile_rows.specs.Leaves.{reference_by}

@@ -1,4 +1,4 @@
-use Rattle.std.proofs.Common.{List, length}
+use Rattle.std.proofs.Common.{length}
 use Rattle.compile_rows.proofs.PassedOver.{Reads}
 use Rattle.compile_rows.proofs.rows.pass_over.Given as goal
 

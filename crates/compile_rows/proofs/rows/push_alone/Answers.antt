@@ -1,7 +1,7 @@
 use Rattle.std.proofs.Common.{◌∙◌, sym, ap}
 use Rattle.std.specs.Option.{option_map}
 use Rattle.inline_rows.specs.View.{rows_view}
-use Rattle.compile_rows.specs.RawTexts.{sequence_of}
+use Rattle.compile_strings.specs.RawTexts.{sequence_of}
 use Rattle.compile_rows.specs.Rows.{alone_rows}
 use Rattle.compile_rows.proofs.Pushed.{along}
 use Rattle.compile_rows.proofs.RowParts.{raw_row, no_raw_row}

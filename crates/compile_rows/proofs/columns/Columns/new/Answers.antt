@@ -1,6 +1,0 @@
-use Rattle.std.proofs.Common.{arith}
-use Rattle.compile_rows.proofs.ColumnsLaw.{start_phase}
-use Rattle.compile_rows.proofs.columns.Columns.new.Goals as goal
-
-pub returns-clause-counted : goal.returns-clause-counted
-returns-clause-counted c = λ bytes. record { within = omega arith; phase = start_phase bytes }
