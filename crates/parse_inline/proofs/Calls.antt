@@ -63,9 +63,7 @@ pub record IsMark (name : Name) : Type 0 where
 
 sequence_no_quote : (s : Span) → same_name (sequence_name s) n.BlockQuotePrefix ≡ false
 sequence_no_quote span.Emphasis = refl
-sequence_no_quote span.Strong = refl
-sequence_no_quote span.Strikethrough = refl
-sequence_no_quote span.Mark = refl
+sequence_no_quote other = refl
 
 module _ {A : Type 0} (text : List ℕ) (stop : Stop) where
   pub entering : (a b : Walk A) (name : Name) (content : List ℕ) → DoesEnter name a b → StandsInContent text content stop a

@@ -18,23 +18,17 @@ use Rattle.parse_inline.proofs.LeavingAll.{leave_last}
 pub span_holds_sequence : (s : Span) → may_hold (span_name s) (sequence_name s) ≡ true
 unfolding may_hold
 span_holds_sequence span.Emphasis = refl
-span_holds_sequence span.Strong = refl
-span_holds_sequence span.Strikethrough = refl
-span_holds_sequence span.Mark = refl
+span_holds_sequence other = refl
 
 pub span_holds_text : (s : Span) → may_hold (span_name s) (text_name s) ≡ true
 unfolding may_hold
 span_holds_text span.Emphasis = refl
-span_holds_text span.Strong = refl
-span_holds_text span.Strikethrough = refl
-span_holds_text span.Mark = refl
+span_holds_text other = refl
 
 -- the start of something, and its end
 leave_entered_span : (s : Span) (size : ℕ) (marks : List Mark) → leave_open (held.Span s size) (entered_open (held.Span s size) marks) ≡ marks
 leave_entered_span span.Emphasis size marks = refl
-leave_entered_span span.Strong size marks = refl
-leave_entered_span span.Strikethrough size marks = refl
-leave_entered_span span.Mark size marks = refl
+leave_entered_span other size marks = refl
 
 leave_entered : (o : Open) (marks : List Mark) → leave_open o (entered_open o marks) ≡ marks
 leave_entered (held.Span s size) marks = leave_entered_span s size marks
@@ -44,9 +38,7 @@ leave_entered held.Image marks = refl
 text_of_span : (s : Span) → has_text (text_name s) ≡ true
 unfolding may_hold has_text
 text_of_span span.Emphasis = refl
-text_of_span span.Strong = refl
-text_of_span span.Strikethrough = refl
-text_of_span span.Mark = refl
+text_of_span other = refl
 
 label_text : has_text n.LabelText ≡ true
 unfolding may_hold has_text

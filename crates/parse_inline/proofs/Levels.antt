@@ -47,15 +47,11 @@ use Rattle.parse_inline.proofs.Spans.{span_nodes, span_plain, span_spelled, text
 
 span_no_quote : (s : Span) → same_name (span_name s) n.BlockQuotePrefix ≡ false
 span_no_quote span.Emphasis = refl
-span_no_quote span.Strong = refl
-span_no_quote span.Strikethrough = refl
-span_no_quote span.Mark = refl
+span_no_quote other = refl
 
 text_no_quote : (s : Span) → same_name (text_name s) n.BlockQuotePrefix ≡ false
 text_no_quote span.Emphasis = refl
-text_no_quote span.Strong = refl
-text_no_quote span.Strikethrough = refl
-text_no_quote span.Mark = refl
+text_no_quote other = refl
 
 linked_no_quote : (kind : LinkedKind) → same_name (linked_name kind) n.BlockQuotePrefix ≡ false
 linked_no_quote Link = refl

@@ -1,6 +1,6 @@
 -- What the nodes of a span spell.
 use Rattle.std.proofs.Common.{◌≡◌, ◌||◌, ℕ, Bool, false, List, refl, ap, ◌∙◌}
-use Rattle.std.proofs.lemmas.Bool.{cond_both}
+use Rattle.std.proofs.lemmas.Bool.{cond_both, cond-false}
 use Rattle.engine_events.specs.Names.{is_listed, same_name}
 use Rattle.engine_events.specs.declared.event.Name.{Name}
 use Rattle.engine_events.specs.declared.event.Name.TheVariants as n
@@ -10,15 +10,15 @@ use Rattle.inline_runs.specs.View.{span_view}
 use Rattle.inline_runs.specs.declared.pair.Span.{Span}
 use Rattle.inline_runs.specs.declared.pair.Span.TheVariants as span
 use Rattle.event_grammar.specs.Trees.{Nodes, Around, Nil}
-use Rattle.event_meaning.specs.Texts.{inlines_of, part, text_within}
+use Rattle.event_meaning.specs.Texts.{inlines_of, part, text_names, text_within}
 use Rattle.parse_output.specs.declared.end.End.{End}
 use Rattle.parse_output.specs.Ends.{enter_at, exit_at, same_end}
-use Rattle.parse_output.specs.Forest.{append, cut, one, void_nodes}
+use Rattle.parse_output.specs.Forest.{append, cut, void_nodes}
 use Rattle.parse_output.proofs.Forests.{append-assoc}
 use Rattle.parse_strings.specs.Plain.{ArePlain}
 use Rattle.parse_strings.proofs.PlainNodes.{plain_both, plain_void, sought_names}
 use Rattle.parse_inline.specs.Leaving.{sequence_name, span_name, text_name}
-use Rattle.parse_inline.proofs.Plain.{plain_event}
+use Rattle.parse_inline.proofs.Plain.{cut_one, plain_event}
 
 module _ (text : List ℕ) where
   -- the text of a span, as an event
@@ -34,28 +34,28 @@ module _ (text : List ℕ) where
   span_nodes s from kids to = cut (Around (enter_at text (span_name s) from) kids (exit_at text (span_name s) to))
 
 module _ (names : Names) (text : List ℕ) where
-  -- a sequence has no text
+  -- what is void has no text
+  skip_void : (name : Name) (linked : Bool) (from to : End) (ns : Nodes) → same_name name n.Data ≡ false → is_listed text_names name ≡ false
+      → same_name name n.Label ≡ false
+      → text_within names text linked (append (void_nodes text name from to) ns) ≡ text_within names text linked ns
+  skip_void name linked from to ns no_data no_text no_label =
+      let enter = enter_at text name from in
+      let exit = exit_at text name to in
+      cond_both (same_end to from) Nil (cut (Around enter Nil exit)) (λ vs. text_within names text linked (append vs ns) ≡ text_within names text linked ns)
+      (λ _. refl)
+      (λ _. ap (λ vs. text_within names text linked (append vs ns)) (cut_one enter exit Nil no_data)
+      ∙ cond-false (is_listed text_names name) _ _ no_text ∙ cond-false (same_name name n.Label) _ _ no_label)
+
+  -- a sequence has none
   skip_sequence : (s : Span) (linked : Bool) (from to : End) (ns : Nodes)
       → text_within names text linked (append (void_nodes text (sequence_name s) from to) ns) ≡ text_within names text linked ns
-  skip_sequence span.Emphasis linked from to ns =
-      cond_both (same_end to from) Nil (one (Around (enter_at text n.EmphasisSequence from) Nil (exit_at text n.EmphasisSequence to)))
-      (λ vs. text_within names text linked (append vs ns) ≡ text_within names text linked ns) (λ _. refl) (λ _. refl)
-  skip_sequence span.Strong linked from to ns =
-      cond_both (same_end to from) Nil (one (Around (enter_at text n.StrongSequence from) Nil (exit_at text n.StrongSequence to)))
-      (λ vs. text_within names text linked (append vs ns) ≡ text_within names text linked ns) (λ _. refl) (λ _. refl)
-  skip_sequence span.Strikethrough linked from to ns =
-      cond_both (same_end to from) Nil (one (Around (enter_at text n.GfmStrikethroughSequence from) Nil (exit_at text n.GfmStrikethroughSequence to)))
-      (λ vs. text_within names text linked (append vs ns) ≡ text_within names text linked ns) (λ _. refl) (λ _. refl)
-  skip_sequence span.Mark linked from to ns =
-      cond_both (same_end to from) Nil (one (Around (enter_at text n.MarkSequence from) Nil (exit_at text n.MarkSequence to)))
-      (λ vs. text_within names text linked (append vs ns) ≡ text_within names text linked ns) (λ _. refl) (λ _. refl)
+  skip_sequence span.Emphasis linked from to ns = skip_void (sequence_name span.Emphasis) linked from to ns refl refl refl
+  skip_sequence s linked from to ns = skip_void (sequence_name s) linked from to ns refl refl refl
 
   first_text : (s : Span) (linked : Bool) (from to : End) (kids ns : Nodes)
       → text_within names text linked (append (text_nodes text s from kids to) ns) ≡ inlines_of names text linked kids
   first_text span.Emphasis linked from to kids ns = refl
-  first_text span.Strong linked from to kids ns = refl
-  first_text span.Strikethrough linked from to kids ns = refl
-  first_text span.Mark linked from to kids ns = refl
+  first_text other linked from to kids ns = refl
 
   within_span : (s : Span) (linked : Bool) (a b c d e f : End) (kids : Nodes)
       → text_within names text linked (inside_span text s a b c kids d e f) ≡ inlines_of names text linked kids
@@ -69,9 +69,7 @@ module _ (names : Names) (text : List ℕ) where
   span_around : (s : Span) (linked : Bool) (from to : End) (kids : Nodes)
       → inlines_of names text linked (span_nodes text s from kids to) ≡ part (inline.Span (span_view s) (text_within names text (linked || false) kids))
   span_around span.Emphasis linked from to kids = refl
-  span_around span.Strong linked from to kids = refl
-  span_around span.Strikethrough linked from to kids = refl
-  span_around span.Mark linked from to kids = refl
+  span_around other linked from to kids = refl
 
   -- a span spells one around what the nodes in it spell
   pub span_spelled : (s : Span) (linked : Bool) (from to a b c d e f : End) (kids : Nodes)
@@ -90,21 +88,15 @@ record IsUnsought (name : Name) : Type 0 where
 
 unsought_sequence : (s : Span) → IsUnsought (sequence_name s)
 unsought_sequence span.Emphasis = record { other = refl; no_data = refl }
-unsought_sequence span.Strong = record { other = refl; no_data = refl }
-unsought_sequence span.Strikethrough = record { other = refl; no_data = refl }
-unsought_sequence span.Mark = record { other = refl; no_data = refl }
+unsought_sequence other = record { other = refl; no_data = refl }
 
 unsought_text : (s : Span) → IsUnsought (text_name s)
 unsought_text span.Emphasis = record { other = refl; no_data = refl }
-unsought_text span.Strong = record { other = refl; no_data = refl }
-unsought_text span.Strikethrough = record { other = refl; no_data = refl }
-unsought_text span.Mark = record { other = refl; no_data = refl }
+unsought_text other = record { other = refl; no_data = refl }
 
 unsought_span : (s : Span) → IsUnsought (span_name s)
 unsought_span span.Emphasis = record { other = refl; no_data = refl }
-unsought_span span.Strong = record { other = refl; no_data = refl }
-unsought_span span.Strikethrough = record { other = refl; no_data = refl }
-unsought_span span.Mark = record { other = refl; no_data = refl }
+unsought_span other = record { other = refl; no_data = refl }
 
 pub span_plain : (text : List ℕ) (s : Span) (from to a b c d e f : End) (kids : Nodes) → ArePlain kids
     → ArePlain (span_nodes text s from (inside_span text s a b c kids d e f) to)

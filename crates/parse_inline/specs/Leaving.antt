@@ -3,7 +3,8 @@ use Rattle.std.specs.Prelude.{◌≡◌, true, List, [], ◌∷◌}
 use Rattle.engine_events.specs.declared.event.Name.{Name}
 use Rattle.engine_events.specs.declared.event.Name.TheVariants as n
 use Rattle.inline_runs.specs.declared.pair.Span.{Span}
-use Rattle.inline_runs.specs.declared.pair.Span.TheVariants as span
+use Rattle.inline_runs.specs.View.{span_view}
+use Rattle.event_grammar.specs.Spans.{span_names}
 use Rattle.parse_output.specs.Open.{Mark, Entered, closed}
 use Rattle.parse_output.specs.Children.{holds_text}
 use Rattle.parse_lines.specs.declared.walk.Walk.{Walk}
@@ -11,23 +12,15 @@ use Rattle.parse_lines.specs.Open.{still_open}
 use Rattle.parse_inline.specs.declared.opened.Open.{Open}
 use Rattle.parse_inline.specs.declared.opened.Open.TheVariants as held
 
+-- the names of the events of a span
 abbrev pub span_name : Span → Name
-span_name span.Emphasis = n.Emphasis
-span_name span.Strong = n.Strong
-span_name span.Strikethrough = n.GfmStrikethrough
-span_name span.Mark = n.Mark
+span_name span = (span_names (span_view span)).event
 
 abbrev pub text_name : Span → Name
-text_name span.Emphasis = n.EmphasisText
-text_name span.Strong = n.StrongText
-text_name span.Strikethrough = n.GfmStrikethroughText
-text_name span.Mark = n.MarkText
+text_name span = (span_names (span_view span)).text
 
 abbrev pub sequence_name : Span → Name
-sequence_name span.Emphasis = n.EmphasisSequence
-sequence_name span.Strong = n.StrongSequence
-sequence_name span.Strikethrough = n.GfmStrikethroughSequence
-sequence_name span.Mark = n.MarkSequence
+sequence_name span = (span_names (span_view span)).sequence
 
 -- after the end of a label, and of the link or the image that it is in
 abbrev pub leave_label : List Mark → List Mark

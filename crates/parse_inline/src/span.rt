@@ -13,7 +13,7 @@ ghost use Rattle.parse_rows.specs.Marks.{sequence_size};
 
 use crate::opened::Open;
 use crate::reading::Reading;
-use engine_events::event::Name;
+use event_grammar::spans::span_names;
 use inline_runs::Span;
 use parse_lines::Walk;
 use parse_lines::cut::bytes_from;
@@ -39,10 +39,11 @@ pub(crate) fn enter_span<T, A: Allocator>(
 {
     let bytes = bytes_from(reading.content.as_bytes(), walk.place());
     let size = sequence_size(span, bytes);
+    let names = span_names(span);
     open.push(Open::Span { span, size })?;
-    walk.enter(span_name(span))?;
-    walk.text(sequence_name(span), size)?;
-    walk.enter(text_name(span))?;
+    walk.enter(names.event)?;
+    walk.text(names.sequence, size)?;
+    walk.enter(names.text)?;
     Ok(())
 }
 
@@ -68,40 +69,8 @@ pub(crate) fn leave_span<A: Allocator>(
     ensures written { OnOk result ((text front content : List ℕ) (stop : Stop) → size ≡ length front → list_any ends_line front ≡ false
         → StandsInContent text (front ++ content) stop walk.old → IsWhole walk.old → LeavesSpan text span front content stop walk.old walk.new) }
 {
-    walk.exit(text_name(span))?;
-    walk.text(sequence_name(span), size)?;
-    walk.exit(span_name(span))
-}
-
-fn span_name(span: Span) -> Name
-    ensures { result ≡ span_name span }
-{
-    match span {
-        Span::Emphasis => Name::Emphasis,
-        Span::Strong => Name::Strong,
-        Span::Strikethrough => Name::GfmStrikethrough,
-        Span::Mark => Name::Mark,
-    }
-}
-
-fn sequence_name(span: Span) -> Name
-    ensures { result ≡ sequence_name span }
-{
-    match span {
-        Span::Emphasis => Name::EmphasisSequence,
-        Span::Strong => Name::StrongSequence,
-        Span::Strikethrough => Name::GfmStrikethroughSequence,
-        Span::Mark => Name::MarkSequence,
-    }
-}
-
-fn text_name(span: Span) -> Name
-    ensures { result ≡ text_name span }
-{
-    match span {
-        Span::Emphasis => Name::EmphasisText,
-        Span::Strong => Name::StrongText,
-        Span::Strikethrough => Name::GfmStrikethroughText,
-        Span::Mark => Name::MarkText,
-    }
+    let names = span_names(span);
+    walk.exit(names.text)?;
+    walk.text(names.sequence, size)?;
+    walk.exit(names.event)
 }
