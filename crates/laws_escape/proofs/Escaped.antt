@@ -19,8 +19,6 @@ use Rattle.definition_inline.specs.CharacterEscape.{escape_at}
 use Rattle.definition_inline.specs.CharacterReference.{reference_after, reference_form, reference_of, reference_at}
 use Rattle.definition_inline.specs.CodeText.{raw_at, code_text_at}
 use Rattle.definition_inline.specs.MathText.{may_open_math, math_text_at}
-use Rattle.definition_inline.specs.GfmStrikethrough.{is_tilde}
-use Rattle.definition_inline.specs.Mark.{is_equals}
 use Rattle.definition_inline.specs.Autolink.{autolink_at}
 use Rattle.definition_inline.specs.HtmlText.{html_text_at}
 use Rattle.definition_inline.specs.HardBreak.{ends_inner_line, ends_here, line_end_at, escaped_break_at, line_spaces_at}
@@ -29,6 +27,7 @@ use Rattle.definition_inline.specs.Spans.{Token, Item, with_spans}
 use Rattle.definition_inline.specs.GfmAutolinkLiteral.{begins_caselessly, parts_from, parts_before, with_literals, linked_literals}
 use Rattle.definition_inline.specs.GfmLabelStartFootnote.{starts_call}
 use Rattle.definition_inline.proofs.GfmAutolinkLiteral.{HasNoStart, no_literal}
+use Rattle.definition_inline.proofs.Markers.{of_marker}
 use Rattle.definition_inline.specs.Scan.{InlineContext, leaf_at, leaf_here, starts_image, starts_link, label_start_at, text, Reading, reading, read_tokens}
 use Rattle.definition_inline.specs.Scan.{Next, data_step, label_end_step, step, scan, whole_text, inlines}
 use Rattle.markdown_options.specs.declared.configuration.CompileOptions.{CompileOptions}
@@ -137,10 +136,13 @@ module _ (context : InlineContext) (b : ℕ) (off : is_ascii_punctuation b ≡ f
 
   no_marker : is_marker context.options b ≡ false
   no_marker =
-      let none : ((b == 42) || (b == 95)) ≡ false = or_from (b == 42) (b == 95) (other b 42 off refl) (other b 95 off refl) in
-      or_from (constructs.attention && ((b == 42) || (b == 95))) _ (and_no constructs.attention _ none)
-      (or_from (constructs.gfm_strikethrough && is_tilde b) (constructs.mark && is_equals b)
-      (and_no constructs.gfm_strikethrough (is_tilde b) (other b 126 off refl)) (and_no constructs.mark (is_equals b) (other b 61 off refl)))
+      elim (cases_Bool (is_marker context.options b)) [
+        | inl marks ↦
+            let on : is_ascii_punctuation b ≡ true =
+            of_marker context.options (λ code. is_ascii_punctuation code ≡ true) (λ _. refl) (λ _. refl) (λ _. refl) (λ _. refl) b marks in
+            absurd (both_ways (is_ascii_punctuation b) off on)
+        | inr none ↦ none
+      ]
 
   no_run : (c : InlineCode) (cs : List InlineCode) → c.code ≡ b → run_at context.options (c ∷ cs) ≡ None
   no_run c cs is = cond-false _ _ _ (ap (is_marker context.options) is ∙ no_marker)

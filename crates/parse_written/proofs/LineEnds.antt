@@ -22,7 +22,6 @@ use Rattle.definition_inline.specs.GfmAutolinkLiteral.{literal_at}
 use Rattle.definition_inline.specs.HardBreak.{ends_here, ends_inner_line, escaped_break_at, is_trailing_break, line_spaces_at}
 use Rattle.definition_inline.specs.HtmlText.{html_byte, html_end, html_leaf, html_text_at}
 use Rattle.definition_inline.specs.Inline.{InlineLeaf, Escape, EscapedBreak, TrailingBreak, LineEnd, Found, leaf, or_else, SpanKind, Emphasis, Strong}
-use Rattle.definition_inline.specs.Inline.{Strikethrough, Mark}
 use Rattle.definition_inline.specs.MathText.{may_open_math, math_text_at}
 use Rattle.definition_inline.specs.Scan.{InlineContext, leaf_at, leaf_here}
 use Rattle.definition_inline.proofs.InlineSizes.{here_fits}
@@ -171,8 +170,7 @@ text_first (x ∷ xs) from to is = codes_first x xs from to is.codes is.inline.0
 sequence_some : (options : ParseOptions) (kind : SpanKind) (marker size : ℕ) → IsSequence options kind marker size → 0 < size
 sequence_some options Emphasis marker size is = let one : size ≡ 1 = is.1 in omega arith
 sequence_some options Strong marker size is = let two : size ≡ 2 = is.1 in omega arith
-sequence_some options Strikethrough marker size is = let tilde = is.0 in let sized = is.1 in grind (arith, common_steps)
-sequence_some options Mark marker size is = let equals = is.0 in let sized = is.1 in grind (arith, common_steps)
+sequence_some options other marker size is = let whole = is.0 in let sized = is.1 in grind (arith, common_steps)
 
 marks_first : (options : ParseOptions) (marker size : ℕ) (from to : List InlineCode) → 0 < size → is_marker options marker ≡ true
     → AreCodes (replicate size marker) from to → ends_here (codes_of from) ≡ false
