@@ -18,7 +18,10 @@ use Rattle.parse_lines.proofs.Lines.{joined, lines_joined}
 use Rattle.parse_output.specs.declared.end.End.{End}
 use Rattle.parse_output.specs.declared.output.Output.{Output}
 use Rattle.parse_output.specs.Forest.{bytewise}
-use Rattle.parse_output.specs.Written.{IsInOrder, end_in, forest_in}
+use Rattle.parse_output.specs.Children.{HaveChildren}
+use Rattle.parse_output.specs.Open.{unmatched}
+use Rattle.parse_output.specs.Placed.{ArePlaced}
+use Rattle.parse_output.specs.Written.{IsInOrder, end_in, forest_in, open_in}
 use Rattle.parse_alike.specs.Spelled.{IsPageOfText}
 use Rattle.parse_laid.specs.Places.{Between, unread}
 use Rattle.parse_open.specs.Lines.{line_at}
@@ -28,7 +31,9 @@ use Rattle.parse_open.specs.Levels.{AreOpen, Spells}
 use Rattle.parse_open.specs.Texts.{text_blocks}
 use Rattle.parse_open.proofs.Texts.{texts_are_spelled}
 use Rattle.parse_events.specs.Document.{StandsBefore}
+use Rattle.parse_events.specs.Parsed.{AreEventsOf}
 use Rattle.parse_events.specs.Stands.{IsAt, Stands}
+use Rattle.parse_events.proofs.NestedLaw.{nested}
 
 -- ---- the end of the text
 
@@ -40,7 +45,7 @@ nothing_left : (kind : Kind) (left : List ℕ) → [] ≡ unread kind (lines lef
 nothing_left kind left is = sym (lines_joined left) ∙ ap joined (none_unread kind (lines left) is)
 
 -- where no line is left, all of the text is written
-pub all_written : {A : Type 0} (text : List ℕ) (o : Opened) (w : Walk A) → IsAt text o (Between []) w → (end_in w.out).index ≡ length text
+all_written : {A : Type 0} (text : List ℕ) (o : Opened) (w : Walk A) → IsAt text o (Between []) w → (end_in w.out).index ≡ length text
 all_written text o w at =
     elim at [
       | inl here ↦
@@ -57,7 +62,7 @@ none_open : (r : Reading) (text : List ℕ) (front : Nodes) (parts : List Part) 
 none_open r text front [] are = refl
 none_open r text front (part ∷ parts) are = absurd are
 
-pub text_spelled : {A : Type 0} (tables : TextTables) (options : ParseOptions) (text : List ℕ) (front : Nodes) (w : Walk A) (events : List Event)
+text_spelled : {A : Type 0} (tables : TextTables) (options : ParseOptions) (text : List ℕ) (front : Nodes) (w : Walk A) (events : List Event)
     → IsFront tables.names text front (text_blocks options text)
     → Stands (reading tables options (document_targets (text_blocks options text))) text front
     (opened (group_items (bare_blocks (text_blocks options text))) [] []) [] (Between []) w
@@ -73,7 +78,7 @@ text_spelled tables options text front w events is st right same =
     same
 
 -- a text that is parsed: of its rest after the byte order mark all rows are written
-pub parsed_spelled : {A : Type 0} (tables : TextTables) (options : ParseOptions) (text : List ℕ) (before : Kind) (rest : List ℕ) (old w : Walk A)
+parsed_spelled : {A : Type 0} (tables : TextTables) (options : ParseOptions) (text : List ℕ) (before : Kind) (rest : List ℕ) (old w : Walk A)
     (start : StandsBefore options.constructs text before rest old) (events : List Event) → before ≡ kind_before_text text → rest ≡ without_mark text
     → Stands (reading tables options (document_targets (blocks options.constructs before rest))) text start.front
     (opened (group_items (bare_blocks (blocks options.constructs before rest))) [] []) [] (Between []) w
@@ -89,7 +94,7 @@ parsed_spelled tables options text before rest old w start events kind is st rig
     right (written st.order (all_written text (opened (group_items (bare_blocks (blocks options.constructs before rest))) [] []) w st.at))
 
 -- what is said of an output and of its text is said of others that are the same
-pub written_same : {A : Type 0} (text bytes : List ℕ) (out own : Output A) (es events : List Event) → bytes ≡ text → out ≡ own → events ≡ es
+written_same : {A : Type 0} (text bytes : List ℕ) (out own : Output A) (es events : List Event) → bytes ≡ text → out ≡ own → events ≡ es
     → (IsInOrder bytes out → (end_in out).index ≡ length bytes → bytewise (tree es) ≡ (forest_in bytes out).kids)
     → IsInOrder text own → (end_in own).index ≡ length text → bytewise (tree events) ≡ (forest_in text own).kids
 written_same {A} text bytes out own es events bytes_are out_is same written order end =
@@ -97,3 +102,22 @@ written_same {A} text bytes out own es events bytes_are out_is same written orde
     subst (λ (o : Output A). IsInOrder text o → (end_in o).index ≡ length text → bytewise (tree es) ≡ (forest_in text o).kids) out_is
     (subst (λ (bs : List ℕ). IsInOrder bs out → (end_in out).index ≡ length bs → bytewise (tree es) ≡ (forest_in bs out).kids) bytes_are written) in
     ap (λ (xs : List Event). bytewise (tree xs)) same ∙ all order end
+
+-- what is finished of a walk after the rows of a text is the list of its events
+pub are_events : {A : Type 0} (tables : TextTables) (options : ParseOptions) (text : List ℕ) (old w : Walk A)
+    (start : StandsBefore options.constructs text (kind_before_text text) (without_mark text) old) (bytes : List ℕ) (out : Output A) (es events : List Event)
+    → bytes ≡ text → out ≡ w.out → events ≡ es → open_in w.out ≡ [] → ArePlaced bytes es → HaveChildren es → unmatched es ≡ open_in out
+    → (IsInOrder bytes out → (end_in out).index ≡ length bytes → bytewise (tree es) ≡ (forest_in bytes out).kids) → MatchesGrammar tables.names text events
+    → Stands (reading tables options (document_targets (text_blocks options text))) text start.front
+    (opened (group_items (bare_blocks (text_blocks options text))) [] []) [] (Between []) w
+    → AreEventsOf tables options text events
+are_events {A} tables options text old w start bytes out es events bytes_are out_is same none placed children matched written right st =
+    record {
+      placed = subst (λ (bs : List ℕ). ArePlaced bs events) bytes_are (subst (λ (xs : List Event). ArePlaced bytes xs) (sym same) placed);
+      nested = nested events (ap unmatched same ∙ matched ∙ ap (λ (o : Output A). open_in o) out_is ∙ none);
+      children = subst HaveChildren (sym same) children;
+      grammar = right;
+      spelled =
+          parsed_spelled tables options text (kind_before_text text) (without_mark text) old w start events refl refl st right
+          (written_same text bytes out w.out es events bytes_are out_is same written);
+    }

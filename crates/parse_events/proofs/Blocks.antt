@@ -3,14 +3,11 @@ use Rattle.std.proofs.Common.{◌≡◌, inl, ◌<◌, ◌≤◌, ◌+◌, ◌-�
 use Rattle.std.proofs.lemmas.Bool.{true≢false}
 use Rattle.std.proofs.lemmas.List.{drop-drop, drop_more, length-drop, length-map, length-take-le, map-append, take-append-drop}
 use Rattle.markdown_options.specs.declared.beside.Kind.{Kind}
-use Rattle.markdown_options.specs.declared.configuration.ParseOptions.{ParseOptions}
 use Rattle.definition_text.specs.BlockLines.{BlockLine}
 use Rattle.definition_block.specs.Container.{Container}
-use Rattle.definition_block.specs.Definitions.{document_targets}
 use Rattle.definition_block.specs.Lists.{group_items}
 use Rattle.definition_block.specs.Tree.{Blocks, Nil as NoBlock, blocks}
-use Rattle.definition_page.specs.Read.{Reading, reading}
-use Rattle.definition_page.specs.TextTables.{TextTables}
+use Rattle.definition_page.specs.Read.{Reading}
 use Rattle.text_pieces.specs.declared.piece.Piece.{Piece}
 use Rattle.text_pieces.specs.Pieces.{piece_line, piece_lines}
 use Rattle.block_rows.specs.declared.row.Row.{Row}
@@ -31,7 +28,7 @@ use Rattle.parse_open.specs.Levels.{Spells}
 use Rattle.parse_leaves.specs.Rows.{AreLinesOf}
 use Rattle.parse_events.specs.declared.opened.Opened.{Opened as OpenedHere}
 use Rattle.parse_events.specs.declared.parser.Parser.{Parser}
-use Rattle.parse_events.specs.Document.{AreAhead, HasWritten, IsAmongRows, StandsBefore, WritesBlocks}
+use Rattle.parse_events.specs.Document.{AreAhead, IsAmongRows, IsNew, StandsBefore, WritesBlocksBy, WritesRows}
 use Rattle.parse_events.specs.Opened.{is_list}
 use Rattle.parse_events.specs.Parsing.{GoesOn, IsNext, StandsInEnd}
 use Rattle.parse_events.specs.Stands.{Stands}
@@ -41,10 +38,6 @@ use Rattle.parse_events.proofs.RowLines.{lines_of_row, same_value}
 over_lines : (xs ys : List BlockLine) → drop (length xs) (xs ++ ys) ≡ ys
 over_lines [] ys = refl
 over_lines (x ∷ xs) ys = over_lines xs ys
-
--- how a document is read that has this text
-abbrev reading_of : TextTables → ParseOptions → Kind → List ℕ → Reading
-reading_of tables options before rest = reading tables options (document_targets (blocks options.constructs before rest))
 
 -- before the first row
 nothing_spelled : (r : Reading) (text : List ℕ) (front : Nodes) (places : List ItemPlace) (line : ℕ)
@@ -71,24 +64,29 @@ module _ {A : Type 0} where
     ends = λ none. ap (λ (g : Growth). ends_in_blank g.kids) start.forest ∙ (start.is_front r.tables.names).other;
   }
 
-  pub rows_begin : (tables : TextTables) (options : ParseOptions) (rows : List Row) (ls : List BlockLine) (parser : Parser A) → parser.open.items ≡ []
-      → parser.items.items ≡ [] → reverse parser.places.items ≡ places_of (rows_value rows ls).rows → parser.first ≡ false
-      → HasWritten tables options rows ls rows ls parser.walk parser
-  rows_begin tables options rows ls parser held items places first = λ text before rest start bytes same.
-      let on = options.constructs in
+  -- a parser of the rows of a text, which begins there, is among them
+  rows_begin : (r : Reading) (text : List ℕ) (before : Kind) (rest : List ℕ) (rows : List Row) (ls : List BlockLine) (w : Walk A) (parser : Parser A)
+      (start : StandsBefore r.parse.constructs text before rest w) → IsNew rows w parser → ((k : ℕ) → get_or rest k 0 < 256)
+      → rows_value rows ls ≡ value_with (rows_of (blocks r.parse.constructs before rest)) []
+      → IsAmongRows r text start.front (group_items (bare_blocks (blocks r.parse.constructs before rest))) rows ls parser
+  rows_begin r text before rest rows ls w parser start new bytes same =
+      let on = r.parse.constructs in
       let bs = blocks on before rest in
-      let r = reading tables options (document_targets bs) in
       let known : places_of (rows_value rows ls).rows ≡ places_of (rows_of bs) = ap (λ (v : RowsValue). places_of v.rows) same in
+      let first = opened NoBlock [] (places_of (rows_of bs)) in
+      let place = Between (unread_lines on before rest) in
       record {
-        so_far = opened NoBlock [] (places_of (rows_of bs));
+        so_far = first;
         within = [];
-        place = Between (unread_lines on before rest);
+        place = place;
         parsing = record {
-          stands = first_stands r text before rest parser.walk start (places_of (rows_of bs));
-          lists = ap (λ (os : List OpenedHere). map is_list (reverse os)) held;
-          items = ap (λ (xs : List ItemPlace). map (λ (x : ItemPlace). x.goes_on) (reverse xs)) items;
-          places = places ∙ known;
-          first = first;
+          stands =
+              subst (λ (x : Walk A). Stands r text start.front first [] place x) (sym new.walk)
+              (first_stands r text before rest w start (places_of (rows_of bs)));
+          lists = ap (λ (os : List OpenedHere). map is_list (reverse os)) new.lists;
+          items = ap (λ (xs : List ItemPlace). map (λ (x : ItemPlace). x.goes_on) (reverse xs)) new.items;
+          places = new.places ls ∙ known;
+          first = new.first;
         };
         ahead = all_ahead on before rest rows ls bytes same;
       }
@@ -117,7 +115,7 @@ module _ {A : Type 0} where
               (subst (λ (ls : List BlockLine). AreAhead on all (after_row o (row_value row (xs ++ ys))) next.0 next.1 rows ls) left next.4);
         }
 
-    pub row_more : (row : Row) (rows : List Row) (ps : List Piece) (old new : Parser A) → row_size row ≤ length ps
+    row_more : (row : Row) (rows : List Row) (ps : List Piece) (old new : Parser A) → row_size row ≤ length ps
         → (AreLinesOf row (piece_lines (take (row_size row) ps)) → GoesOn r (row_value row (piece_lines (take (row_size row) ps))) old new)
         → IsAmongRows r text front all (row ∷ rows) (piece_lines ps) old
         → IsAmongRows r text front all rows (piece_lines (drop (row_size row) ps)) new
@@ -129,8 +127,28 @@ module _ {A : Type 0} where
         row_passed row rows (piece_lines (take n ps)) (piece_lines (drop n ps)) old new size goes
         (subst (λ (ls : List BlockLine). IsAmongRows r text front all (row ∷ rows) ls old) parts was)
 
+    -- one row more of these
+    pub row_written : (rows : List Row) (pieces : List Piece) (i taken end : ℕ) (d : Row) (old new : Parser A) → i < length rows
+        → end ≡ taken + row_size (get_or rows i d) → end ≤ length pieces
+        → (AreLinesOf (get_or rows i d) (piece_lines (take (end - taken) (drop taken pieces)))
+        → GoesOn r (row_value (get_or rows i d) (piece_lines (take (end - taken) (drop taken pieces)))) old new)
+        → IsAmongRows r text front all (drop i rows) (piece_lines (drop taken pieces)) old
+        → IsAmongRows r text front all (drop (i + 1) rows) (piece_lines (drop end pieces)) new
+    row_written rows pieces i taken end d old new some is fits goes was =
+        let row = get_or rows i d in
+        let n = row_size row in
+        let ps = drop taken pieces in
+        let size : end - taken ≡ n = omega (arith, is) in
+        let enough : n ≤ length ps = omega (arith, length-drop taken pieces, is, fits) in
+        let after : drop n ps ≡ drop end pieces = drop-drop n taken pieces ∙ ap (λ (k : ℕ). drop k pieces) (sym is) in
+        let before_row : IsAmongRows r text front all (row ∷ drop (i + 1) rows) (piece_lines ps) old =
+        subst (λ (rs : List Row). IsAmongRows r text front all rs (piece_lines ps) old) (drop_more rows i d some) was in
+        let go = subst (λ (k : ℕ). AreLinesOf row (piece_lines (take k ps)) → GoesOn r (row_value row (piece_lines (take k ps))) old new) size goes in
+        subst (λ (qs : List Piece). IsAmongRows r text front all (drop (i + 1) rows) (piece_lines qs) new) after
+        (row_more row (drop (i + 1) rows) ps old new enough go before_row)
+
     -- after the last one
-    pub rows_end : (ls : List BlockLine) (parser : Parser A) (w : Walk A) → IsAmongRows r text front all [] ls parser → StandsInEnd parser w
+    rows_end : (ls : List BlockLine) (parser : Parser A) (w : Walk A) → IsAmongRows r text front all [] ls parser → StandsInEnd parser w
         → Stands r text front (opened all [] []) [] (Between []) w
     rows_end ls parser w was ends =
         let none = none_ahead r.parse.constructs all was.so_far was.within was.place ls was.ahead in
@@ -140,39 +158,10 @@ module _ {A : Type 0} where
         (subst (λ (cs : List Container). Stands r text front was.so_far cs (Between []) w) none.0
         (subst (λ (p : Place). Stands r text front was.so_far was.within p w) none.1 st))
 
-  module _ (tables : TextTables) (options : ParseOptions) (rows : List Row) (pieces : List Piece) where
-    -- one row more of a text
-    pub row_written : (i taken end : ℕ) (d : Row) (w : Walk A) (old new : Parser A) → i < length rows → end ≡ taken + row_size (get_or rows i d)
-        → end ≤ length pieces
-        → ((before : Kind) (rest : List ℕ) → ((k : ℕ) → get_or rest k 0 < 256)
-        → rows_value rows (piece_lines pieces) ≡ value_with (rows_of (blocks options.constructs before rest)) []
-        → AreLinesOf (get_or rows i d) (piece_lines (take (end - taken) (drop taken pieces)))
-        → GoesOn (reading_of tables options before rest) (row_value (get_or rows i d) (piece_lines (take (end - taken) (drop taken pieces)))) old new)
-        → HasWritten tables options rows (piece_lines pieces) (drop i rows) (piece_lines (drop taken pieces)) w old
-        → HasWritten tables options rows (piece_lines pieces) (drop (i + 1) rows) (piece_lines (drop end pieces)) w new
-    row_written i taken end d w old new some is fits goes was = λ text before rest start bytes same.
-        let row = get_or rows i d in
-        let n = row_size row in
-        let bs = blocks options.constructs before rest in
-        let r = reading_of tables options before rest in
-        let all = group_items (bare_blocks bs) in
-        let ps = drop taken pieces in
-        let size : end - taken ≡ n = omega (arith, is) in
-        let enough : n ≤ length ps = omega (arith, length-drop taken pieces, is, fits) in
-        let after : drop n ps ≡ drop end pieces = drop-drop n taken pieces ∙ ap (λ (k : ℕ). drop k pieces) (sym is) in
-        let before_row : IsAmongRows r text start.front all (row ∷ drop (i + 1) rows) (piece_lines ps) old =
-        subst (λ (rs : List Row). IsAmongRows r text start.front all rs (piece_lines ps) old) (drop_more rows i d some) (was text before rest start bytes same) in
-        let go = subst (λ (k : ℕ). AreLinesOf row (piece_lines (take k ps)) → GoesOn r (row_value row (piece_lines (take k ps))) old new) size
-        (goes before rest bytes same) in
-        subst (λ (qs : List Piece). IsAmongRows r text start.front all (drop (i + 1) rows) (piece_lines qs) new) after
-        (row_more r text start.front all row (drop (i + 1) rows) ps old new enough go before_row)
-
-    -- all rows of a text
-    pub rows_written : (left : List Row) (lines : List BlockLine) (w after : Walk A) (parser : Parser A) → left ≡ [] → StandsInEnd parser after
-        → HasWritten tables options rows (piece_lines pieces) left lines w parser → WritesBlocks tables options rows (piece_lines pieces) w after
-    rows_written left lines w after parser none ends was = λ text before rest start bytes same.
-        let bs = blocks options.constructs before rest in
-        let r = reading_of tables options before rest in
-        let all = group_items (bare_blocks bs) in
-        rows_end r text start.front all lines parser after
-        (subst (λ (rs : List Row). IsAmongRows r text start.front all rs lines parser) none (was text before rest start bytes same)) ends
+  -- all rows of a text
+  pub rows_written : (r : Reading) (rows : List Row) (ls : List BlockLine) (w after : Walk A) (begun parser : Parser A) → IsNew rows w begun
+      → WritesRows r rows ls begun parser → StandsInEnd parser after → WritesBlocksBy r rows ls w after
+  rows_written r rows ls w after begun parser new writes ends = λ text before rest start bytes same.
+      let all = group_items (bare_blocks (blocks r.parse.constructs before rest)) in
+      let done = writes text start.front all (rows_begin r text before rest rows ls w begun start new bytes same) in
+      rows_end r text start.front all done.0 parser after done.1 ends

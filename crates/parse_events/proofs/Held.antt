@@ -8,6 +8,12 @@ use Rattle.event_grammar.specs.Grammar.{block_names}
 use Rattle.parse_output.specs.Open.{Mark, Entered, closed}
 use Rattle.parse_output.specs.Children.{between_names, holds_blocks, holds_lines, may_enter, may_hold}
 use Rattle.parse_output.proofs.Classes.{blocks_lines, blocks_may, lines_may}
+use Rattle.block_rows.specs.declared.row.Row.{Row}
+use Rattle.parse_lines.specs.declared.walk.Walk.{Walk}
+use Rattle.parse_lines.specs.Open.{still_open}
+use Rattle.parse_events.specs.declared.parser.Parser.{Parser}
+use Rattle.parse_events.specs.Closing.{HasOpen, open_around}
+use Rattle.parse_events.specs.Document.{IsNew}
 use Rattle.parse_events.specs.declared.opened.Opened.{Opened}
 use Rattle.parse_events.specs.declared.opened.Opened.TheVariants as held
 use Rattle.parse_events.specs.Opened.{AreHeld, close_all, ends_in_list, enter_all, is_last_list, is_list, opened_name}
@@ -27,8 +33,19 @@ closed_entered held.Footnote marks = refl
 closed_entered held.OrderedList marks = refl
 closed_entered held.UnorderedList marks = refl
 
-pub none_held : (marks : List Mark) → holds_blocks marks ≡ true → AreHeld [] marks
+none_held : (marks : List Mark) → holds_blocks marks ≡ true → AreHeld [] marks
 none_held marks holds = record { entered = refl; blocks = holds }
+
+-- a parser in which nothing is open, where a walk stands in what may hold blocks
+module _ {A : Type 0} (rows : List Row) (w : Walk A) (parser : Parser A) (new : IsNew rows w parser) where
+  pub new_around : open_around parser ≡ still_open w
+  new_around =
+      ap (λ (os : List Opened). close_all os (still_open parser.walk)) new.lists ∙ ap (λ (x : Walk A). still_open x) new.walk
+
+  pub new_holds : holds_blocks (still_open w) ≡ true → HasOpen parser
+  new_holds holds =
+      subst (λ (os : List Opened). AreHeld os (still_open parser.walk)) (sym new.lists) (
+      subst (λ (x : Walk A). AreHeld [] (still_open x)) (sym new.walk) (none_held (still_open w) holds))
 
 -- one more
 pub around_more : (os : List Opened) (o : Opened) (marks : List Mark) → close_all (os ++ o ∷ []) (Entered (opened_name o) ∷ marks) ≡ close_all os marks

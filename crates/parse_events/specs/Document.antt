@@ -1,5 +1,5 @@
 -- Where a walk stands before and after the blocks of a text, and which rows are left (CommonMark 5).
-use Rattle.std.specs.Prelude.{◌≡◌, ◌<◌, ℕ, List, [], get_or}
+use Rattle.std.specs.Prelude.{◌≡◌, ◌<◌, ℕ, false, List, [], get_or, reverse}
 use Rattle.markdown_options.specs.declared.beside.Kind.{Kind}
 use Rattle.markdown_options.specs.declared.configuration.Constructs.{Constructs}
 use Rattle.markdown_options.specs.declared.configuration.ParseOptions.{ParseOptions}
@@ -19,6 +19,7 @@ use Rattle.parse_lines.specs.declared.walk.Walk.{Walk}
 use Rattle.parse_lines.specs.Ends.{IsWrittenToLine}
 use Rattle.parse_lines.specs.Standing.{StandsAt, standing}
 use Rattle.parse_output.specs.Written.{IsInOrder, forest_in}
+use Rattle.html_looseness.specs.Loose.{places_of}
 use Rattle.html_looseness.specs.Printable.{ArePrintable}
 use Rattle.parse_laid.specs.Laid.{unread_lines}
 use Rattle.parse_laid.specs.ParserRows.{AreRowsLaid}
@@ -52,7 +53,14 @@ pub record StandsBefore {A : Type 0} (on : Constructs) (text : List ℕ) (before
   pub written : IsWrittenToLine w
   pub forest : forest_in text w.out ≡ growth front []
 
--- All blocks of a text are written, where these are their rows.
+-- All blocks of a text are written, where these are their rows and its contents are read so.
+abbrev pub WritesBlocksBy : {A : Type 0} → Reading → List Row → List BlockLine → Walk A → Walk A → Type 0
+WritesBlocksBy r rows ls old new =
+    (text : List ℕ) (before : Kind) (rest : List ℕ) (start : StandsBefore r.parse.constructs text before rest old) → ((k : ℕ) → get_or rest k 0 < 256)
+    → rows_value rows ls ≡ value_with (rows_of (blocks r.parse.constructs before rest)) []
+    → Stands r text start.front (opened (group_items (bare_blocks (blocks r.parse.constructs before rest))) [] []) [] (Between []) new
+
+-- All blocks of a text are written, which is read by its own labels.
 abbrev pub WritesBlocks : {A : Type 0} → TextTables → ParseOptions → List Row → List BlockLine → Walk A → Walk A → Type 0
 WritesBlocks tables options rows ls old new =
     (text : List ℕ) (before : Kind) (rest : List ℕ) (start : StandsBefore options.constructs text before rest old) → ((k : ℕ) → get_or rest k 0 < 256)
@@ -75,10 +83,16 @@ pub record IsAmongRows {A : Type 0} (r : Reading) (text : List ℕ) (front : Nod
   pub parsing : IsParsing r text front so_far within place parser
   pub ahead : AreAhead r.parse.constructs all so_far within place rows ls
 
--- Before these rows, which are left of the rows of a text, their blocks are written so far.
-abbrev pub HasWritten : {A : Type 0} → TextTables → ParseOptions → List Row → List BlockLine → List Row → List BlockLine → Walk A → Parser A → Type 0
-HasWritten tables options rows ls left lines old parser =
-    (text : List ℕ) (before : Kind) (rest : List ℕ) (start : StandsBefore options.constructs text before rest old) → ((k : ℕ) → get_or rest k 0 < 256)
-    → rows_value rows ls ≡ value_with (rows_of (blocks options.constructs before rest)) []
-    → IsAmongRows (reading tables options (document_targets (blocks options.constructs before rest))) text start.front
-    (group_items (bare_blocks (blocks options.constructs before rest))) left lines parser
+-- These rows are written, where they are the rows of a text that are left.
+abbrev pub WritesRows : {A : Type 0} → Reading → List Row → List BlockLine → Parser A → Parser A → Type 0
+WritesRows r rows ls old new =
+    (text : List ℕ) (front : Nodes) (all : Blocks) → IsAmongRows r text front all rows ls old
+    → (left : List BlockLine) × IsAmongRows r text front all [] left new
+
+-- Nothing is open in a parser of these rows, which begins at a walk.
+pub record IsNew {A : Type 0} (rows : List Row) (w : Walk A) (parser : Parser A) : Type 0 where
+  pub walk : parser.walk ≡ w
+  pub lists : parser.open.items ≡ []
+  pub items : parser.items.items ≡ []
+  pub places : (ls : List BlockLine) → reverse parser.places.items ≡ places_of (rows_value rows ls).rows
+  pub first : parser.first ≡ false

@@ -7,3 +7,4 @@ pub mod LastBlank
 pub mod Stands
 pub mod Parsing
 pub mod Document
+pub mod Parsed

@@ -2,20 +2,23 @@
 ghost use Rattle.std.specs.Prelude.{◌≡◌, ◌≤◌, [], IfErr, IfOk, List, None, OnOk, Some, false, length, true, ℕ};
 ghost use Rattle.definition_page.specs.TextTables.{text_tables};
 ghost use Rattle.definition_block.specs.Frontmatter.{after_frontmatter};
-ghost use Rattle.definition_text.specs.Lines.{TextLine, lines, without_mark as bytes_after_mark};
+ghost use Rattle.definition_text.specs.Lines.{TextLine, kind_before_text, lines, without_mark as bytes_after_mark};
+ghost use Rattle.definition_inline.specs.Targets.{Targets};
 ghost use Rattle.event_meaning.specs.Spelled.{spelled};
 ghost use Rattle.parse_alike.specs.Spelled.{IsPageOfText};
 ghost use Rattle.text_pieces.specs.Pieces.{piece_lines};
-ghost use Rattle.parse_events.specs.Document.{StandsAfterMark, StandsBefore, WritesBlocks};
+ghost use Rattle.parse_events.specs.Document.{StandsAfterMark, StandsBefore, WritesBlocks, WritesBlocksBy};
+ghost use Rattle.parse_events.specs.Parsed.{AreEventsOf, IsStateOf};
 ghost use Rattle.markdown_options.specs.Mdx.{has_mdx};
 ghost use Rattle.markdown_options.specs.Messages.{IsOutOfMemory};
-ghost use Rattle.block_rows.specs.Rows.{rows_size};
+ghost use Rattle.block_rows.specs.Rows.{rows_of, rows_size, rows_value, value_with};
 ghost use Rattle.event_check.specs.Matches.{MatchesGrammar};
 ghost use Rattle.parse_output.specs.Placed.{ArePlaced};
 ghost use Rattle.parse_output.specs.Children.{HaveChildren, holds_blocks};
 ghost use Rattle.parse_lines.specs.Open.{still_open};
+ghost use Rattle.parse_leaves.specs.Texts.{KnowsTargets, reading_by};
 ghost use Rattle.parse_events.specs.Nested.{IsNested};
-ghost use Rattle.parse_events.specs.Labels.{definition_labels, footnote_labels, text_blocks};
+ghost use Rattle.parse_events.specs.Labels.{begun_in, defined_in, definition_labels, footnote_labels, text_blocks};
 ghost use Rattle.parse_events.specs.State.{IsReadBy, definitions_of, footnotes_of};
 
 use crate::in_grammar::in_grammar;
@@ -28,9 +31,8 @@ use block_starts::frontmatter::without_frontmatter;
 use block_targets::{definition_contents, document_definitions, document_footnotes};
 use engine_events::Event;
 use engine_events::event::Name;
-use html_looseness::places;
 use markdown_options::{Constructs, Kind, Message, ParseOptions, Tables};
-use parse_leaves::{Buffers, Texts, push_frontmatter};
+use parse_leaves::{Texts, push_frontmatter};
 use parse_lines::Walk;
 use parse_lines::cut::up_to;
 use std::alloc::{AllocError, Allocator};
@@ -71,7 +73,6 @@ pub fn parse<'a, T: Tables, A: Allocator + Clone>(
 }
 
 /// Reads a text.
-#[tactic(auto, using(crate::proofs::NestedLaw::nested, crate::proofs::LabelRows::defined_by, crate::proofs::LabelRows::begun_by, crate::proofs::Outermost::document_paragraph, crate::proofs::Outermost::document_blocks))]
 fn parse_text<'a, T: Tables, A: Allocator + Clone>(
     alloc: A,
     value: &'a str,
@@ -79,53 +80,84 @@ fn parse_text<'a, T: Tables, A: Allocator + Clone>(
     tables: &'a T,
 ) -> Result<(Vec<Event, A>, ParseState<'a, T, A>), AllocError>
     requires size { length value.now ≤ SIZE_MAX }
-    ensures placed { IfOk result (λ parsed. ArePlaced value.now parsed.0.items) }
-    ensures nested { IfOk result (λ parsed. IsNested parsed.0.items) }
-    ensures children { IfOk result (λ parsed. HaveChildren parsed.0.items) }
-    ensures grammar { IfOk result (λ parsed. MatchesGrammar (T.reference_of tables.now) value.now parsed.0.items) }
-    ensures spelled { IfOk result (λ parsed. let names = T.reference_of tables.now in
-        IsPageOfText (text_tables names (T.punctuation_of tables.now)) options.now value.now (spelled names parsed.0.items value.now)) }
-    ensures read_by { IfOk result (λ parsed. IsReadBy parsed.1 options.now tables.now value.now) }
-    ensures definitions { IfOk result (λ parsed. definitions_of parsed.1 ≡ definition_labels (text_blocks options.now.constructs value.now)) }
-    ensures footnotes { IfOk result (λ parsed. footnotes_of parsed.1 ≡ footnote_labels (text_blocks options.now.constructs value.now)) }
+    ensures events { IfOk result (λ parsed. let names = T.reference_of tables.now in
+        AreEventsOf (text_tables names (T.punctuation_of tables.now)) options.now value.now parsed.0.items) }
+    ensures state { IfOk result (λ parsed. IsStateOf parsed.1 options.now tables.now value.now) }
 {
     let (before, text) = without_mark(value);
-    let BlockRows { rows, pieces } = block_rows(alloc.clone()?, before, text, &options.constructs)?;
-    let labels = Labels::of_rows(alloc.clone()?, &rows, &pieces)?;
-    let walk = begin(alloc.clone()?, value, before, text, options)?;
-    let walk = push_blocks(alloc.clone()?, walk, options, tables, &rows, &pieces)?;
-    let written = walk.into_output().finish(value.as_bytes())?;
-    let events = in_grammar(alloc, written, value, tables)?;
+    let blocks = block_rows(alloc.clone()?, before, text, &options.constructs)?;
+    let labels = Labels::of_rows(alloc.clone()?, &blocks.rows, &blocks.pieces)?;
+    let events = text_events(alloc, value, options, tables, &blocks)?;
+    Ok((events, state_of(value, options, tables, labels)))
+}
+
+/// What is known of a text beside its events: what it is read by, and its labels.
+fn state_of<'a, T, A: Allocator>(
+    value: &'a str,
+    options: &'a ParseOptions,
+    tables: &'a T,
+    labels: Labels<A>,
+) -> ParseState<'a, T, A>
+    ensures read_by { IsReadBy result options.now tables.now value.now }
+    ensures definitions { definitions_of result ≡ defined_in labels }
+    ensures footnotes { footnotes_of result ≡ begun_in labels }
+{
     let Labels {
         definitions,
         footnotes,
         ..
     } = labels;
-    let state = ParseState {
+    ParseState {
         options,
         tables,
         bytes: value.as_bytes(),
         definitions,
         gfm_footnote_definitions: footnotes,
-    };
-    Ok((events, state))
+    }
 }
 
-/// A walk over the lines of a text, after its byte order mark and its frontmatter. `text` is what
-/// follows the mark.
+/// The events of a text, whose blocks are these rows.
+#[tactic(auto, using(crate::proofs::Outermost::document_paragraph, crate::proofs::Outermost::document_blocks))]
+fn text_events<'a, T: Tables, A: Allocator + Clone>(
+    alloc: A,
+    value: &'a str,
+    options: &'a ParseOptions,
+    tables: &'a T,
+    blocks: &BlockRows<'a, A>,
+) -> Result<Vec<Event, A>, AllocError>
+    requires size { length value.now ≤ SIZE_MAX }
+    requires rows { rows_value blocks.now.rows.items (piece_lines blocks.now.pieces.items)
+        ≡ value_with (rows_of (text_blocks options.now.constructs value.now)) [] }
+    requires enough { rows_size blocks.now.rows.items ≤ length blocks.now.pieces.items }
+    ensures { IfOk result (λ events. let names = T.reference_of tables.now in
+        AreEventsOf (text_tables names (T.punctuation_of tables.now)) options.now value.now events.items) }
+{
+    let walk = begin(alloc.clone()?, value, options)?;
+    let walk = push_blocks(
+        alloc.clone()?,
+        walk,
+        options,
+        tables,
+        &blocks.rows,
+        &blocks.pieces,
+    )?;
+    let written = walk.into_output().finish(value.as_bytes())?;
+    let events = in_grammar(alloc, written, value, tables)?;
+    Ok(events)
+}
+
+/// A walk over the lines of a text, after its byte order mark and its frontmatter.
 #[tactic(auto, using(crate::proofs::Outermost::document_mark))]
 fn begin<'a, A: Allocator + Clone>(
     alloc: A,
     value: &'a str,
-    before: Kind,
-    text: &'a str,
     options: &'a ParseOptions,
 ) -> Result<Walk<'a, A>, AllocError>
     requires size { length value.now ≤ SIZE_MAX }
-    requires text { text.now ≡ bytes_after_mark value.now }
     ensures open { IfOk result (λ walk. still_open walk ≡ []) }
-    ensures begins { IfOk result (λ walk. StandsBefore options.now.constructs value.now before text.now walk) }
+    ensures begins { IfOk result (λ walk. StandsBefore options.now.constructs value.now (kind_before_text value.now) (bytes_after_mark value.now) walk) }
 {
+    let (before, text) = without_mark(value);
     let mut walk = Walk::new(alloc, &options.constructs, value.len(), text)?;
     walk.token(Name::ByteOrderMark, value.len().saturating_sub(text.len()))?;
     push_front(&mut walk, &options.constructs, before, text)?;
@@ -163,7 +195,6 @@ fn after_front<'a>(on: &Constructs, before: Kind, text: &'a str) -> &'a str
 }
 
 /// Writes the blocks of these rows, whose lines are given.
-#[tactic(auto, using(block_rows::proofs::RowSteps::taken_more, crate::proofs::Held::none_held))]
 fn push_blocks<'a, T: Tables, A: Allocator + Clone>(
     alloc: A,
     walk: Walk<'a, A>,
@@ -188,19 +219,24 @@ fn push_blocks<'a, T: Tables, A: Allocator + Clone>(
         labels: &definitions.labels,
         footnotes: &footnotes.labels,
     };
-    let mut parser = Parser {
-        walk,
-        buffers: Buffers::new(alloc.clone()?)?,
-        open: Vec::new(alloc.clone()?),
-        items: Vec::new(alloc.clone()?),
-        places: places(alloc, rows)?,
-        first: false,
-    };
-    let mut taken = 0;
-    for row in rows {
-        let end = taken + row.size();
-        parser.row(&texts, *row, &pieces[taken..end])?;
-        taken = end;
-    }
+    push_rows(alloc, walk, &texts, rows, pieces)
+}
+
+/// Writes these rows, whose texts are read so.
+fn push_rows<'a, T: Tables, A: Allocator + Clone>(
+    alloc: A,
+    walk: Walk<'a, A>,
+    texts: &Texts<'a, '_, T, A>,
+    rows: &[Row],
+    pieces: &[Piece<'a>],
+) -> Result<Walk<'a, A>, AllocError>
+    requires enough { rows_size rows.now ≤ length pieces.now }
+    requires blocks { holds_blocks (still_open walk) ≡ true }
+    ensures open { IfOk result (λ after. still_open after ≡ still_open walk.entry) }
+    ensures written { IfOk result (λ after. (ds : Targets) → KnowsTargets texts.now ds
+        → WritesBlocksBy (reading_by T.Tables texts.now ds) rows.now (piece_lines pieces.now) walk.entry after) }
+{
+    let mut parser = Parser::new(alloc, walk, rows)?;
+    parser.rows(texts, rows, pieces)?;
     parser.into_walk()
 }

@@ -1,11 +1,11 @@
 //! Rows of blocks to events (CommonMark 4 and 5).
-ghost use Rattle.std.specs.Prelude.{◌≡◌, ◌<◌, ℕ, IfOk, IsTrue, List, OnOk, Option, [], false, length, true, vec_len};
+ghost use Rattle.std.specs.Prelude.{◌≡◌, ◌<◌, ◌≤◌, ℕ, IfOk, IsTrue, List, OnOk, Option, [], false, length, true, vec_len};
 ghost use Rattle.markdown_options.specs.declared.line_ending.LineEnding.{LineEnding};
 ghost use Rattle.definition_inline.specs.Targets.{Targets};
 ghost use Rattle.definition_block.specs.Tree.{Blank, Ending, Leaf, LeafBlock};
 ghost use Rattle.definition_page.specs.Read.{Reading};
 ghost use Rattle.text_pieces.specs.Pieces.{piece_lines};
-ghost use Rattle.block_rows.specs.Rows.{EnterFootnote, EnterItem, EnterQuote, Exit, Single, row_value};
+ghost use Rattle.block_rows.specs.Rows.{EnterFootnote, EnterItem, EnterQuote, Exit, Single, row_value, rows_size};
 ghost use Rattle.engine_events.specs.declared.event.Name.TheVariants.{ListItem};
 ghost use Rattle.parse_output.specs.Children.{holds_blocks, may_enter};
 ghost use Rattle.parse_lines.specs.Open.{still_open};
@@ -14,12 +14,13 @@ ghost use Rattle.parse_leaves.specs.Texts.{KnowsTargets, reading_by};
 ghost use Rattle.parse_open.specs.Levels.{list_name};
 ghost use Rattle.parse_events.specs.Opened.{close_all, ends_in_list, is_list, opened_name};
 ghost use Rattle.parse_events.specs.Closing.{HasOpen, open_around};
+ghost use Rattle.parse_events.specs.Document.{IsNew, WritesRows};
 ghost use Rattle.parse_events.specs.Parsing.{BeginsList, BeginsRow, Closes, EndsItem, GoesOn, GoesOnInLine, StandsInEnd};
 
 use crate::opened::Opened;
 use block_rows::Row;
 use engine_events::event::Name;
-use html_looseness::Place;
+use html_looseness::{Place, places};
 use markdown_options::{Container, Tables};
 use parse_leaves::{Buffers, Texts, push_blank_line, push_leaf};
 use parse_lines::Walk;
@@ -43,8 +44,49 @@ pub(crate) struct Parser<'a, A: Allocator + Clone> {
 }
 
 impl<'a, A: Allocator + Clone> Parser<'a, A> {
+    /// A parser of these rows, which begins at a walk. Nothing is open.
+    pub(crate) fn new(
+        alloc: A,
+        walk: Walk<'a, A>,
+        rows: &[Row],
+    ) -> Result<Parser<'a, A>, AllocError>
+        ensures { IfOk result (λ parser. IsNew rows.now walk.entry parser) }
+    {
+        Ok(Parser {
+            walk,
+            buffers: Buffers::new(alloc.clone()?)?,
+            open: Vec::new(alloc.clone()?),
+            items: Vec::new(alloc.clone()?),
+            places: places(alloc, rows)?,
+            first: false,
+        })
+    }
+
+    /// Writes rows, which take these lines.
+    #[tactic(auto, using(block_rows::proofs::RowSteps::taken_more))]
+    pub(crate) fn rows<T: Tables>(
+        &mut self,
+        texts: &Texts<'a, '_, T, A>,
+        rows: &[Row],
+        pieces: &[Piece<'a>],
+    ) -> Result<(), AllocError>
+        requires enough { rows_size rows.now ≤ length pieces.now }
+        requires held { HasOpen self.old }
+        ensures open { OnOk result (open_around self.new ≡ open_around self.old) }
+        ensures written { OnOk result ((ds : Targets) → KnowsTargets texts.now ds
+            → WritesRows (reading_by T.Tables texts.now ds) rows.now (piece_lines pieces.now) self.old self.new) }
+    {
+        let mut taken = 0;
+        for row in rows {
+            let end = taken + row.size();
+            self.row(texts, *row, &pieces[taken..end])?;
+            taken = end;
+        }
+        Ok(())
+    }
+
     /// Writes a row, which takes these lines.
-    pub(crate) fn row<T: Tables>(
+    fn row<T: Tables>(
         &mut self,
         texts: &Texts<'a, '_, T, A>,
         row: Row,

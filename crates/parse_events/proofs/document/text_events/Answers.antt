@@ -1,0 +1,24 @@
+use Rattle.std.proofs.Common.{◌<◌, ℕ, ◌∙◌, arith, get_or}
+use Rattle.definition_page.specs.TextTables.{text_tables}
+use Rattle.definition_text.specs.Lines.{kind_before_text, without_mark}
+use Rattle.text_pieces.specs.Pieces.{piece_lines}
+use Rattle.block_rows.specs.Rows.{rows_value}
+use Rattle.std.proofs.Common.{◌≡◌, List, [], ap₂, refl}
+use Rattle.text_pieces.specs.declared.piece.Piece.{Piece}
+use Rattle.block_rows.specs.declared.row.Row.{Row}
+use Rattle.parse_events.proofs.AllRows.{are_events}
+use Rattle.parse_events.proofs.Fronts.{rest_bytes}
+use Rattle.parse_events.proofs.document.text_events.Goals as goal
+
+pub returns : goal.returns
+returns g c =
+    let tables = text_tables (g.T.Tables.reference_of c.args.tables.now) (g.T.Tables.punctuation_of c.args.tables.now) in
+    let value = c.args.value.now in
+    let start = c.in_ok-walk.ensures.begins in
+    let bytes : (k : ℕ) → get_or value k 0 < 256 = λ k. omega (arith, c.type_inv.value k) in
+    let rows = ap₂ (λ (rs : List Row) (ps : List Piece). rows_value rs (piece_lines ps)) c.deref.ensures.value c.deref-2.ensures.value ∙ c.requires.rows in
+    are_events tables c.args.options.now value c.in_ok-walk.walk c.in_ok-walk-2.walk start c.as_bytes.result.now c.into_output.result
+    c.in_ok-written.written.items c.in_ok-events.events.items c.as_bytes.ensures.value c.into_output.ensures c.in_ok-events.ensures.same
+    (c.in_ok-walk-2.ensures.open ∙ c.in_ok-walk.ensures.open) c.in_ok-written.ensures.placed c.in_ok-written.ensures.children c.in_ok-written.ensures.open
+    c.in_ok-written.ensures.written c.in_ok-events.ensures.grammar
+    (c.in_ok-walk-2.ensures.written value (kind_before_text value) (without_mark value) start (rest_bytes value (without_mark value) refl bytes) rows)
