@@ -57,6 +57,7 @@ SHARED = {
     "definition_inline/SpanRows.antt": "attention gfm_strikethrough mark",
     "definition_inline/Spans.antt": "attention gfm_strikethrough mark",
     "definition_inline/Title.antt": "definition label_end",
+    "block_leaves/code_fenced.rt": "math_flow",
     "block_parser/code_fenced.rt": "math_flow",
     "inline_content/run.rt": "attention gfm_strikethrough mark",
     "inline_content/previous.rt": "gfm_autolink_literal",

@@ -22,7 +22,8 @@ use Rattle.block_rows.specs.Rows.{definition_on, definition_value, BlockRow, Sin
 use Rattle.block_state.specs.Spine.{Level, level, Spine, spine, spine_at, spine_of, spine_after, containers_of}
 use Rattle.block_state.specs.Waits.{is_one_blank_row}
 use Rattle.block_state.specs.Shows.{InText, InIndented, InFenced, InHtml, InTable, state_of, lone, is_nil, AreWritten}
-use Rattle.block_parser.specs.View.{Descent, leaf_grown}
+use Rattle.block_leaves.specs.View.{leaf_grown}
+use Rattle.block_parser.specs.View.{Descent}
 use Rattle.block_state.proofs.Trees.{join-nil}
 use Rattle.block_parser.proofs.Closing.{opening_depth, length-around, length-containers}
 

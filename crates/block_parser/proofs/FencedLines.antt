@@ -19,22 +19,23 @@ use Rattle.definition_text.specs.BlockLines.{BlockLine, block_line, last_ending_
 use Rattle.definition_block.specs.CodeFenced.{Fence, fence_line, is_fence_end}
 use Rattle.definition_block.specs.Tree.{Blocks, Leaf, FencedCode, block_and_ending, join, nothing, rest_line}
 use Rattle.definition_block.specs.Tree.{Fenced, Opening, At, Inside, Tree, tree, beside_line, step, steps}
-use Rattle.text_pieces.specs.Pieces.{piece_lines, whole_line, whole_lines}
+use Rattle.text_pieces.specs.Pieces.{whole_line, whole_lines}
 use Rattle.block_rows.proofs.OpenLines.{AreTextLines, lines_of_text}
 use Rattle.block_rows.proofs.TextLines.{front_bytes, front_of_text, later_bytes, line_bytes, lines_of_front, text_back, text_of}
 use Rattle.text_lines.proofs.Codes.{block_codes_whole}
 use Rattle.block_starts.specs.View.{container_views}
 use Rattle.block_state.specs.Leaves.{leaf_state}
-use Rattle.block_state.specs.Shows.{InFenced, Shows, state_of}
+use Rattle.block_state.specs.Shows.{InFenced, state_of}
 use Rattle.block_state.specs.Spine.{Spine, spine, spine_after, spine_at, spine_of}
 use Rattle.block_state.proofs.Trees.{join-nil}
+use Rattle.block_leaves.specs.View.{AreFenced}
 use Rattle.block_parser.specs.declared.parser.Parser.{Parser}
 use Rattle.block_parser.specs.Fences.{IsWholeCode, code_line, line_closes}
 use Rattle.block_parser.specs.View.{HasRead, ReadsSome}
 use Rattle.block_parser.proofs.Closing.{opening_depth}
 use Rattle.block_parser.proofs.PlainLines.{some_lines}
 use Rattle.block_parser.proofs.Read.{split_more, steps_to}
-use Rattle.block_parser.proofs.Steps.{fenced_end, fenced_goes_on}
+use Rattle.block_leaves.proofs.Going.{fenced_end, fenced_goes_on}
 
 -- fenced code is open, and no container
 abbrev fenced_open : Fence → Blocks → Option LineEnding → List BlockLine → Tree
@@ -52,8 +53,7 @@ of_fenced f last P h kids (Inside c inner_kids inner) none is = absurd (omega (a
 
 -- what was read is this, where the last line of the fenced code that is open has such an ending
 abbrev pub ShowsFenced : {A : Type 0} → Parser A → Fence → Option LineEnding → Spine → Type 0
-ShowsFenced p f last s =
-    Shows p.rows.rows.items p.rows.waiting.items p.rows.bare (container_views p.open.items) (piece_lines p.pieces.items) (InFenced f last) s
+ShowsFenced p f last s = AreFenced p.leaves (container_views p.open.items) f last s
 
 -- ---- one line of the content
 
@@ -145,7 +145,7 @@ pub record FencedSoFar {A : Type 0} (on : Constructs) (f : Fence) (text rest : L
   pub reads : (kids : Blocks) (opening : Option LineEnding) (ls : List BlockLine) → Old (spine [] kids (Fenced f opening ls))
       → ShowsFenced new f last (spine [] kids (Fenced f opening (ls ++ map (code_line f) code.read)))
 
-pub fenced_none : {A : Type 0} (on : Constructs) (f : Fence) (text : List ℕ) (p : Parser A) (last : Option LineEnding) → leaf_state p.leaf ≡ InFenced f last
+pub fenced_none : {A : Type 0} (on : Constructs) (f : Fence) (text : List ℕ) (p : Parser A) (last : Option LineEnding) → leaf_state p.leaves.leaf ≡ InFenced f last
     → FencedSoFar on f text text (HasRead p) p last
 unfolding code_none
 fenced_none on f text p last leaf = record {

@@ -1,41 +1,20 @@
--- A row of delimiters under the open paragraph, and the head above it.
-use Rattle.std.proofs.Common.{◌≡◌, ℕ, ◌<◌, ◌-◌, suc, Bool, true, false, if◌then◌else◌, ◌&&◌, ◌==◌, List, [], ◌∷◌, Option, None, Some, refl, sym, ap, ◌∙◌}
-use Rattle.std.proofs.Common.{get_or, length, arith}
+-- A row of delimiters under the open paragraph.
+use Rattle.std.proofs.Common.{◌≡◌, Bool, true, false, if◌then◌else◌, ◌&&◌, List, [], ◌∷◌, Option, None, Some, refl, sym, ap, ◌∙◌}
+use Rattle.std.proofs.Common.{length}
 use Rattle.std.specs.Prelude.{unwrap_or}
 use Rattle.std.specs.List.{list_any}
 use Rattle.std.proofs.lemmas.Bool.{cond_both}
 use Rattle.markdown_options.specs.declared.configuration.Constructs.{Constructs}
-use Rattle.definition_text.specs.BlockLines.{BlockLine, own_lines, last_ending}
+use Rattle.definition_text.specs.BlockLines.{BlockLine}
 use Rattle.definition_text.specs.Columns.{Rest, bare, bytes_of}
 use Rattle.definition_text.specs.Indents.{small_indent}
 use Rattle.markdown_options.specs.declared.align_kind.AlignKind.{AlignKind}
 use Rattle.definition_block.specs.Definitions.{definition_cut}
-use Rattle.definition_block.specs.GfmTable.{alignments_of, cells, delimiter_row, delimiters, is_bar_or_colon, is_head, line_cells, some_alignments}
-use Rattle.definition_block.specs.Tree.{Leaf, Paragraph, Tree, block_and_ending, is_some_line, paragraph_of}
-use Rattle.text_pieces.specs.declared.piece.Piece.{Piece}
-use Rattle.text_pieces.specs.Pieces.{piece_line, piece_lines}
+use Rattle.definition_block.specs.GfmTable.{alignments_of, cells, delimiter_row, delimiters, is_bar_or_colon, is_head, some_alignments}
+use Rattle.definition_block.specs.Tree.{Tree, is_some_line}
 use Rattle.markdown_options.specs.declared.beside.Kind.TheVariants.{Whitespace}
-use Rattle.block_parser.specs.GfmTable.{fits, table_from_cut, table_if}
+use Rattle.block_leaves.specs.GfmTable.{fits, table_from_cut, table_if}
 use Rattle.block_parser.proofs.Steps.{none_cut}
-
--- a paragraph of some lines
-pub paragraph_some : (ls : List BlockLine) → 0 < length ls → paragraph_of ls ≡ block_and_ending (Leaf (Paragraph (own_lines ls))) (last_ending ls)
-paragraph_some [] some = absurd (omega arith)
-paragraph_some (line ∷ ls) some = refl
-
--- the last piece is the head
-pub last_is_head : (count : ℕ) (pieces : List Piece) (d : Piece) → 0 < length pieces
-    → (length (line_cells (piece_line (get_or pieces (length pieces - 1) d))) == count) ≡ is_head count (piece_lines pieces)
-last_is_head count [] d some = absurd (omega arith)
-last_is_head count (a ∷ []) d some = refl
-last_is_head count (a ∷ b ∷ others) d some =
-    let at : length (a ∷ b ∷ others) - 1 ≡ suc (length (b ∷ others) - 1) = omega arith in
-    ap (λ i. length (line_cells (piece_line (get_or (a ∷ b ∷ others) i d))) == count) at ∙ last_is_head count (b ∷ others) d (omega arith)
-
--- columns that are there
-pub fits_some : (columns : List AlignKind) (ls : List BlockLine) → 0 < length columns → is_head (length columns) ls ≡ fits columns ls
-fits_some [] ls some = absurd (omega arith)
-fits_some (align ∷ aligns) ls some = refl
 
 -- whether there are columns
 abbrev HasColumns : Option (List AlignKind) → Type 0

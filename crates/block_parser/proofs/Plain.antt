@@ -10,7 +10,7 @@ use Rattle.definition_text.specs.BlockLines.{BlockLine}
 use Rattle.definition_block.specs.MathFlow.{math_start}
 use Rattle.definition_block.specs.Tree.{Blocks, Text, Opening, At, Inside, Tree, tree}
 use Rattle.definition_block.specs.Tree.{has_text, text_here, rest_line, leaf_line, text_line_of, new}
-use Rattle.block_parser.specs.GfmTable.{table_if}
+use Rattle.block_leaves.specs.GfmTable.{table_if}
 use Rattle.block_starts.specs.Plain.{begins_plain, is_plain}
 use Rattle.block_starts.proofs.PlainLemmas.{plain_starts, plain_not_blank, plain_not_code, plain_fence, plain_math, plain_html, plain_heading, plain_underline}
 use Rattle.block_starts.proofs.PlainLemmas.{plain_break, plain_delimiters}

@@ -25,7 +25,7 @@ use Rattle.block_state.specs.Spine.{Spine, spine, spine_of}
 use Rattle.block_parser.specs.View.{HasRead, KeepsLines, ReadsSome}
 use Rattle.block_parser.proofs.Plain.{plain_new}
 use Rattle.block_parser.proofs.Read.{split_more, steps_to}
-use Rattle.block_parser.proofs.Starting.{closed-nothing}
+use Rattle.block_leaves.proofs.Going.{closed_nothing}
 use Rattle.block_state.proofs.Trees.{join-nil}
 use Rattle.block_state.specs.WholeLines.{Begins}
 use Rattle.block_state.proofs.WholeLines.{begins_none, begins_line, front_lines}
@@ -64,7 +64,7 @@ module _ (on : Constructs) (line : TextLine) (bytes : (k : ℕ) → get_or line.
   line_is = ap (λ (codes : List ℕ). block_line codes line.ending Whitespace) (block_codes_whole line.content bytes)
 
   text_tree : (ls : List BlockLine) → text_line_of on (At (Text ls)) rest here ≡ tree Nil (At (Text (ls ++ rest_line rest here ∷ [])))
-  text_tree [] = ap (λ (bs : Blocks). tree (join bs Nil) (At (Text (rest_line rest here ∷ [])))) (closed-nothing on here on.definition)
+  text_tree [] = ap (λ (bs : Blocks). tree (join bs Nil) (At (Text (rest_line rest here ∷ [])))) (closed_nothing on.definition)
   text_tree (l ∷ ls) = refl
 
   plain_step : is_plain on rest ≡ true → (kids : Blocks) (ls : List BlockLine)

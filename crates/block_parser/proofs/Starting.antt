@@ -22,9 +22,8 @@ use Rattle.definition_block.specs.GfmFootnoteDefinition.{is_footnote_label, labe
 use Rattle.definition_block.specs.GfmFootnoteDefinition.{footnote_start}
 use Rattle.definition_block.specs.Containers.{quote_or, footnote_or, starts}
 use Rattle.definition_block.specs.Tree.{Blocks, Nil, join, Opening, Inside, Tree, tree, nothing, after, has_text, leaf_line, beside_in, start, new}
-use Rattle.definition_block.specs.Tree.{with_paragraph}
-use Rattle.definition_block.specs.Definitions.{cut_into, cut_most}
 use Rattle.block_state.specs.Spine.{Level, level, spine_at, spine_after}
+use Rattle.block_leaves.proofs.Going.{closed_nothing}
 use Rattle.block_parser.specs.View.{new_inside}
 use Rattle.block_state.proofs.Trees.{choose_if, join-nil}
 
@@ -226,13 +225,8 @@ module _ (on : Constructs) (beside : Beside) where
       → spine_after around kids (tree Nil (Inside c t.done t.now)) ≡ spine_after (level c kids ∷ around) Nil t
   grown-inside around kids c t = ap (λ (bs : Blocks). spine_at (level c bs ∷ around) t.done t.now) (join-nil kids)
 
-  -- nothing is closed where nothing is open
-  pub closed-nothing : (b : Bool) → with_paragraph (if b then cut_most 0 [] else cut_into Nil []) ≡ Nil
-  closed-nothing true = refl
-  closed-nothing false = refl
-
   after-nothing : (t : Tree) → after on nothing t ≡ t
-  after-nothing t = ap (λ (bs : Blocks). tree (join bs t.done) t.now) (closed-nothing on.definition)
+  after-nothing t = ap (λ (bs : Blocks). tree (join bs t.done) t.now) (closed_nothing on.definition)
 
   -- one container more
   pub inside_more : (around : List Level) (kids : Blocks) (rest : Rest) (s : ContainerStart) → starts on false rest ≡ Some s

@@ -1,6 +1,6 @@
 -- The steps of the definition, case by case.
 use Rattle.std.proofs.Common.{◌≡◌, ℕ, List, [], ◌∷◌, ◌++◌, Option, None, Some, Bool, if◌then◌else◌, true, false, not, ◌&&◌, ◌||◌, ◌==◌, refl, sym, ap, ◌∙◌}
-use Rattle.std.proofs.Common.{subst, length, arith}
+use Rattle.std.proofs.Common.{subst, arith}
 use Rattle.std.proofs.lemmas.Bool.{cond-true, cond-false, or_left, or_from}
 use Rattle.markdown_options.specs.declared.line_ending.LineEnding.{LineEnding}
 use Rattle.markdown_options.specs.declared.configuration.Constructs.{Constructs}
@@ -8,68 +8,30 @@ use Rattle.markdown_options.specs.declared.beside.Beside.{Beside}
 use Rattle.definition_text.specs.Columns.{Rest, is_blank}
 use Rattle.definition_text.specs.Indents.{outdent}
 use Rattle.definition_block.specs.CodeIndented.{starts_code_indented}
-use Rattle.definition_block.specs.CodeFenced.{Fence, fence_start, is_fence_end, fence_line}
+use Rattle.definition_block.specs.CodeFenced.{Fence, fence_start}
 use Rattle.definition_block.specs.MathFlow.{math_start}
 use Rattle.std.specs.Prelude.{unwrap_or}
 use Rattle.std.specs.Bool.{then_some}
 use Rattle.std.specs.Option.{option_or, option_map, option_and_then}
-use Rattle.block_parser.specs.Fences.{opening_fence}
-use Rattle.definition_block.specs.HtmlFlow.{html_start, ends_before_blank}
+use Rattle.block_leaves.specs.Fences.{opening_fence}
+use Rattle.definition_block.specs.HtmlFlow.{html_start}
 use Rattle.definition_block.specs.HeadingAtx.{Atx, heading_atx}
 use Rattle.definition_block.specs.HeadingSetext.{underline}
 use Rattle.definition_block.specs.ThematicBreak.{is_break}
 use Rattle.definition_block.specs.Definitions.{definition_cut, cut_into, cut_most}
 use Rattle.text_pieces.specs.ParagraphLines.{AreLines}
 use Rattle.definition_text.specs.BlockLines.{BlockLine, spaced_line, own_lines}
-use Rattle.definition_block.specs.Tree.{Leaf, Heading, Break, FencedCode, Blank, Blocks, Nil, join, one, block_and_ending, OpenLeaf, Text, Indented, Fenced}
-use Rattle.definition_block.specs.Tree.{OpenHtml, OpenTable, Opening, At, Inside, Tree, tree, nothing, close, after, leaf_text, open_text, text_here}
+use Rattle.definition_block.specs.Tree.{Leaf, Heading, Break, Blank, Blocks, Nil, join, one, block_and_ending, Text, Indented, Fenced}
+use Rattle.definition_block.specs.Tree.{OpenTable, Opening, At, Inside, Tree, tree, nothing, close, after, leaf_text, open_text, text_here}
 use Rattle.definition_block.specs.Tree.{is_some_line, has_text, is_table_leaf, has_table, makes_table, with_line, rest_line, leaf_line, html_with}
 use Rattle.definition_block.specs.Tree.{text_line_of, turns, indented_tree, fence_tree, html_tree, atx_tree, break_tree, underlined, heading_of, anew}
-use Rattle.definition_block.specs.Tree.{first_of, leaf_starts, new}
+use Rattle.definition_block.specs.Tree.{first_of, leaf_starts}
 use Rattle.block_state.specs.Spine.{Level, level, Spine, spine, spine_at, spine_after}
-use Rattle.block_parser.specs.HeadingSetext.{IsText, heading_blocks, heading_tree}
-use Rattle.block_parser.specs.GfmTable.{table_from_cut}
-use Rattle.block_parser.specs.View.{leaf_grown}
+use Rattle.block_leaves.specs.HeadingSetext.{IsText, heading_blocks, heading_tree}
+use Rattle.block_leaves.specs.GfmTable.{table_from_cut}
+use Rattle.block_leaves.proofs.Going.{no_text}
 use Rattle.block_state.proofs.Trees.{join-nil}
 use Rattle.block_parser.proofs.Closing.{after_added, opening_depth}
-
--- ---- the open leaf takes a line
-
-module _ (on : Constructs) (e : Beside) (r : Rest) where
-  abbrev other_line : OpenLeaf → Tree
-  other_line leaf = new (length r) on true (At leaf) e r
-
-  pub indented_blank : (ls pending : List BlockLine) → is_blank r ≡ true
-      → leaf_grown on e r (At (Indented ls pending)) ≡ tree Nil (At (Indented ls (pending ++ rest_line (outdent 4 r) e ∷ [])))
-  indented_blank ls pending h = ap (λ o. unwrap_or o (other_line (Indented ls pending))) (cond-true (is_blank r) _ _ h)
-
-  pub indented_code : (ls pending : List BlockLine) → is_blank r ≡ false → starts_code_indented on r ≡ true
-      → leaf_grown on e r (At (Indented ls pending)) ≡ tree Nil (At (Indented (ls ++ pending ++ rest_line (outdent 4 r) e ∷ []) []))
-  indented_code ls pending h k =
-      ap (λ o. unwrap_or o (other_line (Indented ls pending))) (cond-false (is_blank r) _ _ h ∙ cond-true (starts_code_indented on r) _ _ k)
-
-  pub indented_other : (ls pending : List BlockLine) → is_blank r ≡ false → starts_code_indented on r ≡ false
-      → leaf_grown on e r (At (Indented ls pending)) ≡ new (length r) on true (At (Indented ls pending)) e r
-  indented_other ls pending h k =
-      ap (λ o. unwrap_or o (other_line (Indented ls pending))) (cond-false (is_blank r) _ _ h ∙ cond-false (starts_code_indented on r) _ _ k)
-
-  pub fenced_end : (f : Fence) (opening : Option LineEnding) (ls : List BlockLine) → is_fence_end on f r ≡ true
-      → leaf_grown on e r (At (Fenced f opening ls)) ≡ tree (block_and_ending (Leaf (FencedCode f.info true ls)) e.ending) nothing
-  fenced_end f opening ls h = ap (λ o. unwrap_or o (other_line (Fenced f opening ls))) (cond-true (is_fence_end on f r) _ _ h)
-
-  pub fenced_goes_on : (f : Fence) (opening : Option LineEnding) (ls : List BlockLine) → is_fence_end on f r ≡ false
-      → leaf_grown on e r (At (Fenced f opening ls)) ≡ tree Nil (At (Fenced f opening (ls ++ rest_line (fence_line f r) e ∷ [])))
-  fenced_goes_on f opening ls h = ap (λ o. unwrap_or o (other_line (Fenced f opening ls))) (cond-false (is_fence_end on f r) _ _ h)
-
--- ---- an HTML block takes a line
-
-module _ (on : Constructs) (e : Beside) (r : Rest) (kind : ℕ) (ls : List BlockLine) where
-  pub html_goes_on : (ends_before_blank kind && is_blank r) ≡ false → leaf_grown on e r (At (OpenHtml kind ls)) ≡ html_with kind ls r e
-  html_goes_on h = ap (λ o. unwrap_or o (new (length r) on true (At (OpenHtml kind ls)) e r)) (cond-false (ends_before_blank kind && is_blank r) _ _ h)
-
-  pub html_stops : (ends_before_blank kind && is_blank r) ≡ true → leaf_grown on e r (At (OpenHtml kind ls))
-      ≡ new (length r) on true (At (OpenHtml kind ls)) e r
-  html_stops h = ap (λ o. unwrap_or o (new (length r) on true (At (OpenHtml kind ls)) e r)) (cond-true (ends_before_blank kind && is_blank r) _ _ h)
 
 -- ---- a line that the open leaf doesn't take
 
@@ -208,11 +170,6 @@ module _ (on : Constructs) (r : Rest) (e : Option LineEnding) where
       → turns on (At (Text ls)) r e ≡ heading_tree on (Some rank) (At (Text ls)) e
   turns_some ls rank is some =
       ap (λ o. option_and_then (underlined on ls e) o) is ∙ is_headed rank (definition_cut on ls).definitions (definition_cut on ls).left some
-
--- no paragraph is open
-pub no_text : (ls : List BlockLine) → is_some_line ls ≡ false → ls ≡ []
-no_text [] h = refl
-no_text (l ∷ ls) h = let wrong : true ≡ false = h in cc
 
 -- whether a paragraph is open where all containers are
 pub here_or_not : (depth count : ℕ) (away : Opening) → (opening_depth away ≡ 0 → (depth == count) ≡ true) → ((depth == count) && has_text away) ≡ false

@@ -1,5 +1,3 @@
 pub mod Quotes
 pub mod View
-pub mod HeadingSetext
-pub mod GfmTable
 pub mod Fences

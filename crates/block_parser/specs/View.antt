@@ -1,6 +1,5 @@
 -- What a parser has read.
-use Rattle.std.specs.Prelude.{◌≡◌, ℕ, ◌<◌, true, false, List, [], ◌∷◌, ◌++◌, Option, IfSome, drop, length}
-use Rattle.std.proofs.Common.{Bor}
+use Rattle.std.specs.Prelude.{◌≡◌, ℕ, ◌<◌, true, false, List, [], ◌∷◌, ◌++◌, Option, length}
 use Rattle.markdown_options.specs.declared.configuration.Constructs.{Constructs}
 use Rattle.markdown_options.specs.declared.line_ending.LineEnding.{LineEnding}
 use Rattle.markdown_options.specs.declared.beside.Beside.{Beside}
@@ -11,18 +10,16 @@ use Rattle.definition_text.specs.BlockLines.{BlockLine}
 use Rattle.definition_text.specs.Columns.{Rest}
 use Rattle.definition_block.specs.CodeFenced.{Fence}
 use Rattle.definition_block.specs.Container.{Container}
-use Rattle.definition_block.specs.Tree.{Blocks, Nil, OpenLeaf, Text, Fenced, Opening, At, Inside, Tree, tree, nothing, open_text, new, leaf_line, grow, steps}
+use Rattle.definition_block.specs.Tree.{Blocks, Nil, OpenLeaf, Text, Fenced, Opening, At, Tree, tree, nothing, open_text, new, leaf_line, grow, steps}
 use Rattle.text_pieces.specs.ParagraphLines.{AreLines}
-use Rattle.text_pieces.specs.Pieces.{piece_lines, whole_lines}
 use Rattle.block_starts.specs.View.{container_views}
+use Rattle.block_leaves.specs.View.{AreRead}
 use Rattle.block_parser.specs.declared.parser.Parser.{Parser}
-use Rattle.block_state.specs.Leaves.{leaf_state}
 use Rattle.block_state.specs.Spine.{Level, Spine, level, spine, spine_at, spine_of, spine_after}
-use Rattle.block_state.specs.Shows.{Shows}
 
 -- what was read so far is this
 abbrev pub HasRead : {A : Type 0} → Parser A → Spine → Type 0
-HasRead p s = Shows p.rows.rows.items p.rows.waiting.items p.rows.bare (container_views p.open.items) (piece_lines p.pieces.items) (leaf_state p.leaf) s
+HasRead p s = AreRead p.leaves (container_views p.open.items) s
 
 -- the kind of the character after these lines, where one of a kind stands before them
 abbrev pub kind_after_lines : Kind → List TextLine → Kind
@@ -50,47 +47,16 @@ ReadsFenced on fence text old new rest =
 abbrev pub Becomes : {A : Type 0} → Parser A → Parser A → OpenLeaf → Tree → Type 0
 Becomes old new leaf more = (around : List Level) (kids : Blocks) → HasRead old (spine around kids leaf) → HasRead new (spine_after around kids more)
 
--- a leaf that is open is closed, and these blocks stand in its place
-abbrev pub Closes : {A : Type 0} → Parser A → Parser A → OpenLeaf → Blocks → Type 0
-Closes old new leaf blocks = Becomes old new leaf (tree blocks nothing)
-
--- the lines that no row has taken, which are those of the open leaf
-abbrev pub lines_left : {A : Type 0} → Parser A → List BlockLine
-lines_left p = drop p.lines_in_rows (piece_lines p.pieces.items)
-
--- lines are those of a text, if it is known
-abbrev pub AreKnown : Option (Bor (List ℕ)) → List BlockLine → Type 0
-AreKnown known ls = IfSome known (λ text. whole_lines text.now ≡ ls)
-
--- the open paragraph is closed, and these blocks stand in its place; its lines may be known to be those of a text
-abbrev pub ClosesText : {A : Type 0} → Parser A → Parser A → Option (Bor (List ℕ)) → (List BlockLine → Blocks) → Type 0
-ClosesText old new known blocks = (ls : List BlockLine) → AreLines ls → AreKnown known ls → Closes old new (Text ls) (blocks ls)
-
--- the open paragraph has one line more
-abbrev pub HasLine : {A : Type 0} → Parser A → Parser A → BlockLine → Type 0
-HasLine old new line =
-    (around : List Level) (kids : Blocks) (ls : List BlockLine)
-    → HasRead old (spine around kids (Text ls)) → HasRead new (spine around kids (Text (ls ++ line ∷ [])))
-
 -- where no leaf is open, a container starts
 abbrev pub Enters : {A : Type 0} → Parser A → Parser A → Container → Type 0
 Enters old new c =
     (around : List Level) (kids : Blocks) → HasRead old (spine around kids (Text [])) → HasRead new (spine (level c kids ∷ around) Nil (Text []))
-
--- where no leaf is open, this is added in the innermost container
-abbrev pub Adds : {A : Type 0} → Parser A → Parser A → Tree → Type 0
-Adds old new more = Becomes old new (Text []) more
 
 -- so many containers stay open, and what is open in them, with the lines of a text, becomes something else
 abbrev pub Grows : {A : Type 0} → Parser A → Parser A → ℕ → (Opening → Tree) → Type 0
 Grows old new depth becomes =
     (around : List Level) (kids : Blocks) (away : Opening) → depth ≡ length around → AreLines (open_text away)
     → HasRead old (spine_at around kids away) → HasRead new (spine_after around kids (becomes away))
-
--- what a line that is in all containers makes of the open leaf
-abbrev pub leaf_grown : Constructs → Beside → Rest → Opening → Tree
-leaf_grown on beside rest (At leaf) = grow on beside (At leaf) rest
-leaf_grown on beside rest (Inside c kids inner) = tree Nil (Inside c kids inner)
 
 -- how far a line is in the containers that are open
 pub record Descent (on : Constructs) (beside : Beside) (line : Rest) (t : Tree) (count depth : ℕ) (rest : Rest) (here : Beside) : Type 0 where

@@ -5,15 +5,13 @@ ghost use Rattle.std.specs.Prelude.{◌≡◌, ◌<◌, ◌^◌, IfNone, IfSome,
 ghost use Rattle.std.specs.List.{list_any};
 ghost use Rattle.definition_text.specs.Lines.{lines, text_line};
 ghost use Rattle.text_pieces.specs.Pieces.{piece_line};
-ghost use Rattle.block_starts.specs.View.{rest_of};
-ghost use Rattle.block_starts.specs.CodeFenced.{fence_if, fence_view};
-ghost use Rattle.block_parser.specs.Fences.{IsWholeCode, code_line, line_closes, opening_fence as fence_here};
+ghost use Rattle.block_starts.specs.CodeFenced.{fence_view};
+ghost use Rattle.block_parser.specs.Fences.{IsWholeCode, code_line, line_closes};
 
-use crate::parser::{NOTHING, Parser, piece};
-use block_rows::Row;
+use crate::parser::Parser;
+use block_leaves::piece;
 use block_starts::Cursor;
-use block_starts::code_fenced::{Fence, closes_fence, fence_line, fence_start, is_fence_end};
-use block_starts::math_flow::math_start;
+use block_starts::code_fenced::{Fence, closes_fence, fence_line};
 use block_state::OpenLeaf;
 use block_state::whole_lines::whole_piece;
 use markdown_options::{Beside, Constructs, Kind, LineEnding};
@@ -22,40 +20,10 @@ use text_lines::next_line;
 use text_pieces::Piece;
 
 impl<'a, A: Allocator> Parser<'a, A> {
-    ghost use Rattle.std.specs.Prelude.{◌≡◌, IfOk, OnOk, List, Option, ◌≤◌, ◌<◌, ◌+◌, ◌^◌, [], length, true, vec_len};
-    ghost use Rattle.markdown_options.specs.declared.line_ending.LineEnding.{LineEnding};
-    ghost use Rattle.definition_block.specs.CodeFenced.{Fence as FenceRecord};
-    ghost use Rattle.definition_text.specs.BlockLines.{BlockLine, last_ending_or};
-    ghost use Rattle.definition_block.specs.Tree as tree;
+    ghost use Rattle.std.specs.Prelude.{◌≡◌, IfOk, ◌≤◌, ◌<◌, ◌+◌, ◌^◌, length, vec_len};
     ghost use Rattle.block_state.specs.Leaves.{leaf_state};
     ghost use Rattle.block_state.specs.Shows.{InFenced};
-    ghost use Rattle.block_parser.specs.View.{Becomes, Closes, Adds, ReadsFenced, leaf_grown};
-    ghost use Rattle.block_starts.specs.View.{rest_of};
-    ghost use Rattle.text_pieces.specs.Pieces.{whole_lines};
-
-    /// Fenced code takes every line up to its closing fence.
-    pub(crate) fn fenced_line(
-        &mut self,
-        on: &Constructs,
-        fence: Fence<'a>,
-        rest: &Cursor<'a>,
-        beside: Beside,
-    ) -> Result<(), AllocError>
-        requires lines { self.old.lines_in_rows + 1 ≤ vec_len self.old.pieces }
-        ensures { OnOk result ((opening : Option LineEnding) (ls : List BlockLine) → let leaf = tree.Fenced (fence_view fence.entry) opening ls in
-            Becomes self.old self.new leaf (leaf_grown on.now beside (rest_of rest.now) (tree.At leaf))) }
-    {
-        if !is_fence_end(on, &fence, *rest) {
-            self.pieces.push(piece(&fence_line(&fence, *rest), beside))?;
-            self.leaf = OpenLeaf::Fenced {
-                fence,
-                ending: beside.ending,
-            };
-            return Ok(());
-        }
-        let count = self.pieces.len() - self.lines_in_rows - 1;
-        self.end_leaf(Row::FencedCode(count), beside.ending)
-    }
+    ghost use Rattle.block_parser.specs.View.{ReadsFenced};
 
     /// Reads lines of fenced code, where no container is open, and the line that closes it. If none was
     /// read before, and the fence has no indent, they are kept as one. Answers what follows.
@@ -68,21 +36,21 @@ impl<'a, A: Allocator> Parser<'a, A> {
     ) -> Result<&'a str, AllocError>
         requires some { 0 < length text.now }
         requires fits { length text.now < 2 ^ 61 }
-        requires leaf { leaf_state self.old.leaf ≡ InFenced (fence_view fence) ending }
-        requires lines { self.old.lines_in_rows + 1 ≤ vec_len self.old.pieces }
+        requires leaf { leaf_state self.old.leaves.leaf ≡ InFenced (fence_view fence) ending }
+        requires lines { self.old.leaves.lines_in_rows + 1 ≤ vec_len self.old.leaves.pieces }
         ensures shorter { IfOk result (λ rest. length rest.now < length text.now) }
         ensures read { IfOk result (λ rest. ReadsFenced on.now (fence_view fence.entry) text.now self.old self.new rest.now) }
     {
-        if fence.indent == 0 && self.pieces.len() - self.lines_in_rows == 1 {
+        if fence.indent == 0 && self.leaves.pieces.len() - self.leaves.lines_in_rows == 1 {
             if let Some(code) = whole_code(on, &fence, text) {
-                self.close_whole_code(code.lines, code.ending)?;
+                self.leaves.close_whole_code(code.lines, code.ending)?;
                 return Ok(code.rest);
             }
         }
         self.each_fenced_line(on, fence, ending, text)
     }
 
-    /// The same, line by line. What is known of the open leaf is set once, after them.
+    /// Reads them line by line. What is known of the open leaf is set once, after them.
     fn each_fenced_line(
         &mut self,
         on: &Constructs,
@@ -92,8 +60,8 @@ impl<'a, A: Allocator> Parser<'a, A> {
     ) -> Result<&'a str, AllocError>
         requires some { 0 < length text.now }
         requires fits { length text.now < 2 ^ 61 }
-        requires leaf { leaf_state self.old.leaf ≡ InFenced (fence_view fence) ending }
-        requires lines { self.old.lines_in_rows + 1 ≤ vec_len self.old.pieces }
+        requires leaf { leaf_state self.old.leaves.leaf ≡ InFenced (fence_view fence) ending }
+        requires lines { self.old.leaves.lines_in_rows + 1 ≤ vec_len self.old.leaves.pieces }
         ensures shorter { IfOk result (λ rest. length rest.now < length text.now) }
         ensures read { IfOk result (λ rest. ReadsFenced on.now (fence_view fence.entry) text.now self.old self.new rest.now) }
     {
@@ -102,63 +70,23 @@ impl<'a, A: Allocator> Parser<'a, A> {
         while !rest.is_empty() {
             let (content, ending, after) = next_line(rest);
             if closes_fence(on, &fence, content) {
-                self.leaf = OpenLeaf::Fenced {
+                self.leaves.leaf = OpenLeaf::Fenced {
                     fence,
                     ending: last,
                 };
-                self.rest = rest;
+                self.leaves.rest = rest;
                 self.any_line(on, Kind::Whitespace, content, ending)?;
                 return Ok(after);
             }
-            self.pieces.push(code_piece(&fence, content, ending))?;
+            self.leaves.push_code(code_piece(&fence, content, ending))?;
             last = ending;
             rest = after;
         }
-        self.leaf = OpenLeaf::Fenced {
+        self.leaves.leaf = OpenLeaf::Fenced {
             fence,
             ending: last,
         };
         Ok(rest)
-    }
-
-    /// Fenced code that has no line yet is closed by a fence. Its lines are those of a text.
-    fn close_whole_code(
-        &mut self,
-        lines: &'a str,
-        ending: Option<LineEnding>,
-    ) -> Result<(), AllocError>
-        requires { self.old.lines_in_rows + 1 ≡ vec_len self.old.pieces }
-        ensures { OnOk result ((fence : FenceRecord) (opening : Option LineEnding) →
-            let code = tree.Leaf (tree.FencedCode fence.info true (whole_lines lines.now)) in
-            Closes self.old self.new (tree.Fenced fence opening []) (tree.block_and_ending code ending)) }
-    {
-        self.leaf = NOTHING;
-        self.pieces.push(whole_piece(lines, None))?;
-        self.end_leaf(Row::WholeCode, ending)
-    }
-
-    /// Fenced code starts, where no leaf is open.
-    pub(crate) fn start_fenced(
-        &mut self,
-        fence: Fence<'a>,
-        ending: Option<LineEnding>,
-    ) -> Result<(), AllocError>
-        ensures { OnOk result (Adds self.old self.new (tree.tree tree.Nil (tree.At (tree.Fenced (fence_view fence.entry) ending [])))) }
-    {
-        self.pieces.push(whole_piece(fence.info, None))?;
-        self.leaf = OpenLeaf::Fenced { fence, ending };
-        Ok(())
-    }
-
-    pub(crate) fn close_fenced(&mut self, ending: Option<LineEnding>) -> Result<(), AllocError>
-        requires { self.old.lines_in_rows + 1 ≤ vec_len self.old.pieces }
-        ensures read { OnOk result ((switches : Constructs) (fence : FenceRecord) (opening : Option LineEnding) (ls : List BlockLine) →
-            ending ≡ last_ending_or opening ls →
-            Closes self.old self.new (tree.Fenced fence opening ls) (tree.close_leaf switches (tree.Fenced fence opening ls))) }
-        ensures containers { self.new.open ≡ self.old.open }
-    {
-        let count = self.pieces.len() - self.lines_in_rows - 1;
-        self.end_leaf(Row::UnclosedCode(count), ending)
     }
 }
 
@@ -194,16 +122,6 @@ fn whole_code<'a>(on: &Constructs, fence: &Fence<'_>, text: &'a str) -> Option<W
         rest = after;
     }
     None
-}
-
-/// The fence of code or of math that opens here.
-pub(crate) fn opening_fence<'a>(on: &Constructs, rest: &Cursor<'a>) -> Option<Fence<'a>>
-    ensures { fence_if result ≡ fence_here on.now (rest_of rest.now) }
-{
-    match fence_start(on, *rest) {
-        Some(fence) => Some(fence),
-        None => math_start(on, *rest),
-    }
 }
 
 /// A whole line as one of the content of a fence.

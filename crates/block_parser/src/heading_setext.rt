@@ -3,21 +3,19 @@
 //!     setext ::= paragraph underline, where the underline is in all containers of the paragraph
 
 use crate::parser::Parser;
-use block_rows::Row;
 use block_starts::Cursor;
 use block_starts::heading_setext::underline;
-use markdown_options::{Constructs, LineEnding};
+use markdown_options::Constructs;
 use std::alloc::{AllocError, Allocator};
 
 impl<'a, A: Allocator> Parser<'a, A> {
-    ghost use Rattle.std.specs.Prelude.{◌≡◌, IfOk, OnOk, List, Option, ℕ, Some, length};
+    ghost use Rattle.std.specs.Prelude.{◌≡◌, IfOk, List, Option, ℕ, Some, length};
     ghost use Rattle.markdown_options.specs.declared.line_ending.LineEnding.{LineEnding};
-    ghost use Rattle.definition_text.specs.BlockLines.{BlockLine};
     ghost use Rattle.definition_block.specs.Tree as tree;
     ghost use Rattle.text_pieces.specs.ParagraphLines.{AreLines};
-    ghost use Rattle.block_parser.specs.HeadingSetext.{IsText, heading_blocks, heading_tree};
+    ghost use Rattle.block_leaves.specs.HeadingSetext.{IsText, heading_tree};
     ghost use Rattle.block_state.specs.Spine.{Level, Spine, spine_at};
-    ghost use Rattle.block_parser.specs.View.{Closes, HasRead};
+    ghost use Rattle.block_parser.specs.View.{HasRead};
     ghost use Rattle.block_starts.specs.View.{rest_of};
 
     /// The rank of the heading that an underline makes of what is left of the open paragraph after
@@ -42,24 +40,10 @@ impl<'a, A: Allocator> Parser<'a, A> {
         let Some(rank) = underline(on, *rest) else {
             return Ok(None);
         };
-        if self.leaves_text(on)? {
+        if self.leaves.leaves_text(on)? {
             Ok(Some(rank))
         } else {
             Ok(None)
         }
-    }
-
-    /// What is left of the open paragraph after its definitions becomes a heading.
-    pub(crate) fn setext_heading(
-        &mut self,
-        on: &Constructs,
-        rank: u8,
-        ending: Option<LineEnding>,
-    ) -> Result<(), AllocError>
-        ensures { OnOk result ((ls : List BlockLine) → AreLines ls → Closes self.old self.new (tree.Text ls) (heading_blocks on.now rank ls ending)) }
-    {
-        self.cut_definitions(on)?;
-        let count = self.pieces.len() - self.lines_in_rows;
-        self.end_leaf(Row::SetextHeading { rank, count }, ending)
     }
 }

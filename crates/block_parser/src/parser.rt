@@ -1,18 +1,17 @@
 //! Blocks, line by line (CommonMark 4, 5 and appendix, phase 1).
-ghost use Rattle.std.specs.Prelude.{◌≡◌, ◌≤◌, ◌<◌, ◌+◌, ◌-◌, true, false, ◌^◌, [], IfNone, IfOk, IfSome, eqb, length, take, vec_len};
+ghost use Rattle.std.specs.Prelude.{◌≡◌, ◌≤◌, ◌<◌, ◌-◌, true, false, ◌^◌, [], IfNone, IfOk, IfSome, eqb, length, take};
 ghost use Rattle.std.specs.Str.{IsCharBoundary};
 ghost use Rattle.definition_text.specs.Lines.{lines};
-ghost use Rattle.definition_block.specs.Tree.{blocks, children, rest_line};
+ghost use Rattle.definition_block.specs.Tree.{blocks, children};
 ghost use Rattle.block_rows.specs.Rows.{rows_size, rows_of, rows_value, value_with};
-ghost use Rattle.text_pieces.specs.Pieces.{piece_line, piece_lines};
+ghost use Rattle.text_pieces.specs.Pieces.{piece_lines};
 ghost use Rattle.block_starts.specs.View.{rest_of, container_view, container_views};
 ghost use Rattle.block_parser.specs.Quotes.{NoQuoteFrom, is_quote};
-ghost use Rattle.block_state.specs.Leaves.{lines_needed};
 
-use crate::code_fenced::opening_fence;
-use crate::code_indented::begins_code;
-use crate::definition::last_ending;
-use crate::html_flow::html_start;
+use block_leaves::Leaves;
+use block_leaves::code_fenced::opening_fence;
+use block_leaves::code_indented::begins_code;
+use block_leaves::html_flow::html_start;
 use block_rows::Row;
 use block_starts::Cursor;
 use block_starts::container::{container_may_start, continues, starts};
@@ -20,9 +19,9 @@ use block_starts::frontmatter::without_frontmatter;
 use block_starts::heading_atx::heading_atx;
 use block_starts::plain::{is_plain, is_plain_line};
 use block_starts::thematic_break::is_break;
+use block_state::OpenLeaf;
 use block_state::whole_lines::whole_piece;
-use block_state::{OpenLeaf, Rows};
-use markdown_options::{AlignKind, Beside, Constructs, Container, Kind, LineEnding};
+use markdown_options::{Beside, Constructs, Container, Kind, LineEnding};
 use std::alloc::{AllocError, Allocator};
 use text_lines::next_line;
 use text_pieces::Piece;
@@ -37,46 +36,27 @@ pub struct BlockRows<'a, A: Allocator> {
 /// What was read so far.
 #[derive(Drop)]
 pub(crate) struct Parser<'a, A: Allocator> {
-    pub(crate) rows: Rows<A>,
-    pub(crate) pieces: Vec<Piece<'a>, A>,
-    /// The content of a paragraph that definitions are read off.
-    pub(crate) content: String<A>,
-    /// How the columns are aligned by the row of delimiters that was read last.
-    pub(crate) aligns: Vec<AlignKind, A>,
-    /// How many of the lines the rows take. The others are those of the open leaf.
-    pub(crate) lines_in_rows: usize,
+    /// The leaves so far, and the one that is open.
+    pub(crate) leaves: Leaves<'a, A>,
     /// The containers that are open, the outermost first.
     pub(crate) open: Vec<Container<'a>, A>,
     /// No container from this depth on is a quote.
     pub(crate) quotes_end: usize,
-    pub(crate) leaf: OpenLeaf<'a>,
-    /// The text from the line on that is read.
-    pub(crate) rest: &'a str,
-    /// The text from the first line of the open paragraph on.
-    pub(crate) paragraph: &'a str,
-    ghost counted: { lines_in_rows ≡ rows_size rows.rows.items },
-    ghost enough: { lines_in_rows + lines_needed leaf ≤ vec_len pieces },
     ghost no_quotes: { NoQuoteFrom quotes_end (container_views open.items) },
 }
-
-/// No leaf is open.
-pub(crate) const NOTHING: OpenLeaf<'static> = OpenLeaf::Text;
 
 impl<'a, A: Allocator> Parser<'a, A> {
     ghost use Rattle.std.specs.Prelude.{◌≡◌, ◌==◌, ◌&&◌, OnOk, IfOk, List, true, false};
     ghost use Rattle.definition_text.specs.Lines.{text_line};
     ghost use Rattle.definition_block.specs.Tree as tree;
     ghost use Rattle.text_pieces.specs.ParagraphLines.{AreLines};
-    ghost use Rattle.block_rows.specs.Rows.{block_rows, row_value, row_size};
     ghost use Rattle.block_state.specs.Spine.{Level, Spine, spine, spine_at, spine_of, without_innermost};
     ghost use Rattle.block_parser.specs.Quotes.{NoQuoteFrom, NoneBeganBlank};
-    ghost use Rattle.block_state.specs.Shows.{leaf_lines};
-    ghost use Rattle.block_parser.specs.View.{Adds, Becomes, Closes, Descent, Enters, Grows, HasRead, IsEntered, KeepsLines, ReadsSome};
+    ghost use Rattle.block_parser.specs.View.{Descent, Enters, Grows, HasRead, IsEntered, KeepsLines, ReadsSome};
     ghost use Rattle.markdown_options.specs.declared.beside.Kind.TheVariants.{Whitespace};
     ghost use Rattle.definition_block.specs.Container.{Container as Holder};
-    ghost use Rattle.definition_text.specs.BlockLines.{BlockLine, last_ending};
-    ghost use Rattle.block_state.specs.Waits.{enter_row};
-    ghost use Rattle.std.specs.Prelude.{◌≤◌, ◌<◌, ◌+◌, ◌-◌, ◌∷◌, ◌++◌, [], length, vec_len, take, drop};
+    ghost use Rattle.definition_text.specs.BlockLines.{BlockLine};
+    ghost use Rattle.std.specs.Prelude.{◌≤◌, ◌<◌, ◌+◌, ◌-◌, ◌∷◌, ◌++◌, [], length, vec_len};
     ghost use Rattle.block_starts.specs.View.{rest_of, container_view, container_views};
 
     /// Reads lines at the front of a text, after a character of a kind: where no container is open and
@@ -95,7 +75,7 @@ impl<'a, A: Allocator> Parser<'a, A> {
             ReadsSome on.now before t text.now rest.now self.new) }
     {
         if before == Kind::Whitespace && self.open.is_empty() {
-            match self.leaf {
+            match self.leaves.leaf {
                 OpenLeaf::Text => return self.plain_lines(on, text),
                 OpenLeaf::Fenced { fence, ending } => {
                     return self.fenced_lines(on, fence, ending, text);
@@ -104,7 +84,7 @@ impl<'a, A: Allocator> Parser<'a, A> {
             }
         }
         let (content, ending, rest) = next_line(text);
-        self.rest = text;
+        self.leaves.rest = text;
         self.any_line(on, before, content, ending)?;
         Ok(rest)
     }
@@ -118,22 +98,23 @@ impl<'a, A: Allocator> Parser<'a, A> {
         ensures read { IfOk result (λ rest. (kids : tree.Blocks) (ls : List BlockLine) → let t = tree.tree kids (tree.At (tree.Text ls)) in
             KeepsLines on.now Whitespace t text.now → HasRead self.old (spine_of t) → ReadsSome on.now Whitespace t text.now rest.now self.new) }
     {
-        let goes_on = self.has_text();
-        self.paragraph = if goes_on { self.paragraph } else { text };
+        let goes_on = self.leaves.has_text();
+        self.leaves.paragraph = if goes_on { self.leaves.paragraph } else { text };
         let mut rest = text;
         while !rest.is_empty() {
             let (content, ending, after) = next_line(rest);
             if content.is_empty() {
-                self.close_text(on, known_front(goes_on, text, rest))?;
-                self.blank_line(ending)?;
+                self.leaves
+                    .close_text(on, known_front(goes_on, text, rest))?;
+                self.leaves.blank_line(ending)?;
                 return Ok(after);
             }
             if !is_plain_line(on, content) {
-                self.rest = rest;
+                self.leaves.rest = rest;
                 self.any_line(on, Kind::Whitespace, content, ending)?;
                 return Ok(after);
             }
-            self.push_line(whole_piece(content, ending))?;
+            self.leaves.push_line(whole_piece(content, ending))?;
             rest = after;
         }
         Ok(rest)
@@ -156,10 +137,10 @@ impl<'a, A: Allocator> Parser<'a, A> {
         if depth < self.open.len() {
             return self.start_line(on, depth, &rest, beside);
         }
-        match self.leaf {
+        match self.leaves.leaf {
             OpenLeaf::Text => self.start_line(on, depth, &rest, beside),
             OpenLeaf::Indented { .. } => self.indented_line(on, &rest, beside),
-            OpenLeaf::Fenced { fence, .. } => self.fenced_line(on, fence, &rest, beside),
+            OpenLeaf::Fenced { fence, .. } => self.leaves.fenced_line(on, fence, &rest, beside),
             OpenLeaf::Html { kind, .. } => self.html_line(on, kind, &rest, beside),
             OpenLeaf::Table { .. } => self.start_line(on, depth, &rest, beside),
         }
@@ -222,33 +203,7 @@ impl<'a, A: Allocator> Parser<'a, A> {
         if depth + 1 != self.open.len() {
             return false;
         }
-        self.is_nothing() && self.rows.began_blank()
-    }
-
-    /// Whether no leaf is open.
-    fn is_nothing(&self) -> bool
-        ensures { (s : Spine) → HasRead self.now s → result ≡ tree.is_nothing (tree.At s.leaf) }
-    {
-        match self.leaf {
-            OpenLeaf::Text => self.lines_in_rows == self.pieces.len(),
-            OpenLeaf::Indented { .. } => false,
-            OpenLeaf::Fenced { .. } => false,
-            OpenLeaf::Html { .. } => false,
-            OpenLeaf::Table { .. } => false,
-        }
-    }
-
-    /// Whether a paragraph is open.
-    pub(crate) fn has_text(&self) -> bool
-        ensures { (s : Spine) → HasRead self.now s → result ≡ tree.is_some_line (tree.leaf_text s.leaf) }
-    {
-        match self.leaf {
-            OpenLeaf::Text => self.lines_in_rows < self.pieces.len(),
-            OpenLeaf::Indented { .. } => false,
-            OpenLeaf::Fenced { .. } => false,
-            OpenLeaf::Html { .. } => false,
-            OpenLeaf::Table { .. } => false,
-        }
+        self.leaves.is_nothing() && self.leaves.rows.began_blank()
     }
 
     /// Whether what starts on a line that is in so many containers interrupts a paragraph.
@@ -256,7 +211,7 @@ impl<'a, A: Allocator> Parser<'a, A> {
         ensures { (around : List Level) (kids : tree.Blocks) (away : tree.Opening) → depth ≡ length around → HasRead self.now (spine_at around kids away) →
             result ≡ ((depth == vec_len self.now.open) && tree.has_text away) }
     {
-        depth == self.open.len() && self.has_text()
+        depth == self.open.len() && self.leaves.has_text()
     }
 
     /// Reads the rest of a line after the containers that it is in, which are so many.
@@ -337,36 +292,36 @@ impl<'a, A: Allocator> Parser<'a, A> {
         requires depth { depth ≤ vec_len self.old.open }
         ensures { OnOk result (Grows self.old self.new depth (λ away. tree.leaf_line on.now away (rest_of rest.now) beside)) }
     {
-        let paragraph = self.has_text();
+        let paragraph = self.leaves.has_text();
         if rest.is_blank() {
             self.close_to(on, depth)?;
-            return self.blank_line(beside.ending);
+            return self.leaves.blank_line(beside.ending);
         }
         if begins_code(on, paragraph, rest) {
             self.close_to(on, depth)?;
-            return self.start_indented(rest, beside);
+            return self.leaves.start_indented(rest, beside);
         }
         if let Some(fence) = opening_fence(on, rest) {
             self.close_to(on, depth)?;
-            return self.start_fenced(fence, beside.ending);
+            return self.leaves.start_fenced(fence, beside.ending);
         }
         if let Some(kind) = html_start(on, paragraph, rest) {
             self.close_to(on, depth)?;
-            return self.html_with(kind, rest, beside);
+            return self.leaves.html_with(kind, rest, beside);
         }
         if let Some(atx) = heading_atx(on, *rest) {
             self.close_to(on, depth)?;
-            return self.heading(atx, beside.ending);
+            return self.leaves.heading(atx, beside.ending);
         }
         if let Some(rank) = self.turns(on, depth, rest)? {
-            return self.setext_heading(on, rank, beside.ending);
+            return self.leaves.setext_heading(on, rank, beside.ending);
         }
         if is_break(on, *rest) {
             self.close_to(on, depth)?;
-            return self.thematic_break(beside.ending);
+            return self.leaves.thematic_break(beside.ending);
         }
         if self.makes_table(on, depth, rest)? {
-            return self.start_table(on, rest, beside);
+            return self.leaves.start_table(on, rest, beside);
         }
         self.more_text(on, depth, rest, beside)
     }
@@ -383,31 +338,25 @@ impl<'a, A: Allocator> Parser<'a, A> {
         requires depth { depth ≤ vec_len self.old.open }
         ensures { OnOk result (Grows self.old self.new depth (λ away. tree.text_line_of on.now away (rest_of rest.now) beside)) }
     {
-        if self.has_text() {
-            return self.text_line(rest, beside);
+        if self.leaves.has_text() {
+            return self.leaves.text_line(rest, beside);
         }
         if self.is_row(depth) {
-            return self.table_row(rest, beside);
+            return self.leaves.table_row(rest, beside);
         }
         self.close_to(on, depth)?;
-        self.text_line(rest, beside)
-    }
-
-    /// A blank line, where no leaf is open.
-    fn blank_line(&mut self, ending: Option<LineEnding>) -> Result<(), AllocError>
-        ensures { OnOk result (Adds self.old self.new (tree.tree (tree.one (tree.Blank ending)) tree.nothing)) }
-    {
-        self.rows.blank(ending)
+        self.leaves.text_line(rest, beside)
     }
 
     /// A container starts, where no leaf is open.
     fn enter(&mut self, container: Container<'a>) -> Result<(), AllocError>
         ensures { OnOk result (Enters self.old self.new (container_view container.entry)) }
     {
-        match container {
-            Container::Quote | Container::Item(_) => self.enter_alone(container),
-            Container::Footnote(label) => self.enter_footnote(label),
-        }
+        self.leaves.enter(container)?;
+        let end = self.quotes_end_with(container);
+        self.open.push(container)?;
+        self.quotes_end = end;
+        Ok(())
     }
 
     /// The depth from which on no container is a quote, where this one is open, too.
@@ -421,25 +370,13 @@ impl<'a, A: Allocator> Parser<'a, A> {
         }
     }
 
-    /// A container without a line of its own starts, where no leaf is open.
-    fn enter_alone(&mut self, container: Container<'a>) -> Result<(), AllocError>
-        requires { row_size (enter_row (container_view container)) ≡ 0 }
-        ensures { OnOk result (Enters self.old self.new (container_view container.entry)) }
-    {
-        self.rows.enter(container)?;
-        let end = self.quotes_end_with(container);
-        self.open.push(container)?;
-        self.quotes_end = end;
-        Ok(())
-    }
-
     /// Closes the open leaf, and all containers but so many.
     pub(crate) fn close_to(&mut self, on: &Constructs, depth: usize) -> Result<(), AllocError>
         requires depth { depth ≤ vec_len self.old.open }
         ensures read { OnOk result (Grows self.old self.new depth (λ away. tree.tree (tree.close on.now away) tree.nothing)) }
         ensures count { OnOk result (vec_len self.new.open ≡ depth) }
     {
-        self.close_leaf(on)?;
+        self.leaves.close_leaf(on)?;
         while self.open.len() > depth {
             self.exit()?;
         }
@@ -453,59 +390,9 @@ impl<'a, A: Allocator> Parser<'a, A> {
     {
         if let Some(container) = self.open.pop() {
             self.quotes_end = quotes_end(self.quotes_end, &self.open);
-            self.rows.exit(container)?;
+            self.leaves.exit(container)?;
         }
         Ok(())
-    }
-
-    /// Closes the open leaf, if there is one.
-    fn close_leaf(&mut self, on: &Constructs) -> Result<(), AllocError>
-        ensures read { OnOk result ((leaf : tree.OpenLeaf) → AreLines (tree.leaf_text leaf) → Closes self.old self.new leaf (tree.close_leaf on.now leaf)) }
-        ensures containers { self.new.open ≡ self.old.open }
-    {
-        match self.leaf {
-            OpenLeaf::Text => self.close_text(on, None),
-            OpenLeaf::Indented { count, ending } => self.close_indented(count, ending),
-            OpenLeaf::Fenced { ending, .. } => self.close_fenced(ending),
-            OpenLeaf::Html { ending, .. } => self.close_html(ending),
-            OpenLeaf::Table { ending } => self.close_table(ending),
-        }
-    }
-
-    /// The first lines of the open paragraph, so many, are a block: a row takes them.
-    pub(crate) fn take_lines(&mut self, row: Row, count: usize) -> Result<(), AllocError>
-        requires size { row_size row ≡ count }
-        requires within { self.old.lines_in_rows + count ≤ vec_len self.old.pieces }
-        ensures read { OnOk result ((ls : List BlockLine) (b : tree.Block) → block_rows b ≡ row_value row ls ∷ [] → tree.is_ending b ≡ false →
-            Becomes self.old self.new (tree.Text ls)
-            (tree.tree (tree.block_and_ending b (last_ending (take count ls))) (tree.At (tree.Text (drop count ls))))) }
-        ensures containers { self.new.open ≡ self.old.open }
-        ensures content { self.new.content ≡ self.old.content }
-        ensures pieces { self.new.pieces ≡ self.old.pieces }
-        ensures count { OnOk result (self.new.lines_in_rows ≡ self.old.lines_in_rows + count) }
-    {
-        let ending = last_ending(&self.pieces[self.lines_in_rows..self.lines_in_rows + count]);
-        self.rows.block(row)?;
-        self.lines_in_rows += count;
-        self.leaf = NOTHING;
-        self.rows.ending(ending)
-    }
-
-    /// The open leaf ends: a row takes all lines that are left.
-    pub(crate) fn end_leaf(
-        &mut self,
-        row: Row,
-        ending: Option<LineEnding>,
-    ) -> Result<(), AllocError>
-        requires { self.old.lines_in_rows + row_size row ≡ vec_len self.old.pieces }
-        ensures read { OnOk result ((leaf : tree.OpenLeaf) (b : tree.Block) → block_rows b ≡ row_value row (leaf_lines leaf) ∷ [] → tree.is_ending b ≡ false →
-            Closes self.old self.new leaf (tree.block_and_ending b ending)) }
-        ensures containers { self.new.open ≡ self.old.open }
-    {
-        self.rows.block(row)?;
-        self.lines_in_rows = self.pieces.len();
-        self.leaf = NOTHING;
-        self.rows.ending(ending)
     }
 }
 
@@ -533,24 +420,13 @@ fn quotes_end(end: usize, containers: &[Container<'_>]) -> usize
     depth
 }
 
+/// Whether a container is a quote.
 fn is_quote(container: Container<'_>) -> bool
     ensures { result ≡ is_quote (container_view container.entry) }
 {
     match container {
         Container::Quote => true,
         Container::Item(_) | Container::Footnote(_) => false,
-    }
-}
-
-/// The line of a block that a rest is.
-pub(crate) fn piece<'a>(rest: &Cursor<'a>, beside: Beside) -> Piece<'a>
-    ensures { piece_line result ≡ rest_line (rest_of rest.now) beside }
-{
-    Piece {
-        text: rest.text(),
-        owed: rest.tab_columns(),
-        ending: beside.ending,
-        before: beside.before,
     }
 }
 
@@ -594,18 +470,10 @@ fn child_rows<'a, A: Allocator + Clone>(
         rows_value r.rows.items (piece_lines r.pieces.items) ≡ value_with (rows_of (children on.now before (lines text.entry.now))) []) }
     ensures enough { IfOk result (λ r. rows_size r.rows.items ≤ length r.pieces.items) }
 {
-    let rows = Rows::new(alloc.clone()?, alloc.clone()?);
     let mut parser = Parser {
-        rows,
-        pieces: Vec::new(alloc.clone()?),
-        content: String::new(alloc.clone()?),
-        aligns: Vec::new(alloc.clone()?),
-        lines_in_rows: 0,
+        leaves: Leaves::new(alloc.clone()?, text)?,
         open: Vec::new(alloc),
         quotes_end: 0,
-        leaf: NOTHING,
-        rest: text,
-        paragraph: text,
     };
     let mut here = before;
     let mut left = text;
@@ -614,7 +482,8 @@ fn child_rows<'a, A: Allocator + Clone>(
         here = Kind::Whitespace;
     }
     parser.close_to(on, 0)?;
-    let Parser { rows, pieces, .. } = parser;
+    let Parser { leaves, .. } = parser;
+    let Leaves { rows, pieces, .. } = leaves;
     Ok(BlockRows {
         rows: rows.finish()?,
         pieces,

@@ -35,12 +35,12 @@ returns-clause-rows g c =
     let left = c.loop-left.left.now in
     let t = steps on before empty_tree k.read in
     let q = c.close_to.new.self in
-    let pool = piece_lines q.pieces.items in
+    let pool = piece_lines q.leaves.pieces.items in
     let bytes : (k : ℕ) → get_or text k 0 < 256 = λ k. omega (arith, c.type_inv.text k) in
     let none : left ≡ [] = nil_from_length left (eqb-true (length left) 0 (sym c.is_empty.ensures ∙ c.loop-left-test.false)) in
     let all_lines : k.read ≡ lines text = sym (k.split ∙ ap (λ (xs : List ℕ). k.read ++ lines xs) none ∙ append-nil k.read) in
     let clean = open_lines on before text bytes k.read [] (append-nil k.read ∙ all_lines) in
     let h = c.in_ok-close_to.ensures.read [] t.done t.now refl clean k.reads in
     ap (λ (rs : List Row). rows_value rs pool) (c.in_ok-finish.ensures.rows)
-    ∙ settled q.rows.rows.items q.rows.waiting.items q.rows.bare pool [] (join t.done (close on t.now)) [] h.written q.rows.none
+    ∙ settled q.leaves.rows.rows.items q.leaves.rows.waiting.items q.leaves.rows.bare pool [] (join t.done (close on t.now)) [] h.written q.leaves.rows.none
     ∙ ap (λ (ls : List TextLine). value_with (rows_of (blocks_at_end on (steps on before empty_tree ls))) []) all_lines

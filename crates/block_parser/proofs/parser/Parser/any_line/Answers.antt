@@ -9,6 +9,7 @@ use Rattle.block_starts.specs.CodeFenced.{fence_view}
 use Rattle.block_starts.specs.HtmlFlow.{number_of}
 use Rattle.block_state.specs.Spine.{Spine, spine_after}
 use Rattle.block_state.specs.Leaves.{leaf_state}
+use Rattle.block_leaves.specs.View.{AreRead}
 use Rattle.block_parser.specs.View.{HasRead}
 use Rattle.block_parser.proofs.Closing as closing
 use Rattle.block_parser.proofs.Descending as descending
@@ -96,9 +97,9 @@ returns-in-Fenced g c =
     let here = subst (HasRead p) (sym d.same) h in
     let none = descending.no_deeper (container_views p.open.items) d.around d.kids d.now here.opened
     (omega (arith, d.deep, c.if-depth-len.false, c.len.ensures, c.descend-depth.ensures.within, p.open.ok.0, closing.views_length p.open.items)) in
-    subst (HasRead c.fenced_line.new.self) (sym d.grows ∙ whole_line)
-    (descending.fenced_grows (HasRead p) (HasRead c.fenced_line.new.self) on e r (fence_view c.in-Fenced.fence)
-    (λ around kids opening ls. grows opening ls around kids) c.in-Fenced.ending d.around d.kids d.now none
+    subst (AreRead c.fenced_line.new.self (container_views p.open.items)) (sym d.grows ∙ whole_line)
+    (descending.fenced_grows (HasRead p) (AreRead c.fenced_line.new.self (container_views p.open.items)) on e r (fence_view c.in-Fenced.fence)
+    (λ around kids opening ls. grows opening ls (container_views p.open.items) around kids) c.in-Fenced.ending d.around d.kids d.now none
     (sym (ap leaf_state c.in-Fenced.is) ∙ here.same_state) here))
     c.fenced_line.ensures
 

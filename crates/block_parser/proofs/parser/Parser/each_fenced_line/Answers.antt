@@ -1,18 +1,17 @@
-use Rattle.std.proofs.Common.{◌<◌, ◌∷◌, [], ◌++◌, length, sym, ap, ◌∙◌, refl, rules, arith}
+use Rattle.std.proofs.Common.{◌<◌, ◌∷◌, [], ◌++◌, length, sym, ◌∙◌, subst, rules, arith}
 use Rattle.std.specs.Prelude.{map}
 use Rattle.std.specs.Str.{IsUtf8}
 use Rattle.std.proofs.lemmas.Bool.{eqb-false, eqb-true}
 use Rattle.definition_text.specs.Lines.{text_line}
+use Rattle.definition_text.specs.BlockLines.{BlockLine}
 use Rattle.definition_block.specs.Tree.{Fenced, At, tree}
-use Rattle.text_pieces.specs.Pieces.{piece_lines}
-use Rattle.text_pieces.proofs.OwnLines.{last_ending_or-more}
 use Rattle.block_starts.specs.CodeFenced.{fence_view}
 use Rattle.block_starts.specs.View.{container_views}
-use Rattle.block_state.specs.Shows.{InFenced}
+use Rattle.block_state.specs.Spine.{spine}
+use Rattle.block_leaves.specs.View.{AreFenced}
 use Rattle.block_parser.specs.Fences.{code_line}
 use Rattle.block_parser.specs.View.{HasRead}
 use Rattle.block_parser.proofs.FencedLines as fenced
-use Rattle.block_parser.proofs.Leaves as leaves
 use Rattle.block_parser.proofs.PlainLines.{shorter_after}
 use Rattle.block_parser.proofs.parser.Parser.each_fenced_line.Goals as goal
 
@@ -56,7 +55,6 @@ loop-content-preserved g c =
     let some : 0 < length rest = omega (arith, eqb-false (length rest) 0 (sym c.is_empty.ensures ∙ c.loop-content-test.true)) in
     let next = c.next_line-ending.result in
     let line = text_line next.0.now next.1 in
-    let l = code_line f line in
     let is_after : IsUtf8 next.2.now = search rules in
     let other = sym c.closes_fence.ensures ∙ c.if-closes_fence.false in (
       is_after,
@@ -65,11 +63,8 @@ loop-content-preserved g c =
       fenced.fenced_more on f c.args.text.now rest next.2.now (HasRead c.args.self.now) p c.loop-content.last line k
           (c.next_line-ending.ensures.rest some) _ other
           (λ kids opening ls so_far.
-          leaves.shows_line p.rows.rows.items p.rows.waiting.items p.rows.bare (container_views p.open.items) (piece_lines p.pieces.items)
-          (piece_lines c.push.new.self.items) (InFenced f c.loop-content.last) (InFenced f next.1) [] kids (Fenced f opening ls)
-          (Fenced f opening (ls ++ l ∷ [])) l (leaves.enough_lines p)
-          (leaves.piece_pushed p.pieces.items c.code_piece.result c.push.new.self.items l c.in_ok-push.ensures.items c.code_piece.ensures) refl
-          (ap (InFenced f) (sym (last_ending_or-more opening ls l))) so_far),
+          subst (λ (x : BlockLine). AreFenced c.push_code.new.self (container_views p.open.items) f x.ending (spine [] kids (Fenced f opening (ls ++ x ∷ []))))
+          c.code_piece.ensures (c.in_ok-push_code.ensures.read f c.loop-content.last (container_views p.open.items) [] kids opening ls so_far)),
     )
 
 pub returns-clause-read : goal.returns-clause-read

@@ -9,7 +9,7 @@ use Rattle.block_parser.proofs.parser.Parser.each_fenced_line.Given as goal
 -- the lines so far are content, and were read
 abbrev pub invariant-loop-content : goal.invariant-loop-content
 invariant-loop-content g l =
-    shadow (Utf8 l.rest) × (length l.rest ≤ length l.text) × (l.self.lines_in_rows + 1 ≤ vec_len l.self.pieces)
+    shadow (Utf8 l.rest) × (length l.rest ≤ length l.text) × (l.self.leaves.lines_in_rows + 1 ≤ vec_len l.self.leaves.pieces)
     × FencedSoFar l.on (fence_view l.fence) l.text l.rest (HasRead l.initial.self) l.self l.last
 
 abbrev pub decreases-loop-content : goal.decreases-loop-content

@@ -6,9 +6,10 @@ use Rattle.text_pieces.specs.Pieces.{piece_line, piece_lines}
 use Rattle.block_starts.specs.CodeFenced.{fence_view}
 use Rattle.block_state.specs.Shows.{leaf_lines}
 use Rattle.block_state.specs.Spine.{spine}
+use Rattle.block_starts.specs.View.{container_views}
 use Rattle.block_parser.specs.View.{HasRead}
 use Rattle.block_parser.proofs.FencedLines.{whole_read}
-use Rattle.block_parser.proofs.Leaves as leaves
+use Rattle.block_leaves.proofs.Changes as changes
 use Rattle.block_parser.proofs.parser.Parser.fenced_lines.Goals as goal
 
 pub close_whole_code-requires : goal.close_whole_code-requires
@@ -20,10 +21,10 @@ returns-in-Some-clause-read g c = λ kids opening ls keeps h.
     let f = fence_view c.args.fence in
     let code = c.in-Some.code in
     let bytes : (k : ℕ) → get_or c.args.text.now k 0 < 256 = λ k. omega (arith, c.type_inv.text k) in
-    let left = leaves.all_left p.rows.rows.items p.rows.waiting.items p.rows.bare (piece_lines p.pieces.items) [] kids (leaf_lines (Fenced f opening ls))
-    h.written (leaves.enough_lines p) in
-    let none : length ls ≡ 0 = omega (arith, left, length-map p.pieces.items piece_line, p.counted, p.pieces.ok.0, c.len.ensures, c.if-len-self-eq1.true) in
+    let left = changes.all_left p.leaves.rows.rows.items p.leaves.rows.waiting.items p.leaves.rows.bare (piece_lines p.leaves.pieces.items) [] kids (leaf_lines (Fenced f opening ls))
+    h.written (changes.enough_lines p.leaves) in
+    let none : length ls ≡ 0 = omega (arith, left, length-map p.leaves.pieces.items piece_line, p.leaves.counted, p.leaves.pieces.ok.0, c.len.ensures, c.if-len-self-eq1.true) in
     let empty : ls ≡ [] = nil_from_length ls none in
-    whole_read c.args.on.now f c.args.text.now code.lines.now code.ending code.rest.now c.close_whole_code.new.self c.in-Some.ensures.closed
+    whole_read c.args.on.now f c.args.text.now code.lines.now code.ending code.rest.now _ c.in-Some.ensures.closed
     c.if-fence-eq0.true bytes kids opening ls empty
-    (c.in_ok-close_whole_code.ensures f opening [] kids (subst (λ (xs : List BlockLine). HasRead p (spine [] kids (Fenced f opening xs))) empty h))
+    (c.in_ok-close_whole_code.ensures f opening (container_views p.open.items) [] kids (subst (λ (xs : List BlockLine). HasRead p (spine [] kids (Fenced f opening xs))) empty h))

@@ -1,11 +1,12 @@
 use Rattle.std.proofs.Common.{◌≡◌, true, ◌==◌, sym, ap, ◌∙◌, subst, refl, length, arith, vec_len}
 use Rattle.std.proofs.lemmas.Result.{on_ok_weaker}
 use Rattle.definition_block.specs.Tree.{Tree, OpenHtml, At, new}
-use Rattle.block_starts.specs.View.{rest_of}
+use Rattle.block_starts.specs.View.{rest_of, container_views}
 use Rattle.block_starts.specs.HtmlFlow.{number_of}
 use Rattle.block_state.specs.Spine.{spine_after}
+use Rattle.block_leaves.specs.View.{AreRead}
 use Rattle.block_parser.specs.View.{HasRead}
-use Rattle.block_parser.proofs.Steps as steps
+use Rattle.block_leaves.proofs.Going as going
 use Rattle.block_parser.proofs.Closing as closing
 use Rattle.std.proofs.lemmas.Bool.{eq-eqb}
 use Rattle.block_parser.proofs.parser.Parser.html_line.Goals as goal
@@ -23,7 +24,7 @@ returns-then-html_stops g c =
     let deep : c.len-depth.result ≡ length around =
     omega (arith, c.len-depth.ensures, p.open.ok.0, closing.views_length p.open.items, ap length h.opened, closing.length-containers around) in
     subst (λ (t : Tree). HasRead c.start_line.new.self (spine_after around kids t))
-    (ap (λ all. new (length r) on all leaf e r) last ∙ sym (steps.html_stops on e r kind ls (sym c.html_stops.ensures ∙ c.if-html_stops.true)))
+    (ap (λ all. new (length r) on all leaf e r) last ∙ sym (going.html_stops on e r kind ls (sym c.html_stops.ensures ∙ c.if-html_stops.true)))
     (grows around kids leaf deep tt h))
     c.start_line.ensures
 
@@ -34,7 +35,7 @@ returns g c =
     let r = rest_of c.args.rest.now in
     let e = c.args.beside in
     let kind = number_of c.args.kind in
-    subst (λ (t : Tree). HasRead c.html_with.new.self (spine_after around kids t))
-    (sym (steps.html_goes_on on e r kind ls (sym c.html_stops.ensures ∙ c.if-html_stops.false)))
-    (reads (OpenHtml kind ls) ls refl around kids h))
+    subst (λ (t : Tree). AreRead c.html_with.new.self (container_views c.args.self.now.open.items) (spine_after around kids t))
+    (sym (going.html_goes_on on e r kind ls (sym c.html_stops.ensures ∙ c.if-html_stops.false)))
+    (reads (OpenHtml kind ls) ls refl (container_views c.args.self.now.open.items) around kids h))
     c.html_with.ensures

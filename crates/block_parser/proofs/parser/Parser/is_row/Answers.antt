@@ -12,7 +12,7 @@ returns-then-depth-len g c = λ around kids away deep h.
     let p = c.args.self.now in
     let none = descending.no_deeper (container_views p.open.items) around kids away h.opened
     (omega (arith, deep, c.if-depth-len.true, c.len.ensures, p.open.ok.0, closing.views_length p.open.items)) in
-    c.has_table.ensures (spine_at around kids away) h ∙ steps.table_at around kids away none
+    c.has_table.ensures (container_views p.open.items) (spine_at around kids away) h ∙ steps.table_at around kids away none
 
 pub returns-else-depth-len : goal.returns-else-depth-len
 returns-else-depth-len g c = λ around kids away deep h.

@@ -1,8 +1,9 @@
 use Rattle.std.proofs.Common.{[], sym, ◌∙◌, refl}
 use Rattle.std.proofs.lemmas.Result.{on_ok_weaker}
 use Rattle.definition_block.specs.Tree.{OpenTable, join, close}
-use Rattle.block_starts.specs.View.{rest_of}
+use Rattle.block_starts.specs.View.{rest_of, container_views}
 use Rattle.block_state.specs.Spine.{spine_at}
+use Rattle.block_leaves.specs.View.{AreRead}
 use Rattle.block_parser.specs.View.{HasRead}
 use Rattle.block_parser.proofs.Steps as steps
 use Rattle.block_parser.proofs.parser.Parser.more_text.Goals as goal
@@ -10,25 +11,25 @@ use Rattle.block_parser.proofs.parser.Parser.more_text.Goals as goal
 pub returns-then-has_text : goal.returns-then-has_text
 returns-then-has_text g c =
     on_ok_weaker c.text_line.result (λ more. λ around kids away deep clean h.
-    let text_is = c.has_text.ensures (spine_at around kids away) h ∙ steps.has_text_at around kids away in
-    steps.goes_longer c.args.on.now (HasRead c.args.self.now) (HasRead c.text_line.new.self) (rest_of c.args.rest.now) c.args.beside more around kids away
+    let text_is = c.has_text.ensures (container_views c.args.self.now.open.items) (spine_at around kids away) h ∙ steps.has_text_at around kids away in
+    steps.goes_longer c.args.on.now (HasRead c.args.self.now) (AreRead c.text_line.new.self (container_views c.args.self.now.open.items)) (rest_of c.args.rest.now) c.args.beside (more (container_views c.args.self.now.open.items)) around kids away
     (sym text_is ∙ c.if-has_text.true) h)
     c.text_line.ensures
 
 pub returns-then-is_row : goal.returns-then-is_row
 returns-then-is_row g c =
     on_ok_weaker c.table_row.result (λ more. λ around kids away deep clean h.
-    steps.goes_row c.args.on.now (HasRead c.args.self.now) (HasRead c.table_row.new.self) (rest_of c.args.rest.now) c.args.beside
-    (λ around kids ls. more (OpenTable ls) ls refl around kids) around kids away (sym (c.is_row.ensures around kids away deep h) ∙ c.if-is_row.true) h)
+    steps.goes_row c.args.on.now (HasRead c.args.self.now) (AreRead c.table_row.new.self (container_views c.args.self.now.open.items)) (rest_of c.args.rest.now) c.args.beside
+    (λ around kids ls. more (OpenTable ls) ls refl (container_views c.args.self.now.open.items) around kids) around kids away (sym (c.is_row.ensures around kids away deep h) ∙ c.if-is_row.true) h)
     c.table_row.ensures
 
 pub returns : goal.returns
 returns g c =
     on_ok_weaker c.text_line-2.result (λ more. λ around kids away deep clean h.
     let on = c.args.on.now in
-    let text_is = c.has_text.ensures (spine_at around kids away) h ∙ steps.has_text_at around kids away in
+    let text_is = c.has_text.ensures (container_views c.args.self.now.open.items) (spine_at around kids away) h ∙ steps.has_text_at around kids away in
     let k = c.in_ok-close_to.ensures.read around kids away deep clean h in
-    steps.starts_text on (HasRead c.text_line-2.new.self) (rest_of c.args.rest.now) c.args.beside around kids away (sym text_is ∙ c.if-has_text.false)
+    steps.starts_text on (AreRead c.text_line-2.new.self (container_views c.close_to.new.self.open.items)) (rest_of c.args.rest.now) c.args.beside around kids away (sym text_is ∙ c.if-has_text.false)
     (sym (c.is_row.ensures around kids away deep h) ∙ c.if-is_row.false)
-    (more around (join kids (close on away)) [] k))
+    (more (container_views c.close_to.new.self.open.items) around (join kids (close on away)) [] k))
     c.text_line-2.ensures

@@ -12,9 +12,11 @@ use Rattle.definition_text.specs.Lines.{text_line}
 use Rattle.definition_block.specs.Tree.{Blank, At, Text, beside_line, close_leaf, grow, join, nothing, one, tree}
 use Rattle.text_pieces.specs.Pieces.{whole_line, whole_lines}
 use Rattle.block_state.specs.Spine.{spine, spine_after}
+use Rattle.block_starts.specs.View.{container_views}
+use Rattle.block_leaves.specs.View.{AreRead}
 use Rattle.block_parser.specs.View.{HasRead}
 use Rattle.block_parser.proofs.Closing as closing
-use Rattle.block_parser.proofs.Steps.{no_text}
+use Rattle.block_leaves.proofs.Going.{no_text}
 use Rattle.block_parser.proofs.PlainLines.{plain_clean, plain_front, plain_more, plain_none, read_after, shorter_after}
 use Rattle.block_state.proofs.WholeLines.{cut_boundary}
 use Rattle.block_parser.proofs.parser.Parser.plain_lines.Goals as goal
@@ -59,16 +61,16 @@ returns-then-is_empty-clause-read g c = λ kids ls keeps h.
     let known : IfSome c.known_front.result (λ front. whole_lines front.now ≡ all) =
     IfSome_then c.known_front.result c.known_front.ensures.front (λ front is.
     plain_front on text rest (HasRead c.args.self.now) c.loop-content.self k kids ls front.now
-    (no_text ls (sym (c.has_text-goes_on.ensures (spine [] kids (Text ls)) h) ∙ is.0)) is.1 keeps) in
+    (no_text ls (sym (c.has_text-goes_on.ensures (container_views c.args.self.now.open.items) (spine [] kids (Text ls)) h) ∙ is.0)) is.1 keeps) in
     let none : next.0.now ≡ [] =
     nil_from_length next.0.now (eqb-true (length next.0.now) 0 (sym c.is_empty-in-loop-content.ensures ∙ c.if-is_empty.true)) in
-    let shut = c.in_ok-close_text.ensures.read all clean known [] kids (k.reads kids ls h) in
-    let blank = c.in_ok-blank_line.ensures [] (join kids (close_leaf on (Text all))) shut in
-    read_after on text rest next.2.now (HasRead c.args.self.now) c.loop-content.self c.blank_line.new.self line k (c.next_line-ending.ensures.rest some) kids ls
+    let shut = c.in_ok-close_text.ensures all clean known (container_views c.loop-content.self.open.items) [] kids (k.reads kids ls h) in
+    let blank = c.in_ok-blank_line.ensures (container_views c.loop-content.self.open.items) [] (join kids (close_leaf on (Text all))) shut in
+    read_after on text rest next.2.now (HasRead c.args.self.now) c.loop-content.self _ line k (c.next_line-ending.ensures.rest some) kids ls
     (subst
-    (λ (bs : List ℕ). HasRead c.blank_line.new.self (spine_after [] kids (grow on (beside_line Whitespace line) (At (Text all)) (whole bs))))
+    (λ (bs : List ℕ). AreRead c.blank_line.new.self (container_views c.loop-content.self.open.items) (spine_after [] kids (grow on (beside_line Whitespace line) (At (Text all)) (whole bs))))
     (sym none)
-    (closing.after_added on (HasRead c.blank_line.new.self) [] kids (At (Text all)) (tree (one (Blank next.1)) nothing) blank))
+    (closing.after_added on (AreRead c.blank_line.new.self (container_views c.loop-content.self.open.items)) [] kids (At (Text all)) (tree (one (Blank next.1)) nothing) blank))
 
 pub returns-then-not-is_plain_line-clause-read : goal.returns-then-not-is_plain_line-clause-read
 returns-then-not-is_plain_line-clause-read g c = λ kids ls keeps h.
@@ -96,7 +98,7 @@ loop-content-preserved g c =
     let is_after : IsUtf8 next.2.now = search rules in
     let small : (k : ℕ) → get_or text k 0 < 256 = λ k. omega (arith, c.type_inv.text k) in (
       is_after,
-      plain_more on text rest next.2.now (HasRead c.args.self.now) c.loop-content.self c.push_line.new.self line k (c.next_line-ending.ensures.rest some)
+      plain_more on text rest next.2.now (HasRead c.args.self.now) c.loop-content.self _ line k (c.next_line-ending.ensures.rest some)
           small (sym c.is_plain_line.ensures ∙ c.if-not-is_plain_line.false) _ c.whole_piece.ensures.rest
-          (λ kids ls reads. c.in_ok-push_line.ensures [] kids ls reads),
+          (λ kids ls reads. c.in_ok-push_line.ensures (container_views c.loop-content.self.open.items) [] kids ls reads),
     )

@@ -1,8 +1,8 @@
 use Rattle.std.proofs.Common.{◌≡◌, ◌∷◌, None, Some, refl, sym, ◌∙◌}
 use Rattle.text_pieces.specs.ParagraphLines.{AreLines}
 use Rattle.definition_block.specs.Tree.{open_text, turns}
-use Rattle.block_starts.specs.View.{rest_of}
-use Rattle.block_parser.specs.HeadingSetext.{IsText, heading_tree}
+use Rattle.block_starts.specs.View.{rest_of, container_views}
+use Rattle.block_leaves.specs.HeadingSetext.{IsText, heading_tree}
 use Rattle.block_state.specs.Spine.{spine_at}
 use Rattle.block_parser.specs.View.{HasRead}
 use Rattle.block_parser.proofs.Steps as steps
@@ -26,7 +26,7 @@ returns-then-branch-clause-turned g c = λ around kids away e deep clean h.
     (sym (c.interrupts.ensures around kids away deep h) ∙ c.if-not-interrupts.false) in
     steps.text_leaf_here (λ x. AreLines (open_text x) → HasRead p (spine_at around kids x) → turns on x r e ≡ heading_tree on (Some rank) x e)
     away here.depth_is here.text
-    (λ l ls are reads. steps.turns_some on r e (l ∷ ls) rank is (sym (c.in_ok-leaves_text.ensures.left around kids (l ∷ ls) are reads) ∙ c.if-branch.true))
+    (λ l ls are reads. steps.turns_some on r e (l ∷ ls) rank is (sym (c.in_ok-leaves_text.ensures.left (container_views p.open.items) around kids (l ∷ ls) are reads) ∙ c.if-branch.true))
     clean h
 
 pub returns-then-branch-clause-here : goal.returns-then-branch-clause-here
@@ -46,5 +46,5 @@ returns-else-branch-clause-turned g c = λ around kids away e deep clean h.
     let here = interrupting.text_is_here p c.args.depth around kids away deep h
     (sym (c.interrupts.ensures around kids away deep h) ∙ c.if-not-interrupts.false) in
     steps.text_leaf_here (λ x. AreLines (open_text x) → HasRead p (spine_at around kids x) → turns on x r e ≡ None) away here.depth_is here.text
-    (λ l ls are reads. steps.turns_none on r e (l ∷ ls) rank is (sym (c.in_ok-leaves_text.ensures.left around kids (l ∷ ls) are reads) ∙ c.if-branch.false))
+    (λ l ls are reads. steps.turns_none on r e (l ∷ ls) rank is (sym (c.in_ok-leaves_text.ensures.left (container_views p.open.items) around kids (l ∷ ls) are reads) ∙ c.if-branch.false))
     clean h

@@ -1,0 +1,4 @@
+pub mod Changes
+pub mod Going
+pub mod DefinitionLemmas
+pub mod GfmTableLemmas

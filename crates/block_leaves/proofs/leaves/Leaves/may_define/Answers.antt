@@ -1,0 +1,16 @@
+use Rattle.std.proofs.Common.{List, ap, ◌∙◌, subst}
+use Rattle.definition_text.specs.Content.{content_of}
+use Rattle.definition_inline.specs.Definition.{definition_at}
+use Rattle.text_pieces.specs.ParagraphLines.{AreLines}
+use Rattle.definition_text.specs.BlockLines.{BlockLine, own_lines}
+use Rattle.definition_block.specs.Tree.{Text}
+use Rattle.block_leaves.proofs.DefinitionLemmas.{cut_not}
+use Rattle.block_leaves.proofs.Changes as changes
+use Rattle.block_leaves.proofs.leaves.Leaves.may_define.Goals as goal
+
+pub returns-then-on-clause-uncut : goal.returns-then-on-clause-uncut
+returns-then-on-clause-uncut g c = λ none containers around kids ls clean h.
+    let p = c.args.self.now in
+    let lines = changes.lines_here p containers around kids (Text ls) h c.deref.result.now c.deref.ensures.value in
+    cut_not c.args.on.now ls (ap (λ (x : List BlockLine). definition_at (content_of (own_lines x))) lines
+    ∙ c.may_begin.ensures.none none (subst AreLines lines clean))

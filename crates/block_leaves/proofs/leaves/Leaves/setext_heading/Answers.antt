@@ -1,0 +1,33 @@
+use Rattle.std.proofs.Common.{◌≡◌, ◌-◌, ◌∷◌, [], sym, ap, refl, subst, length, arith}
+use Rattle.std.proofs.lemmas.List.{length-map, take_all}
+use Rattle.std.proofs.lemmas.Result.{on_ok_weaker}
+use Rattle.definition_text.specs.BlockLines.{own_lines}
+use Rattle.definition_block.specs.Tree.{Blocks, Leaf, Heading, Text, block_and_ending, join}
+use Rattle.definition_block.specs.Definitions.{definition_cut}
+use Rattle.block_rows.specs.Rows.{Single}
+use Rattle.text_pieces.specs.Pieces.{piece_lines, piece_line}
+use Rattle.block_state.specs.Spine.{spine}
+use Rattle.block_leaves.specs.View.{AreRead}
+use Rattle.block_leaves.proofs.Changes as changes
+use Rattle.block_state.proofs.Trees.{join-assoc}
+use Rattle.block_leaves.proofs.leaves.Leaves.setext_heading.Goals as goal
+
+pub returns : goal.returns
+returns g c =
+    on_ok_weaker c.end_leaf.result (λ reads. λ ls clean containers around kids h.
+    let p = c.cut_definitions.new.self in
+    let parts = definition_cut c.args.on.now ls in
+    let kids2 = join kids parts.definitions in
+    let left_lines = parts.left in
+    let k = c.in_ok-cut_definitions.ensures ls clean containers around kids h in
+    let pool = piece_lines p.pieces.items in
+    let left = changes.all_left p.rows.rows.items p.rows.waiting.items p.rows.bare pool around kids2 left_lines k.written (changes.enough_lines p) in
+    let long = length-map p.pieces.items piece_line in
+    let count = c.len.result - p.lines_in_rows in
+    let all : count ≡ length left_lines = omega (arith, left, long, p.counted, p.pieces.ok.0, c.len.ensures) in
+    let heading = Leaf (Heading c.args.rank (own_lines left_lines)) in
+    subst (λ (bs : Blocks). AreRead c.end_leaf.new.self containers (spine around bs (Text [])))
+    (join-assoc kids parts.definitions (block_and_ending heading c.args.ending))
+    (reads (Text left_lines) heading (ap (λ x. Single (Leaf (Heading c.args.rank (own_lines x))) ∷ []) (sym (take_all count left_lines (omega (arith, all)))))
+    refl containers around kids2 k))
+    c.end_leaf.ensures

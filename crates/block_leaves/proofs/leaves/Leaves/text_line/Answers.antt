@@ -1,0 +1,13 @@
+use Rattle.std.proofs.Common.{◌++◌, ◌∷◌, [], subst}
+use Rattle.std.proofs.lemmas.Result.{on_ok_weaker}
+use Rattle.definition_text.specs.BlockLines.{BlockLine}
+use Rattle.definition_block.specs.Tree.{Text}
+use Rattle.block_state.specs.Spine.{spine}
+use Rattle.block_leaves.specs.View.{AreRead}
+use Rattle.block_leaves.proofs.leaves.Leaves.text_line.Goals as goal
+
+pub returns : goal.returns
+returns g c =
+    on_ok_weaker c.add_line.result (λ more. λ containers around kids ls h.
+    subst (λ (l : BlockLine). AreRead c.add_line.new.self containers (spine around kids (Text (ls ++ l ∷ [])))) c.piece.ensures (more containers around kids ls h))
+    c.add_line.ensures

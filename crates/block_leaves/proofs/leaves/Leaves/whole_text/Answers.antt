@@ -1,0 +1,24 @@
+use Rattle.std.proofs.Common.{◌≡◌, List, ◌∙◌, ap, drop, subst}
+use Rattle.std.specs.Prelude.{IfNone, IfSome}
+use Rattle.definition_text.specs.BlockLines.{BlockLine}
+use Rattle.text_pieces.specs.ParagraphLines.{AreLines}
+use Rattle.text_pieces.specs.declared.piece.Piece.{Piece}
+use Rattle.text_pieces.specs.Pieces.{piece_lines, whole_lines}
+use Rattle.text_pieces.proofs.Pieces.{lines_from}
+use Rattle.block_state.specs.WholeLines.{BeginsNot}
+use Rattle.block_leaves.proofs.leaves.Leaves.whole_text.Goals as goal
+
+pub returns-clause-text : goal.returns-clause-text
+returns-clause-text g c =
+    let n = c.args.self.now.lines_in_rows in
+    subst (λ (ls : List BlockLine). IfSome c.first_lines.result (λ text. AreLines ls → whole_lines text.now ≡ ls))
+    (lines_from n c.deref.result.now ∙ ap (λ (ps : List Piece). drop n (piece_lines ps)) c.deref.ensures.value)
+    c.first_lines.ensures.whole
+
+pub returns-clause-none : goal.returns-clause-none
+returns-clause-none g c =
+    let p = c.args.self.now in
+    let n = p.lines_in_rows in
+    subst (λ (ls : List BlockLine). IfNone c.first_lines.result (BeginsNot ls p.paragraph.now))
+    (lines_from n c.deref.result.now ∙ ap (λ (ps : List Piece). drop n (piece_lines ps)) c.deref.ensures.value)
+    c.first_lines.ensures.none

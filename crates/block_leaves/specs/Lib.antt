@@ -1,0 +1,4 @@
+pub mod View
+pub mod HeadingSetext
+pub mod GfmTable
+pub mod Fences
