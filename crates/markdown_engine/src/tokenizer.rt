@@ -4,7 +4,7 @@ ghost use Rattle.markdown_options.specs.Messages.{IsOutOfMemory};
 ghost use Rattle.engine_events.specs.declared.state.State.TheVariants as states;
 ghost use Rattle.markdown_engine.specs.Reading.{Steps, mark, restore, continuation, with_byte};
 ghost use Rattle.std.specs.BTreeMap.{insert_entry};
-ghost use Rattle.markdown_engine.specs.Machine.{Became, Began, HasEnded, HasFlushed, HasPushed, HasReached, IsRefused, SameText, Shows, frame_at};
+ghost use Rattle.markdown_engine.specs.Machine.{Became, Began, HasEnded, HasFailed, HasFlushed, HasPushed, HasReached, IsRefused, SameText, Shows, frame_at};
 ghost use Rattle.markdown_engine.specs.Machine.{bytes_of, config, past_byte, with_enter, with_exit, read_with, view_config, source, KeepsParseState};
 ghost use Rattle.markdown_engine.specs.Machine.{KeepsAttempts, to_run_first, to_run_last};
 ghost use Rattle.markdown_engine.specs.Resolvers.{AreOnce, is_registered};
@@ -211,11 +211,12 @@ impl<'a, M, T, A: Allocator> Tokenizer<'a, M, T, A> {
         self.events
     }
 
-    /// Adds that something begins here.
+    /// Adds that something begins here. After out of memory nothing can be read any more.
     pub fn enter(&mut self, name: EventName) -> Result<(), Message>
         ensures became { OnOk result (Became (with_enter name None (config self.old)) self.old self.new) }
         ensures text { SameText self.old self.new }
         ensures memory { IfErr result IsOutOfMemory }
+        ensures refused { OnErr result (HasFailed self.new) }
     {
         self.add(Event::new(Kind::Enter, name, self.point, None))?;
         Ok(())
@@ -224,22 +225,26 @@ impl<'a, M, T, A: Allocator> Tokenizer<'a, M, T, A> {
     /// Adds that something begins here whose text is read later, together with its neighbours.
     ///
     /// States change no event that was added, so the link names the chunk before, if there is one, and
-    /// none after; a resolver joins the chunks at the end, by `link_all`.
+    /// none after; a resolver joins the chunks at the end, by `link_all`. After out of memory nothing
+    /// can be read any more.
     pub fn enter_link(&mut self, name: EventName, link: Link) -> Result<(), Message>
         ensures became { OnOk result (Became (with_enter name (Some link) (config self.old)) self.old self.new) }
         ensures text { SameText self.old self.new }
         ensures memory { IfErr result IsOutOfMemory }
+        ensures refused { OnErr result (HasFailed self.new) }
     {
         self.add(Event::new(Kind::Enter, name, self.point, Some(link)))?;
         Ok(())
     }
 
     /// Adds that what was entered last ends here; right after a line ending, at the line's start.
+    /// After out of memory nothing can be read any more.
     pub fn exit(&mut self, name: EventName) -> Result<(), Message>
         requires { IsInnermost name self.old.events.items }
         ensures became { OnOk result (Became (with_exit name (config self.old)) self.old self.new) }
         ensures text { SameText self.old self.new }
         ensures memory { IfErr result IsOutOfMemory }
+        ensures refused { OnErr result (HasFailed self.new) }
     {
         let point = if self.previous == Some(b'\n') {
             self.line_start
@@ -250,12 +255,16 @@ impl<'a, M, T, A: Allocator> Tokenizer<'a, M, T, A> {
         Ok(())
     }
 
-    /// Adds an event.
+    /// Adds an event, or remembers that memory for it was refused.
     fn add(&mut self, event: Event) -> Result<(), AllocError>
         ensures became { OnOk result (Became (record (config self.old) { events = self.old.events.items ++ event ∷ [] }) self.old self.new) }
         ensures text { SameText self.old self.new }
+        ensures refused { OnErr result (HasFailed self.new) }
     {
-        self.events.push(event)?;
+        if self.events.push(event).is_err() {
+            self.failed = true;
+            return Err(AllocError);
+        }
         Ok(())
     }
 
@@ -277,19 +286,21 @@ impl<'a, M, T, A: Allocator> Tokenizer<'a, M, T, A> {
     }
 
     /// Makes an attempt: if it succeeds, reading continues with one state. If it fails, reading
-    /// goes back here and continues with another.
+    /// goes back here and continues with another. After out of memory nothing can be read any more.
     pub fn attempt(&mut self, ok: State, nok: State) -> Result<(), Message>
         ensures began { Began (frame_at false ok nok (config self.old)) self.old self.new result }
         ensures memory { IfErr result IsOutOfMemory }
+        ensures refused { OnErr result (HasFailed self.new) }
     {
         self.begin(false, ok, nok)
     }
 
     /// Looks ahead: reading goes back here in either case, and continues with one state or the
-    /// other.
+    /// other. After out of memory nothing can be read any more.
     pub fn check(&mut self, ok: State, nok: State) -> Result<(), Message>
         ensures began { Began (frame_at true ok nok (config self.old)) self.old self.new result }
         ensures memory { IfErr result IsOutOfMemory }
+        ensures refused { OnErr result (HasFailed self.new) }
     {
         self.begin(true, ok, nok)
     }
@@ -298,6 +309,7 @@ impl<'a, M, T, A: Allocator> Tokenizer<'a, M, T, A> {
     fn begin(&mut self, check: bool, ok: State, nok: State) -> Result<(), Message>
         ensures began { Began (frame_at check ok nok (config self.old)) self.old self.new result }
         ensures memory { IfErr result IsOutOfMemory }
+        ensures refused { OnErr result (HasFailed self.new) }
     {
         let attempt = Attempt {
             check,
@@ -311,6 +323,7 @@ impl<'a, M, T, A: Allocator> Tokenizer<'a, M, T, A> {
             current: self.current,
         };
         if self.attempts.push(attempt).is_err() {
+            self.failed = true;
             return Err(Message::out_of_memory());
         }
         Ok(())
