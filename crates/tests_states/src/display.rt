@@ -1,117 +1,153 @@
-//! Events as texts: a sign and a name, and the index.
+//! Events as texts, a sign, a name and an index each, compared with those that are wanted.
+use crate::texts::{END, EVENTS};
 use markdown_engine::event::{Event, Kind};
-use markdown_engine::{ParseOptions, ParseState};
+use markdown_engine::{Message, ParseOptions, ParseState};
 use markdown_tables::Builtin;
 use state_inline::reading::{read_string, read_text, resolved_string, resolved_text};
-use std::alloc::Global;
-use std::test::Fail;
+use std::alloc::{AllocError, Global};
+use std::process::Abort;
+
+/// What is read, and whether its resolvers run.
+#[derive(Clone, Copy)]
+pub enum Way {
+    Text,
+    ResolvedText,
+    String,
+    ResolvedString,
+}
+
+/// What a text is read with.
+#[derive(Clone, Copy)]
+pub struct Defined {
+    /// The labels that are defined.
+    pub labels: &'static [&'static str],
+    /// The labels of the footnotes that are defined.
+    pub footnotes: &'static [&'static str],
+    /// Where a check of a task list item may be.
+    pub starts: &'static [usize],
+}
+
+/// Nothing is defined, and no item begins.
+pub const NOTHING: Defined = Defined {
+    labels: &[],
+    footnotes: &[],
+    starts: &[],
+};
+
+/// The label `a` is defined.
+pub const LABEL: Defined = Defined {
+    labels: &["a"],
+    ..NOTHING
+};
+
+/// The footnote `a` is defined.
+pub const FOOTNOTE: Defined = Defined {
+    footnotes: &["a"],
+    ..NOTHING
+};
+
+/// The label and the footnote `a` are defined.
+pub const BOTH: Defined = Defined {
+    labels: &["a"],
+    footnotes: &["a"],
+    ..NOTHING
+};
+
+/// Adds labels.
+fn push_labels(all: &mut Vec<String>, alloc: Global, labels: &[&str]) -> Result<(), AllocError> {
+    for label in labels {
+        all.push(String::from_str(alloc, label)?)?;
+    }
+    Ok(())
+}
+
+/// The events of a text with what is defined.
+fn read(
+    alloc: Global,
+    way: Way,
+    text: &ParseState<'_, Builtin, Global>,
+    starts: &[usize],
+) -> Result<Vec<Event>, Message> {
+    match way {
+        Way::Text => read_text(alloc, text, starts),
+        Way::ResolvedText => resolved_text(alloc, text, starts),
+        Way::String => read_string(alloc, text),
+        Way::ResolvedString => resolved_string(alloc, text),
+    }
+}
 
 /// Events as a text.
-fn show(rt: &HostRuntime, events: &[Event]) -> Result<String, Fail> {
-    let mut out = String::new(rt.alloc());
+fn show(alloc: Global, events: &[Event]) -> Result<String, AllocError> {
+    let mut out = String::new(alloc);
     for event in events {
         let sign = if event.kind == Kind::Enter { '+' } else { '-' };
         let name = event.name;
         let index = event.point().index;
-        out.push_str(&format!(in rt.alloc(); "{sign}{name:?}{index} ")?)?;
+        out.push_str(&format!(in alloc; "{sign}{name:?}{index} ")?)?;
     }
     Ok(out)
 }
 
-/// The events of a text as a text; `starts` says where a check of a task list item may be.
-pub fn text_events(
-    rt: &HostRuntime,
+/// A text with what is defined.
+fn defined_text<'t>(
+    alloc: Global,
+    options: &'t ParseOptions,
+    defined: Defined,
+    text: &'t str,
+) -> Result<ParseState<'t, Builtin, Global>, Message> {
+    let mut state = ParseState::new(alloc, text.as_bytes(), options, &Builtin)?;
+    push_labels(&mut state.definitions, alloc, defined.labels)?;
+    push_labels(
+        &mut state.gfm_footnote_definitions,
+        alloc,
+        defined.footnotes,
+    )?;
+    Ok(state)
+}
+
+/// The events of a text as a text.
+fn shown<'t>(
+    alloc: Global,
+    way: Way,
+    options: &'t ParseOptions,
+    defined: Defined,
+    text: &'t str,
+) -> Result<String, Message> {
+    let state = defined_text(alloc, options, defined, text)?;
+    let events = read(alloc, way, &state, defined.starts)?;
+    Ok(show(alloc, &events)?)
+}
+
+/// Stops where the events of a row's text aren't those of the row, and prints the table's name, the
+/// text and what it has.
+fn assert_row(
+    rt: &(impl AllocGlobal + Abort),
+    table: &str,
+    way: Way,
     options: &ParseOptions,
-    starts: &[usize],
-    bytes: &[u8],
-) -> Result<String, Fail> {
-    let text = ParseState::new(rt.alloc(), bytes, options, &Builtin)?;
-    show(rt, &read_text(rt.alloc(), &text, starts)?)
+    defined: Defined,
+    row: &str,
+) {
+    let (text, wanted) = row.split_once(EVENTS).unwrap_or((row, ""));
+    let out = shown(rt.alloc(), way, options, defined, text);
+    let is_right = match &out {
+        Ok(events) => events.as_str() == wanted,
+        Err(_) => false,
+    };
+    assert!(rt; is_right, "{table}: {text:?} {out:?}");
 }
 
-/// A text, where a label and one of a footnote are defined.
-fn labelled_text<'t>(
-    rt: &HostRuntime,
-    options: &'t ParseOptions,
-    label: &str,
-    footnote: &str,
-    bytes: &'t [u8],
-) -> Result<ParseState<'t, Builtin, Global>, Fail> {
-    let mut text = ParseState::new(rt.alloc(), bytes, options, &Builtin)?;
-    text.definitions.push(String::from_str(rt.alloc(), label)?)?;
-    text.gfm_footnote_definitions
-        .push(String::from_str(rt.alloc(), footnote)?)?;
-    Ok(text)
-}
-
-/// The events of such a text as a text.
-pub fn labelled_events<'t>(
-    rt: &HostRuntime,
-    options: &'t ParseOptions,
-    label: &str,
-    footnote: &str,
-    bytes: &'t [u8],
-) -> Result<String, Fail> {
-    let text = labelled_text(rt, options, label, footnote, bytes)?;
-    show(rt, &read_text(rt.alloc(), &text, &[])?)
-}
-
-/// The events of a string as a text.
-pub fn string_events(rt: &HostRuntime, bytes: &[u8]) -> Result<String, Fail> {
-    let options = ParseOptions::default();
-    let text = ParseState::new(rt.alloc(), bytes, &options, &Builtin)?;
-    show(rt, &read_string(rt.alloc(), &text)?)
-}
-
-/// The events of a string as a text, once its resolvers ran.
-pub fn resolved_string_events(rt: &HostRuntime, bytes: &[u8]) -> Result<String, Fail> {
-    let options = ParseOptions::default();
-    let text = ParseState::new(rt.alloc(), bytes, &options, &Builtin)?;
-    show(rt, &resolved_string(rt.alloc(), &text)?)
-}
-
-/// Whether events are those that are wanted of a text; where they aren't, they are printed with it.
-pub fn is_shown(rt: &HostRuntime, text: &str, out: &str, wanted: &str) -> Result<bool, Fail> {
-    if out != wanted {
-        println!(rt; "{text:?} {out}")?;
+/// Stops where the events of a text of a table aren't those that are wanted, and prints the table's
+/// name and the text.
+pub fn assert_events(
+    rt: &(impl AllocGlobal + Abort),
+    table: &str,
+    way: Way,
+    options: ParseOptions,
+    defined: Defined,
+    rows: &str,
+) {
+    for row in rows.split_terminator(END) {
+        assert_row(rt, table, way, &options, defined, row);
     }
-    Ok(out == wanted)
-}
-
-/// Whether the events of each text are these.
-fn are_read(
-    rt: &HostRuntime,
-    options: &ParseOptions,
-    starts: &[usize],
-    rows: &[(&str, &str)],
-) -> Result<bool, Fail> {
-    for (text, wanted) in rows {
-        let out = text_events(rt, options, starts, text.as_bytes())?;
-        if !is_shown(rt, text, &out, wanted)? {
-            return Ok(false);
-        }
-    }
-    Ok(true)
-}
-
-/// Whether the events of each text by CommonMark are these.
-pub fn are_texts(rt: &HostRuntime, rows: &[(&str, &str)]) -> Result<bool, Fail> {
-    are_read(rt, &ParseOptions::default(), &[], rows)
-}
-
-/// Whether the events of each text by GFM are these.
-pub fn are_gfm(rt: &HostRuntime, starts: &[usize], rows: &[(&str, &str)]) -> Result<bool, Fail> {
-    are_read(rt, &ParseOptions::gfm(), starts, rows)
-}
-
-/// The events of a text as a text, once its resolvers ran, where a label and one of a footnote are defined.
-pub fn resolved_events<'t>(
-    rt: &HostRuntime,
-    options: &'t ParseOptions,
-    label: &str,
-    footnote: &str,
-    bytes: &'t [u8],
-) -> Result<String, Fail> {
-    let text = labelled_text(rt, options, label, footnote, bytes)?;
-    show(rt, &resolved_text(rt.alloc(), &text, &[])?)
 }

@@ -16,6 +16,6 @@ mod links;
 #[cfg(test)]
 mod raw_text;
 #[cfg(test)]
-mod reading;
+mod texts;
 #[cfg(test)]
 mod white_space;
