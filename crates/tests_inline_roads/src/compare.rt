@@ -3,106 +3,108 @@ use crate::contents::CONTENTS;
 use crate::generate::Numbers;
 use crate::roads::{Roads, full_options, plain_options};
 use crate::texts::{GFM_TEXTS, MARK_TEXTS, TEXTS};
-use std::test::Fail;
+use markdown_options::ParseOptions;
+use std::alloc::AllocError;
+use std::process::Abort;
 
-#[test]
-fn how_contents_are_spelled(rt: HostRuntime) -> Result<(), Fail> {
-    let roads = Roads::new(&rt, plain_options())?;
-    let wanted: &[u8] = b"\x01+link\x02(b)c\x01+emphasis\x02d\x01-\x02\x01-\x02 \x01code e\x02";
-    let events = roads.by_events(&rt, "[c*d*](b) `e`")?;
-    assert!(rt; events.as_slice() == wanted);
-    let rows = roads.by_rows(&rt, "[c*d*](b) `e`")?;
-    assert!(rt; rows.as_slice() == wanted);
-    Ok(())
-}
-
-#[test]
-fn how_marked_text_is_spelled(rt: HostRuntime) -> Result<(), Fail> {
-    let roads = Roads::new(&rt, full_options())?;
-    let wanted: &[u8] = b"a \x01+mark\x02b\x01+emphasis\x02c\x01-\x02\x01-\x02 =d= ===e===";
-    let events = roads.by_events(&rt, "a ==b*c*== =d= ===e===")?;
-    assert!(rt; events.as_slice() == wanted);
-    let rows = roads.by_rows(&rt, "a ==b*c*== =d= ===e===")?;
-    assert!(rt; rows.as_slice() == wanted);
-    Ok(())
-}
-
-/// Whether these contents are the same by both roads.
-fn are_texts_same(rt: &HostRuntime, roads: &Roads, texts: &[&str]) -> Result<bool, Fail> {
-    let mut same = true;
-    for text in texts {
-        same = roads.is_same(rt, text)? && same;
+/// Stops where a content isn't spelled so by both roads.
+fn assert_spelled(
+    rt: &(impl AllocGlobal + Abort),
+    options: ParseOptions,
+    text: &str,
+    wanted: &[u8],
+) {
+    match Roads::new(rt.alloc(), options) {
+        Ok(roads) => roads.assert_spelled(rt, text, wanted),
+        Err(_) => panic!(rt; "no memory for labels"),
     }
-    Ok(same)
 }
 
 #[test]
-fn contents_by_hand(rt: HostRuntime) -> Result<(), Fail> {
-    let roads = Roads::new(&rt, plain_options())?;
-    assert!(rt; are_texts_same(&rt, &roads, TEXTS)?);
-    assert!(rt; are_texts_same(&rt, &roads, MARK_TEXTS)?);
-    let roads = Roads::new(&rt, full_options())?;
-    assert!(rt; are_texts_same(&rt, &roads, TEXTS)?);
-    assert!(rt; are_texts_same(&rt, &roads, MARK_TEXTS)?);
-    assert!(rt; are_texts_same(&rt, &roads, GFM_TEXTS)?);
-    Ok(())
+fn how_contents_are_spelled(rt: HostRuntime) {
+    let wanted = b"\x01+link\x02(b)c\x01+emphasis\x02d\x01-\x02\x01-\x02 \x01code e\x02";
+    assert_spelled(&rt, plain_options(), "[c*d*](b) `e`", wanted);
+    let wanted = b"a \x01+mark\x02b\x01+emphasis\x02c\x01-\x02\x01-\x02 =d= ===e===";
+    assert_spelled(&rt, full_options(), "a ==b*c*== =d= ===e===", wanted);
 }
 
-/// Whether the contents of the constructs are the same by both roads.
-fn are_same(rt: &HostRuntime, roads: &Roads) -> Result<bool, Fail> {
-    let mut same = true;
-    for contents in CONTENTS {
-        for text in contents.split("\n\n") {
-            same = roads.is_same(rt, text)? && same;
+/// Stops where a content of a table isn't the same by both roads; contents may stand in one text with
+/// a blank line between them.
+fn assert_same(
+    rt: &(impl AllocGlobal + Abort),
+    table: &str,
+    options: ParseOptions,
+    contents: &[&str],
+) {
+    match Roads::new(rt.alloc(), options) {
+        Ok(roads) => {
+            for several in contents {
+                for text in several.split("\n\n") {
+                    roads.assert_same(rt, table, text);
+                }
+            }
         }
+        Err(_) => panic!(rt; "no memory for labels"),
     }
-    Ok(same)
 }
 
 #[test]
-fn contents_of_constructs(rt: HostRuntime) -> Result<(), Fail> {
-    assert!(rt; are_same(&rt, &Roads::new(&rt, plain_options())?)?);
-    Ok(())
+fn contents_by_hand(rt: HostRuntime) {
+    let (plain, full) = (plain_options(), full_options());
+    assert_same(&rt, "texts", plain, TEXTS);
+    assert_same(&rt, "marks that are off", plain, MARK_TEXTS);
+    assert_same(&rt, "texts by GFM", full, TEXTS);
+    assert_same(&rt, "marks", full, MARK_TEXTS);
+    assert_same(&rt, "texts of GFM", full, GFM_TEXTS);
+    assert_same(&rt, "contents", plain, CONTENTS);
+    assert_same(&rt, "contents by GFM", full, CONTENTS);
 }
 
-#[test]
-fn contents_of_constructs_with_those_of_gfm(rt: HostRuntime) -> Result<(), Fail> {
-    assert!(rt; are_same(&rt, &Roads::new(&rt, full_options())?)?);
-    Ok(())
-}
-
-/// Whether 5,000 contents at random are the same by both roads.
-fn are_same_at_random(rt: &HostRuntime, roads: &Roads, seed: u64, gfm: bool) -> Result<bool, Fail> {
+/// Compares 5,000 contents at random by both roads.
+fn compare_at_random(
+    rt: &(impl AllocGlobal + Abort),
+    roads: &Roads,
+    seed: u64,
+    gfm: bool,
+) -> Result<(), AllocError> {
     let mut numbers = Numbers::from(seed);
     for _count in 0..5_000 {
-        let text = numbers.content(rt, gfm)?;
-        if !roads.is_same(rt, &text)? {
-            return Ok(false);
-        }
+        let text = numbers.content(rt.alloc(), gfm)?;
+        roads.assert_same(rt, "contents at random", &text);
     }
-    Ok(true)
-}
-
-#[test]
-fn contents_at_random(rt: HostRuntime) -> Result<(), Fail> {
-    assert!(rt; are_same_at_random(&rt, &Roads::new(&rt, plain_options())?, 1, false)?);
     Ok(())
 }
 
-#[test]
-fn more_contents_at_random(rt: HostRuntime) -> Result<(), Fail> {
-    assert!(rt; are_same_at_random(&rt, &Roads::new(&rt, plain_options())?, 2, false)?);
-    Ok(())
+/// Stops where one of 5,000 contents at random isn't the same by both roads.
+fn assert_same_at_random(
+    rt: &(impl AllocGlobal + Abort),
+    options: ParseOptions,
+    seed: u64,
+    gfm: bool,
+) {
+    let Ok(roads) = Roads::new(rt.alloc(), options) else {
+        panic!(rt; "no memory for labels");
+    };
+    let compared = compare_at_random(rt, &roads, seed, gfm);
+    assert!(rt; compared.is_ok(), "memory for contents at random");
 }
 
 #[test]
-fn contents_of_gfm_at_random(rt: HostRuntime) -> Result<(), Fail> {
-    assert!(rt; are_same_at_random(&rt, &Roads::new(&rt, full_options())?, 3, true)?);
-    Ok(())
+fn contents_at_random(rt: HostRuntime) {
+    assert_same_at_random(&rt, plain_options(), 1, false);
 }
 
 #[test]
-fn more_contents_of_gfm_at_random(rt: HostRuntime) -> Result<(), Fail> {
-    assert!(rt; are_same_at_random(&rt, &Roads::new(&rt, full_options())?, 4, true)?);
-    Ok(())
+fn more_contents_at_random(rt: HostRuntime) {
+    assert_same_at_random(&rt, plain_options(), 2, false);
+}
+
+#[test]
+fn contents_of_gfm_at_random(rt: HostRuntime) {
+    assert_same_at_random(&rt, full_options(), 3, true);
+}
+
+#[test]
+fn more_contents_of_gfm_at_random(rt: HostRuntime) {
+    assert_same_at_random(&rt, full_options(), 4, true);
 }

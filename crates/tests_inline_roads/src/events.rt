@@ -8,8 +8,7 @@ use inline_leaves::LiteralKind;
 use markdown_engine::event::{Event, Kind, Name};
 use markdown_options::Tables;
 use markdown_tables::Builtin;
-use std::alloc::Global;
-use std::test::Fail;
+use std::alloc::{AllocError, Global};
 
 /// The events of a text, its bytes, and the labels that are defined.
 #[derive(Clone, Copy)]
@@ -20,6 +19,7 @@ pub struct Reading<'a> {
 }
 
 impl<'a> Reading<'a> {
+    /// Whether the event at an index is this one.
     fn is_at(&self, index: usize, kind: Kind, name: Name) -> bool {
         match self.events.get(index) {
             None => false,
@@ -27,6 +27,7 @@ impl<'a> Reading<'a> {
         }
     }
 
+    /// Where the event at an index is, or the end of the bytes.
     fn place(&self, index: usize) -> usize {
         match self.events.get(index) {
             None => self.bytes.len(),
@@ -86,7 +87,7 @@ impl<'a> Reading<'a> {
     }
 
     /// A reference by a label.
-    fn push_label(&self, out: &mut Vec<u8>, label: &[u8]) -> Result<(), Fail> {
+    fn push_label(&self, out: &mut Vec<u8>, label: &[u8]) -> Result<(), AllocError> {
         match self.labels.find(label)? {
             None => push_part(out, b"undefined ", label),
             Some(place) => push_definition(out, place),
@@ -94,7 +95,7 @@ impl<'a> Reading<'a> {
     }
 
     /// What a link or an image leads to that is entered at an index and exited at another.
-    fn push_target(&self, out: &mut Vec<u8>, from: usize, to: usize) -> Result<(), Fail> {
+    fn push_target(&self, out: &mut Vec<u8>, from: usize, to: usize) -> Result<(), AllocError> {
         let last = to.saturating_sub(1);
         if self.is_at(last, Kind::Exit, Name::Resource) {
             let start = self
@@ -128,7 +129,7 @@ impl<'a> Reading<'a> {
     }
 
     /// A character reference.
-    fn push_reference(&self, out: &mut Vec<u8>, text: &[u8]) -> Result<(), Fail> {
+    fn push_reference(&self, out: &mut Vec<u8>, text: &[u8]) -> Result<(), AllocError> {
         let value = part(text, 1, text.len().saturating_sub(2));
         if let Some(digits) = value.strip_prefix(b"#x") {
             return push_part(out, b"hexadecimal ", digits);
@@ -163,7 +164,7 @@ impl<'a> Reading<'a> {
         name: Name,
         from: usize,
         to: usize,
-    ) -> Result<bool, Fail> {
+    ) -> Result<bool, AllocError> {
         let kind = match name {
             Name::GfmAutolinkLiteralWww => LiteralKind::Www,
             Name::GfmAutolinkLiteralEmail => LiteralKind::Email,
@@ -201,7 +202,7 @@ impl<'a> Reading<'a> {
         name: Name,
         from: usize,
         to: usize,
-    ) -> Result<bool, Fail> {
+    ) -> Result<bool, AllocError> {
         let inner = self.between(from.saturating_add(2), to.saturating_sub(2));
         match name {
             Name::Data => out.extend_from_slice(self.between(from, to))?,
@@ -234,7 +235,7 @@ impl<'a> Reading<'a> {
     }
 
     /// The start of what holds others.
-    fn push_enter(&self, out: &mut Vec<u8>, name: Name, index: usize) -> Result<(), Fail> {
+    fn push_enter(&self, out: &mut Vec<u8>, name: Name, index: usize) -> Result<(), AllocError> {
         match name {
             Name::Emphasis => push_part(out, b"+", b"emphasis"),
             Name::Strong => push_part(out, b"+", b"strong"),
@@ -255,7 +256,7 @@ impl<'a> Reading<'a> {
     }
 
     /// The end of what holds others.
-    fn push_exit(&self, out: &mut Vec<u8>, name: Name) -> Result<(), Fail> {
+    fn push_exit(&self, out: &mut Vec<u8>, name: Name) -> Result<(), AllocError> {
         match name {
             Name::Emphasis | Name::Strong | Name::GfmStrikethrough | Name::Mark => {
                 push_part(out, b"-", b"")
@@ -266,7 +267,12 @@ impl<'a> Reading<'a> {
     }
 
     /// Goes over an event, and answers which is next.
-    fn push_event(&self, out: &mut Vec<u8>, event: &Event, index: usize) -> Result<usize, Fail> {
+    fn push_event(
+        &self,
+        out: &mut Vec<u8>,
+        event: &Event,
+        index: usize,
+    ) -> Result<usize, AllocError> {
         if event.kind == Kind::Exit {
             self.push_exit(out, event.name)?;
             return Ok(index.saturating_add(1));
@@ -280,8 +286,8 @@ impl<'a> Reading<'a> {
     }
 
     /// The events, spelled.
-    pub fn spell(&self, rt: &HostRuntime) -> Result<Vec<u8>, Fail> {
-        let mut out = Vec::new(rt.alloc());
+    pub fn spell(&self, alloc: Global) -> Result<Vec<u8>, AllocError> {
+        let mut out = Vec::new(alloc);
         let mut next = 0;
         for (index, event) in self.events.iter().enumerate() {
             if index == next {

@@ -1,5 +1,5 @@
 //! Contents made of parts at random.
-use std::test::Fail;
+use std::alloc::{AllocError, Global};
 
 /// What contents are made of: markers of each construct, texts, white space.
 const PARTS: &[&str] = &[
@@ -116,6 +116,7 @@ pub struct Numbers {
 }
 
 impl Numbers {
+    /// The numbers from a first one on.
     pub fn from(state: u64) -> Numbers {
         Numbers { state }
     }
@@ -140,8 +141,8 @@ impl Numbers {
     }
 
     /// A content at random, of up to 24 parts: no line of it is blank.
-    pub fn content(&mut self, rt: &HostRuntime, gfm: bool) -> Result<String, Fail> {
-        let mut text = String::new(rt.alloc());
+    pub fn content(&mut self, alloc: Global, gfm: bool) -> Result<String, AllocError> {
+        let mut text = String::new(alloc);
         let count = self.below(24);
         let mut blank = true;
         text.push_str("")?;

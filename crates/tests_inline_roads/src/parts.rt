@@ -1,9 +1,7 @@
 //! Contents that are handed to the machine in ranges, and heaps in which memory runs out.
 ghost use Rattle.std.specs.Prelude.{◌<◌, length};
 
-use crate::contents::CONTENTS;
-use crate::generate::Numbers;
-use crate::roads::{Roads, as_text, full_options};
+use crate::roads::{Roads, full_options};
 use crate::texts::{GFM_TEXTS, TEXTS};
 use linked_list_allocator::LocalHeap;
 use markdown_engine::event::Event;
@@ -11,7 +9,7 @@ use markdown_engine::{Message, ParseState};
 use markdown_tables::Builtin;
 use state_inline::reading::{read_text, read_text_in_ranges, resolved_text};
 use std::alloc::Global;
-use std::test::Fail;
+use std::process::Abort;
 
 /// How much a heap grows from one reading to the next, which is less than most requests.
 const STEP: usize = 32;
@@ -22,59 +20,64 @@ const STEPS: usize = 4096;
 /// How many columns a tab has at most.
 const TAB: usize = 4;
 
-/// Whether the events of a text are these in two ranges that are cut at a place; where they aren't,
-/// it is printed.
+/// Whether the events of a text are these in two ranges that are cut at a place.
 fn is_same_cut(
-    rt: &HostRuntime,
+    alloc: Global,
     state: &ParseState<'_, Builtin, Global>,
     whole: &[Event],
     index: usize,
     column: usize,
-) -> Result<bool, Fail>
+) -> Result<bool, Message>
     requires { index < length state.now.bytes.now }
 {
-    let parts = read_text_in_ranges(rt.alloc(), state, &[0], &[(index, column)])?;
-    let same = parts.as_slice() == whole;
-    if !same {
-        let text = as_text(state.bytes);
-        println!(rt; "{text:?} cut at {index}, column {column}")?;
-    }
-    Ok(same)
+    let parts = read_text_in_ranges(alloc, state, &[0], &[(index, column)])?;
+    Ok(parts.as_slice() == whole)
 }
 
-/// Whether the events of a text are these wherever it is cut: before a byte, or before a further
-/// column of a tab.
-fn is_same_in_cuts(
-    rt: &HostRuntime,
+/// The first cut of a text that changes its events: before a byte, or before a further column of a
+/// tab.
+fn wrong_cut(
+    alloc: Global,
     state: &ParseState<'_, Builtin, Global>,
     whole: &[Event],
-) -> Result<bool, Fail> {
+) -> Result<Option<(usize, usize)>, Message> {
     for index in 0..state.bytes.len() {
         let columns = if state.bytes[index] == b'\t' { TAB } else { 1 };
         for column in 0..columns {
-            if !is_same_cut(rt, state, whole, index, column)? {
-                return Ok(false);
+            if !is_same_cut(alloc, state, whole, index, column)? {
+                return Ok(Some((index, column)));
             }
         }
     }
-    Ok(true)
+    Ok(None)
 }
 
-/// Whether the events of a content are the same in two ranges, wherever it is cut.
-fn is_same_in_ranges(rt: &HostRuntime, roads: &Roads, text: &str) -> Result<bool, Fail> {
-    let state = roads.state(rt.alloc(), text)?;
-    let whole = read_text(rt.alloc(), &state, &[0])?;
-    is_same_in_cuts(rt, &state, &whole)
+/// The first cut of a content that changes its events.
+fn wrong_range(
+    alloc: Global,
+    roads: &Roads,
+    text: &str,
+) -> Result<Option<(usize, usize)>, Message> {
+    let state = roads.state(alloc, text)?;
+    let whole = read_text(alloc, &state, &[0])?;
+    wrong_cut(alloc, &state, &whole)
 }
 
-/// Whether it is so of each of these contents.
-fn are_same_in_ranges(rt: &HostRuntime, roads: &Roads, texts: &[&str]) -> Result<bool, Fail> {
-    for text in texts {
-        if !is_same_in_ranges(rt, roads, text)? {
-            return Ok(false);
-        }
+/// Stops where the events of a content in two ranges aren't those of it at once, and prints the cut.
+fn assert_same_in_ranges(rt: &(impl AllocGlobal + Abort), contents: &[&str]) {
+    let Ok(roads) = Roads::new(rt.alloc(), full_options()) else {
+        panic!(rt; "no memory for labels");
+    };
+    for text in contents {
+        let cut = wrong_range(rt.alloc(), &roads, text);
+        assert!(rt; cut == Ok(None), "{text:?} in ranges: {cut:?}");
     }
-    Ok(true)
+}
+
+#[test]
+fn contents_in_ranges(rt: HostRuntime) {
+    assert_same_in_ranges(&rt, TEXTS);
+    assert_same_in_ranges(&rt, GFM_TEXTS);
 }
 
 /// The events of a content in a heap, or what refuses them.
@@ -87,78 +90,45 @@ fn events_in<'h>(
     resolved_text(heap, &state, &[0])
 }
 
-/// Whether a heap of some size up to the largest has these events, and each smaller one refuses them.
-fn are_in_heaps(
-    rt: &HostRuntime,
+/// How many heaps refuse the events of a content until one that has room for these; each is a step
+/// larger than the one before. None where a heap has other events, or none has room.
+fn refusals(
+    alloc: Global,
     roads: &Roads,
     text: &str,
     whole: &[Event],
-) -> Result<bool, Fail> {
+) -> Result<Option<usize>, Message> {
     for steps in 0..STEPS {
-        let heap = LocalHeap::new(rt.alloc(), steps * STEP)?;
-        match events_in(&heap, roads, text) {
-            Ok(events) => return Ok(events.as_slice() == whole),
-            Err(message) if message == Message::out_of_memory() => {}
-            Err(_) => return Ok(false),
+        let heap = LocalHeap::new(alloc, steps * STEP)?;
+        if let Ok(events) = events_in(&heap, roads, text) {
+            let is_same = events.as_slice() == whole;
+            return Ok(if is_same { Some(steps) } else { None });
         }
     }
-    Ok(false)
+    Ok(None)
 }
 
-/// Whether the events of a content come in a heap of some size, and each smaller one refuses them.
-fn is_same_in_heaps(rt: &HostRuntime, roads: &Roads, text: &str) -> Result<bool, Fail> {
-    let state = roads.state(rt.alloc(), text)?;
-    let whole = resolved_text(rt.alloc(), &state, &[0])?;
-    are_in_heaps(rt, roads, text, &whole)
+/// The same of a content, whose events are those that it has where there is memory.
+fn refusals_of(alloc: Global, roads: &Roads, text: &str) -> Result<Option<usize>, Message> {
+    let state = roads.state(alloc, text)?;
+    let whole = resolved_text(alloc, &state, &[0])?;
+    refusals(alloc, roads, text, &whole)
 }
 
-#[test]
-fn contents_in_ranges(rt: HostRuntime) -> Result<(), Fail> {
-    let roads = Roads::new(&rt, full_options())?;
-    let same = are_same_in_ranges(&rt, &roads, TEXTS)?
-        && are_same_in_ranges(&rt, &roads, GFM_TEXTS)?;
-    assert!(rt; same);
-    Ok(())
-}
-
-#[test]
-fn contents_of_constructs_in_ranges(rt: HostRuntime) -> Result<(), Fail> {
-    let roads = Roads::new(&rt, full_options())?;
-    for contents in CONTENTS {
-        for text in contents.split("\n\n") {
-            assert!(rt; is_same_in_ranges(&rt, &roads, text)?);
+/// Stops where no heap refuses the events of a content, or where none has room for them.
+fn assert_refused(rt: &(impl AllocGlobal + Abort), contents: &[&str]) {
+    let Ok(roads) = Roads::new(rt.alloc(), full_options()) else {
+        panic!(rt; "no memory for labels");
+    };
+    for text in contents {
+        match refusals_of(rt.alloc(), &roads, text) {
+            Ok(Some(count)) => assert!(rt; count > 0, "{text:?} in heaps: {count}"),
+            _ => panic!(rt; "{text:?} in heaps"),
         }
     }
-    Ok(())
 }
 
 #[test]
-fn contents_at_random_in_ranges(rt: HostRuntime) -> Result<(), Fail> {
-    let roads = Roads::new(&rt, full_options())?;
-    let mut numbers = Numbers::from(5);
-    for _count in 0..200 {
-        let text = numbers.content(&rt, true)?;
-        assert!(rt; is_same_in_ranges(&rt, &roads, &text)?);
-    }
-    Ok(())
-}
-
-#[test]
-fn contents_in_heaps(rt: HostRuntime) -> Result<(), Fail> {
-    let roads = Roads::new(&rt, full_options())?;
-    for text in GFM_TEXTS {
-        assert!(rt; is_same_in_heaps(&rt, &roads, text)?);
-    }
-    Ok(())
-}
-
-#[test]
-fn contents_at_random_in_heaps(rt: HostRuntime) -> Result<(), Fail> {
-    let roads = Roads::new(&rt, full_options())?;
-    let mut numbers = Numbers::from(6);
-    for _count in 0..20 {
-        let text = numbers.content(&rt, true)?;
-        assert!(rt; is_same_in_heaps(&rt, &roads, &text)?);
-    }
-    Ok(())
+fn contents_in_heaps(rt: HostRuntime) {
+    assert_refused(&rt, GFM_TEXTS);
 }

@@ -11,7 +11,7 @@ use markdown_options::{Constructs, ParseOptions};
 use markdown_tables::Builtin;
 use state_inline::reading::resolved_text;
 use std::alloc::{AllocError, Allocator, Global};
-use std::test::Fail;
+use std::process::Abort;
 
 /// The labels that are defined.
 const LABELS: &[&str] = &["a", "b c", "foo", "bar", "ref"];
@@ -44,8 +44,8 @@ pub fn full_options() -> ParseOptions {
 }
 
 /// Labels by their places.
-fn table(rt: &HostRuntime, labels: &[&str]) -> Result<LabelTable<Global>, Fail> {
-    let mut table = LabelTable::new(rt.alloc())?;
+fn table(alloc: Global, labels: &[&str]) -> Result<LabelTable<Global>, AllocError> {
+    let mut table = LabelTable::new(alloc)?;
     for (place, label) in labels.iter().enumerate() {
         table.insert(label.as_bytes(), place)?;
     }
@@ -73,17 +73,18 @@ pub struct Roads {
 }
 
 impl Roads {
-    pub fn new(rt: &HostRuntime, options: ParseOptions) -> Result<Roads, Fail> {
+    /// The labels that are defined, and options.
+    pub fn new(alloc: Global, options: ParseOptions) -> Result<Roads, AllocError> {
         Ok(Roads {
             options,
-            labels: table(rt, LABELS)?,
-            footnotes: table(rt, FOOTNOTES)?,
+            labels: table(alloc, LABELS)?,
+            footnotes: table(alloc, FOOTNOTES)?,
         })
     }
 
     /// A content by its rows, spelled. It may begin with a check.
-    pub fn by_rows(&self, rt: &HostRuntime, text: &str) -> Result<Vec<u8>, Fail> {
-        let mut out = Vec::new(rt.alloc());
+    fn by_rows(&self, alloc: Global, text: &str) -> Result<Vec<u8>, AllocError> {
+        let mut out = Vec::new(alloc);
         let content = whole_content(text);
         let mut start = content_start(content);
         let first = start.len() == text.len();
@@ -91,8 +92,8 @@ impl Roads {
             push_check(&mut out, check.done)?;
             start = check.after;
         }
-        let mut room = Room::new(rt.alloc())?;
-        let mut row_room = RowRoom::new(rt.alloc())?;
+        let mut room = Room::new(alloc)?;
+        let mut row_room = RowRoom::new(alloc)?;
         let found = inline_rows(
             &mut room,
             &mut row_room,
@@ -120,33 +121,53 @@ impl Roads {
     }
 
     /// A content by its events, spelled. It may begin with a check.
-    pub fn by_events(&self, rt: &HostRuntime, text: &str) -> Result<Vec<u8>, Fail> {
-        let state = self.state(rt.alloc(), text)?;
-        let events = resolved_text(rt.alloc(), &state, &[0])?;
+    fn by_events(&self, alloc: Global, text: &str) -> Result<Vec<u8>, Message> {
+        let state = self.state(alloc, text)?;
+        let events = resolved_text(alloc, &state, &[0])?;
         let reading = Reading {
             events: &events,
             bytes: text.as_bytes(),
             labels: &self.labels,
         };
-        reading.spell(rt)
+        Ok(reading.spell(alloc)?)
     }
 
-    /// Whether a content is the same by both roads; where it isn't, it is printed.
-    pub fn is_same(&self, rt: &HostRuntime, text: &str) -> Result<bool, Fail> {
-        let rows = self.by_rows(rt, text)?;
-        let events = self.by_events(rt, text)?;
-        if rows.as_slice() == events.as_slice() {
-            return Ok(true);
+    /// A content by its rows and by its events, spelled.
+    fn by_both(&self, alloc: Global, text: &str) -> Result<(Vec<u8>, Vec<u8>), Message> {
+        let rows = self.by_rows(alloc, text)?;
+        let events = self.by_events(alloc, text)?;
+        Ok((rows, events))
+    }
+
+    /// Stops where a content isn't the same by both roads, and prints the name of its table and it.
+    pub fn assert_same(&self, rt: &(impl AllocGlobal + Abort), table: &str, text: &str) {
+        match self.by_both(rt.alloc(), text) {
+            Ok((rows, events)) => {
+                let same = rows.as_slice() == events.as_slice();
+                let (rows, events) = (as_text(&rows), as_text(&events));
+                assert!(rt;
+                    same,
+                    "{table}: {text:?}\n  rows   {rows:?}\n  events {events:?}"
+                );
+            }
+            Err(message) => panic!(rt; "{table}: {text:?} {message:?}"),
         }
-        let rows = as_text(&rows);
-        let events = as_text(&events);
-        println!(rt; "{text:?}\n  rows   {rows:?}\n  events {events:?}")?;
-        Ok(false)
+    }
+
+    /// Stops where a content isn't spelled so by both roads, and prints it.
+    pub fn assert_spelled(&self, rt: &(impl AllocGlobal + Abort), text: &str, wanted: &[u8]) {
+        match self.by_both(rt.alloc(), text) {
+            Ok((rows, events)) => {
+                assert!(rt; rows.as_slice() == wanted, "rows of {text:?}");
+                assert!(rt; events.as_slice() == wanted, "events of {text:?}");
+            }
+            Err(message) => panic!(rt; "{text:?} {message:?}"),
+        }
     }
 }
 
 /// Bytes as a text.
-pub fn as_text(text: &[u8]) -> &str {
+fn as_text(text: &[u8]) -> &str {
     match str::from_utf8(text) {
         Ok(text) => text,
         Err(_) => "no UTF-8",

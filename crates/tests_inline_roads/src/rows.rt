@@ -2,10 +2,10 @@
 use inline_leaves::{LeafPart, LiteralKind};
 use inline_rows::{InlineRow, LinkTarget};
 use inline_runs::Span;
-use std::test::Fail;
+use std::alloc::AllocError;
 
 /// What leads to a definition, by its place.
-pub fn push_definition(out: &mut Vec<u8>, place: usize) -> Result<(), Fail> {
+pub fn push_definition(out: &mut Vec<u8>, place: usize) -> Result<(), AllocError> {
     out.extend_from_slice(b"#")?;
     out.push((place % 10) as u8 + b'0')?;
     Ok(())
@@ -16,7 +16,7 @@ pub fn push_resource(
     out: &mut Vec<u8>,
     destination: &[u8],
     title: Option<&[u8]>,
-) -> Result<(), Fail> {
+) -> Result<(), AllocError> {
     out.extend_from_slice(b"(")?;
     out.extend_from_slice(destination)?;
     if let Some(title) = title {
@@ -28,7 +28,7 @@ pub fn push_resource(
 }
 
 /// Something with a text of its own.
-pub fn push_part(out: &mut Vec<u8>, name: &[u8], text: &[u8]) -> Result<(), Fail> {
+pub fn push_part(out: &mut Vec<u8>, name: &[u8], text: &[u8]) -> Result<(), AllocError> {
     out.extend_from_slice(b"\x01")?;
     out.extend_from_slice(name)?;
     out.extend_from_slice(text)?;
@@ -37,7 +37,7 @@ pub fn push_part(out: &mut Vec<u8>, name: &[u8], text: &[u8]) -> Result<(), Fail
 }
 
 /// A link with no brackets, by what it leads to.
-pub fn push_literal(out: &mut Vec<u8>, kind: LiteralKind, text: &[u8]) -> Result<(), Fail> {
+pub fn push_literal(out: &mut Vec<u8>, kind: LiteralKind, text: &[u8]) -> Result<(), AllocError> {
     match kind {
         LiteralKind::Www => push_part(out, b"www ", text),
         LiteralKind::Protocol => push_part(out, b"protocol ", text),
@@ -46,18 +46,19 @@ pub fn push_literal(out: &mut Vec<u8>, kind: LiteralKind, text: &[u8]) -> Result
 }
 
 /// An autolink, by what it leads to.
-pub fn push_autolink(out: &mut Vec<u8>, email: bool, text: &[u8]) -> Result<(), Fail> {
+pub fn push_autolink(out: &mut Vec<u8>, email: bool, text: &[u8]) -> Result<(), AllocError> {
     let name: &[u8] = if email { b"address " } else { b"autolink " };
     push_part(out, name, text)
 }
 
 /// A check of a task list item.
-pub fn push_check(out: &mut Vec<u8>, done: bool) -> Result<(), Fail> {
+pub fn push_check(out: &mut Vec<u8>, done: bool) -> Result<(), AllocError> {
     let sign: &[u8] = if done { b"x" } else { b"" };
     push_part(out, b"check", sign)
 }
 
-fn push_target(out: &mut Vec<u8>, target: &LinkTarget<'_>) -> Result<(), Fail> {
+/// What a link or an image leads to.
+fn push_target(out: &mut Vec<u8>, target: &LinkTarget<'_>) -> Result<(), AllocError> {
     match target {
         LinkTarget::Definition(place) => push_definition(out, *place),
         LinkTarget::Resource(linked) => push_resource(
@@ -68,7 +69,8 @@ fn push_target(out: &mut Vec<u8>, target: &LinkTarget<'_>) -> Result<(), Fail> {
     }
 }
 
-fn push_leaf(out: &mut Vec<u8>, part: &LeafPart<'_>) -> Result<(), Fail> {
+/// What holds no other.
+fn push_leaf(out: &mut Vec<u8>, part: &LeafPart<'_>) -> Result<(), AllocError> {
     match part {
         LeafPart::Escape(text) => push_part(out, b"escape ", text.as_bytes()),
         LeafPart::Character(text) => push_part(out, b"character ", text.as_bytes()),
@@ -96,7 +98,8 @@ fn push_leaf(out: &mut Vec<u8>, part: &LeafPart<'_>) -> Result<(), Fail> {
     }
 }
 
-fn push_row(out: &mut Vec<u8>, row: &InlineRow<'_>) -> Result<(), Fail> {
+/// A row.
+fn push_row(out: &mut Vec<u8>, row: &InlineRow<'_>) -> Result<(), AllocError> {
     match row {
         InlineRow::Text(text) => {
             out.extend_from_slice(text.as_bytes())?;
@@ -126,7 +129,7 @@ fn push_row(out: &mut Vec<u8>, row: &InlineRow<'_>) -> Result<(), Fail> {
 }
 
 /// Adds rows, spelled.
-pub fn push_rows(out: &mut Vec<u8>, rows: &[InlineRow<'_>]) -> Result<(), Fail> {
+pub fn push_rows(out: &mut Vec<u8>, rows: &[InlineRow<'_>]) -> Result<(), AllocError> {
     for row in rows {
         push_row(out, row)?;
     }
