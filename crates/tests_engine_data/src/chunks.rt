@@ -5,8 +5,10 @@ use engine_chunks::{link, link_all, link_to};
 use engine_edits::EditMap;
 use engine_events::event::Name;
 use engine_events::{Content, Event, Kind, Link, Point};
-use std::test::Fail;
+use markdown_options::Message;
+use std::alloc::{AllocError, Global};
 
+/// An event at an index of the first line.
 fn at(kind: Kind, name: Name, index: usize, link: Option<Link>) -> Event {
     let point = Point {
         line: 1,
@@ -17,6 +19,7 @@ fn at(kind: Kind, name: Name, index: usize, link: Option<Link>) -> Event {
     Event::new(kind, name, point, link)
 }
 
+/// A link between two neighbours.
 fn between(previous: Option<usize>, next: Option<usize>) -> Option<Link> {
     Some(Link {
         previous,
@@ -25,16 +28,37 @@ fn between(previous: Option<usize>, next: Option<usize>) -> Option<Link> {
     })
 }
 
-#[test]
-fn each_chunk_gets_its_part(rt: HostRuntime) -> Result<(), Fail> {
-    let events = [
+/// The chunk after that of an event.
+fn next_of(event: &Event) -> Option<usize> {
+    event.link()?.next
+}
+
+/// The chunk before that of an event.
+fn previous_of(event: &Event) -> Option<usize> {
+    event.link()?.previous
+}
+
+/// Whether events are those of two chunks, divided, with white space between them.
+fn are_divided(events: &[Event]) -> bool {
+    events.len() == 8
+        && events[3].name == Name::SpaceOrTab
+        && events[4].name == Name::Strong
+        && next_of(&events[0]) == Some(4)
+        && previous_of(&events[4]) == Some(0)
+}
+
+/// Divides the events that were read of two chunks among them: how many events go and come, and
+/// whether each chunk has its part then.
+fn divide(alloc: Global) -> Result<((usize, usize), bool), Message> {
+    let mut events = [
         at(Kind::Enter, Name::Data, 0, between(None, Some(4))),
         at(Kind::Exit, Name::Data, 2, None),
         at(Kind::Enter, Name::SpaceOrTab, 2, None),
         at(Kind::Exit, Name::SpaceOrTab, 3, None),
         at(Kind::Enter, Name::Data, 3, between(Some(0), None)),
         at(Kind::Exit, Name::Data, 5, None),
-    ];
+    ]
+    .to_vec(alloc)?;
     let children = [
         at(Kind::Enter, Name::Emphasis, 0, between(None, Some(2))),
         at(Kind::Exit, Name::Emphasis, 2, None),
@@ -43,25 +67,42 @@ fn each_chunk_gets_its_part(rt: HostRuntime) -> Result<(), Fail> {
         at(Kind::Enter, Name::Strong, 4, None),
         at(Kind::Exit, Name::Strong, 5, None),
     ];
-    let mut all = events.to_vec(rt.alloc())?;
-    let mut map = EditMap::new(rt.alloc());
-    let counts = divide_events(rt.alloc(), &mut map, &events, 0, &children, (0, 0))?;
-    assert_same(&rt, &counts, &(4, 6));
-    assert!(rt; map.is_ordered(all.len()));
-    map.consume(&mut all)?;
-    assert!(rt; all.len() == 8);
-    assert_same(
-        &rt,
-        &(all[3].name, all[4].name),
-        &(Name::SpaceOrTab, Name::Strong),
-    );
-    assert_same(&rt, &all[0].link().ok_or("a link")?.next, &Some(4));
-    assert_same(&rt, &all[4].link().ok_or("a link")?.previous, &Some(0));
-    Ok(())
+    let mut map = EditMap::new(alloc);
+    let counts = divide_events(alloc, &mut map, &events, 0, &children, (0, 0))?;
+    if !map.is_ordered(events.len()) {
+        return Ok((counts, false));
+    }
+    map.consume(&mut events)?;
+    Ok((counts, are_divided(&events)))
 }
 
 #[test]
-fn chunks_are_joined(rt: HostRuntime) -> Result<(), Fail> {
+fn each_chunk_gets_its_part(rt: HostRuntime) {
+    assert_same(&rt, "parts", &divide(rt.alloc()), &Ok(((4, 6), true)));
+    let events = [
+        at(Kind::Enter, Name::Data, 0, between(None, None)),
+        at(Kind::Exit, Name::Data, 2, None),
+    ];
+    let children = [
+        at(Kind::Enter, Name::Emphasis, 0, None),
+        at(Kind::Exit, Name::Emphasis, 2, None),
+        at(Kind::Enter, Name::Strong, 3, None),
+    ];
+    let sizes = [
+        part_size(&events, 0, &children, 0),
+        part_size(&events, 0, &children, 1),
+        part_size(&events, 1, &children, 0),
+    ];
+    assert_same(&rt, "a part goes up to its chunk's end", &sizes, &[2, 1, 0]);
+}
+
+/// Whether the chunks of a chain are these.
+fn are_chunks(alloc: Global, events: &[Event], wanted: &[usize]) -> Result<bool, AllocError> {
+    Ok(chunks(alloc, events, 0)?.as_slice() == wanted)
+}
+
+#[test]
+fn chunks_are_joined(rt: HostRuntime) {
     let mut events = [
         at(Kind::Enter, Name::Data, 0, between(None, None)),
         at(Kind::Exit, Name::Data, 2, None),
@@ -74,10 +115,9 @@ fn chunks_are_joined(rt: HostRuntime) -> Result<(), Fail> {
     ];
     link(&mut events, 2);
     link_to(&mut events, 2, 6);
-    assert_same(
-        &rt,
-        &chunks(rt.alloc(), &events, 0)?.as_slice(),
-        &[0, 2, 6].as_slice(),
+    assert!(rt;
+        are_chunks(rt.alloc(), &events, &[0, 2, 6]) == Ok(true),
+        "the chain"
     );
     let links = [
         events[0].link(),
@@ -91,24 +131,7 @@ fn chunks_are_joined(rt: HostRuntime) -> Result<(), Fail> {
         None,
         between(Some(2), None),
     ];
-    assert_same(&rt, &links, &wanted);
-    Ok(())
-}
-
-#[test]
-fn a_part_goes_up_to_its_chunks_end(rt: HostRuntime) {
-    let events = [
-        at(Kind::Enter, Name::Data, 0, between(None, None)),
-        at(Kind::Exit, Name::Data, 2, None),
-    ];
-    let children = [
-        at(Kind::Enter, Name::Emphasis, 0, None),
-        at(Kind::Exit, Name::Emphasis, 2, None),
-        at(Kind::Enter, Name::Strong, 3, None),
-    ];
-    assert_same(&rt, &part_size(&events, 0, &children, 0), &2);
-    assert_same(&rt, &part_size(&events, 0, &children, 1), &1);
-    assert_same(&rt, &part_size(&events, 1, &children, 0), &0);
+    assert_same(&rt, "links of chunks", &links, &wanted);
 }
 
 #[test]
@@ -136,6 +159,6 @@ fn chunks_are_joined_to_those_that_name_them(rt: HostRuntime) {
         between(Some(2), None),
         between(Some(9), None),
     ];
-    assert_same(&rt, &links, &wanted);
-    assert_same(&rt, &events[1].link(), &None);
+    assert_same(&rt, "links to those that name them", &links, &wanted);
+    assert_same(&rt, "no link", &events[1].link(), &None);
 }

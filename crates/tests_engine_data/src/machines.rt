@@ -1,11 +1,12 @@
-use crate::compare::assert_same;
+use crate::compare::{assert_events, assert_same};
+use markdown_engine::attempt::Attempt;
 use markdown_engine::event::{Content, Event, Kind, Link, Name as EventName};
 use markdown_engine::place::{Point, START};
 use markdown_engine::state::{Inline, Name, State};
 use markdown_engine::tokenizer::Tokenizer;
 use markdown_engine::{Message, ParseOptions, ParseState, resolve};
 use std::alloc::Global;
-use std::test::Fail;
+use std::process::Abort;
 use tests_engine::brackets::{Brackets, read_both_ways, read_groups, read_whole};
 use tests_engine::count::Count;
 use tests_engine::letters::{Letters, read_letters};
@@ -13,27 +14,26 @@ use tests_engine::tables::Ascii;
 
 const DATA: State = State::Next(Name::Inline(Inline::DataInside));
 
-#[test]
-fn a_tab_is_read_column_by_column(rt: HostRuntime) -> Result<(), Fail> {
+const COUNT: Count = Count { calls: 0 };
+
+/// A text with a tab, read at once: how often the machine is called, whether nothing is left, how
+/// often it is called by the end, and the column there.
+fn count_tab(alloc: Global) -> Result<(usize, bool, usize, usize), Message> {
     let options = ParseOptions::default();
-    let text = ParseState::new(rt.alloc(), b"a\tb", &options, &Ascii)?;
-    let mut tokenizer = Tokenizer::new(rt.alloc(), START, &text, Count { calls: 0 })?;
+    let text = ParseState::new(alloc, b"a\tb", &options, &Ascii)?;
+    let mut tokenizer = Tokenizer::new(alloc, START, &text, COUNT)?;
     let state = tokenizer.push((0, 0), (3, 0), DATA);
     let calls = tokenizer.machine.calls;
     let done = tokenizer.flush(state, true)?.done;
-    assert_same(
-        &rt,
-        &(calls, done, tokenizer.machine.calls, tokenizer.point.column),
-        &(5, false, 5, 6),
-    );
-    Ok(())
+    Ok((calls, done, tokenizer.machine.calls, tokenizer.point.column))
 }
 
-#[test]
-fn a_line_is_read_after_its_skip(rt: HostRuntime) -> Result<(), Fail> {
+/// A line that is read after its skip: the last state, how often the machine is called, the column
+/// at the end, and where the line starts.
+fn count_after_skip(alloc: Global) -> Result<(State, usize, usize, usize), Message> {
     let options = ParseOptions::default();
-    let text = ParseState::new(rt.alloc(), b"a\n> b", &options, &Ascii)?;
-    let mut tokenizer = Tokenizer::new(rt.alloc(), START, &text, Count { calls: 0 })?;
+    let text = ParseState::new(alloc, b"a\n> b", &options, &Ascii)?;
+    let mut tokenizer = Tokenizer::new(alloc, START, &text, COUNT)?;
     let second = Point {
         line: 2,
         column: 3,
@@ -41,29 +41,105 @@ fn a_line_is_read_after_its_skip(rt: HostRuntime) -> Result<(), Fail> {
         vs: 0,
     };
     let state = tokenizer.read_in_lines(2, second, DATA);
-    assert_same(
-        &rt,
-        &(
-            state,
-            tokenizer.machine.calls,
-            tokenizer.point.column,
-            tokenizer.line_start.index,
-        ),
-        &(State::Ok, 3, 4, 2),
-    );
-    Ok(())
+    let calls = tokenizer.machine.calls;
+    Ok((
+        state,
+        calls,
+        tokenizer.point.column,
+        tokenizer.line_start.index,
+    ))
 }
 
-#[test]
-fn a_gap_in_a_line_is_not_read(rt: HostRuntime) -> Result<(), Fail> {
+/// How often the machine is called by two ranges with a gap between them.
+fn count_beside_gap(alloc: Global) -> Result<usize, Message> {
     let options = ParseOptions::default();
-    let text = ParseState::new(rt.alloc(), b"ab\tcd", &options, &Ascii)?;
-    let mut tokenizer = Tokenizer::new(rt.alloc(), START, &text, Count { calls: 0 })?;
+    let text = ParseState::new(alloc, b"ab\tcd", &options, &Ascii)?;
+    let mut tokenizer = Tokenizer::new(alloc, START, &text, COUNT)?;
     let first = tokenizer.push((0, 0), (1, 0), DATA);
     let state = tokenizer.push((2, 1), (5, 0), first);
     tokenizer.flush(state, false)?;
-    assert_same(&rt, &tokenizer.machine.calls, &4);
+    Ok(tokenizer.machine.calls)
+}
+
+#[test]
+fn bytes_that_are_read(rt: HostRuntime) {
+    let tab = count_tab(rt.alloc());
+    assert_same(
+        &rt,
+        "a tab is read column by column",
+        &tab,
+        &Ok((5, false, 5, 6)),
+    );
+    let line = count_after_skip(rt.alloc());
+    assert_same(
+        &rt,
+        "a line is read after its skip",
+        &line,
+        &Ok((State::Ok, 3, 4, 2)),
+    );
+    let gap = count_beside_gap(rt.alloc());
+    assert_same(&rt, "a gap in a line isn't read", &gap, &Ok(4));
+}
+
+/// Registers two of three resolvers again.
+fn register(tokenizer: &mut Tokenizer<'_, Count, Ascii, Global>) -> Result<(), Message> {
+    tokenizer.register_resolver(resolve::Name::Text)?;
+    tokenizer.register_resolver(resolve::Name::Data)?;
+    tokenizer.register_resolver_before(resolve::Name::Label)?;
+    tokenizer.register_resolver(resolve::Name::Text)?;
+    tokenizer.register_resolver_before(resolve::Name::Data)?;
     Ok(())
+}
+
+/// A link with no neighbours.
+const LINK: Link = Link {
+    previous: None,
+    next: None,
+    content: Content::Text,
+};
+
+/// Whether events enter a chunk with the link and leave it.
+fn are_one_chunk(events: &[Event]) -> bool {
+    events.len() == 2 && events[0].link() == Some(LINK) && events[1].kind == Kind::Exit
+}
+
+/// Whether just one attempt waits, which looks ahead.
+fn is_one_check(attempts: &[Attempt]) -> bool {
+    attempts.len() == 1 && attempts[0].check && attempts[0].nok == State::Nok
+}
+
+/// What calls of a tokenizer leave: whether its events are one chunk, whether its attempts are one
+/// check, and whether its resolvers are registered once.
+fn call_each(alloc: Global) -> Result<(bool, bool, bool), Message> {
+    let options = ParseOptions::default();
+    let text = ParseState::new(alloc, b"a", &options, &Ascii)?;
+    let mut tokenizer = Tokenizer::new(alloc, START, &text, COUNT)?;
+    tokenizer.enter_link(EventName::Data, LINK)?;
+    tokenizer.exit(EventName::Data)?;
+    tokenizer.check(State::Ok, State::Nok)?;
+    register(&mut tokenizer)?;
+    let names = [
+        resolve::Name::Label,
+        resolve::Name::Text,
+        resolve::Name::Data,
+    ];
+    let are_registered = tokenizer.resolvers.as_slice() == names.as_slice();
+    Ok((
+        are_one_chunk(&tokenizer.events),
+        is_one_check(&tokenizer.attempts),
+        are_registered,
+    ))
+}
+
+#[test]
+fn calls_of_a_tokenizer(rt: HostRuntime) {
+    let left = call_each(rt.alloc());
+    assert_same(
+        &rt,
+        "a chunk, a check and resolvers",
+        &left,
+        &Ok((true, true, true)),
+    );
 }
 
 /// An event on a line of a text, whose columns are bytes.
@@ -102,159 +178,92 @@ pub fn chunks_in_quote() -> [Event; 6] {
     ]
 }
 
-#[test]
-fn a_chain_is_read_without_marks(rt: HostRuntime) -> Result<(), Fail> {
+/// The events of the quote with the letters of chunks in their place, and whether nothing is left to
+/// be read; none where the chunks can't be read.
+fn letters(
+    alloc: Global,
+    chunks: &[Event],
+    filter: Option<&Content>,
+) -> Result<Option<(Vec<Event>, bool)>, Message> {
     let options = ParseOptions::default();
-    let text = ParseState::new(rt.alloc(), QUOTED, &options, &Ascii)?;
-    let mut events = chunks_in_quote().to_vec(rt.alloc())?;
-    let found = read_letters(&mut events, &text, Letters, None)?;
-    assert!(rt; !found.ok_or("the chains fit")?.done);
-    let indices = [2, 3, 3, 4, 4, 5, 5, 7, 7, 8, 8, 9];
-    assert!(rt; events.len() == 12);
-    for at in 0..12 {
-        assert_same(
-            &rt,
-            &events.get(at).ok_or("an event")?.point().index,
-            &indices[at],
-        );
+    let text = ParseState::new(alloc, QUOTED, &options, &Ascii)?;
+    let mut events = chunks.to_vec(alloc)?;
+    match read_letters(&mut events, &text, Letters, filter)? {
+        Some(found) => Ok(Some((events, found.done))),
+        None => Ok(None),
     }
-    assert_same(&rt, &events[6].name, &EventName::BlockQuotePrefix);
-    assert_same(&rt, &events[8].name, &EventName::Data);
-    Ok(())
 }
 
-#[test]
-fn chains_of_other_contents_stay(rt: HostRuntime) -> Result<(), Fail> {
-    let options = ParseOptions::default();
-    let text = ParseState::new(rt.alloc(), QUOTED, &options, &Ascii)?;
-    let mut events = chunks_in_quote().to_vec(rt.alloc())?;
-    let found = read_letters(&mut events, &text, Letters, Some(&Content::String))?;
-    assert!(rt; found.ok_or("the chains fit")?.done);
-    assert!(rt; events.len() == 6);
-    Ok(())
-}
-
-#[test]
-fn chunks_that_lie_in_one_another_are_refused(rt: HostRuntime) -> Result<(), Fail> {
-    let options = ParseOptions::default();
-    let text = ParseState::new(rt.alloc(), QUOTED, &options, &Ascii)?;
-    let mut events = chunks_in_quote().to_vec(rt.alloc())?;
-    events[4] = with_link(events[4], Some(0), Some(0));
-    let found = read_letters(&mut events, &text, Letters, None)?;
-    assert!(rt; found.is_none());
-    Ok(())
-}
-
-/// Where the groups of a text of brackets begin and end.
-fn groups(rt: &HostRuntime, bytes: &[u8]) -> Result<Vec<usize>, Fail> {
-    let options = ParseOptions::default();
-    let text = ParseState::new(rt.alloc(), bytes, &options, &Ascii)?;
-    let events = read_whole(rt.alloc(), &text, Brackets)?;
-    let mut places = Vec::new(rt.alloc());
-    for event in &events {
-        places.push(event.point().index)?;
-    }
-    Ok(places)
-}
-
-#[test]
-fn groups_lie_in_groups(rt: HostRuntime) -> Result<(), Fail> {
-    assert_same(
-        &rt,
-        &groups(&rt, b"(a(b)c)d()")?.as_slice(),
-        &[0, 2, 5, 7, 8, 10].as_slice(),
-    );
-    Ok(())
-}
-
-#[test]
-fn a_group_without_an_end_is_data(rt: HostRuntime) -> Result<(), Fail> {
-    assert!(rt; groups(&rt, b"(a(b)c")?.is_empty());
-    assert_same(
-        &rt,
-        &groups(&rt, b"()(a(b)c")?.as_slice(),
-        &[0, 2].as_slice(),
-    );
-    assert!(rt; groups(&rt, b")()")?.is_empty());
-    Ok(())
-}
-
-#[test]
-fn a_text_is_read_the_same_cut_anywhere(rt: HostRuntime) -> Result<(), Fail> {
-    let bytes = b"(a\t(b)\r\n)(\t";
-    let options = ParseOptions::default();
-    let text = ParseState::new(rt.alloc(), bytes, &options, &Ascii)?;
-    for index in 0..bytes.len() {
-        for column in 0..4 {
-            let cuts = [(index, column)];
-            let both = read_both_ways(rt.alloc(), &text, Brackets, &cuts)?;
-            assert!(rt; both.0.len() == 4);
-            assert!(rt; both.0 == both.1);
+/// Stops where the letters of the chunks in the quote aren't these events, or where something is left
+/// to be read that shouldn't be.
+fn assert_letters(
+    rt: &(impl AllocGlobal + Abort),
+    what: &str,
+    filter: Option<&Content>,
+    done: bool,
+    wanted: &str,
+) {
+    match letters(rt.alloc(), &chunks_in_quote(), filter) {
+        Ok(Some((events, found))) => {
+            assert!(rt; found == done, "{what}");
+            assert_events(rt, what, Ok(events), wanted);
         }
+        _ => panic!(rt; "{what}"),
     }
-    let cuts = [(2, 0), (2, 1), (2, 2), (4, 0), (7, 0), (7, 0), (9, 0)];
-    let both = read_both_ways(rt.alloc(), &text, Brackets, &cuts)?;
-    assert!(rt; both.0 == both.1);
-    Ok(())
-}
-
-/// Registers two of three resolvers again.
-fn register(tokenizer: &mut Tokenizer<'_, Count, Ascii, Global>) -> Result<(), Message> {
-    tokenizer.register_resolver(resolve::Name::Text)?;
-    tokenizer.register_resolver(resolve::Name::Data)?;
-    tokenizer.register_resolver_before(resolve::Name::Label)?;
-    tokenizer.register_resolver(resolve::Name::Text)?;
-    tokenizer.register_resolver_before(resolve::Name::Data)?;
-    Ok(())
 }
 
 #[test]
-fn a_resolver_is_registered_once(rt: HostRuntime) -> Result<(), Fail> {
-    let options = ParseOptions::default();
-    let text = ParseState::new(rt.alloc(), b"a", &options, &Ascii)?;
-    let mut tokenizer = Tokenizer::new(rt.alloc(), START, &text, Count { calls: 0 })?;
-    register(&mut tokenizer)?;
-    let names = [
-        resolve::Name::Label,
-        resolve::Name::Text,
-        resolve::Name::Data,
-    ];
-    assert_same(&rt, &tokenizer.resolvers.as_slice(), &names.as_slice());
-    Ok(())
-}
-
-#[test]
-fn a_chunk_is_entered_and_left(rt: HostRuntime) -> Result<(), Fail> {
-    let options = ParseOptions::default();
-    let text = ParseState::new(rt.alloc(), b"a", &options, &Ascii)?;
-    let mut tokenizer = Tokenizer::new(rt.alloc(), START, &text, Count { calls: 0 })?;
-    let link = Link {
-        previous: None,
-        next: None,
-        content: Content::Text,
+fn letters_of_a_chain(rt: HostRuntime) {
+    let wanted = "+Data2 -Data3 +Data3 -Data4 +Data4 -Data5 +BlockQuotePrefix5 -BlockQuotePrefix7 \
+         +Data7 -Data8 +Data8 -Data9 ";
+    assert_letters(&rt, "a chain is read without marks", None, false, wanted);
+    let wanted = "+Data2 -Data5 +BlockQuotePrefix5 -BlockQuotePrefix7 +Data7 -Data9 ";
+    let string = Some(&Content::String);
+    assert_letters(&rt, "chains of other contents stay", string, true, wanted);
+    let mut chunks = chunks_in_quote();
+    chunks[4] = with_link(chunks[4], Some(0), Some(0));
+    let is_refused = match letters(rt.alloc(), &chunks, None) {
+        Ok(found) => found.is_none(),
+        Err(_) => false,
     };
-    tokenizer.enter_link(EventName::Data, link)?;
-    tokenizer.exit(EventName::Data)?;
-    let events = tokenizer.events.as_slice();
-    assert!(rt; events.len() == 2);
-    assert_same(
-        &rt,
-        &(events[0].link(), events[1].kind),
-        &(Some(link), Kind::Exit),
-    );
-    Ok(())
+    assert!(rt; is_refused, "chunks that lie in one another are refused");
+}
+
+/// The groups of a text of brackets.
+fn groups(alloc: Global, bytes: &[u8]) -> Result<Vec<Event>, Message> {
+    let options = ParseOptions::default();
+    let text = ParseState::new(alloc, bytes, &options, &Ascii)?;
+    read_whole(alloc, &text, Brackets)
+}
+
+/// Whether a text with four events has the same ones read at once and in ranges.
+fn are_same_both_ways(alloc: Global) -> Result<bool, Message> {
+    let options = ParseOptions::default();
+    let text = ParseState::new(alloc, b"(a\t(b)\r\n)(\t", &options, &Ascii)?;
+    let cuts = [(2, 0), (2, 1), (2, 2), (4, 0), (7, 0), (7, 0), (9, 0)];
+    let (whole, parts) = read_both_ways(alloc, &text, Brackets, &cuts)?;
+    Ok(whole.len() == 4 && whole == parts)
 }
 
 #[test]
-fn a_look_ahead_waits_for_its_end(rt: HostRuntime) -> Result<(), Fail> {
-    let options = ParseOptions::default();
-    let text = ParseState::new(rt.alloc(), b"a", &options, &Ascii)?;
-    let mut tokenizer = Tokenizer::new(rt.alloc(), START, &text, Count { calls: 0 })?;
-    tokenizer.check(State::Ok, State::Nok)?;
-    assert!(rt; tokenizer.attempts.len() == 1);
-    let attempt = &tokenizer.attempts[0];
-    assert_same(&rt, &(attempt.check, attempt.nok), &(true, State::Nok));
-    Ok(())
+fn groups_of_brackets(rt: HostRuntime) {
+    let nested = "+Label0 +Label2 -Label5 -Label7 +Label8 -Label10 ";
+    assert_events(
+        &rt,
+        "groups in groups",
+        groups(rt.alloc(), b"(a(b)c)d()"),
+        nested,
+    );
+    assert_events(&rt, "no end", groups(rt.alloc(), b"(a(b)c"), "");
+    let first = "+Label0 -Label2 ";
+    assert_events(
+        &rt,
+        "one with an end",
+        groups(rt.alloc(), b"()(a(b)c"),
+        first,
+    );
+    assert_events(&rt, "an end alone", groups(rt.alloc(), b")()"), "");
+    assert_same(&rt, "both ways", &are_same_both_ways(rt.alloc()), &Ok(true));
 }
 
 /// The events of `> (a` and `> b)(`, with the lines' texts as chunks of one chain.
@@ -269,19 +278,28 @@ fn group_in_quote() -> [Event; 6] {
     ]
 }
 
-#[test]
-fn a_group_spans_the_lines_of_a_quote(rt: HostRuntime) -> Result<(), Fail> {
+/// The events of that quote with its groups in place of the chunks, unless something is wrong.
+fn quoted_groups(alloc: Global) -> Result<Option<Vec<Event>>, Message> {
     let options = ParseOptions::default();
-    let text = ParseState::new(rt.alloc(), b"> (a\n> b)(", &options, &Ascii)?;
-    let mut events = group_in_quote().to_vec(rt.alloc())?;
-    let found = read_groups(&mut events, &text, Brackets, None)?;
-    assert!(rt; !found.ok_or("the chains fit")?.done);
+    let text = ParseState::new(alloc, b"> (a\n> b)(", &options, &Ascii)?;
+    let mut events = group_in_quote().to_vec(alloc)?;
+    match read_groups(&mut events, &text, Brackets, None)? {
+        Some(found) if !found.done => Ok(Some(events)),
+        _ => Ok(None),
+    }
+}
+
+#[test]
+fn a_group_spans_the_lines_of_a_quote(rt: HostRuntime) {
     let expected = [
         at(Kind::Enter, EventName::Label, 1, 3, 2),
         at(Kind::Enter, EventName::BlockQuotePrefix, 2, 1, 5),
         at(Kind::Exit, EventName::BlockQuotePrefix, 2, 3, 7),
         at(Kind::Exit, EventName::Label, 2, 5, 9),
     ];
-    assert_same(&rt, &events.as_slice(), &expected.as_slice());
-    Ok(())
+    let is_right = match quoted_groups(rt.alloc()) {
+        Ok(Some(events)) => events.as_slice() == expected.as_slice(),
+        _ => false,
+    };
+    assert!(rt; is_right, "a group spans the lines of a quote");
 }

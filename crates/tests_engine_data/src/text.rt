@@ -10,42 +10,64 @@ use engine_text::char::{
 use engine_text::location::Location;
 use engine_text::skip;
 use engine_text::slice::{Position, Slice};
-use markdown_options::unist;
+use markdown_options::{Message, unist};
 use std::alloc::Global;
-use std::test::Fail;
+use std::process::Abort;
 use tests_engine::tables::Ascii;
 
-#[test]
-fn lines_end_after_cr_lf(rt: HostRuntime) -> Result<(), Fail> {
-    let location = Location::new(rt.alloc(), b"ab\r\nc")?;
-    assert_same(
-        &rt,
-        &location.to_point(3),
-        &Some(unist::Point::new(1, 4, 3)),
-    );
-    assert_same(
-        &rt,
-        &location.to_point(4),
-        &Some(unist::Point::new(2, 1, 4)),
-    );
-    assert_same(
-        &rt,
-        &location.to_point(5),
-        &Some(unist::Point::new(2, 2, 5)),
-    );
-    assert_same(&rt, &location.to_point(6), &None);
-    let stops = [(0, 1), (2, 4)];
-    assert_same(
-        &rt,
-        &location.relative_to_point(&stops, 2),
-        &Some(unist::Point::new(2, 1, 4)),
-    );
-    Ok(())
+/// The lines and columns of places of a text with a CR LF, and of one of a part of it.
+fn points(alloc: Global) -> Result<[Option<unist::Point>; 5], Message> {
+    let location = Location::new(alloc, b"ab\r\nc")?;
+    Ok([
+        location.to_point(3),
+        location.to_point(4),
+        location.to_point(5),
+        location.to_point(6),
+        location.relative_to_point(&[(0, 1), (2, 4)], 2),
+    ])
 }
 
 #[test]
-fn cut_tabs_are_spaces(rt: HostRuntime) -> Result<(), Fail> {
-    let text = "\ta\tb";
+fn locations(rt: HostRuntime) {
+    let wanted = [
+        Some(unist::Point::new(1, 4, 3)),
+        Some(unist::Point::new(2, 1, 4)),
+        Some(unist::Point::new(2, 2, 5)),
+        None,
+        Some(unist::Point::new(2, 1, 4)),
+    ];
+    assert_same(
+        &rt,
+        "lines end after CR LF",
+        &points(rt.alloc()),
+        &Ok(wanted),
+    );
+    let stops = [(1, 4), (3, 9)];
+    let places = [
+        Location::<Global>::relative_to_absolute(&stops, 0),
+        Location::<Global>::relative_to_absolute(&stops, 2),
+        Location::<Global>::relative_to_absolute(&stops, 4),
+    ];
+    assert_same(
+        &rt,
+        "places go on from stops",
+        &places,
+        &[None, Some(5), Some(10)],
+    );
+}
+
+/// Whether what a slice with two spaces before it and one after it holds is this text.
+fn is_serialized(alloc: Global, wanted: &str) -> Result<bool, Message> {
+    let cut = Slice {
+        bytes: "a\t".as_bytes(),
+        before: 2,
+        after: 1,
+    };
+    Ok(cut.serialize(alloc)?.as_str() == wanted)
+}
+
+#[test]
+fn slices(rt: HostRuntime) {
     let start = Point {
         column: 3,
         vs: 2,
@@ -57,167 +79,139 @@ fn cut_tabs_are_spaces(rt: HostRuntime) -> Result<(), Fail> {
         vs: 2,
         ..START
     };
-    let slice = Slice::from_position(text.as_bytes(), &Position { start, end });
-    assert_same(&rt, &slice.bytes, &b"a\t".as_slice());
-    assert_same(&rt, &(slice.before, slice.after), &(2, 1));
-    assert!(rt; slice.len() == 5);
-    let cut = Slice {
-        bytes: "a\t".as_bytes(),
-        before: 2,
-        after: 1,
-    };
-    assert_same(&rt, &cut.serialize(rt.alloc())?.as_str(), &"  a\t ");
-    Ok(())
+    let cut = Slice::from_position(b"\ta\tb", &Position { start, end });
+    assert_same(&rt, "bytes of cut tabs", &cut.bytes, &b"a\t".as_slice());
+    assert_same(
+        &rt,
+        "columns of cut tabs",
+        &(cut.before, cut.after, cut.len()),
+        &(2, 1, 5),
+    );
+    assert!(rt;
+        is_serialized(rt.alloc(), "  a\t ") == Ok(true),
+        "cut tabs are spaces"
+    );
+    let whole = Slice::from_indices(b"\ta\tb", 1, 3);
+    assert_same(&rt, "bytes of indices", &whole.bytes, &b"a\t".as_slice());
+    assert_same(
+        &rt,
+        "columns of indices",
+        &(whole.before, whole.after),
+        &(0, 0),
+    );
+    let text = Slice::from_indices("aé".as_bytes(), 0, 3);
+    assert_same(&rt, "the text of indices", &text.as_str(), &"aé");
 }
 
 #[test]
-fn whole_events_are_skipped(rt: HostRuntime) {
-    let here = START;
-    let events = [
-        Event::new(Kind::Enter, Name::Strong, here, None),
-        Event::new(Kind::Enter, Name::Data, here, None),
-        Event::new(Kind::Exit, Name::Data, here, None),
-        Event::new(Kind::Exit, Name::Strong, here, None),
-        Event::new(Kind::Enter, Name::Data, here, None),
-        Event::new(Kind::Exit, Name::Data, here, None),
-    ];
-    assert_same(&rt, &skip::opt(&events, 0, &[Name::Strong]), &4);
-    assert_same(&rt, &skip::opt(&events, 0, &[Name::Strong, Name::Data]), &6);
-    assert_same(&rt, &skip::opt_back(&events, 5, &[Name::Data]), &3);
-    assert_same(
-        &rt,
-        &skip::opt_back(&events, 5, &[Name::Strong, Name::Data]),
-        &0,
-    );
-    assert_same(&rt, &skip::to(&events, 0, &[Name::Data]), &1);
-    let position = Position::from_exit_event(&events, 3);
-    assert_same(&rt, &position.to_indices(), &(0, 0));
-}
-
-#[test]
-fn characters_are_shown(rt: HostRuntime) -> Result<(), Fail> {
-    for (character, shown) in [
-        ('a', "`a` (U+0061)"),
-        ('`', "`` ` `` (U+0060)"),
-        ('\u{1F600}', "U+1F600"),
-    ] {
-        assert_same(&rt, &format(rt.alloc(), character)?.as_str(), &shown);
-    }
-    let bytes = "é!".as_bytes();
-    assert_same(
-        &rt,
-        &(before_index(bytes, 2), after_index(bytes, 2)),
-        &(Some('é'), Some('!')),
-    );
-    Ok(())
-}
-
-#[test]
-fn characters_have_kinds(rt: HostRuntime) {
-    for (character, kind) in [
-        ('é', CharacterKind::Other),
-        ('*', CharacterKind::Punctuation),
-        ('\u{A0}', CharacterKind::Whitespace),
-    ] {
-        assert_same(&rt, &classify(character, &Ascii), &kind);
-    }
-    let kinds = (classify_opt(Some('a'), &Ascii), classify_opt(None, &Ascii));
-    assert_same(
-        &rt,
-        &kinds,
-        &(CharacterKind::Other, CharacterKind::Whitespace),
-    );
-    let text = "é!";
-    assert_same(
-        &rt,
-        &kind_after_index(text.as_bytes(), 2, &Ascii),
-        &CharacterKind::Punctuation,
-    );
-    assert_same(
-        &rt,
-        &kind_after_index(text.as_bytes(), 3, &Ascii),
-        &CharacterKind::Whitespace,
-    );
-}
-
-#[test]
-fn bytes_are_shown(rt: HostRuntime) -> Result<(), Fail> {
-    for (character, shown) in [(Some('é'), "U+00E9"), (None, "end of file")] {
-        assert_same(&rt, &format_opt(rt.alloc(), character)?.as_str(), &shown);
-    }
-    for (byte, shown) in [(Some(b'<'), "`<` (U+003C)"), (None, "end of file")] {
-        assert_same(&rt, &format_byte_opt(rt.alloc(), byte)?.as_str(), &shown);
-    }
-    assert_same(&rt, &format_byte(rt.alloc(), b'\n')?.as_str(), &"U+000A");
-    Ok(())
-}
-
-#[test]
-fn places_of_a_part_go_on_from_stops(rt: HostRuntime) {
-    let stops = [(1, 4), (3, 9)];
-    assert_same(
-        &rt,
-        &Location::<Global>::relative_to_absolute(&stops, 0),
-        &None,
-    );
-    assert_same(
-        &rt,
-        &Location::<Global>::relative_to_absolute(&stops, 2),
-        &Some(5),
-    );
-    assert_same(
-        &rt,
-        &Location::<Global>::relative_to_absolute(&stops, 4),
-        &Some(10),
-    );
-}
-
-#[test]
-fn events_are_found_backward(rt: HostRuntime) {
+fn skips(rt: HostRuntime) {
     let events = [
         Event::new(Kind::Enter, Name::Strong, START, None),
         Event::new(Kind::Enter, Name::Data, START, None),
         Event::new(Kind::Exit, Name::Data, START, None),
         Event::new(Kind::Exit, Name::Strong, START, None),
+        Event::new(Kind::Enter, Name::Data, START, None),
+        Event::new(Kind::Exit, Name::Data, START, None),
     ];
-    assert_same(&rt, &skip::to_back(&events, 3, &[Name::Data]), &2);
-    assert_same(
-        &rt,
-        &skip::to_back(&events, 0, &[Name::Data, Name::Strong]),
-        &0,
-    );
+    let skipped = [
+        skip::opt(&events, 0, &[Name::Strong]),
+        skip::opt(&events, 0, &[Name::Strong, Name::Data]),
+        skip::opt_back(&events, 5, &[Name::Data]),
+        skip::opt_back(&events, 5, &[Name::Strong, Name::Data]),
+        skip::to(&events, 0, &[Name::Data]),
+    ];
+    assert_same(&rt, "whole events are skipped", &skipped, &[4, 6, 3, 0, 1]);
+    let events = &events[..4];
+    let found = [
+        skip::to_back(events, 3, &[Name::Data]),
+        skip::to_back(events, 0, &[Name::Data, Name::Strong]),
+    ];
+    assert_same(&rt, "events are found backward", &found, &[2, 0]);
+    let position = Position::from_exit_event(events, 3);
+    assert_same(&rt, "a position", &position.to_indices(), &(0, 0));
 }
 
-#[test]
-fn indices_cut_no_tabs(rt: HostRuntime) {
-    let slice = Slice::from_indices(b"\ta\tb", 1, 3);
-    assert_same(&rt, &slice.bytes, &b"a\t".as_slice());
-    assert_same(&rt, &(slice.before, slice.after), &(0, 0));
-    let text = "aé";
-    assert_same(
-        &rt,
-        &Slice::from_indices(text.as_bytes(), 0, 3).as_str(),
-        &"aé",
-    );
-}
-
-#[test]
-fn characters_of_bytes_are_found(rt: HostRuntime) {
-    let bytes = b"a\xC3\xA9\xFF";
-    for (index, before, after) in [
-        (0, None, Some('a')),
-        (1, Some('a'), Some('é')),
-        (2, None, None),
-        (3, Some('é'), None),
-        (4, None, None),
-        (5, None, None),
-    ] {
-        assert_same(&rt, &code_before(bytes, index), &before);
-        assert_same(&rt, &code_after(bytes, index), &after);
+/// Characters and bytes as they are shown, one after another.
+fn shown(alloc: Global) -> Result<String, Message> {
+    let mut out = String::new(alloc);
+    for character in ['a', '`', '\u{1F600}'] {
+        out.push_str(&format(alloc, character)?)?;
+        out.push_str("|")?;
     }
-    assert_same(&rt, &part(bytes, 1, 2), &"é".as_bytes());
-    assert_same(&rt, &first_code("é".as_bytes()), &Some('é'));
-    assert_same(&rt, &first_code(bytes), &None);
-    assert_same(&rt, &(width(b'a'), width(0xC3)), &(1, 2));
-    assert_same(&rt, &(goes_on(0xC3), goes_on(0xA9)), &(false, true));
+    for character in [Some('é'), None] {
+        out.push_str(&format_opt(alloc, character)?)?;
+        out.push_str("|")?;
+    }
+    for byte in [Some(b'<'), None] {
+        out.push_str(&format_byte_opt(alloc, byte)?)?;
+        out.push_str("|")?;
+    }
+    out.push_str(&format_byte(alloc, b'\n')?)?;
+    Ok(out)
+}
+
+/// Stops where the characters beside an index of bytes aren't these.
+fn assert_beside(
+    rt: &impl Abort,
+    bytes: &[u8],
+    index: usize,
+    before: Option<char>,
+    after: Option<char>,
+) {
+    let found = (code_before(bytes, index), code_after(bytes, index));
+    assert_same(rt, "characters beside an index", &found, &(before, after));
+}
+
+#[test]
+fn characters(rt: HostRuntime) {
+    let wanted =
+        "`a` (U+0061)|`` ` `` (U+0060)|U+1F600|U+00E9|end of file|`<` (U+003C)|end of file|U+000A";
+    let is_shown = match shown(rt.alloc()) {
+        Ok(shown) => shown.as_str() == wanted,
+        Err(_) => false,
+    };
+    assert!(rt; is_shown, "characters are shown");
+    let bytes = "é!".as_bytes();
+    let beside = (before_index(bytes, 2), after_index(bytes, 2));
+    assert_same(&rt, "characters beside", &beside, &(Some('é'), Some('!')));
+    let kinds = [
+        classify('é', &Ascii),
+        classify('*', &Ascii),
+        classify('\u{A0}', &Ascii),
+        classify_opt(Some('a'), &Ascii),
+        classify_opt(None, &Ascii),
+        kind_after_index(bytes, 2, &Ascii),
+        kind_after_index(bytes, 3, &Ascii),
+    ];
+    let wanted = [
+        CharacterKind::Other,
+        CharacterKind::Punctuation,
+        CharacterKind::Whitespace,
+        CharacterKind::Other,
+        CharacterKind::Whitespace,
+        CharacterKind::Punctuation,
+        CharacterKind::Whitespace,
+    ];
+    assert_same(&rt, "kinds of characters", &kinds, &wanted);
+}
+
+#[test]
+fn bytes(rt: HostRuntime) {
+    let bytes = b"a\xC3\xA9\xFF";
+    assert_beside(&rt, bytes, 0, None, Some('a'));
+    assert_beside(&rt, bytes, 1, Some('a'), Some('é'));
+    assert_beside(&rt, bytes, 2, None, None);
+    assert_beside(&rt, bytes, 3, Some('é'), None);
+    assert_beside(&rt, bytes, 4, None, None);
+    assert_beside(&rt, bytes, 5, None, None);
+    assert_same(&rt, "a part", &part(bytes, 1, 2), &"é".as_bytes());
+    let first = (first_code("é".as_bytes()), first_code(bytes));
+    assert_same(&rt, "a first character", &first, &(Some('é'), None));
+    assert_same(&rt, "widths", &(width(b'a'), width(0xC3)), &(1, 2));
+    assert_same(
+        &rt,
+        "bytes that go on",
+        &(goes_on(0xC3), goes_on(0xA9)),
+        &(false, true),
+    );
 }

@@ -1,69 +1,74 @@
-use crate::compare::assert_same;
-use markdown_engine::event::{Kind, Name as EventName};
+use crate::compare::{assert_events, assert_same};
+use markdown_engine::event::Event;
 use markdown_engine::place::START;
 use markdown_engine::state::{Inline, Name, State};
+use markdown_engine::subresult::Subresult;
 use markdown_engine::tokenizer::Tokenizer;
-use markdown_engine::{ParseOptions, ParseState};
-use std::test::Fail;
+use markdown_engine::{Message, ParseOptions, ParseState};
+use std::alloc::Global;
+use std::process::Abort;
 use tests_engine::tables::Ascii;
 use tests_engine::wrapped::{Wrapped, read_wrapped};
 
-#[test]
-fn an_event_is_put_round_all(rt: HostRuntime) -> Result<(), Fail> {
-    let options = ParseOptions::default();
-    let text = ParseState::new(rt.alloc(), b"ab", &options, &Ascii)?;
-    let (events, found) = read_wrapped(rt.alloc(), &text, Wrapped)?;
-    let expected = [
-        (Kind::Enter, EventName::Paragraph, 0),
-        (Kind::Enter, EventName::Data, 0),
-        (Kind::Exit, EventName::Data, 1),
-        (Kind::Enter, EventName::Data, 1),
-        (Kind::Exit, EventName::Data, 2),
-        (Kind::Exit, EventName::Paragraph, 2),
-    ];
-    assert!(rt; events.len() == 6);
-    for at in 0..6 {
-        let event = events.get(at).ok_or("an event")?;
-        assert_same(&rt, &event.kind, &expected[at].0);
-        assert_same(&rt, &event.name, &expected[at].1);
-        assert_same(&rt, &event.point().index, &expected[at].2);
-    }
-    assert!(rt; !found.done);
-    assert!(rt; found.definitions.len() == 1);
-    assert_same(&rt, &found.definitions[0].as_str(), &"a");
-    assert!(rt; found.gfm_footnote_definitions.is_empty());
-    Ok(())
+/// Whether all that was found is the label `a`, with something left to be read.
+fn is_one_label(found: &Subresult<Global>) -> bool {
+    !found.done
+        && found.definitions.len() == 1
+        && found.definitions[0].as_str() == "a"
+        && found.gfm_footnote_definitions.is_empty()
 }
 
-#[test]
-fn an_event_is_put_round_nothing(rt: HostRuntime) -> Result<(), Fail> {
+/// The events of a text, with one round all, and whether the label was found.
+fn wrapped(alloc: Global, bytes: &[u8]) -> Result<(Vec<Event>, bool), Message> {
     let options = ParseOptions::default();
-    let text = ParseState::new(rt.alloc(), b"", &options, &Ascii)?;
-    let (events, found) = read_wrapped(rt.alloc(), &text, Wrapped)?;
-    assert!(rt; events.len() == 2);
-    assert_same(&rt, &events[0].kind, &Kind::Enter);
-    assert_same(&rt, &events[1].kind, &Kind::Exit);
-    for event in &events {
-        assert_same(&rt, &event.name, &EventName::Paragraph);
-        assert_same(&rt, &event.point().index, &0);
-    }
-    assert!(rt; found.definitions.len() == 1);
-    Ok(())
+    let text = ParseState::new(alloc, bytes, &options, &Ascii)?;
+    let (events, found) = read_wrapped(alloc, &text, Wrapped)?;
+    Ok((events, is_one_label(&found)))
 }
 
-#[test]
-fn without_resolvers_no_event_is_round_all(rt: HostRuntime) -> Result<(), Fail> {
+/// The events of a text where no resolver runs, how many labels were found, and how many resolvers
+/// are registered.
+fn unresolved(alloc: Global, bytes: &[u8]) -> Result<(Vec<Event>, usize, usize), Message> {
     let options = ParseOptions::default();
-    let text = ParseState::new(rt.alloc(), b"ab", &options, &Ascii)?;
-    let mut tokenizer = Tokenizer::new(rt.alloc(), START, &text, Wrapped)?;
+    let text = ParseState::new(alloc, bytes, &options, &Ascii)?;
+    let mut tokenizer = Tokenizer::new(alloc, START, &text, Wrapped)?;
     let first = State::Next(Name::Inline(Inline::DataInside));
-    let state = tokenizer.push((0, 0), (2, 0), first);
-    let found = tokenizer.flush(state, false)?;
-    assert!(rt; tokenizer.events.len() == 4);
-    for event in &tokenizer.events {
-        assert_same(&rt, &event.name, &EventName::Data);
+    let state = tokenizer.push((0, 0), (bytes.len(), 0), first);
+    let labels = tokenizer.flush(state, false)?.definitions.len();
+    let resolvers = tokenizer.resolvers.len();
+    Ok((tokenizer.events, labels, resolvers))
+}
+
+/// Stops where a text with an event round all has other events, or where not just the label was found.
+fn assert_wrapped(rt: &(impl AllocGlobal + Abort), bytes: &[u8], wanted: &str) {
+    match wrapped(rt.alloc(), bytes) {
+        Ok((events, is_found)) => {
+            assert!(rt; is_found, "the label of {bytes:?}");
+            assert_events(rt, "an event round all", Ok(events), wanted);
+        }
+        Err(message) => panic!(rt; "{bytes:?}: {message:?}"),
     }
-    assert!(rt; found.definitions.is_empty());
-    assert!(rt; tokenizer.resolvers.len() == 1);
-    Ok(())
+}
+
+#[test]
+fn an_event_is_put_round_all(rt: HostRuntime) {
+    let wanted = "+Paragraph0 +Data0 -Data1 +Data1 -Data2 -Paragraph2 ";
+    assert_wrapped(&rt, b"ab", wanted);
+    assert_wrapped(&rt, b"", "+Paragraph0 -Paragraph0 ");
+}
+
+#[test]
+fn without_resolvers_no_event_is_round_all(rt: HostRuntime) {
+    match unresolved(rt.alloc(), b"ab") {
+        Ok((events, labels, resolvers)) => {
+            assert_same(&rt, "labels and resolvers", &(labels, resolvers), &(0, 1));
+            assert_events(
+                &rt,
+                "no event round all",
+                Ok(events),
+                "+Data0 -Data1 +Data1 -Data2 ",
+            );
+        }
+        Err(message) => panic!(rt; "{message:?}"),
+    }
 }
