@@ -101,7 +101,7 @@ fn close<M, T, A: Allocator>(tokenizer: &mut Tokenizer<'_, M, T, A>) -> State
 }
 
 /// Balanced brackets.
-#[derive(Clone, Copy, Debug, PartialEq, Eq)]
+#[derive(Clone, Copy)]
 pub struct Brackets;
 
 impl<T: Tables> Machine<T> for Brackets {

@@ -13,7 +13,7 @@ use markdown_options::{Message, Tables};
 use std::alloc::Allocator;
 
 /// Consumes every byte.
-#[derive(Clone, Copy, Debug, PartialEq, Eq)]
+#[derive(Clone, Copy)]
 pub struct Count {
     /// How often a byte was handed in.
     pub calls: usize,

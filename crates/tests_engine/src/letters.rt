@@ -20,7 +20,7 @@ use markdown_options::Tables;
 use std::alloc::Allocator;
 
 /// Puts an event round each byte.
-#[derive(Clone, Copy, Debug, PartialEq, Eq)]
+#[derive(Clone, Copy)]
 pub struct Letters;
 
 impl<T: Tables> Machine<T> for Letters {

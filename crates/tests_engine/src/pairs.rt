@@ -126,7 +126,7 @@ fn close<M, T, A: Allocator>(tokenizer: &mut Tokenizer<'_, M, T, A>) -> State
 }
 
 /// Pairs of equal bytes.
-#[derive(Clone, Copy, Debug, PartialEq, Eq)]
+#[derive(Clone, Copy)]
 pub struct Pairs;
 
 impl<T: Tables> Machine<T> for Pairs {

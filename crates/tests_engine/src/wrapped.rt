@@ -1,5 +1,9 @@
 //! A machine that puts an event round each byte, and at the end one round all events.
-ghost use Rattle.std.specs.Prelude.{◌≡◌, ◌∷◌, [], length, IfOk, IfErr};
+ghost use Rattle.std.specs.Prelude.{◌≡◌, ◌∷◌, [], length, IfOk, IfErr, OnOk, None, false, true};
+ghost use Rattle.engine_events.specs.declared.event.Kind.TheVariants.{Enter, Exit};
+ghost use Rattle.engine_events.specs.declared.event.Name.TheVariants.{Paragraph};
+ghost use Rattle.engine_events.specs.Events.{event};
+ghost use Rattle.engine_edits.specs.Edits.{edits_of, with_edit};
 ghost use Rattle.markdown_options.specs.Messages.{IsOutOfMemory};
 ghost use Rattle.markdown_engine.specs.Order.{IsBalanced, AreInOrder};
 ghost use Rattle.markdown_engine.specs.Resolving.{found_in};
@@ -9,18 +13,18 @@ ghost use Rattle.tests_engine.specs.Wrapped.{IsWrapped, found_one_label, reads_w
 ghost use Rattle.tests_engine.specs.WrappedLaws.{wrapped_lawful, wrapped_resolves};
 
 use markdown_engine::event::{Event, Kind, Name as EventName};
-use markdown_engine::place::START;
+use markdown_engine::place::{Point, START};
 use markdown_engine::state::{Inline, Name, State};
 use markdown_engine::subresult::Subresult;
 use markdown_engine::tokenizer::{Machine, Tokenizer};
-use markdown_engine::{Message, ParseState, resolve};
+use markdown_engine::{EditMap, Message, ParseState, resolve};
 use markdown_options::Tables;
 use std::alloc::Allocator;
 
 const BYTES: State = State::Next(Name::Inline(Inline::DataInside));
 
 /// Puts an event round each byte, and one round all.
-#[derive(Clone, Copy, Debug, PartialEq, Eq)]
+#[derive(Clone, Copy)]
 pub struct Wrapped;
 
 /// A list of one.
@@ -47,6 +51,24 @@ fn one_label<A: Allocator + Clone>(alloc: &A) -> Result<Subresult<A>, Message>
         gfm_footnote_definitions: Vec::new(alloc.clone()?),
         definitions,
     })
+}
+
+/// Adds the edits that put an event round so many: one before them, and one after.
+fn add_round<A: Allocator + Clone>(
+    map: &mut EditMap<A>,
+    alloc: &A,
+    from: Point,
+    to: Point,
+    count: usize,
+) -> Result<(), Message>
+    ensures edits { OnOk result (edits_of map.new ≡ with_edit false count 0 (event Exit Paragraph to None ∷ [])
+        (with_edit true 0 0 (event Enter Paragraph from None ∷ []) (edits_of map.old))) }
+    ensures memory { IfErr result IsOutOfMemory }
+{
+    let enter = Event::new(Kind::Enter, EventName::Paragraph, from, None);
+    map.add_before(0, 0, one(alloc.clone()?, enter)?)?;
+    let exit = Event::new(Kind::Exit, EventName::Paragraph, to, None);
+    map.add(count, 0, one(alloc.clone()?, exit)?)
 }
 
 impl<T: Tables> Machine<T> for Wrapped {
@@ -91,13 +113,9 @@ impl<T: Tables> Machine<T> for Wrapped {
             Some(event) => event.point(),
             None => tokenizer.point,
         };
-        let enter = Event::new(Kind::Enter, EventName::Paragraph, first, None);
-        let before = one(tokenizer.events.allocator().clone()?, enter)?;
-        tokenizer.map.add_before(0, 0, before)?;
-        let exit = Event::new(Kind::Exit, EventName::Paragraph, tokenizer.point, None);
         let count = tokenizer.events.len();
-        let after = one(tokenizer.events.allocator().clone()?, exit)?;
-        tokenizer.map.add(count, 0, after)?;
+        let alloc = tokenizer.events.allocator();
+        add_round(&mut tokenizer.map, alloc, first, tokenizer.point, count)?;
         Ok(Some(one_label(tokenizer.events.allocator())?))
     }
 
