@@ -81,13 +81,24 @@ fn bytes_that_are_read(rt: HostRuntime) {
     assert_same(&rt, "a gap in a line isn't read", &gap, &Ok(4));
 }
 
-/// Registers two of three resolvers again.
+/// Three resolvers, and two of them again; and whether each is to run first.
+const REGISTERED: &[(resolve::Name, bool)] = &[
+    (resolve::Name::Text, false),
+    (resolve::Name::Data, false),
+    (resolve::Name::Label, true),
+    (resolve::Name::Text, false),
+    (resolve::Name::Data, true),
+];
+
+/// Registers them.
 fn register(tokenizer: &mut Tokenizer<'_, Count, Ascii, Global>) -> Result<(), Message> {
-    tokenizer.register_resolver(resolve::Name::Text)?;
-    tokenizer.register_resolver(resolve::Name::Data)?;
-    tokenizer.register_resolver_before(resolve::Name::Label)?;
-    tokenizer.register_resolver(resolve::Name::Text)?;
-    tokenizer.register_resolver_before(resolve::Name::Data)?;
+    for (name, is_first) in REGISTERED {
+        if *is_first {
+            tokenizer.register_resolver_before(*name)?;
+        } else {
+            tokenizer.register_resolver(*name)?;
+        }
+    }
     Ok(())
 }
 

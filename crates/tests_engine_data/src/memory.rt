@@ -36,19 +36,15 @@ fn brackets_in_a_small_heap(rt: HostRuntime) {
     assert_same(&rt, "no room", &count_of_deep_text(rt.alloc()), &refused);
 }
 
-/// What a tokenizer answers that is refused memory as it reads: to that text, whether it has failed,
-/// to a further range, and whether it answers an error at the end.
-fn refused_as_it_reads(alloc: Global) -> Result<(State, bool, State, bool), Message> {
+/// What a tokenizer answers that is refused memory as it reads, and whether it has failed then.
+fn refused_as_it_reads(alloc: Global) -> Result<(State, bool), Message> {
     let heap = LocalHeap::new(alloc, 4096)?;
     let options = ParseOptions::default();
     let long = "a".repeat(alloc, 1000)?;
     let text = ParseState::new(&heap, long.as_bytes(), &options, &Ascii)?;
     let mut tokenizer = Tokenizer::new(&heap, START, &text, Letters)?;
     let pushed = tokenizer.push((0, 0), (1000, 0), FIRST);
-    let failed = tokenizer.failed;
-    let later = tokenizer.push((0, 0), (1, 0), FIRST);
-    let is_refused = tokenizer.flush(FIRST, true).is_err();
-    Ok((pushed, failed, later, is_refused))
+    Ok((pushed, tokenizer.failed))
 }
 
 /// What a tokenizer answers after an event was refused that a caller adds: whether it has failed, to
@@ -71,12 +67,7 @@ fn refused_from_outside(alloc: Global) -> Result<Option<(bool, State, bool)>, Me
 fn a_tokenizer_that_was_refused_memory_has_failed(rt: HostRuntime) {
     let refused = State::out_of_memory();
     let reading = refused_as_it_reads(rt.alloc());
-    assert_same(
-        &rt,
-        "as it reads",
-        &reading,
-        &Ok((refused, true, refused, true)),
-    );
+    assert_same(&rt, "as it reads", &reading, &Ok((refused, true)));
     let outside = refused_from_outside(rt.alloc());
     assert_same(
         &rt,

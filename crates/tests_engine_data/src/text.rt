@@ -131,22 +131,29 @@ fn skips(rt: HostRuntime) {
     assert_same(&rt, "a position", &position.to_indices(), &(0, 0));
 }
 
+/// Adds what is shown, and a mark after it.
+fn push_shown(out: &mut String, shown: Result<String, Message>) -> Result<(), Message> {
+    out.push_str(&shown?)?;
+    out.push_str("|")?;
+    Ok(())
+}
+
+/// Adds characters and bytes as they are shown.
+fn push_each(out: &mut String, alloc: Global) -> Result<(), Message> {
+    push_shown(out, format(alloc, 'a'))?;
+    push_shown(out, format(alloc, '`'))?;
+    push_shown(out, format(alloc, '\u{1F600}'))?;
+    push_shown(out, format_opt(alloc, Some('é')))?;
+    push_shown(out, format_opt(alloc, None))?;
+    push_shown(out, format_byte_opt(alloc, Some(b'<')))?;
+    push_shown(out, format_byte_opt(alloc, None))?;
+    push_shown(out, format_byte(alloc, b'\n'))
+}
+
 /// Characters and bytes as they are shown, one after another.
 fn shown(alloc: Global) -> Result<String, Message> {
     let mut out = String::new(alloc);
-    for character in ['a', '`', '\u{1F600}'] {
-        out.push_str(&format(alloc, character)?)?;
-        out.push_str("|")?;
-    }
-    for character in [Some('é'), None] {
-        out.push_str(&format_opt(alloc, character)?)?;
-        out.push_str("|")?;
-    }
-    for byte in [Some(b'<'), None] {
-        out.push_str(&format_byte_opt(alloc, byte)?)?;
-        out.push_str("|")?;
-    }
-    out.push_str(&format_byte(alloc, b'\n')?)?;
+    push_each(&mut out, alloc)?;
     Ok(out)
 }
 
@@ -165,7 +172,7 @@ fn assert_beside(
 #[test]
 fn characters(rt: HostRuntime) {
     let wanted =
-        "`a` (U+0061)|`` ` `` (U+0060)|U+1F600|U+00E9|end of file|`<` (U+003C)|end of file|U+000A";
+        "`a` (U+0061)|`` ` `` (U+0060)|U+1F600|U+00E9|end of file|`<` (U+003C)|end of file|U+000A|";
     let is_shown = match shown(rt.alloc()) {
         Ok(shown) => shown.as_str() == wanted,
         Err(_) => false,
