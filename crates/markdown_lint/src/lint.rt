@@ -1,8 +1,6 @@
 //! Files and their findings.
-use crate::document::Document;
-use crate::finding::Finding;
 use crate::outcome::Outcome;
-use crate::rules::findings_of;
+use lint_rules::{Document, Finding, findings_of};
 use markdown_input::{Fault, Flags, text};
 use markdown_tables::Builtin;
 use parse_events::{SIZE_MAX, parse};

@@ -2,13 +2,8 @@
 #![tactic(auto)]
 
 mod command;
-mod document;
-mod finding;
-mod label;
 mod lint;
 mod outcome;
-mod place;
-mod rules;
 
 use command::Command;
 use lint::lint_files;

@@ -8,7 +8,6 @@ use crate::document::Document;
 use crate::finding::Report;
 use crate::label::normal_label;
 use crate::place::Place;
-use crate::rules::Rule;
 use engine_events::event::{Kind, Name};
 use event_references::label::push_text_at;
 use inline_labels::LabelTable;
@@ -96,7 +95,7 @@ impl Definitions {
                 Use::Unused => format!(in report.alloc(); "nothing refers to {kind}{label:?}")?,
                 Use::Repeated => format!(in report.alloc(); "{kind}{label:?} is defined before")?,
             };
-            report.add_made(Rule::UnusedDefinition, definition.place, what)?;
+            report.add_made(definition.place, what)?;
         }
         Ok(())
     }

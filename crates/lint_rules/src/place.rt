@@ -1,14 +1,16 @@
 //! Lines and columns, for messages.
+ghost use Rattle.std.specs.Prelude.{◌≡◌, ◌≤◌};
+
 use engine_events::Point;
 use engine_events::place::tab_size;
 
 /// A line and a column of a text.
 #[derive(Clone, Copy, Debug, PartialEq, Eq)]
-pub(crate) struct Place {
+pub struct Place {
     /// The line, from 1.
-    pub(crate) line: usize,
+    pub line: usize,
     /// The column, from 1: a byte takes one, a tab those up to the next tab stop.
-    pub(crate) column: usize,
+    pub column: usize,
 }
 
 impl Place {
@@ -16,7 +18,10 @@ impl Place {
     pub(crate) const START: Place = Place { line: 1, column: 1 };
 
     /// The place of a point.
-    pub(crate) fn of(point: Point) -> Place {
+    pub(crate) fn of(point: Point) -> Place
+        ensures line { result.line ≡ point.line }
+        ensures column { result.column ≡ point.column }
+    {
         Place {
             line: point.line,
             column: point.column,
@@ -24,7 +29,10 @@ impl Place {
     }
 
     /// The place after a byte, which ends no line.
-    pub(crate) fn after(self, byte: u8) -> Place {
+    pub(crate) fn after(self, byte: u8) -> Place
+        ensures line { result.line ≡ self.line }
+        ensures column { self.column ≤ result.column }
+    {
         let size = match byte {
             b'\t' => tab_size(self.column),
             _ => 1,

@@ -7,7 +7,6 @@
 use crate::document::{Document, Step};
 use crate::finding::Report;
 use crate::place::Place;
-use crate::rules::Rule;
 use engine_events::event::{Kind, Name};
 use std::alloc::AllocError;
 
@@ -29,7 +28,7 @@ pub(crate) fn check(document: &Document<'_>, report: &mut Report) -> Result<(), 
         if let Some(last) = before {
             if rank > last.saturating_add(1) {
                 let what = format!(in report.alloc(); "rank {rank} after rank {last}")?;
-                report.add_made(Rule::HeadingIncrement, place, what)?;
+                report.add_made(place, what)?;
             }
         }
         before = Some(rank);

@@ -9,7 +9,6 @@
 //! Example: `see http://a.b`.
 use crate::document::{Depth, Document, Step};
 use crate::finding::Report;
-use crate::rules::Rule;
 use engine_events::event::{Kind, Name};
 use std::alloc::AllocError;
 
@@ -45,11 +44,11 @@ fn check_void(gfm: bool, step: &Step<'_>, report: &mut Report) -> Result<(), All
     match step.name {
         Name::Data if !gfm => check_data(step, report),
         Name::GfmAutolinkLiteralProtocol | Name::GfmAutolinkLiteralWww => {
-            report.add(Rule::BareUrl, step.start, "bare URL")
+            report.add(step.start, "bare URL")
         }
         Name::GfmAutolinkLiteralEmail
         | Name::GfmAutolinkLiteralMailto
-        | Name::GfmAutolinkLiteralXmpp => report.add(Rule::BareUrl, step.start, "bare address"),
+        | Name::GfmAutolinkLiteralXmpp => report.add(step.start, "bare address"),
         _ => Ok(()),
     }
 }
@@ -59,7 +58,7 @@ fn check_data(step: &Step<'_>, report: &mut Report) -> Result<(), AllocError> {
     let mut place = step.start;
     for (index, byte) in step.bytes.iter().enumerate() {
         if starts_url(&step.bytes[index..]) {
-            report.add(Rule::BareUrl, place, "bare URL")?;
+            report.add(place, "bare URL")?;
         }
         place = place.after(*byte);
     }

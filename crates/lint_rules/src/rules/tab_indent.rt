@@ -8,7 +8,6 @@
 use crate::document::{Depth, Document};
 use crate::finding::Report;
 use crate::place::Place;
-use crate::rules::Rule;
 use engine_events::event::Name;
 use std::alloc::AllocError;
 
@@ -31,7 +30,7 @@ pub(crate) fn check(document: &Document<'_>, report: &mut Report) -> Result<(), 
             if let Some(found) = ended(indent, step.index) {
                 indent = None;
                 if !code.is_inside() && step.name != Name::CodeIndented {
-                    report.add(Rule::TabIndent, found.place, "tab in the indent of a line")?;
+                    report.add(found.place, "tab in the indent of a line")?;
                 }
             }
         }

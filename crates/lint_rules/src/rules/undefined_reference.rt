@@ -11,7 +11,6 @@ use crate::document::{Depth, Document, Step, is_blank, is_white};
 use crate::finding::Report;
 use crate::label::normal_label;
 use crate::place::Place;
-use crate::rules::Rule;
 use engine_events::event::{Kind, Name};
 use event_references::labels::label_table;
 use inline_labels::LabelTable;
@@ -204,7 +203,7 @@ impl Texts {
 fn add(place: Place, kind: &str, label: &[u8], report: &mut Report) -> Result<(), AllocError> {
     let label = normal_label(report.alloc(), label)?;
     let what = format!(in report.alloc(); "no definition of {kind}{label:?}")?;
-    report.add_made(Rule::UndefinedReference, place, what)
+    report.add_made(place, what)
 }
 
 /// Whether a text begins with an event of this name.

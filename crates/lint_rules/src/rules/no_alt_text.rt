@@ -6,7 +6,6 @@
 use crate::document::{Depth, Document, Step, is_blank};
 use crate::finding::Report;
 use crate::place::Place;
-use crate::rules::Rule;
 use engine_events::event::{Kind, Name};
 use std::alloc::AllocError;
 
@@ -43,7 +42,7 @@ pub(crate) fn check(document: &Document<'_>, report: &mut Report) -> Result<(), 
 fn leave(images: &mut Vec<Image>, report: &mut Report) -> Result<(), AllocError> {
     match images.pop() {
         Some(image) if !image.is_described => {
-            report.add(Rule::NoAltText, image.place, "image without a description")
+            report.add(image.place, "image without a description")
         }
         _ => {
             describe(images);

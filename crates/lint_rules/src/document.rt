@@ -7,13 +7,13 @@ use engine_events::event::{Event, Kind, Name};
 
 /// A text with its events.
 #[derive(Clone, Copy)]
-pub(crate) struct Document<'a> {
+pub struct Document<'a> {
     /// The text.
-    pub(crate) bytes: &'a [u8],
+    pub bytes: &'a [u8],
     /// Its events.
-    pub(crate) events: &'a [Event],
+    pub events: &'a [Event],
     /// Whether it was read as GitHub Flavored Markdown.
-    pub(crate) gfm: bool,
+    pub gfm: bool,
 }
 
 impl<'a> Document<'a> {

@@ -7,7 +7,6 @@
 use crate::document::{Document, Step};
 use crate::finding::Report;
 use crate::place::Place;
-use crate::rules::Rule;
 use engine_events::event::{Kind, Name};
 use std::alloc::AllocError;
 
@@ -66,7 +65,7 @@ fn check_marker(
             let before = char::from(before);
             let marker = char::from(marker);
             let what = format!(in report.alloc(); "list with {marker} after a list with {before}")?;
-            report.add_made(Rule::ListMarker, list.place, what)
+            report.add_made(list.place, what)
         }
         _ => Ok(()),
     }

@@ -7,7 +7,6 @@
 use crate::document::Document;
 use crate::finding::Report;
 use crate::place::Place;
-use crate::rules::Rule;
 use engine_events::event::{Kind, Name};
 use event_references::label::push_text_at;
 use inline_labels::LabelTable;
@@ -33,7 +32,7 @@ pub(crate) fn check(document: &Document<'_>, report: &mut Report) -> Result<(), 
         } else if let Some(first) = first_place(&earlier, &places, &text)? {
             let line = first.line;
             let what = format!(in report.alloc(); "same heading as on line {line}")?;
-            report.add_made(Rule::DuplicateHeading, place, what)?;
+            report.add_made(place, what)?;
         }
     }
     Ok(())

@@ -7,7 +7,6 @@
 use crate::document::Document;
 use crate::finding::Report;
 use crate::place::Place;
-use crate::rules::Rule;
 use engine_events::event::Name;
 use std::alloc::AllocError;
 
@@ -45,11 +44,7 @@ fn check_line(start: Place, line: &[u8], report: &mut Report) -> Result<(), Allo
         place = place.after(*byte);
     }
     match white {
-        Some(place) => report.add(
-            Rule::TrailingSpaces,
-            place,
-            "white space at the end of a line",
-        ),
+        Some(place) => report.add(place, "white space at the end of a line"),
         None => Ok(()),
     }
 }
