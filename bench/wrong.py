@@ -19,7 +19,7 @@ BEGIN, END = "<!-- wrong -->\n", "<!-- end of wrong -->\n"
 HEAD = ["| Crate | Edit | What is wrong | Refused by | Tried |", "|---|---|---|---|---|"]
 # What `rt must-fail` says of an edit.
 SAID = re.compile(r"rt: must-fail (\w+)/([\w.-]+)\.edit: (.*)")
-REFUSED = "refused, as it must be"
+REFUSED, NOT_TRIED = "refused, as it must be", "NOT TRIED"
 
 
 def edits():
@@ -71,7 +71,7 @@ def short(told):
     """The function and the goal that a message of the prover is of, or else the file and what it says."""
     match = re.match(r"(?:note: )?(?:\./)?(\S+?):\d+:\d+: (?:error: |note: )?(.*)", told)
     place, words = (match[1], match[2]) if match else ("", told)
-    goal = re.search(r"`([\w-]+)`", words)
+    goal = re.search(r"\(`([\w-]+)`\)", words) or re.match(r"`([\w-]+)`:", words)
     place = re.sub(r"^proofs/(.*)/(Answers|Invariants|Proof)\.antt$", lambda it: it[1].replace("/", "::"), place)
     return f"{place}: {goal[1] if goal else words}".replace("|", "\\|")
 
@@ -118,10 +118,10 @@ def note(crate):
     said = {match[2]: match[3] for match in SAID.finditer(log) if match[1] == crate}
     tried, sound = {}, True
     for file in edits()[crate]:
-        by, shows = refusal(said[file.stem]) if file.stem in said else ("not tried", False)
+        by, shows = refusal(said.get(file.stem, NOT_TRIED))
         print(f"{'' if shows else 'FAILED: '}{crate}/{file.stem}: {by}", flush=True)
         sound = sound and shows
-        if file.stem in said:
+        if by != NOT_TRIED.lower():
             tried[crate, file.stem] = by, today
     if not sound:
         print(log, end="", flush=True)

@@ -1,0 +1,30 @@
+//! A list of events to HTML.
+ghost use Rattle.std.specs.Prelude.{◌≡◌, IfErr, IfOk, OnOk, string_bytes};
+ghost use Rattle.event_meaning.specs.Spelled.{html_of_events};
+ghost use Rattle.laws_safe_page.specs.SafeHtml.{AreSafe, HasOneReading};
+ghost use Rattle.event_grammar.specs.Faults.{fault};
+ghost use Rattle.event_check.specs.Matches.{MatchesGrammar};
+ghost use Rattle.event_check.specs.Checked.{Refuses};
+ghost use Rattle.event_check.specs.declared.error.CompileError.TheVariants.{Memory};
+
+use engine_events::Event;
+use event_check::CompileError;
+use markdown_options::{CompileOptions, Tables};
+use std::alloc::Allocator;
+
+/// `compile_html::compile`: a list that is refused has no page.
+pub fn compile<T: Tables, A: Allocator + Clone>(
+    alloc: A,
+    events: &[Event],
+    bytes: &[u8],
+    options: &CompileOptions,
+    tables: &T,
+) -> Result<String<A>, CompileError>
+    ensures right { OnOk result (MatchesGrammar (T.reference_of tables.now) bytes.now events.now) }
+    ensures passes { MatchesGrammar (T.reference_of tables.now) bytes.now events.now → IfErr result (λ error. error ≡ Memory) }
+    ensures fault { IfErr result (λ error. Refuses error (fault (T.reference_of tables.now) bytes.now events.now)) }
+    ensures page { IfOk result (λ html. string_bytes html ≡ html_of_events (T.reference_of tables.now) options.now bytes.now events.now) }
+    ensures safe { AreSafe options.now → IfOk result (λ html. HasOneReading (string_bytes html)) }
+{
+    compile_html::compile(alloc, events, bytes, options, tables)
+}
