@@ -19,7 +19,7 @@ use Rattle.parse_open.specs.Open.{Opened, opened}
 use Rattle.parse_open.specs.Fronts.{ends_in_blank}
 use Rattle.parse_open.specs.Levels.{Spells}
 use Rattle.parse_open.specs.Steps.{IsBegun, LevelsGoOn}
-use Rattle.parse_leaves.specs.Laid.{AreEnding, WritesBlank}
+use Rattle.parse_raw.specs.Laid.{AreEnding, WritesBlank}
 use Rattle.parse_events.specs.Stands.{Stands}
 use Rattle.parse_events.proofs.Endings.{IsApart, begun_more, next_line, quiet_mute, with_none}
 use Rattle.parse_events.proofs.LastBlank.{blank_ends}

@@ -20,8 +20,8 @@ use Rattle.parse_output.specs.declared.end.End.{End}
 use Rattle.parse_output.specs.Ends.{end_at}
 use Rattle.parse_output.specs.Forest.{void_nodes}
 use Rattle.parse_output.specs.Written.{forest_in}
-use Rattle.parse_leaves.specs.Laid.{AreEnding, WritesBlankLaid}
-use Rattle.parse_leaves.proofs.Endings.{ending_nodes}
+use Rattle.parse_raw.specs.Laid.{AreEnding, WritesBlankLaid}
+use Rattle.parse_raw.proofs.Endings.{ending_nodes}
 use Rattle.parse_laid.specs.Begun.{is_in_line}
 use Rattle.parse_laid.specs.Laid.{IsBlankLaid}
 use Rattle.parse_laid.specs.Places.{LineRest, Place, Between, Within, AtEnding, line_left, unread}

@@ -34,7 +34,7 @@ use Rattle.parse_open.proofs.LineCounts.{lines_are_counted}
 use Rattle.parse_open.specs.Fronts.{ends_in_blank}
 use Rattle.parse_open.specs.Levels.{AreMute, Spells}
 use Rattle.parse_open.specs.Steps.{IsBegun, LevelsGoOn}
-use Rattle.parse_leaves.specs.Laid.{AreEnding}
+use Rattle.parse_raw.specs.Laid.{AreEnding}
 use Rattle.parse_events.specs.Stands.{IsAfterOther, Stands}
 use Rattle.parse_events.proofs.LastBlank.{ending_ends}
 

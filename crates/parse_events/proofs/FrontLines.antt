@@ -7,7 +7,7 @@ use Rattle.markdown_options.specs.declared.line_ending.LineEnding.TheVariants.{C
 use Rattle.definition_text.specs.Lines.{TextLine, text_line, in_first_line, after_return, lines, ending_text}
 use Rattle.definition_block.specs.Frontmatter.{after_frontmatter}
 use Rattle.parse_lines.proofs.Lines.{joined, lines_joined}
-use Rattle.parse_leaves.proofs.MetadataLines.{front_lines}
+use Rattle.parse_raw.proofs.MetadataLines.{front_lines}
 
 abbrev Line : Type 0
 Line = TextLine

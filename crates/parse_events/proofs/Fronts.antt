@@ -35,7 +35,7 @@ use Rattle.parse_laid.specs.Laid.{unread_after}
 use Rattle.parse_laid.specs.Places.{Between, unread}
 use Rattle.parse_open.specs.Fronts.{IsFront, SpellsNothing}
 use Rattle.parse_open.proofs.Fronts.{front_alone, front_ended, front_none, nothing_both, nothing_mark, nothing_mute}
-use Rattle.parse_leaves.specs.Laid.{AreEnding, HasFrontmatter, WritesFront, WritesFrontLaid}
+use Rattle.parse_raw.specs.Laid.{AreEnding, HasFrontmatter, WritesFront, WritesFrontLaid}
 use Rattle.parse_events.specs.Document.{StandsAfterMark, StandsBefore}
 use Rattle.parse_events.proofs.Endings.{quiet_mute}
 use Rattle.parse_events.proofs.FrontLines.{SomeFront}

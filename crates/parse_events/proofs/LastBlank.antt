@@ -26,7 +26,7 @@ use Rattle.parse_open.specs.Open.{Level}
 use Rattle.parse_open.specs.Fronts.{ends_in_blank}
 use Rattle.parse_open.specs.Levels.{AreMute}
 use Rattle.parse_open.proofs.Ends.{blank_one, block_other, ends_blank_one, ends_mute, ends_one, none_or_other}
-use Rattle.parse_leaves.specs.Laid.{AreEnding}
+use Rattle.parse_raw.specs.Laid.{AreEnding}
 use Rattle.parse_events.specs.LastBlank.{AreEndsAlike, HasMore}
 
 -- ---- a line without an ending isn't empty

@@ -24,11 +24,11 @@ use Rattle.parse_lines.specs.declared.walk.Walk.{Walk}
 use Rattle.parse_lines.specs.Ends.{written_to}
 use Rattle.parse_lines.specs.Standing.{Standing, StandsAt, around, standing}
 use Rattle.parse_leaves.specs.Definition.{IsOnOneLine, WritesDefinition, WritesReadDefinition}
-use Rattle.parse_leaves.specs.Laid.{WritesReadInside, WritesReadToEnd, WritesReadUnclosed, WritesToEnd}
-use Rattle.parse_leaves.specs.Reads.{WritesReadLeaf}
+use Rattle.parse_raw.specs.Laid.{WritesReadInside, WritesReadToEnd, WritesReadUnclosed, WritesToEnd}
+use Rattle.parse_raw.specs.Reads.{WritesReadLeaf}
 use Rattle.parse_leaves.specs.Rows.{WritesRow}
 use Rattle.parse_leaves.proofs.RowLeaves.{all_taken}
-use Rattle.parse_leaves.specs.Written.{WritesLeaf, node_end, node_start}
+use Rattle.parse_raw.specs.Written.{WritesLeaf, node_end, node_start}
 use Rattle.parse_alike.specs.Composed.{is_unclosed}
 use Rattle.parse_laid.specs.Begun.{is_in_line}
 use Rattle.parse_laid.specs.Laid.{IsRowLaid, IsWrittenLaid}

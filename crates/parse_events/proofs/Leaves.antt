@@ -23,8 +23,8 @@ use Rattle.parse_open.specs.Open.{Opened, opened, is_in_list}
 use Rattle.parse_open.specs.Fronts.{ends_in_blank}
 use Rattle.parse_open.specs.Levels.{Spells}
 use Rattle.parse_open.specs.Steps.{IsBegun, LevelsGoOn, next_stands}
-use Rattle.parse_leaves.specs.Written.{SpellsLeaf, WritesLeaf, node_end, node_start}
-use Rattle.parse_leaves.specs.Laid.{WritesToEnd}
+use Rattle.parse_raw.specs.Written.{SpellsLeaf, WritesLeaf, node_end, node_start}
+use Rattle.parse_raw.specs.Laid.{WritesToEnd}
 use Rattle.parse_events.specs.Stands.{Stands}
 use Rattle.parse_events.proofs.Endings.{begun_more, quiet_mute}
 use Rattle.parse_events.proofs.LastBlank.{leaf_ends}

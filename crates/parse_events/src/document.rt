@@ -32,9 +32,9 @@ use block_targets::{definition_contents, document_definitions, document_footnote
 use engine_events::Event;
 use engine_events::event::Name;
 use markdown_options::{Constructs, Kind, Message, ParseOptions, Tables};
-use parse_leaves::{Texts, push_frontmatter};
 use parse_lines::Walk;
 use parse_lines::cut::up_to;
+use parse_raw::{Texts, push_frontmatter};
 use std::alloc::{AllocError, Allocator};
 use text_lines::without_mark;
 use text_pieces::Piece;

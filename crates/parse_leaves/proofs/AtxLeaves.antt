@@ -39,12 +39,12 @@ use Rattle.parse_lines.specs.Standing.{Standing, StandsAt, around, standing}
 use Rattle.parse_strings.proofs.Spelled.{token_text}
 use Rattle.parse_inline.specs.Texts.{AreMeanings}
 use Rattle.parse_leaves.specs.Atx.{WritesClosing, WritesHeadingText}
-use Rattle.parse_leaves.specs.Before.{IsOnLine, WritesOnLine, tokens}
-use Rattle.parse_leaves.specs.Calls.{EnterCall, ExitCall, ToCall, TokenCall}
-use Rattle.parse_leaves.specs.Written.{SpellsLeaf, WritesLeaf}
+use Rattle.parse_raw.specs.Before.{IsOnLine, WritesOnLine, tokens}
+use Rattle.parse_raw.specs.Calls.{EnterCall, ExitCall, ToCall, TokenCall}
+use Rattle.parse_raw.specs.Written.{SpellsLeaf, WritesLeaf}
 use Rattle.parse_leaves.proofs.AtxLists.{atx_front, atx_on, text_bytes}
 use Rattle.parse_leaves.proofs.AtxParts.{hash_named, hash_within, space_within}
-use Rattle.parse_leaves.proofs.OnLine.{around_on, entered_on, next_parts, on_end, on_line_both, some_on, white_ahead}
+use Rattle.parse_raw.proofs.OnLine.{around_on, entered_on, next_parts, on_end, on_line_both, some_on, white_ahead}
 use Rattle.parse_leaves.proofs.TextLeaves.{none_alike, open_both}
 use Rattle.parse_leaves.proofs.Underlines.{named_pair, space_named}
 

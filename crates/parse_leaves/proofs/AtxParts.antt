@@ -37,12 +37,12 @@ use Rattle.parse_lines.proofs.Ahead.{next_after}
 use Rattle.parse_lines.proofs.Parts.{part_begins, same_line}
 use Rattle.parse_strings.proofs.Spelled.{whole_end}
 use Rattle.parse_leaves.specs.Atx.{WritesClosing, WritesHeadingText}
-use Rattle.parse_leaves.specs.Before.{IsOnLine, WritesOnLine, tokens}
-use Rattle.parse_leaves.specs.Calls.{ToCall, TokenCall}
+use Rattle.parse_raw.specs.Before.{IsOnLine, WritesOnLine, tokens}
+use Rattle.parse_raw.specs.Calls.{ToCall, TokenCall}
 use Rattle.parse_leaves.specs.Entered.{WritesContentIn}
 use Rattle.parse_leaves.specs.Texts.{read_content}
-use Rattle.parse_leaves.proofs.LineTokens.{after_first}
-use Rattle.parse_leaves.proofs.OnLine.{all_on, on_line_both, some_on}
+use Rattle.parse_raw.proofs.LineTokens.{after_first}
+use Rattle.parse_raw.proofs.OnLine.{all_on, on_line_both, some_on}
 use Rattle.parse_leaves.proofs.Underlines.{named_pair, space_named}
 
 pub hash_named : (text : List ℕ) (index : ℕ) (front : List ℕ) → named n.Definition (tokens text n.HeadingAtxSequence index front) ≡ []

@@ -70,13 +70,14 @@ use Rattle.parse_links.specs.Tails.{title_string}
 use Rattle.parse_leaves.specs.Definition.{IsOnOneLine, WritesDefinition, WritesReadDefinition}
 use Rattle.parse_leaves.specs.Entered.{text_stop}
 use Rattle.parse_leaves.specs.Rows.{WritesRow}
-use Rattle.parse_leaves.specs.Written.{SpellsLeaf}
+use Rattle.parse_raw.specs.Written.{SpellsLeaf}
 use Rattle.parse_leaves.proofs.Entered.{white_entered}
 use Rattle.parse_leaves.proofs.Indents.{void_quiet, whole_start}
 use Rattle.parse_leaves.proofs.Lines.{text_begins, text_stops}
 use Rattle.parse_leaves.proofs.Starts.{BeginsDark, count_dark, count_white, start_dark, white_count, white_fits}
 use Rattle.parse_leaves.proofs.TakenLines.{lines_after, taken_codes, text_lines}
-use Rattle.parse_leaves.proofs.TextLeaves.{cut_one, open_both, same_content}
+use Rattle.parse_leaves.proofs.TextLeaves.{open_both, same_content}
+use Rattle.parse_raw.proofs.LeafNodes.{cut_one}
 
 -- ---- what a node spells
 

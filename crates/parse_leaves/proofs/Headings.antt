@@ -13,7 +13,8 @@ use Rattle.parse_laid.specs.Places.{LineRest, Within, line_left}
 use Rattle.parse_laid.proofs.HeadingSetext.{no_text}
 use Rattle.parse_lines.specs.declared.walk.Walk.{Walk}
 use Rattle.parse_lines.specs.Standing.{around, standing}
-use Rattle.parse_leaves.specs.Reads.{WritesAtxHeading, WritesReadLeaf, WritesSetextHeading}
+use Rattle.parse_raw.specs.Reads.{WritesReadLeaf}
+use Rattle.parse_leaves.specs.Headings.{WritesAtxHeading, WritesSetextHeading}
 use Rattle.parse_leaves.proofs.RowLeaves.{own_size}
 
 one_piece : (pieces : List Piece) (d : Piece) → length pieces ≡ 1 → piece_line (get_or pieces 0 d) ∷ [] ≡ piece_lines pieces

@@ -19,7 +19,7 @@ use Rattle.parse_lines.proofs.ContentLines.{content_done}
 use Rattle.parse_lines.proofs.InContent.{line_enters}
 use Rattle.parse_leaves.specs.Entered.{WritesContentIn}
 use Rattle.parse_leaves.specs.Texts.{WritesContent}
-use Rattle.parse_leaves.proofs.TextLeaves.{cut_one}
+use Rattle.parse_raw.proofs.LeafNodes.{cut_one}
 
 pub text_in_event : {A : Type 0} (r : Reading) (name : Name) (content : List ℕ) (is : Inlines) (old b c new : Walk A) → same_name name n.Data ≡ false
     → standing b ≡ standing old → ((text line : List ℕ) → StandsInLine text line old → EntersInLine text name line old b)

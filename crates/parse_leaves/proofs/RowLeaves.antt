@@ -19,8 +19,8 @@ use Rattle.inline_content.specs.Lines.{AreContentLines}
 use Rattle.text_lines.proofs.Codes.{no_bytes}
 use Rattle.parse_lines.specs.declared.walk.Walk.{Walk}
 use Rattle.parse_lines.proofs.Columns.{tail_bytes}
-use Rattle.parse_leaves.specs.Laid.{WritesReadUnclosed}
-use Rattle.parse_leaves.specs.Reads.{WritesReadLeaf}
+use Rattle.parse_raw.specs.Laid.{WritesReadUnclosed}
+use Rattle.parse_raw.specs.Reads.{WritesReadLeaf}
 use Rattle.parse_leaves.specs.Rows.{AreLinesOf, WritesRow}
 
 -- all lines of a row

@@ -47,9 +47,10 @@ use Rattle.parse_strings.proofs.Spelled.{whole_end}
 use Rattle.parse_inline.specs.Texts.{AreMeanings}
 use Rattle.parse_leaves.specs.Entered.{EntersAt, EntersText, WritesContentIn, WritesUnderline}
 use Rattle.parse_leaves.specs.Texts.{read_content}
-use Rattle.parse_leaves.specs.Written.{SpellsLeaf, WritesLeaf}
-use Rattle.parse_leaves.proofs.Nodes.{child_append, quiet_definitions, void_cases}
-use Rattle.parse_leaves.proofs.TextLeaves.{cut_one, enters_lines, none_alike, open_both}
+use Rattle.parse_raw.specs.Written.{SpellsLeaf, WritesLeaf}
+use Rattle.parse_raw.proofs.Nodes.{child_append, quiet_definitions, void_cases}
+use Rattle.parse_leaves.proofs.TextLeaves.{enters_lines, none_alike, open_both}
+use Rattle.parse_raw.proofs.LeafNodes.{cut_one}
 
 -- ---- the rank
 

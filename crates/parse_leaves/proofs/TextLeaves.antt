@@ -37,23 +37,16 @@ use Rattle.parse_lines.specs.Steps.{HasSameOpen}
 use Rattle.parse_lines.proofs.ContentLines.{content_done}
 use Rattle.parse_strings.specs.Plain.{ArePlain}
 use Rattle.parse_inline.specs.Texts.{AreMeanings, WritesText}
+use Rattle.parse_raw.proofs.LeafNodes.{cut_one}
 use Rattle.parse_leaves.specs.Entered.{EntersAt, EntersText, text_stop}
 use Rattle.parse_leaves.specs.Texts.{WritesContent, read_content}
-use Rattle.parse_leaves.specs.Written.{SpellsLeaf, WritesLeaf}
+use Rattle.parse_raw.specs.Written.{SpellsLeaf, WritesLeaf}
 use Rattle.parse_leaves.proofs.Lines.{text_begins}
 
 -- three facts of a call that succeeds
 pub three_ok : {T E P Q S R : Type 0} (r : Result T E) → (P → Q → S → R) → OnOk r P → OnOk r Q → OnOk r S → OnOk r R
 three_ok (Ok x) f p q s = f p q s
 three_ok (Err e) f p q s = tt
-
--- a node that isn't data stays as it is
-pub cut_one : (text : List ℕ) (name : Name) (from to : End) (ns : Nodes) → same_name name n.Data ≡ false
-    → cut (Around (enter_at text name from) ns (exit_at text name to)) ≡ one (Around (enter_at text name from) ns (exit_at text name to))
-cut_one text name from to ns other =
-    let enter = enter_at text name from in
-    let exit = exit_at text name to in
-    ap (λ (same : Bool). if same && is_nil ns then bytes_from enter exit else one (Around enter ns exit)) other
 
 -- no definitions
 pub none_alike : (m m' : Meaning) (names : Names) (text : List ℕ) (ds : List Node) → ds ≡ []

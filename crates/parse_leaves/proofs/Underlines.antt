@@ -19,12 +19,12 @@ use Rattle.parse_lines.specs.Ends.{IsWrittenToRest, bare_end, written_to}
 use Rattle.parse_lines.specs.Standing.{Standing, StandsAt, standing}
 use Rattle.parse_strings.proofs.PlainNodes.{named_both}
 use Rattle.parse_strings.proofs.Spelled.{token_text}
-use Rattle.parse_leaves.specs.Before.{IsOnLine, tokens}
-use Rattle.parse_leaves.specs.Calls.{EnterCall, ExitCall, ToCall, TokenCall}
+use Rattle.parse_raw.specs.Before.{IsOnLine, tokens}
+use Rattle.parse_raw.specs.Calls.{EnterCall, ExitCall, ToCall, TokenCall}
 use Rattle.parse_leaves.specs.Entered.{WritesUnderline}
-use Rattle.parse_leaves.proofs.OnLine.{all_on, around_on, entered_on, next_parts, on_end, on_line_both, some_on, white_ahead}
+use Rattle.parse_raw.proofs.OnLine.{all_on, around_on, entered_on, next_parts, on_end, on_line_both, some_on, white_ahead}
 use Rattle.parse_leaves.proofs.TextLeaves.{open_both}
-use Rattle.parse_leaves.proofs.Tokens.{run_some}
+use Rattle.parse_raw.proofs.Tokens.{run_some}
 
 -- the bytes of the sequence
 sequence_in : (text : List ℕ) (index : ℕ) (front line : List ℕ) (ms : Nodes) → 0 < length front → AreNext text (end_at index 0) (front ++ line)

@@ -14,7 +14,7 @@ use Rattle.parse_alike.specs.Inline.{ArePartsAlike}
 use Rattle.parse_laid.specs.Places.{LineRest}
 use Rattle.parse_lines.specs.declared.walk.Walk.{Walk}
 use Rattle.parse_inline.specs.Texts.{AreMeanings}
-use Rattle.parse_leaves.specs.Before.{WritesOnLine}
+use Rattle.parse_raw.specs.Before.{WritesOnLine}
 
 -- The text of a heading is written in an event, or nothing if it is empty, and these bytes are left of the line.
 pub record WritesHeadingText {A : Type 0} (on : Constructs) (names : Names) (text : List ℕ) (is : Inlines) (ending : Option LineEnding) (left : List LineRest)

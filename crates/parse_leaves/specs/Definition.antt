@@ -20,7 +20,7 @@ use Rattle.parse_lines.specs.Ends.{IsWrittenToRest, written_to}
 use Rattle.parse_lines.specs.Quiet.{AreQuiet}
 use Rattle.parse_lines.specs.Standing.{StandsAt, around, standing}
 use Rattle.parse_lines.specs.Steps.{HasSameOpen}
-use Rattle.parse_leaves.specs.Written.{SpellsLeaf, node_end, node_start}
+use Rattle.parse_raw.specs.Written.{SpellsLeaf, node_end, node_start}
 
 -- no line ends between two indices of a text
 pub record IsOnOneLine (text : List ℕ) (from to : ℕ) : Type 0 where

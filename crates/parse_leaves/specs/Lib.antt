@@ -1,14 +1,6 @@
 pub mod Texts
 pub mod Entered
-pub mod Written
-pub mod Reads
+pub mod Headings
 pub mod Definition
-pub mod Laid
-pub mod RawLines
-pub mod Tokens
 pub mod Rows
-pub mod FenceParts
-pub mod Before
-pub mod Fences
 pub mod Atx
-pub mod Calls

@@ -10,8 +10,8 @@ use Rattle.block_rows.specs.declared.row.Row.{Row}
 use Rattle.block_rows.specs.declared.row.Row.TheVariants as row
 use Rattle.parse_lines.specs.declared.walk.Walk.{Walk}
 use Rattle.parse_leaves.specs.Definition.{WritesReadDefinition}
-use Rattle.parse_leaves.specs.Laid.{WritesReadUnclosed}
-use Rattle.parse_leaves.specs.Reads.{WritesReadLeaf}
+use Rattle.parse_raw.specs.Laid.{WritesReadUnclosed}
+use Rattle.parse_raw.specs.Reads.{WritesReadLeaf}
 
 -- lines as a paragraph or a heading has them
 abbrev pub AreOfRow : Row → List BlockLine → Type 0

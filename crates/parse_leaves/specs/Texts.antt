@@ -16,7 +16,7 @@ use Rattle.event_grammar.specs.Trees.{Nodes}
 use Rattle.parse_lines.specs.InContent.{IsWhole, StandsInContent, Stop, WritesInContent}
 use Rattle.parse_lines.specs.Quiet.{AreQuiet}
 use Rattle.parse_inline.specs.Texts.{StandsInText, WritesText}
-use Rattle.parse_leaves.specs.declared.texts.Texts.{Texts}
+use Rattle.parse_raw.specs.declared.texts.Texts.{Texts}
 
 -- the labels that texts are read by are those of these targets
 abbrev pub KnowsTargets : {T A : Type 0} → Texts T A → Targets → Type 0

@@ -10,11 +10,11 @@ ghost use Rattle.parse_leaves.specs.Rows.{WritesRow};
 ghost use Rattle.parse_leaves.specs.Texts.{KnowsTargets, reading_by};
 
 use crate::buffers::Buffers;
-use crate::texts::Texts;
 use engine_events::event::Name;
 use markdown_options::Tables;
 use parse_lines::Walk;
 use parse_lines::cut::from;
+use parse_raw::Texts;
 use std::alloc::{AllocError, Allocator};
 use text_bytes::white_size;
 use text_pieces::{Piece, join_lines};

@@ -15,16 +15,16 @@ ghost use Rattle.parse_lines.specs.Ends.{IsWrittenToRest};
 ghost use Rattle.parse_lines.specs.Open.{still_open};
 ghost use Rattle.parse_lines.specs.Standing.{StandsAt, standing};
 ghost use Rattle.parse_leaves.specs.Entered.{WritesUnderline};
-ghost use Rattle.parse_leaves.specs.Reads.{WritesSetextHeading};
+ghost use Rattle.parse_leaves.specs.Headings.{WritesSetextHeading};
 ghost use Rattle.parse_leaves.specs.Texts.{KnowsTargets, reading_by};
 
 use crate::buffers::Buffers;
 use crate::text::{enter_text, push_text_in};
-use crate::texts::Texts;
 use engine_events::event::Name;
 use markdown_options::{Kind, Tables};
 use parse_lines::Walk;
 use parse_lines::cut::first;
+use parse_raw::Texts;
 use std::alloc::{AllocError, Allocator};
 use text_bytes::run;
 use text_pieces::Piece;

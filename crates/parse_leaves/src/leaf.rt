@@ -9,17 +9,16 @@ ghost use Rattle.parse_leaves.specs.Rows.{AreLinesOf, WritesRow};
 ghost use Rattle.parse_leaves.specs.Texts.{KnowsTargets, reading_by};
 
 use crate::buffers::Buffers;
-use crate::code_fenced::{push_fenced_code, push_unclosed_code, push_whole_code};
-use crate::code_indented::push_indented_code;
 use crate::definition::push_definition;
 use crate::heading::push_any_heading;
-use crate::html_flow::push_html;
 use crate::paragraph::{push_paragraph, push_whole_paragraph};
-use crate::texts::Texts;
-use crate::thematic_break::push_thematic_break;
 use block_rows::Row;
 use markdown_options::Tables;
 use parse_lines::Walk;
+use parse_raw::{
+    Texts, push_fenced_code, push_html, push_indented_code, push_thematic_break,
+    push_unclosed_code, push_whole_code,
+};
 use std::alloc::{AllocError, Allocator};
 use text_pieces::Piece;
 

@@ -8,15 +8,15 @@ ghost use Rattle.text_pieces.specs.Pieces.{piece_lines, whole_lines};
 ghost use Rattle.parse_output.specs.Children.{holds_blocks};
 ghost use Rattle.parse_lines.specs.Open.{still_open};
 ghost use Rattle.parse_leaves.specs.Texts.{KnowsTargets, reading_by};
-ghost use Rattle.parse_leaves.specs.Reads.{WritesReadLeaf};
+ghost use Rattle.parse_raw.specs.Reads.{WritesReadLeaf};
 
 use crate::buffers::Buffers;
 use crate::text::{enter_text, push_content, push_text};
-use crate::texts::Texts;
 use engine_events::event::Name;
 use inline_content::whole_content;
 use markdown_options::{Kind, Tables};
 use parse_lines::Walk;
+use parse_raw::Texts;
 use std::alloc::{AllocError, Allocator};
 use text_pieces::Piece;
 

@@ -20,7 +20,6 @@ ghost use Rattle.inline_content.specs.View.{content_view, view_at};
 ghost use Rattle.inline_parser.specs.Scanned.{IsPlace};
 
 use crate::buffers::Buffers;
-use crate::texts::Texts;
 use block_starts::Cursor;
 use engine_events::event::Name;
 use inline_content::{Content, line_content};
@@ -30,6 +29,7 @@ use markdown_options::{Kind, Tables};
 use parse_inline::gfm_task_list_item::push_check;
 use parse_inline::{Open, Reading, push_rows};
 use parse_lines::Walk;
+use parse_raw::Texts;
 use std::alloc::{AllocError, Allocator};
 use text_bytes::white_size;
 use text_pieces::Piece;

@@ -20,7 +20,7 @@ use Rattle.parse_output.specs.Forest.{append, one, void_nodes}
 use Rattle.parse_strings.proofs.PlainNodes.{named_both}
 use Rattle.parse_alike.specs.Inline.{ArePartsAlike}
 use Rattle.parse_alike.specs.Meanings.{AreMeanings}
-use Rattle.parse_leaves.proofs.Nodes.{void_cases}
+use Rattle.parse_raw.proofs.Nodes.{void_cases}
 use Rattle.parse_tables.specs.Before.{AreInRow}
 use Rattle.parse_tables.proofs.ColumnNodes.{named_void}
 use Rattle.parse_tables.specs.Cells.{SpellCells}

@@ -29,7 +29,7 @@ use Rattle.parse_laid.specs.Places.{LineRest}
 use Rattle.parse_lines.specs.declared.walk.Walk.{Walk}
 use Rattle.parse_lines.specs.Ends.{WritesUpTo, written_to}
 use Rattle.parse_lines.specs.Standing.{standing}
-use Rattle.parse_leaves.proofs.Nodes.{void_cases}
+use Rattle.parse_raw.proofs.Nodes.{void_cases}
 use Rattle.parse_leaves.proofs.RowLeaves.{piece_bytes}
 use Rattle.parse_tables.specs.Before.{IsBefore, WritesTo}
 use Rattle.parse_tables.specs.LineCells.{AreCellsOf, after_first_bar}

@@ -30,8 +30,8 @@ use Rattle.parse_lines.specs.Quiet.{AreQuiet}
 use Rattle.parse_lines.specs.Standing.{Standing, StandsAt, around, standing}
 use Rattle.parse_lines.specs.Steps.{HasSameOpen, PassesLine}
 use Rattle.parse_lines.proofs.Ends.{end_to_next}
-use Rattle.parse_leaves.specs.Laid.{AreEnding}
-use Rattle.parse_leaves.proofs.Endings.{ending_nodes}
+use Rattle.parse_raw.specs.Laid.{AreEnding}
+use Rattle.parse_raw.proofs.Endings.{ending_nodes}
 use Rattle.parse_leaves.proofs.RowLeaves.{piece_bytes}
 use Rattle.parse_tables.specs.Before.{IsBefore, WritesTo}
 use Rattle.parse_tables.specs.LineCells.{AreCellsOf, after_first_bar}

@@ -31,8 +31,8 @@ use Rattle.parse_lines.proofs.Quiet.{quiet_named}
 use Rattle.parse_alike.specs.Inline.{ArePartsAlike}
 use Rattle.parse_alike.specs.GfmTable.{AreRowsAlike, AreTablesAlike}
 use Rattle.parse_alike.specs.Meanings.{AreMeanings}
-use Rattle.parse_leaves.specs.Laid.{AreEnding}
-use Rattle.parse_leaves.proofs.Nodes.{before_append, child_append}
+use Rattle.parse_raw.specs.Laid.{AreEnding}
+use Rattle.parse_raw.proofs.Nodes.{before_append, child_append}
 use Rattle.parse_tables.specs.Rows.{AreOnNextLine, AreRowNodes, IsRowNode}
 use Rattle.parse_tables.specs.Tables.{AreBody, IsHeadNode}
 use Rattle.parse_tables.proofs.CellNodes.{children_both, children_first, children_other}

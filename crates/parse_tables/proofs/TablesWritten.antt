@@ -24,9 +24,9 @@ use Rattle.text_pieces.specs.Pieces.{piece_line, piece_lines}
 use Rattle.parse_lines.specs.declared.walk.Walk.{Walk}
 use Rattle.parse_lines.specs.Ends.{IsWrittenToRest, written_to}
 use Rattle.parse_lines.specs.Standing.{StandsAt, around, standing}
-use Rattle.parse_leaves.specs.Reads.{WritesReadLeaf}
-use Rattle.parse_leaves.specs.Written.{WritesLeaf}
-use Rattle.parse_leaves.proofs.LeafNodes.{rest_within}
+use Rattle.parse_raw.specs.Reads.{WritesReadLeaf}
+use Rattle.parse_raw.specs.Written.{WritesLeaf}
+use Rattle.parse_raw.proofs.LeafNodes.{rest_within}
 use Rattle.parse_leaves.proofs.RowLeaves.{own_size}
 use Rattle.parse_leaves.proofs.TextLeaves.{none_alike}
 use Rattle.parse_tables.proofs.Steps.{IsEntered, IsExited, open_both}

@@ -17,7 +17,7 @@ use Rattle.parse_lines.specs.declared.walk.Walk.{Walk}
 use Rattle.parse_lines.specs.Ends.{IsWrittenToRest}
 use Rattle.parse_lines.specs.Quiet.{AreQuiet}
 use Rattle.parse_lines.specs.Standing.{StandsAt, around, standing}
-use Rattle.parse_leaves.specs.Laid.{AreEnding}
+use Rattle.parse_raw.specs.Laid.{AreEnding}
 use Rattle.parse_tables.specs.Before.{AreInRow, IsBefore, WritesTo}
 use Rattle.parse_tables.specs.Cells.{SpellCells}
 

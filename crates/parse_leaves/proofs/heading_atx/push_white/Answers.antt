@@ -1,8 +1,8 @@
 use Rattle.std.proofs.Common.{◌≤◌, length, refl, subst, sym}
 use Rattle.engine_events.specs.declared.event.Name.TheVariants.{SpaceOrTab}
 use Rattle.definition_text.specs.Columns.{indent}
-use Rattle.parse_leaves.specs.Calls.{TokenCall}
-use Rattle.parse_leaves.proofs.OnLine.{some_on}
+use Rattle.parse_raw.specs.Calls.{TokenCall}
+use Rattle.parse_raw.proofs.OnLine.{some_on}
 use Rattle.parse_leaves.proofs.heading_atx.push_white.Goals as goal
 
 pub returns-clause-written : goal.returns-clause-written

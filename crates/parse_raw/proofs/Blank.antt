@@ -1,0 +1,173 @@
+-- What is written of a blank line, step by step (CommonMark 4.9).
+use Rattle.std.proofs.Common.{◌≡◌, inl, inr, ◌≤◌, ◌+◌, ℕ, suc, ◌-◌, eqb, Bool, false, true, not, List, [], ◌∷◌, ◌++◌, Option, refl, sym, ap, subst, ◌∙◌, drop, length, arith}
+use Rattle.std.specs.Prelude.{if◌then◌else◌}
+use Rattle.std.specs.List.{list_all, prefix_len}
+use Rattle.std.proofs.lemmas.Bool.{and_parts, cases_Bool, cond-false, cond-true, eqb-true, ne_eqb, true≢false}
+use Rattle.std.proofs.lemmas.List.{drop_all}
+use Rattle.std.proofs.Math.Seq.{take-length}
+use Rattle.markdown_options.specs.declared.line_ending.LineEnding.{LineEnding}
+use Rattle.engine_events.specs.Names.{same_name}
+use Rattle.engine_events.specs.declared.event.Name.{Name}
+use Rattle.engine_events.specs.declared.event.Name.TheVariants as n
+use Rattle.definition_text.specs.Columns.{Rest, bytes_of, is_blank, is_byte, is_tab_column, is_white, whole}
+use Rattle.definition_text.specs.Lines.{ending_text}
+use Rattle.block_starts.specs.View.{rest_of}
+use Rattle.event_grammar.specs.Trees.{Growth, Nodes, Around, Nil, Cons}
+use Rattle.parse_output.specs.declared.end.End.{End}
+use Rattle.parse_output.specs.Ends.{Follows, end_at, enter_at, exit_at, same_end}
+use Rattle.parse_output.specs.Forest.{append, cut, is_nil, void_nodes}
+use Rattle.parse_output.specs.Written.{IsInOrder, Writes, forest_in}
+use Rattle.parse_output.proofs.Written.{writes_both}
+use Rattle.parse_laid.specs.Laid.{IsBlankLaid}
+use Rattle.parse_laid.specs.Places.{AtEnding, Between, LineRest, Place, Within, line_left}
+use Rattle.parse_lines.specs.declared.walk.Walk.{Walk}
+use Rattle.parse_lines.specs.Ends.{IsWrittenToRest, WritesEnding, WritesQuiet, WritesUpTo, line_after, rest_start, written_to}
+use Rattle.parse_lines.specs.Standing.{IsLineOf, Standing, StandsAt, around, standing}
+use Rattle.parse_lines.specs.Steps.{EndsLine, HasSameOpen}
+use Rattle.parse_lines.proofs.Ends.{end_to_next, left_within, rest_to_end, start_whole}
+use Rattle.parse_lines.proofs.Steps.{at_ending}
+use Rattle.parse_lines.proofs.Suffixes.{IsAfterWhite}
+use Rattle.parse_lines.proofs.Written.{space_written}
+use Rattle.parse_raw.specs.Laid.{AreEnding, WritesBlank}
+use Rattle.parse_raw.proofs.Endings.{ending_nodes}
+
+-- ---- white space takes all that is left
+
+abbrev tail_of : Nodes → Nodes
+tail_of Nil = Nil
+tail_of (Cons node ns) = ns
+
+append_none : (ns ms : Nodes) → append ns ms ≡ append ns Nil → ms ≡ Nil
+append_none Nil ms is = is
+append_none (Cons node ns) ms is = append_none ns ms (ap tail_of is)
+
+-- where no space is written, its ends are the same
+void_same : (text : List ℕ) (from to : End) → void_nodes text n.SpaceOrTab from to ≡ Nil → same_end to from ≡ true
+void_same text from to none =
+    elim (cases_Bool (same_end to from)) [
+      | inl same ↦ same
+      | inr other ↦
+          let node = cut (Around (enter_at text n.SpaceOrTab from) Nil (exit_at text n.SpaceOrTab to)) in
+          absurd (true≢false (sym (ap is_nil none) ∙ ap (λ (b : Bool). is_nil (if b then Nil else node)) other))
+    ]
+
+-- where nothing is between a rest and the end of its line, the rest is empty
+rest_same : (text before content after : List ℕ) (line_end : ℕ) (rest : Rest) → IsLineOf text before content after → line_end ≡ length before + length content
+    → length (bytes_of rest) ≤ length content → same_end (end_at line_end 0) (rest_start line_end rest) ≡ true → rest ≡ []
+rest_same text before content after line_end [] line end few same = refl
+rest_same text before content after line_end (c ∷ cs) line end few same =
+    elim (cases_Bool (is_tab_column c)) [
+      | inl column ↦
+          let owed : prefix_len is_tab_column (c ∷ cs) ≡ 1 + prefix_len is_tab_column cs = cond-true (is_tab_column c) _ _ column in
+          let index = line_end - length (bytes_of (c ∷ cs)) in
+          let start : rest_start line_end (c ∷ cs) ≡ end_at (index - 1) (1 + prefix_len is_tab_column cs) =
+          ap (λ (k : ℕ). if eqb k 0 then end_at index 0 else end_at (index - 1) k) owed
+          ∙ cond-false (eqb (1 + prefix_len is_tab_column cs) 0) _ _ (ne_eqb (1 + prefix_len is_tab_column cs) 0 (λ is. omega (arith, is))) in
+          let parts = and_parts (eqb line_end (rest_start line_end (c ∷ cs)).index) (eqb 0 (rest_start line_end (c ∷ cs)).owed) same in
+          let none : 0 ≡ (rest_start line_end (c ∷ cs)).owed = eqb-true 0 (rest_start line_end (c ∷ cs)).owed parts.1 in
+          let some : (rest_start line_end (c ∷ cs)).owed ≡ 1 + prefix_len is_tab_column cs = ap (λ (x : End). x.owed) start in
+          absurd (omega (arith, none, some))
+      | inr byte ↦
+          let owed : prefix_len is_tab_column (c ∷ cs) ≡ 0 = cond-false (is_tab_column c) _ _ byte in
+          let start = start_whole line_end (c ∷ cs) owed in
+          let bytes : bytes_of (c ∷ cs) ≡ c ∷ bytes_of cs = cond-true (is_byte c) _ _ (ap not byte) in
+          let size : length (bytes_of (c ∷ cs)) ≡ suc (length (bytes_of cs)) = ap length bytes in
+          let parts = and_parts (eqb line_end (rest_start line_end (c ∷ cs)).index) (eqb 0 (rest_start line_end (c ∷ cs)).owed) same in
+          let here : line_end ≡ (rest_start line_end (c ∷ cs)).index = eqb-true line_end (rest_start line_end (c ∷ cs)).index parts.0 in
+          let there : (rest_start line_end (c ∷ cs)).index ≡ line_end - length (bytes_of (c ∷ cs)) = ap (λ (x : End). x.index) start in
+          absurd (omega (arith, here, there, size, few, end))
+    ]
+
+module _ {A : Type 0} (text : List ℕ) where
+  -- all of a blank line is written; nothing is only where nothing is left of it
+  blank_all : (old a : Walk A) (here : LineRest) (left : List LineRest) (ns : Nodes) → StandsAt text (Within here left) (standing old) → IsWrittenToRest old
+      → IsInOrder text old.out → WritesUpTo n.SpaceOrTab (end_at old.line_end 0) old a → Writes text old.out a.out ns → ns ≡ Nil → rest_of old.rest ≡ []
+  blank_all old a here left ns st at order writes written none =
+      let line = st.line in
+      let after = ending_text old.ending ++ old.left.now in
+      let rest = rest_of old.rest in
+      let is : rest ≡ drop st.columns (whole line.content) = st.rest ∙ st.suffix in
+      let start : written_to old ≡ rest_start old.line_end rest = at in
+      let follows : Follows text (written_to old) (end_at old.line_end 0) =
+      subst (λ (x : End). Follows text x (end_at old.line_end 0)) (ap (rest_start old.line_end) (sym is) ∙ sym start)
+      (rest_to_end text line.before line.content after old.line_end st.columns line.parts line.end) in
+      let space = writes text order follows in
+      let void = void_nodes text n.SpaceOrTab (written_to old) (end_at old.line_end 0) in
+      let same : append (forest_in text old.out).kids void ≡ append (forest_in text old.out).kids Nil =
+      ap (λ (g : Growth). g.kids) (sym space.forest ∙ written.forest) ∙ ap (append (forest_in text old.out).kids) none in
+      let few : length (bytes_of rest) ≤ length line.content =
+      subst (λ (r : Rest). length (bytes_of r) ≤ length line.content) (sym is) (left_within line.content st.columns line.parts.bytes) in
+      rest_same text line.before line.content after old.line_end rest line.parts line.end few
+      (ap (same_end (end_at old.line_end 0)) (sym start)
+      ∙ void_same text (written_to old) (end_at old.line_end 0) (append_none (forest_in text old.out).kids void same))
+
+  -- all of a blank line
+  pub blank_space : (old a : Walk A) (here : LineRest) (left : List LineRest) → StandsAt text (Within here left) (standing old) → IsWrittenToRest old
+      → IsInOrder text old.out → is_blank here.rest ≡ true → WritesUpTo n.SpaceOrTab (end_at old.line_end 0) old a → WritesQuiet text old.out a.out
+  blank_space old a here left st at order blank writes =
+      let start = rest_of old.rest in
+      let all : list_all is_white start ≡ true = ap (list_all is_white) st.rest ∙ blank in
+      let further : IsAfterWhite [] start =
+      record {
+        count = length start;
+        is = sym (drop_all (length start) start (omega arith));
+        white = ap (list_all is_white) (take-length start) ∙ all;
+      } in
+      let index : old.line_end ≡ old.line_end - 0 = omega arith in
+      space_written text st.line.before st.line.content (ending_text old.ending ++ old.left.now) st.columns old.line_end start [] old.out a.out
+      (end_at old.line_end 0) st.line.parts st.line.end (st.rest ∙ st.suffix) at order further (ap (λ (k : ℕ). end_at k 0) index) (λ o f. writes text o f)
+
+  -- the ending of the line
+  pub record WritesEnd (name : Name) (ending : Option LineEnding) (a d : Walk A) : Type 0 where
+    pub nodes : Nodes
+    pub are_ending : AreEnding text name ending nodes
+    pub writes : Writes text a.out d.out nodes
+    pub written : written_to d ≡ end_at (d.size - length d.left.now) 0
+
+  pub end_written : (name : Name) (a d : Walk A) (ending : Option LineEnding) (left : List LineRest) → same_name name n.Data ≡ false
+      → StandsAt text (AtEnding ending left) (standing a) → written_to a ≡ end_at a.line_end 0 → IsInOrder text a.out
+      → WritesEnding name a d → WritesEnd name ending a d
+  end_written name a d ending left other st at order writes =
+      let to = line_after a in
+      let follows : Follows text (written_to a) to = subst (λ (e : End). Follows text e to) (sym at) (end_to_next text (standing a) st.line) in
+      let done = writes text ending left st order follows in
+      let are = ending_nodes text name (standing a) other st.line in
+      let is : void_nodes text name (end_at a.line_end 0) to ≡ void_nodes text name (written_to a) to =
+      ap (λ (e : End). void_nodes text name e to) (sym at) in
+      record {
+        nodes = void_nodes text name (written_to a) to;
+        are_ending = subst (λ (e : Option LineEnding). AreEnding text name e (void_nodes text name (written_to a) to)) st.ending (
+            subst (AreEnding text name a.ending) is are
+            );
+        writes = done.0;
+        written = done.1;
+      }
+
+  pub blank_written : (ending : Option LineEnding) (here : LineRest) (left : List LineRest) (to : Place) (old b a d : Walk A) → b ≡ old
+      → StandsAt text (Within here left) (standing old) → IsWrittenToRest old → IsInOrder text old.out
+      → IsBlankLaid old.on.now (around (standing old)) ending (Within here left) to → standing a ≡ standing b → written_to a ≡ end_at b.line_end 0
+      → WritesUpTo n.SpaceOrTab (end_at b.line_end 0) b a → EndsLine (standing a) (standing d) → WritesEnding n.BlankLineEnding a d
+      → HasSameOpen (standing a) (standing d) → WritesBlank text ending to old d
+  blank_written ending here left to old b a d is st at order laid same_b end_b writes_b ends writes kept =
+      let same : standing a ≡ standing old = same_b ∙ ap (λ (w : Walk A). standing w) is in
+      let line : here ≡ laid.0 = ap line_left laid.2.0 in
+      let line_end : a.line_end ≡ old.line_end = ap (λ (s : Standing). s.line_end) same in
+      let end : written_to a ≡ end_at a.line_end 0 =
+      end_b ∙ ap (λ (w : Walk A). end_at w.line_end 0) is ∙ ap (λ (k : ℕ). end_at k 0) (sym line_end) in
+      let upto = subst (λ (w : Walk A). WritesUpTo n.SpaceOrTab (end_at w.line_end 0) w a) is writes_b in
+      let spaces = blank_space old a here left st at order (ap (λ (l : LineRest). is_blank l.rest) line ∙ laid.3) upto in
+      let st_a = subst (StandsAt text (AtEnding here.beside.ending left)) (sym same) (at_ending text here left (standing old) st) in
+      let done = end_written n.BlankLineEnding a d here.beside.ending left refl st_a end spaces.writes.order writes in
+      let ending_is : here.beside.ending ≡ ending = ap (λ (l : LineRest). l.beside.ending) line ∙ sym laid.4 in
+      let to_is : Between left ≡ to = ap Between laid.2.1 ∙ sym laid.5 in
+      record {
+        before = spaces.nodes;
+        are_quiet = spaces.quiet;
+        space = blank_all old a here left spaces.nodes st at order upto spaces.writes;
+        nodes = done.nodes;
+        are_ending = subst (λ (e : Option LineEnding). AreEnding text n.BlankLineEnding e done.nodes) ending_is done.are_ending;
+        writes = writes_both text old.out a.out d.out spaces.nodes done.nodes spaces.writes done.writes;
+        stands = subst (λ (p : Place). StandsAt text p (standing d)) to_is (ends text here.beside.ending left st_a);
+        around = (kept.0 ∙ ap (λ (s : Standing). s.on) same, kept.1 ∙ ap (λ (s : Standing). s.outermost) same);
+        written = done.written;
+      }

@@ -1,0 +1,120 @@
+-- What is written of fenced code and math that are closed, step by step (CommonMark 4.5).
+use Rattle.std.proofs.Common.{◌≡◌, ℕ, ◌+◌, ◌-◌, ◌^◌, ◌<◌, ◌≤◌, Bool, true, false, ◌&&◌, List, [], ◌∷◌, ◌++◌, Option, Some, refl, sym, ap, subst, ◌∙◌, append_assoc, flat_map, length, arith}
+use Rattle.std.proofs.lemmas.Bool.{cond-false}
+use Rattle.std.proofs.lemmas.List.{append-nil}
+use Rattle.markdown_options.specs.declared.line_ending.LineEnding.{LineEnding}
+use Rattle.engine_events.specs.Names.{same_name}
+use Rattle.engine_events.specs.declared.event.Name.TheVariants as n
+use Rattle.definition_text.specs.BlockLines.{BlockLine, last_ending_or}
+use Rattle.definition_text.specs.Columns.{bare, bytes_of}
+use Rattle.definition_page.specs.InlinePieces.{Meaning}
+use Rattle.definition_page.specs.Page as page
+use Rattle.definition_page.specs.Read.{Reading, code_lines, info_text}
+use Rattle.block_starts.specs.View.{rest_of}
+use Rattle.event_grammar.specs.References.{named}
+use Rattle.event_grammar.specs.Trees.{Node, Around}
+use Rattle.event_meaning.specs.Raw.{End as EndPart, RawPart, fenced_lines}
+use Rattle.parse_output.specs.Ends.{end_at, enter_at, exit_at}
+use Rattle.parse_output.specs.Forest.{cut, is_nil, one}
+use Rattle.parse_output.specs.Written.{Enters, Exits, IsInOrder, Writes, end_in}
+use Rattle.parse_output.proofs.Written.{writes_around}
+use Rattle.parse_alike.specs.Page.{AreLeavesAlike}
+use Rattle.parse_alike.specs.Raw.{code_parts, end_part}
+use Rattle.parse_alike.proofs.Raw.{raw_lines_are_alike}
+use Rattle.parse_laid.specs.Places.{AtEnding, LineRest, Within}
+use Rattle.parse_lines.specs.declared.walk.Walk.{Walk}
+use Rattle.parse_lines.specs.Ends.{IsWrittenToRest, WritesUpTo, written_to}
+use Rattle.parse_lines.specs.Standing.{Standing, StandsAt, standing}
+use Rattle.parse_lines.proofs.Steps.{at_ending}
+use Rattle.parse_raw.specs.declared.fence_names.FenceNames.{FenceNames}
+use Rattle.parse_raw.specs.FenceParts.{AreNames, WritesClosingOf, chunk_name, info_by}
+use Rattle.parse_raw.specs.RawLines.{chunk_parts, parts_after}
+use Rattle.parse_raw.proofs.FencedCode.{has_some}
+use Rattle.parse_raw.proofs.LeafNodes.{white_written}
+use Rattle.parse_raw.proofs.OpeningFence.{fence_is, sequence_other}
+use Rattle.parse_raw.proofs.RawBlocks.{line_parts}
+use Rattle.parse_raw.proofs.Tokens.{left_none, left_same, token_all, token_on, tokens_both}
+
+module _ {A : Type 0} (math : Bool) (fence_names : FenceNames) (text : List ℕ) where
+  pub closing_written : (here : LineRest) (left : List LineRest) (size : ℕ) (bytes : List ℕ) (old a b c d e : Walk A) → AreNames math fence_names
+      → StandsAt text (Within here left) (standing old) → IsWrittenToRest old → IsInOrder text old.out
+      → standing a ≡ standing old → written_to a ≡ end_at (old.line_end - length (bytes_of (bare (rest_of old.rest)))) 0
+      → WritesUpTo n.SpaceOrTab (end_at (old.line_end - length (bytes_of (bare (rest_of old.rest)))) 0) old a → bytes ≡ bytes_of (bare (rest_of old.rest))
+      → (IsInOrder text a.out → Enters text fence_names.fence a.out b.out) → standing b ≡ standing a → written_to b ≡ written_to a
+      → size ≤ length bytes → standing c ≡ standing b
+      → ((written_to b).index + size < 2 ^ 64 → written_to c ≡ end_at ((written_to b).index + size) 0)
+      → ((written_to b).index + size < 2 ^ 64 → WritesUpTo fence_names.sequence (end_at ((written_to b).index + size) 0) b c)
+      → standing d ≡ standing c → written_to d ≡ end_at c.line_end 0 → WritesUpTo n.SpaceOrTab (end_at c.line_end 0) c d
+      → (IsInOrder text d.out → Exits text fence_names.fence d.out e.out) → standing e ≡ standing d → written_to e ≡ written_to d
+      → WritesClosingOf math text here left old e
+  closing_written here left size bytes old a b c d e are st at order same_a end_a write_a bytes_is enters same_b end_b fits same_c end_c token same_d end_d all exits
+      same_e end_e =
+      let white = white_written text old a here left st at order same_a end_a write_a in
+      let entered = enters white.quiet.writes.order in
+      let count = length (bytes_of (bare (rest_of old.rest))) in
+      let fits_count : size ≤ count = omega (arith, fits, ap length bytes_is) in
+      let left_b = left_same text count a b white.after entered.order same_b end_b in
+      let seq = sequence_other fence_names math are in
+      let both = tokens_both count (count - size) 0 b c d (token_on fence_names.sequence count size b c seq.1 fits_count same_c end_c token)
+      (token_all n.SpaceOrTab (count - size) c d (record { no_data = refl; no_definition = refl; no_code = refl; no_math = refl }) same_d end_d all) in
+      let kids = both text left_b in
+      let exited = exits kids.writes.order in
+      let is = fence_is fence_names math are in
+      let node = Around (enter_at text fence_names.fence (end_in a.out)) kids.nodes (exit_at text fence_names.fence (end_in d.out)) in
+      let alone : cut node ≡ one node =
+      cond-false (same_name fence_names.fence n.Data && is_nil kids.nodes) _ _ (ap (λ (t : Bool). t && is_nil kids.nodes) is.1) in
+      let same = same_e ∙ kids.same ∙ same_b ∙ same_a in
+      record {
+        space = a;
+        quiet = white.quiet;
+        node = node;
+        named_so = is.0;
+        definitions =
+            ap (λ (ns : List Node). ns ++ [])
+            (cond-false (same_name fence_names.fence n.Definition) (node ∷ named n.Definition kids.nodes) (named n.Definition kids.nodes) is.2 ∙ kids.raw.definitions);
+        writes = subst (Writes text a.out e.out) alone (writes_around text a.out b.out d.out e.out fence_names.fence kids.nodes entered kids.writes exited);
+        same = same;
+        stands = subst (StandsAt text (AtEnding here.beside.ending left)) (sym same) (at_ending text here left (standing old) st);
+        written = end_e ∙ left_none text 0 d refl kids.after ∙ ap (λ (s : Standing). end_at s.line_end 0) (sym same_e);
+      }
+
+-- ---- what it spells
+
+-- the parts of lines of code, up to the last ending
+pub chunk_same : (math : Bool) (line : BlockLine) → line_parts (chunk_name math) line ≡ code_parts line
+chunk_same true line = refl
+chunk_same false line = refl
+
+pub parts_closed : (math : Bool) (first : Option LineEnding) (ls : List BlockLine)
+    → parts_after (chunk_name math) first ls ++ end_part (last_ending_or first ls) ≡ end_part first ++ flat_map code_parts ls
+parts_closed math first [] = sym (append-nil (end_part first))
+parts_closed math first (line ∷ ls) =
+    let own = chunk_parts (chunk_name math) line.codes in
+    let more = parts_after (chunk_name math) line.ending ls in
+    let last = end_part (last_ending_or line.ending ls) in
+    append_assoc (end_part first) (own ++ more) last
+    ∙ ap (λ (ps : List RawPart). end_part first ++ ps) (
+    append_assoc own more last ∙ ap (λ (ps : List RawPart). own ++ ps) (parts_closed math line.ending ls)
+    ∙ sym (append_assoc own (end_part line.ending) (flat_map code_parts ls))
+    ∙ ap (λ (ps : List RawPart). ps ++ flat_map code_parts ls) (chunk_same math line)
+    )
+
+-- the info that the definition reads is that of the events
+pub info_read : (r : Reading) (info : List ℕ) → info_text r info ≡ info_by r.parse.constructs r.tables.names info
+info_read r [] = refl
+info_read r (b ∷ bs) = refl
+
+closed_lines : (top : Bool) (ls : List BlockLine) → code_lines top true ls ≡ ls
+closed_lines true ls = refl
+closed_lines false ls = refl
+
+module _ (m m' : Meaning) where
+  pub closed_alike : (r : Reading) (top : Bool) (info : List ℕ) (found : Option (List ℕ)) (first : LineEnding) (ls : List BlockLine) (last : LineEnding)
+      (parts : List RawPart) → info_text r info ≡ found → parts ≡ EndPart first ∷ flat_map code_parts ls → last_ending_or (Some first) ls ≡ Some last
+      → AreLeavesAlike m m' (page.FencedCode (info_text r info) true (code_lines top true ls)) (page.FencedCode found true (fenced_lines false parts))
+  closed_alike r top info found first ls last parts same is ends =
+      subst (λ (xs : List BlockLine). AreLeavesAlike m m' (page.FencedCode (info_text r info) true xs) (page.FencedCode found true (fenced_lines false parts)))
+      (sym (closed_lines top ls)) (
+      subst (λ (ps : List RawPart). AreLeavesAlike m m' (page.FencedCode (info_text r info) true ls) (page.FencedCode found true (fenced_lines false ps))) (sym is)
+      (same, refl, raw_lines_are_alike.code ls, has_some (Some first) ls last ends)
+      )

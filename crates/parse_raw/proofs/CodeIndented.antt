@@ -1,0 +1,161 @@
+-- What is written of indented code, step by step (CommonMark 4.4).
+use Rattle.std.proofs.Common.{◌≡◌, ℕ, ◌+◌, ◌-◌, ◌≤◌, Bool, List, [], ◌∷◌, ◌++◌, inl, refl, sym, ap, subst, ◌∙◌, drop, length, arith}
+use Rattle.std.specs.Prelude.{min}
+use Rattle.std.proofs.lemmas.List.{drop-drop}
+use Rattle.markdown_options.specs.declared.configuration.Constructs.{Constructs}
+use Rattle.engine_events.specs.declared.event.Name.TheVariants as n
+use Rattle.definition_text.specs.BlockLines.{BlockLine, last_ending, own_lines}
+use Rattle.definition_text.specs.Columns.{Rest, block_codes, indent, is_white, whole}
+use Rattle.definition_text.specs.Indents.{outdent}
+use Rattle.definition_text.specs.Lines.{ending_text}
+use Rattle.definition_block.specs.Tree.{IndentedCode, rest_line}
+use Rattle.definition_inline.specs.CharacterReference.{Names}
+use Rattle.definition_page.specs.Page as page
+use Rattle.block_starts.specs.View.{rest_of}
+use Rattle.event_meaning.specs.Raw.{RawPart, raw_lines, raw_parts}
+use Rattle.parse_output.specs.declared.end.End.{End}
+use Rattle.parse_output.specs.Ends.{end_at}
+use Rattle.parse_output.specs.Written.{Enters, Exits, IsInOrder}
+use Rattle.parse_alike.specs.BlockLines.{AreCodeLinesAlike}
+use Rattle.parse_alike.proofs.Raw.{raw_lines_are_alike}
+use Rattle.parse_laid.specs.Leaves.{AreCode, AreTaken, EndsAt, IsCodeLine, IsLeafLaid}
+use Rattle.parse_laid.specs.Places.{AtEnding, Between, InAll, InSome, LineRest, Place, Prefixed, Within, line_left}
+use Rattle.parse_lines.specs.declared.walk.Walk.{Walk}
+use Rattle.parse_lines.specs.Ends.{IsWrittenToRest, WritesQuiet, WritesUpTo, rest_start, written_to}
+use Rattle.parse_lines.specs.Standing.{IsLineOf, Standing, StandsAt, around, standing}
+use Rattle.parse_lines.proofs.Ends.{line_follows, rest_to_end}
+use Rattle.parse_lines.proofs.Steps.{at_ending}
+use Rattle.parse_lines.proofs.Suffixes.{IsAfterWhite}
+use Rattle.parse_lines.proofs.White.{all_prefix}
+use Rattle.parse_lines.proofs.Written.{space_written}
+use Rattle.parse_raw.specs.RawLines.{IsCutLine, WritesCutLines, chunk_parts}
+use Rattle.parse_raw.specs.Written.{WritesLeaf}
+use Rattle.parse_raw.proofs.LeafNodes.{leaf_written}
+use Rattle.parse_raw.proofs.RawBlocks.{WritesFirst, all_written, own_count, taken_as}
+use Rattle.parse_raw.proofs.RawLines.{rest_written}
+
+-- a later line is one of which four columns are cut
+code_line : (on : Constructs) (here : Prefixed) (line : BlockLine) → IsCodeLine on here line → IsCutLine (outdent 4) here line
+code_line on (InAll own) line is = (own, refl, is.1)
+code_line on (InSome own) line is = absurd is
+
+module _ {A : Type 0} (text : List ℕ) where
+  -- columns of white space are written, and begin where the line's rest does
+  pub record WritesIndent (k : ℕ) (here : LineRest) (old a : Walk A) : Type 0 where
+    pub quiet : WritesQuiet text old.out a.out
+    pub same : standing a ≡ standing old
+    pub before : List ℕ
+    pub content : List ℕ
+    pub after : List ℕ
+    pub columns : ℕ
+    pub line : IsLineOf text before content after
+    pub end : a.line_end ≡ length before + length content
+    pub rest : outdent k here.rest ≡ drop columns (whole content)
+    pub at : written_to a ≡ rest_start a.line_end (drop columns (whole content))
+    pub starts : (written_to old).index ≤ (written_to a).index
+    pub begins : (written_to a).index ≤ old.line_end
+
+  pub indent_written : (k : ℕ) (here : LineRest) (left : List LineRest) (old a : Walk A) → StandsAt text (Within here left) (standing old) → IsWrittenToRest old
+      → IsInOrder text old.out → standing a ≡ standing old → written_to a ≡ rest_start old.line_end (outdent k (rest_of old.rest))
+      → WritesUpTo n.SpaceOrTab (rest_start old.line_end (outdent k (rest_of old.rest))) old a → WritesIndent k here old a
+  indent_written k here left old a st at order same to writes =
+      let start = rest_of old.rest in
+      let j = min k (indent start) in
+      let before = st.line.before in
+      let content = st.line.content in
+      let after = ending_text old.ending ++ old.left.now in
+      let columns = st.columns + j in
+      let rest_at = st.rest ∙ st.suffix in
+      let cut : outdent k start ≡ drop columns (whole content) = ap (drop j) rest_at ∙ drop-drop j st.columns (whole content) in
+      let further : IsAfterWhite (outdent k start) start =
+      record { count = j; is = refl; white = all_prefix is_white j start (omega arith) } in
+      let mid = rest_start old.line_end (outdent k start) in
+      let quiet = space_written text before content after st.columns old.line_end start (outdent k start) old.out a.out mid st.line.parts st.line.end rest_at at order
+      further refl (λ o f. writes text o f) in
+      let line_end : a.line_end ≡ old.line_end = ap (λ (s : Standing). s.line_end) same in
+      let mid_is : rest_start old.line_end (drop columns (whole content)) ≡ written_to a = ap (rest_start old.line_end) (sym cut) ∙ sym to in
+      let from_is : rest_start old.line_end (drop st.columns (whole content)) ≡ written_to old = ap (rest_start old.line_end) (sym rest_at) ∙ sym at in
+      let onward = line_follows text before content after old.line_end st.columns columns st.line.parts st.line.end (omega arith) in
+      let to_end = rest_to_end text before content after old.line_end columns st.line.parts st.line.end in
+      record {
+        quiet = quiet;
+        same = same;
+        before = before;
+        content = content;
+        after = after;
+        columns = columns;
+        line = st.line.parts;
+        end = line_end ∙ st.line.end;
+        rest = ap (outdent k) (sym st.rest) ∙ cut;
+        at = sym mid_is ∙ ap (λ (e : ℕ). rest_start e (drop columns (whole content))) (sym line_end);
+        starts = omega (arith, onward.forward, ap (λ (e : End). e.index) mid_is, ap (λ (e : End). e.index) from_is);
+        begins = omega (arith, to_end.forward, ap (λ (e : End). e.index) mid_is);
+      }
+
+  code_by : (on : Constructs) (names : Names) (top : Bool) (ls : List BlockLine) (count more : ℕ) (here : LineRest) (left : List LineRest) (to after : Place)
+      (taken : List BlockLine) (old a b c e d : Walk A) → count ≡ length ls → more ≡ count - 1 → StandsAt text (Within here left) (standing old)
+      → AreCode old.on.now (around (standing old)) taken (Within here left) after → ls ≡ own_lines taken → EndsAt taken after to
+      → WritesIndent 4 here old a
+      → Enters text n.CodeIndented a.out b.out → standing b ≡ standing a → written_to b ≡ written_to a
+      → standing c ≡ standing b → written_to c ≡ end_at b.line_end 0 → WritesUpTo n.CodeFlowChunk (end_at b.line_end 0) b c
+      → WritesCutLines n.CodeFlowChunk (outdent 4) more c e
+      → (IsInOrder text e.out → Exits text n.CodeIndented e.out d.out) → standing d ≡ standing e → written_to d ≡ written_to e
+      → WritesLeaf on names text top (page.IndentedCode ls) [] to old d
+  code_by on names top ls count more here left to after [] old a b c e d size fewer st code is ends space enters same_b end_b same_c end_c writes_c lines exits
+      same_d end_d = absurd code
+  code_by on names top ls count more here left to after (first ∷ others) old a b c e d size fewer st code is ends space enters same_b end_b same_c end_c writes_c
+      lines exits same_d end_d =
+      let same : standing b ≡ standing old = same_b ∙ space.same in
+      let line_b : b.line_end ≡ a.line_end = ap (λ (s : Standing). s.line_end) same_b in
+      let at_b : written_to b ≡ rest_start b.line_end (drop space.columns (whole space.content)) =
+      end_b ∙ space.at ∙ ap (λ (k : ℕ). rest_start k (drop space.columns (whole space.content))) (sym line_b) in
+      let chunk = rest_written text n.CodeFlowChunk b c space.before space.content space.after space.columns space.line (line_b ∙ space.end) at_b enters.order (inl refl)
+      writes_c in
+      let own : code.0 ≡ here = sym (ap line_left code.2.0) in
+      let first_is : rest_line (outdent 4 here.rest) here.beside ≡ first = ap (λ (l : LineRest). rest_line (outdent 4 l.rest) l.beside) (sym own) ∙ sym code.4 in
+      let st_c : StandsAt text (AtEnding here.beside.ending left) (standing c) =
+      subst (StandsAt text (AtEnding here.beside.ending left)) (sym (same_c ∙ same)) (at_ending text here left (standing old) st) in
+      let one : WritesFirst text n.CodeFlowChunk first left b c =
+      record {
+        nodes = chunk.nodes;
+        writes = chunk.writes;
+        raw = chunk.raw;
+        parts =
+            chunk.parts ∙ ap (λ (r : Rest). chunk_parts n.CodeFlowChunk (block_codes r)) (sym space.rest)
+            ∙ ap (λ (l : BlockLine). chunk_parts n.CodeFlowChunk l.codes) first_is;
+        stands = subst (λ (l : BlockLine). StandsAt text (AtEnding l.ending left) (standing c)) first_is st_c;
+        around = (ap (λ (s : Standing). s.on) same_c, ap (λ (s : Standing). s.outermost) same_c);
+        written = end_c ∙ ap (λ (s : Standing). end_at s.line_end 0) (sym same_c);
+      } in
+      let fits : more ≡ length others = omega (arith, fewer, size, ap length is, own_count first others) in
+      let taken_code = taken_as old.on.now (around (standing old)) (IsCodeLine old.on.now) (IsCutLine (outdent 4)) others (Between code.1) after (code_line old.on.now) code.5 in
+      let taken_b : AreTaken b.on.now (around (standing b)) (IsCutLine (outdent 4)) others (Between left) (Between ends.0) =
+      subst (λ (s : Standing). AreTaken s.on (around s) (IsCutLine (outdent 4)) others (Between left) (Between ends.0)) (sym same) (
+      subst (λ (ls : List LineRest). AreTaken old.on.now (around (standing old)) (IsCutLine (outdent 4)) others (Between ls) (Between ends.0)) (sym code.2.1) (
+      subst (AreTaken old.on.now (around (standing old)) (IsCutLine (outdent 4)) others (Between code.1)) ends.1 taken_code
+      )) in
+      let all = all_written text n.CodeFlowChunk (outdent 4) first others left ends.0 more b c e (inl refl) one fits taken_b lines in
+      let alike : AreCodeLinesAlike ls (raw_lines (raw_parts text all.nodes)) =
+      subst (λ (xs : List BlockLine). AreCodeLinesAlike xs (raw_lines (raw_parts text all.nodes))) (sym is) (
+      subst (λ (ps : List RawPart). AreCodeLinesAlike (own_lines (first ∷ others)) (raw_lines ps)) (sym all.parts) (raw_lines_are_alike.code (own_lines (first ∷ others)))
+      ) in
+      let line_end = ap (λ (s : Standing). s.line_end) same_d in
+      leaf_written text on names top (page.IndentedCode ls) to old a b e d n.CodeIndented all.nodes space.quiet enters all.writes
+      (exits all.writes.order) refl refl refl all.raw.definitions (λ m m'. (alike, tt))
+      (subst (λ (p : Place). StandsAt text p (standing d)) (sym ends.2) (subst (StandsAt text (AtEnding (last_ending (first ∷ others)) ends.0)) (sym same_d) all.stands)) (
+        ap (λ (s : Standing). s.on) same_d ∙ all.around.0 ∙ ap (λ (s : Standing). s.on) same,
+        ap (λ (s : Standing). s.outermost) same_d ∙ all.around.1 ∙ ap (λ (s : Standing). s.outermost) same,
+      )
+      end_d (all.written ∙ ap (λ (k : ℕ). end_at k 0) (sym line_end)) space.starts space.begins
+
+  pub code_written : (on : Constructs) (names : Names) (top : Bool) (ls : List BlockLine) (count more : ℕ) (here : LineRest) (left : List LineRest) (to : Place)
+      (old a b c e d : Walk A) → count ≡ length ls → more ≡ count - 1 → StandsAt text (Within here left) (standing old)
+      → IsLeafLaid old.on.now (around (standing old)) (IndentedCode ls) (Within here left) to
+      → WritesIndent 4 here old a
+      → Enters text n.CodeIndented a.out b.out → standing b ≡ standing a → written_to b ≡ written_to a
+      → standing c ≡ standing b → written_to c ≡ end_at b.line_end 0 → WritesUpTo n.CodeFlowChunk (end_at b.line_end 0) b c
+      → WritesCutLines n.CodeFlowChunk (outdent 4) more c e
+      → (IsInOrder text e.out → Exits text n.CodeIndented e.out d.out) → standing d ≡ standing e → written_to d ≡ written_to e
+      → WritesLeaf on names text top (page.IndentedCode ls) [] to old d
+  code_written on names top ls count more here left to old a b c e d size fewer st laid =
+      code_by on names top ls count more here left to laid.1 laid.0 old a b c e d size fewer st laid.2 laid.3 laid.4

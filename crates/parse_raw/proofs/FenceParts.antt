@@ -1,0 +1,243 @@
+-- What is written of a fence, step by step (CommonMark 4.5).
+use Rattle.std.proofs.Common.{◌≡◌, ℕ, suc, ◌+◌, ◌-◌, ◌^◌, ◌<◌, ◌≤◌, Bool, true, false, not, cond, ◌||◌, List, [], ◌∷◌, ◌++◌, Option, None, Some, eqb, inl, inr, refl, sym, ap, ap₂, subst, ◌∙◌}
+use Rattle.std.proofs.Common.{drop, take, get_or, length, length-append, arith}
+use Rattle.std.specs.List.{list_any, position_or_len, suffix_len}
+use Rattle.std.specs.Str.{IsCharBoundary, IsUtf8}
+use Rattle.std.proofs.lemmas.Bool.{cases_Bool, cond-false, cond-true, eqb-true, ne_eqb, or_parts}
+use Rattle.std.proofs.lemmas.List.{append-nil, take-append-drop}
+use Rattle.std.proofs.lemmas.List.Folds.{list_any-append}
+use Rattle.std.proofs.lemmas.List.Sums.{passes_at_first, prefix_len-le-length, prefix_len_passes}
+use Rattle.markdown_options.specs.declared.configuration.Constructs.{Constructs}
+use Rattle.markdown_options.specs.declared.line_ending.LineEnding.{LineEnding}
+use Rattle.engine_events.specs.Names.{same_name}
+use Rattle.engine_events.specs.declared.event.Name.{Name}
+use Rattle.engine_events.specs.declared.event.Name.TheVariants as n
+use Rattle.definition_text.specs.Columns.{indent, is_white, trim}
+use Rattle.definition_text.specs.Content.{is_space}
+use Rattle.definition_text.specs.Lines.{ends_line}
+use Rattle.definition_text.specs.Runs.{run}
+use Rattle.definition_inline.specs.CharacterReference.{Names}
+use Rattle.event_grammar.specs.InGrammar.{node_name}
+use Rattle.event_grammar.specs.Trees.{Node, Nodes, Nil, Cons}
+use Rattle.event_meaning.specs.Blocks.{info_of}
+use Rattle.event_meaning.specs.Children.{child}
+use Rattle.parse_output.specs.declared.end.End.{End}
+use Rattle.parse_output.specs.Ends.{Follows, end_at}
+use Rattle.parse_output.specs.Forest.{append, void_nodes}
+use Rattle.parse_output.specs.Written.{end_in}
+use Rattle.parse_output.proofs.Written.{writes_both, writes_none}
+use Rattle.parse_laid.specs.Places.{AtEnding, LineRest}
+use Rattle.text_bytes.proofs.Ascii.{boundary_after, boundary_before, space_ascii}
+use Rattle.parse_lines.specs.declared.walk.Walk.{Walk}
+use Rattle.parse_lines.specs.Content.{AreNext, end_after}
+use Rattle.parse_lines.specs.Ends.{WritesUpTo, written_to}
+use Rattle.parse_lines.specs.Standing.{Standing, StandsAt, standing}
+use Rattle.parse_lines.proofs.Ahead.{after_bytes, next_after}
+use Rattle.parse_raw.specs.FenceParts.{IsBefore, IsPartOf, LeadsTo, WritesPart, info_by}
+use Rattle.parse_raw.proofs.LeafNodes.{line_in_text}
+use Rattle.parse_raw.specs.RawLines.{IsRawName}
+use Rattle.parse_raw.proofs.Nodes.{child_append, raw_append, raw_none, raw_void, void_cases}
+use Rattle.parse_raw.proofs.Tokens.{index_follows}
+
+or_false : (t : Bool) → (t || false) ≡ t
+or_false true = refl
+or_false false = refl
+
+-- ---- where a text may be cut
+
+pub run_boundary : (xs : List ℕ) (byte : ℕ) → IsUtf8 xs → byte < 128 → IsCharBoundary xs (run byte xs)
+run_boundary xs byte utf8 ascii =
+    boundary_after xs (run byte xs) utf8 (prefix_len-le-length (λ (b : ℕ). eqb b byte) xs) (λ k is.
+    let same = eqb-true (get_or xs k 0) byte (prefix_len_passes (λ (b : ℕ). eqb b byte) xs k 0 (omega (arith, is))) in
+    omega (arith, same, ascii))
+
+pub white_boundary : (xs : List ℕ) → IsUtf8 xs → ((k : ℕ) → get_or xs k 0 < 256) → IsCharBoundary xs (indent xs)
+white_boundary xs utf8 bytes =
+    boundary_after xs (indent xs) utf8 (prefix_len-le-length is_white xs) (λ k is.
+    space_ascii (get_or xs k 0) (bytes k) (prefix_len_passes is_white xs k 0 (omega (arith, is))))
+
+pub word_boundary : (xs : List ℕ) → ((k : ℕ) → get_or xs k 0 < 256) → IsCharBoundary xs (position_or_len is_white xs)
+word_boundary xs bytes =
+    let n = position_or_len is_white xs in
+    boundary_before xs n (prefix_len-le-length (λ (b : ℕ). not (is_white b)) xs) (λ lt. space_ascii (get_or xs n 0) (bytes n) (passes_at_first is_white xs 0 lt))
+
+no_eol : (b : ℕ) → eqb b 10 ≡ false → eqb b 13 ≡ false → eqb b 257 ≡ false → is_space b ≡ is_white b
+no_eol b feed return both =
+    ap₂ (λ (x y : Bool). is_white b || (x || y)) (ap₂ (λ (x y : Bool). x || y) feed return) both ∙ or_false (is_white b)
+
+-- in a line, spaces and tabs alone end a word
+pub word_same : (xs : List ℕ) → list_any ends_line xs ≡ false → ((k : ℕ) → get_or xs k 0 < 256) → position_or_len is_space xs ≡ position_or_len is_white xs
+word_same [] dark bytes = refl
+word_same (b ∷ bs) dark bytes =
+    let parts = or_parts (ends_line b) (list_any ends_line bs) dark in
+    let eol = or_parts (eqb b 10) (eqb b 13) parts.0 in
+    let byte : b < 256 = bytes 0 in
+    let one : is_space b ≡ is_white b = no_eol b eol.0 eol.1 (ne_eqb b 257 (λ e. omega (arith, byte, e))) in
+    let more = word_same bs parts.1 (λ k. bytes (suc k)) in
+    ap₂ (λ (t : Bool) (k : ℕ). cond (not t) (1 + k) 0) one more
+
+-- ---- the parts of a text
+
+pub dark_both : (xs ys : List ℕ) → list_any ends_line (xs ++ ys) ≡ false → (list_any ends_line xs ≡ false) × (list_any ends_line ys ≡ false)
+dark_both xs ys dark = or_parts (list_any ends_line xs) (list_any ends_line ys) (sym (list_any-append ends_line xs ys) ∙ dark)
+
+-- what is trimmed, and white space before and behind it
+pub trim_parts : (xs : List ℕ) → (tail : List ℕ) × (xs ≡ take (indent xs) xs ++ (trim xs ++ tail))
+trim_parts xs =
+    let rest = drop (indent xs) xs in
+    let count = length rest - suffix_len is_white rest in
+    (drop count rest, sym (take-append-drop (indent xs) xs) ∙ ap (λ (ys : List ℕ). take (indent xs) xs ++ ys) (sym (take-append-drop count rest)))
+
+-- ---- in a walk
+
+info_none : (names : Names) (text : List ℕ) (o : Option Node) → info_of names text o ≡ None → o ≡ None
+info_none names text None is = refl
+info_none names text (Some node) is = absurd (cc)
+
+module _ (names : Names) where
+  found_first : (text : List ℕ) (info : Option (List ℕ)) (ns ms : Nodes) → info_of names text (child n.CodeFencedFenceInfo ns) ≡ info
+      → info_of names text (child n.CodeFencedFenceInfo ms) ≡ None → info_of names text (child n.CodeFencedFenceInfo (append ns ms)) ≡ info
+  found_first text info Nil ms first second = second ∙ first
+  found_first text info (Cons node ns) ms first second =
+      let name = same_name (node_name node) n.CodeFencedFenceInfo in
+      elim (cases_Bool name) [
+        | inl h ↦
+            ap (info_of names text) (cond-true name (Some node) (child n.CodeFencedFenceInfo (append ns ms)) h)
+            ∙ ap (info_of names text) (sym (cond-true name (Some node) (child n.CodeFencedFenceInfo ns) h)) ∙ first
+        | inr h ↦
+            ap (info_of names text) (cond-false name (Some node) (child n.CodeFencedFenceInfo (append ns ms)) h)
+            ∙ found_first text info ns ms (ap (info_of names text) (sym (cond-false name (Some node) (child n.CodeFencedFenceInfo ns) h)) ∙ first) second
+      ]
+
+  info_found : (text : List ℕ) (on : Constructs) (string : List ℕ) (ns : Nodes) → IsPartOf on names text n.CodeFencedFenceInfo string ns
+      → info_of names text (child n.CodeFencedFenceInfo ns) ≡ info_by on names string
+  info_found text on [] ns is = ap (λ (ms : Nodes). info_of names text (child n.CodeFencedFenceInfo ms)) is
+  info_found text on (b ∷ bs) ns is =
+      let same : same_name (node_name is.0) n.CodeFencedFenceInfo ≡ true = ap (λ (x : Name). same_name x n.CodeFencedFenceInfo) is.2 in
+      ap (λ (ms : Nodes). info_of names text (child n.CodeFencedFenceInfo ms)) is.1
+      ∙ ap (info_of names text) (cond-true (same_name (node_name is.0) n.CodeFencedFenceInfo) (Some is.0) None same) ∙ ap Some is.3
+
+  other_found : (text : List ℕ) (on : Constructs) (name : Name) (string : List ℕ) (ns : Nodes) → same_name name n.CodeFencedFenceInfo ≡ false
+      → IsPartOf on names text name string ns → info_of names text (child n.CodeFencedFenceInfo ns) ≡ None
+  other_found text on name [] ns other is = ap (λ (ms : Nodes). info_of names text (child n.CodeFencedFenceInfo ms)) is
+  other_found text on name (b ∷ bs) ns other is =
+      let apart : same_name (node_name is.0) n.CodeFencedFenceInfo ≡ false = ap (λ (x : Name). same_name x n.CodeFencedFenceInfo) is.2 ∙ other in
+      ap (λ (ms : Nodes). info_of names text (child n.CodeFencedFenceInfo ms)) is.1
+      ∙ ap (info_of names text) (cond-false (same_name (node_name is.0) n.CodeFencedFenceInfo) (Some is.0) None apart)
+
+module _ {A : Type 0} (names : Names) where
+  -- nothing
+  pub parts_none : (bytes : List ℕ) (w : Walk A) → LeadsTo names None bytes bytes w w
+  parts_none bytes w text ending left before =
+      record { nodes = Nil; writes = writes_none text w.out before.order; raw = raw_none; found = refl; around = (refl, refl); before = before }
+
+  -- parts without an info, and then others
+  pub parts_both : (info : Option (List ℕ)) (xs ys zs : List ℕ) (a b c : Walk A) → LeadsTo names None xs ys a b → LeadsTo names info ys zs b c
+      → LeadsTo names info xs zs a c
+  parts_both info xs ys zs a b c first second text ending left before =
+      let one = first text ending left before in
+      let two = second text ending left one.before in
+      record {
+        nodes = append one.nodes two.nodes;
+        writes = writes_both text a.out b.out c.out one.nodes two.nodes one.writes two.writes;
+        raw = raw_append one.nodes two.nodes one.raw two.raw;
+        found =
+            ap (info_of names text) (child_append n.CodeFencedFenceInfo one.nodes two.nodes (info_none names text (child n.CodeFencedFenceInfo one.nodes) one.found))
+            ∙ two.found;
+        around = (two.around.0 ∙ one.around.0, two.around.1 ∙ one.around.1);
+        before = two.before;
+      }
+
+  -- an info, and then parts without one
+  pub parts_after : (info : Option (List ℕ)) (xs ys zs : List ℕ) (a b c : Walk A) → LeadsTo names info xs ys a b → LeadsTo names None ys zs b c
+      → LeadsTo names info xs zs a c
+  parts_after info xs ys zs a b c first second text ending left before =
+      let one = first text ending left before in
+      let two = second text ending left one.before in
+      record {
+        nodes = append one.nodes two.nodes;
+        writes = writes_both text a.out b.out c.out one.nodes two.nodes one.writes two.writes;
+        raw = raw_append one.nodes two.nodes one.raw two.raw;
+        found = found_first names text info one.nodes two.nodes one.found two.found;
+        around = (two.around.0 ∙ one.around.0, two.around.1 ∙ one.around.1);
+        before = two.before;
+      }
+
+  -- an event that holds no other
+  pub token_part : (name : Name) (front rest : List ℕ) (size : ℕ) (a b : Walk A) → IsRawName name → same_name name n.CodeFencedFenceInfo ≡ false
+      → size ≡ length front → standing b ≡ standing a
+      → ((written_to a).index + size < 2 ^ 64 → written_to b ≡ end_at ((written_to a).index + size) 0)
+      → ((written_to a).index + size < 2 ^ 64 → WritesUpTo name (end_at ((written_to a).index + size) 0) a b) → LeadsTo names None (front ++ rest) rest a b
+  token_part name front rest size a b raw other count same ends writes text ending left before =
+      let i = (end_in a.out).index in
+      let at : end_in a.out ≡ end_at i 0 = ap (end_at i) before.whole in
+      let sizes = length-append front rest in
+      let within = line_in_text text (standing a) before.stands.line in
+      let size_text = before.stands.line.over.fits in
+      let fits : i + size < 2 ^ 64 = omega (arith, sizes, before.end, within, size_text, count) in
+      let to = end_at (i + size) 0 in
+      let reach : i + size ≤ length text = omega (arith, sizes, before.end, within, count) in
+      let follows : Follows text (end_in a.out) to =
+      subst (λ (e : End). Follows text e to) (sym at) (index_follows text i (i + size) (omega arith) reach) in
+      let done = writes fits text before.order follows in
+      let reached : end_after (end_in a.out) (length front) ≡ end_in b.out =
+      ap (λ (e : End). end_after e (length front)) at ∙ after_bytes i (length front) ∙ ap (λ (k : ℕ). end_at (i + k) 0) (sym count) ∙ sym (ends fits) in
+      let index = ap (λ (e : End). e.index) (ends fits) in
+      let line_end = ap (λ (s : Standing). s.line_end) same in
+      record {
+        nodes = void_nodes text name (end_in a.out) to;
+        writes = done;
+        raw = raw_void text name (end_in a.out) to raw;
+        found =
+            void_cases (λ (ns : Nodes). info_of names text (child n.CodeFencedFenceInfo ns) ≡ None) text name (end_in a.out) to raw.no_data (λ h. refl)
+            (λ h. ap (info_of names text) (cond-false (same_name name n.CodeFencedFenceInfo) _ _ other));
+        around = (ap (λ (s : Standing). s.on) same, ap (λ (s : Standing). s.outermost) same);
+        before = record {
+          stands = subst (StandsAt text (AtEnding ending left)) (sym same) before.stands;
+          order = done.order;
+          whole = ap (λ (e : End). e.owed) (ends fits);
+          next = subst (λ (e : End). AreNext text e rest) reached (next_after text front rest (end_in a.out) before.next);
+          end = omega (arith, index, sizes, before.end, line_end, count);
+          dark = (dark_both front rest before.dark).1;
+        };
+      }
+
+  -- all that is left
+  pub all_part : (name : Name) (bytes : List ℕ) (a b : Walk A) → IsRawName name → same_name name n.CodeFencedFenceInfo ≡ false → standing b ≡ standing a
+      → written_to b ≡ end_at a.line_end 0 → WritesUpTo name (end_at a.line_end 0) a b → LeadsTo names None bytes [] a b
+  all_part name bytes a b raw other same ends writes text ending left before =
+      let i = (end_in a.out).index in
+      let there : a.line_end ≡ i + length bytes = sym before.end in
+      let ends_there : written_to b ≡ end_at (i + length bytes) 0 = ends ∙ ap (λ (k : ℕ). end_at k 0) there in
+      let writes_there = subst (λ (k : ℕ). WritesUpTo name (end_at k 0) a b) there writes in
+      token_part name bytes [] (length bytes) a b raw other refl same (λ fits. ends_there) (λ fits. writes_there) text ending left
+      (subst (λ (xs : List ℕ). IsBefore text ending left xs a) (sym (append-nil bytes)) before)
+
+  -- a string, as the info of code or as something else
+  pub info_part : (on : Constructs) (string rest : List ℕ) (a b : Walk A)
+      → ((text : List ℕ) (ending : Option LineEnding) (left : List LineRest) → IsBefore text ending left (string ++ rest) a
+      → WritesPart on names text ending left n.CodeFencedFenceInfo string rest a b) → LeadsTo names (info_by on names string) (string ++ rest) rest a b
+  info_part on string rest a b writes text ending left before =
+      let done = writes text ending left before in
+      record {
+        nodes = done.nodes;
+        writes = done.writes;
+        raw = done.raw;
+        found = info_found names text on string done.nodes done.is_part;
+        around = done.around;
+        before = done.before;
+      }
+
+  pub other_part : (on : Constructs) (name : Name) (string rest : List ℕ) (a b : Walk A) → same_name name n.CodeFencedFenceInfo ≡ false
+      → ((text : List ℕ) (ending : Option LineEnding) (left : List LineRest) → IsBefore text ending left (string ++ rest) a
+      → WritesPart on names text ending left name string rest a b) → LeadsTo names None (string ++ rest) rest a b
+  other_part on name string rest a b other writes text ending left before =
+      let done = writes text ending left before in
+      record {
+        nodes = done.nodes;
+        writes = done.writes;
+        raw = done.raw;
+        found = other_found names text on name string done.nodes other done.is_part;
+        around = done.around;
+        before = done.before;
+      }

@@ -1,0 +1,89 @@
+-- What is written of an HTML block, step by step (CommonMark 4.6).
+use Rattle.std.proofs.Common.{◌≡◌, ℕ, ◌-◌, Bool, List, [], ◌∷◌, inl, inr, refl, sym, ap, subst, ◌∙◌, length, arith}
+use Rattle.markdown_options.specs.declared.configuration.Constructs.{Constructs}
+use Rattle.engine_events.specs.declared.event.Name.TheVariants as n
+use Rattle.definition_text.specs.BlockLines.{BlockLine, last_ending, own_lines}
+use Rattle.definition_block.specs.Tree.{Html, rest_line}
+use Rattle.definition_inline.specs.CharacterReference.{Names}
+use Rattle.definition_page.specs.Page as page
+use Rattle.event_meaning.specs.Raw.{RawPart, raw_lines, raw_parts}
+use Rattle.parse_output.specs.Ends.{end_at}
+use Rattle.parse_output.specs.Written.{Enters, Exits, IsInOrder}
+use Rattle.parse_alike.specs.BlockLines.{AreHtmlLinesAlike}
+use Rattle.parse_laid.specs.Leaves.{AreHtml, AreTaken, EndsAt, IsHtmlLine, IsLeafLaid}
+use Rattle.parse_laid.specs.Places.{AtEnding, Between, InAll, InSome, LineRest, Place, Prefixed, Within, line_left}
+use Rattle.parse_lines.specs.declared.walk.Walk.{Walk}
+use Rattle.parse_lines.specs.Ends.{IsWrittenToRest, WritesUpTo, rest_start, written_to}
+use Rattle.parse_lines.specs.Standing.{Standing, StandsAt, around, standing}
+use Rattle.parse_lines.proofs.Quiet.{quiet_none}
+use Rattle.parse_raw.specs.RawLines.{IsCutLine, WritesCutLines, chunk_parts}
+use Rattle.parse_raw.specs.Written.{WritesLeaf}
+use Rattle.parse_raw.proofs.LeafNodes.{leaf_written, rest_within}
+use Rattle.parse_raw.proofs.RawBlocks.{WritesFirst, all_written, html_alike, own_count, taken_as}
+use Rattle.parse_raw.proofs.RawLines.{whole_written}
+
+-- a later line is a line of which nothing is cut
+html_line : (kind : ℕ) (here : Prefixed) (line : BlockLine) → IsHtmlLine kind here line → IsCutLine (λ rest. rest) here line
+html_line kind (InAll own) line is = (own, refl, is.1)
+html_line kind (InSome own) line is = absurd is
+
+module _ {A : Type 0} (text : List ℕ) where
+  html_by : (on : Constructs) (names : Names) (top : Bool) (ls : List BlockLine) (count more kind : ℕ) (here : LineRest) (left : List LineRest) (to after : Place)
+      (taken : List BlockLine) (old b c e d : Walk A) → count ≡ length ls → more ≡ count - 1 → StandsAt text (Within here left) (standing old)
+      → IsWrittenToRest old → IsInOrder text old.out → AreHtml old.on.now (around (standing old)) kind taken (Within here left) after → ls ≡ own_lines taken
+      → EndsAt taken after to
+      → Enters text n.HtmlFlow old.out b.out → standing b ≡ standing old → written_to b ≡ written_to old
+      → standing c ≡ standing b → written_to c ≡ end_at b.line_end 0 → WritesUpTo n.HtmlFlowData (end_at b.line_end 0) b c
+      → WritesCutLines n.HtmlFlowData (λ rest. rest) more c e
+      → (IsInOrder text e.out → Exits text n.HtmlFlow e.out d.out) → standing d ≡ standing e → written_to d ≡ written_to e
+      → WritesLeaf on names text top (page.Html ls) [] to old d
+  html_by on names top ls count more kind here left to after [] old b c e d size fewer st at order html is ends enters same_b end_b same_c end_c writes_c lines exits
+      same_d end_d = absurd html
+  html_by on names top ls count more kind here left to after (first ∷ others) old b c e d size fewer st at order html is ends enters same_b end_b same_c end_c
+      writes_c lines exits same_d end_d =
+      let st_b = subst (StandsAt text (Within here left)) (sym same_b) st in
+      let at_b : IsWrittenToRest b = end_b ∙ at ∙ ap (λ (s : Standing). rest_start s.line_end s.rest) (sym same_b) in
+      let line = whole_written text n.HtmlFlowData b c here left (inr (inr (inl refl))) st_b at_b enters.order same_c end_c writes_c in
+      let own : html.0 ≡ here = sym (ap line_left html.3.0) in
+      let first_is : rest_line here.rest here.beside ≡ first = ap (λ (l : LineRest). rest_line l.rest l.beside) (sym own) ∙ sym html.5 in
+      let one : WritesFirst text n.HtmlFlowData first left b c =
+      record {
+        nodes = line.nodes;
+        writes = line.writes;
+        raw = line.raw;
+        parts = line.parts ∙ ap (λ (l : BlockLine). chunk_parts n.HtmlFlowData l.codes) first_is;
+        stands = subst (λ (l : BlockLine). StandsAt text (AtEnding l.ending left) (standing c)) first_is line.stands;
+        around = (ap (λ (s : Standing). s.on) line.same, ap (λ (s : Standing). s.outermost) line.same);
+        written = line.written;
+      } in
+      let fits : more ≡ length others = omega (arith, fewer, size, ap length is, own_count first others) in
+      let taken_html = taken_as old.on.now (around (standing old)) (IsHtmlLine kind) (IsCutLine (λ rest. rest)) others (Between html.1) after (html_line kind) html.6 in
+      let taken_b : AreTaken b.on.now (around (standing b)) (IsCutLine (λ rest. rest)) others (Between left) (Between ends.0) =
+      subst (λ (s : Standing). AreTaken s.on (around s) (IsCutLine (λ rest. rest)) others (Between left) (Between ends.0)) (sym same_b) (
+      subst (λ (ls : List LineRest). AreTaken old.on.now (around (standing old)) (IsCutLine (λ rest. rest)) others (Between ls) (Between ends.0)) (sym html.3.1) (
+      subst (AreTaken old.on.now (around (standing old)) (IsCutLine (λ rest. rest)) others (Between html.1)) ends.1 taken_html
+      )) in
+      let all = all_written text n.HtmlFlowData (λ rest. rest) first others left ends.0 more b c e (inr (inr (inl refl))) one fits taken_b lines in
+      let alike : AreHtmlLinesAlike ls (raw_lines (raw_parts text all.nodes)) =
+      subst (λ (xs : List BlockLine). AreHtmlLinesAlike xs (raw_lines (raw_parts text all.nodes))) (sym is) (
+      subst (λ (ps : List RawPart). AreHtmlLinesAlike (own_lines (first ∷ others)) (raw_lines ps)) (sym all.parts) (html_alike (own_lines (first ∷ others)))
+      ) in
+      let line_end = ap (λ (s : Standing). s.line_end) same_d in
+      leaf_written text on names top (page.Html ls) to old old b e d n.HtmlFlow all.nodes (quiet_none text old.out order) enters all.writes
+      (exits all.writes.order) refl refl refl all.raw.definitions (λ m m'. (alike, tt))
+      (subst (λ (p : Place). StandsAt text p (standing d)) (sym ends.2) (subst (StandsAt text (AtEnding (last_ending (first ∷ others)) ends.0)) (sym same_d) all.stands)) (
+        ap (λ (s : Standing). s.on) same_d ∙ all.around.0 ∙ ap (λ (s : Standing). s.on) same_b,
+        ap (λ (s : Standing). s.outermost) same_d ∙ all.around.1 ∙ ap (λ (s : Standing). s.outermost) same_b,
+      )
+      end_d (all.written ∙ ap (λ (k : ℕ). end_at k 0) (sym line_end)) (omega arith) (rest_within text old here left st at)
+
+  pub html_written : (on : Constructs) (names : Names) (top : Bool) (ls : List BlockLine) (count more : ℕ) (here : LineRest) (left : List LineRest) (to : Place)
+      (old b c e d : Walk A) → count ≡ length ls → more ≡ count - 1 → StandsAt text (Within here left) (standing old) → IsWrittenToRest old
+      → IsInOrder text old.out → IsLeafLaid old.on.now (around (standing old)) (Html ls) (Within here left) to
+      → Enters text n.HtmlFlow old.out b.out → standing b ≡ standing old → written_to b ≡ written_to old
+      → standing c ≡ standing b → written_to c ≡ end_at b.line_end 0 → WritesUpTo n.HtmlFlowData (end_at b.line_end 0) b c
+      → WritesCutLines n.HtmlFlowData (λ rest. rest) more c e
+      → (IsInOrder text e.out → Exits text n.HtmlFlow e.out d.out) → standing d ≡ standing e → written_to d ≡ written_to e
+      → WritesLeaf on names text top (page.Html ls) [] to old d
+  html_written on names top ls count more here left to old b c e d size fewer st at order laid =
+      html_by on names top ls count more laid.0 here left to laid.2 laid.1 old b c e d size fewer st at order laid.3 laid.4 laid.5

@@ -1,0 +1,191 @@
+-- The lines of frontmatter, and what is written of them (in neither standard).
+use Rattle.std.proofs.Common.{◌≡◌, ℕ, suc, ◌-◌, ◌<◌, ◌≤◌, true, ◌&&◌, List, [], ◌∷◌, ◌++◌, Option, None, Some, eqb, inl, inr, refl, sym, ap, subst, ◌∙◌}
+use Rattle.std.proofs.Common.{drop, get_or, length, reverse, arith}
+use Rattle.std.specs.List.{list_all}
+use Rattle.std.proofs.lemmas.Bool.{cases_Bool, and_parts, cond-true, cond-false, eqb-true}
+use Rattle.std.proofs.lemmas.List.Sums.{prefix_len-le-length}
+use Rattle.markdown_options.specs.declared.configuration.Constructs.{Constructs}
+use Rattle.markdown_options.specs.declared.line_ending.LineEnding.{LineEnding}
+use Rattle.markdown_options.specs.declared.beside.Kind.TheVariants.{Whitespace}
+use Rattle.engine_events.specs.declared.event.Name.TheVariants as n
+use Rattle.definition_text.specs.BlockLines.{BlockLine}
+use Rattle.definition_text.specs.Columns.{Rest, bytes_of, is_white, whole}
+use Rattle.definition_text.specs.Lines.{TextLine, ending_text, lines}
+use Rattle.definition_text.specs.Runs.{after_run, run}
+use Rattle.definition_block.specs.Container.{Container}
+use Rattle.definition_block.specs.Frontmatter.{after_frontmatter, after_metadata_fence, is_metadata_fence}
+use Rattle.definition_block.specs.Tree.{beside_line, rest_line}
+use Rattle.parse_laid.specs.Leaves.{AreTaken}
+use Rattle.parse_laid.specs.Places.{AtEnding, Between, InAll, LineRest, Within, line_left, line_rest, prefixed, unread}
+use Rattle.text_lines.proofs.Codes.{bytes_of_codes, no_columns}
+use Rattle.parse_lines.proofs.Lines.{joined, lines_joined}
+use Rattle.parse_lines.proofs.Spots.{bytes_after, bytes_before}
+use Rattle.block_starts.specs.View.{rest_of}
+use Rattle.event_grammar.specs.Trees.{Nodes}
+use Rattle.parse_output.specs.Ends.{end_at}
+use Rattle.parse_output.specs.Written.{IsInOrder, Writes}
+use Rattle.parse_lines.specs.declared.walk.Walk.{Walk}
+use Rattle.parse_lines.specs.Ends.{IsWrittenToRest, rest_start, written_to}
+use Rattle.parse_lines.specs.Standing.{StandsAt, standing}
+use Rattle.parse_lines.proofs.Ends.{left_within, start_whole}
+use Rattle.parse_lines.proofs.Steps.{at_ending}
+use Rattle.parse_raw.specs.RawLines.{AreRaw, IsCutLine, WritesCutLines, WritesLines}
+use Rattle.parse_raw.specs.Tokens.{AreLeft, LeadsOn}
+use Rattle.parse_raw.proofs.LeafNodes.{line_in_text}
+use Rattle.parse_raw.proofs.Tokens.{left_none, left_same}
+
+-- ---- which lines
+
+-- the lines of frontmatter: a fence, others, and a fence
+pub record FrontLines (all others : List TextLine) : Type 0 where
+  pub first : TextLine
+  pub mids : List TextLine
+  pub last : TextLine
+  pub parts : all ≡ first ∷ (mids ++ last ∷ others)
+  pub first_size : 3 ≤ length first.content
+  pub last_size : 3 ≤ length last.content
+
+fence_size : (byte : ℕ) (content : List ℕ) → is_metadata_fence byte content ≡ true → 3 ≤ length content
+fence_size byte content is =
+    let parts = and_parts (eqb (run byte content) 3) (list_all is_white (after_run byte content)) is in
+    let three = eqb-true (run byte content) 3 parts.0 in
+    omega (arith, three, prefix_len-le-length (λ (b : ℕ). eqb b byte) content)
+
+record EndLines (all others : List TextLine) : Type 0 where
+  mids : List TextLine
+  last : TextLine
+  parts : all ≡ mids ++ last ∷ others
+  size : 3 ≤ length last.content
+
+end_lines : (byte : ℕ) (all others : List TextLine) → after_metadata_fence byte all ≡ Some others → EndLines all others
+end_lines byte [] others is = absurd (cc)
+end_lines byte (line ∷ ls) others is =
+    elim (cases_Bool (is_metadata_fence byte line.content)) [
+      | inl h ↦
+          let e : Some ls ≡ Some others = sym (cond-true (is_metadata_fence byte line.content) _ _ h) ∙ is in
+          let same : ls ≡ others = cc in
+          record { mids = []; last = line; parts = ap (λ (xs : List TextLine). line ∷ xs) same; size = fence_size byte line.content h }
+      | inr h ↦
+          let more = end_lines byte ls others (sym (cond-false (is_metadata_fence byte line.content) _ _ h) ∙ is) in
+          record { mids = line ∷ more.mids; last = more.last; parts = ap (λ (xs : List TextLine). line ∷ xs) more.parts; size = more.size }
+    ]
+
+begun_by : (byte : ℕ) (line : TextLine) (ls others : List TextLine) → is_metadata_fence byte line.content ≡ true → after_metadata_fence byte ls ≡ Some others
+    → FrontLines (line ∷ ls) others
+begun_by byte line ls others is found =
+    let end = end_lines byte ls others found in
+    record {
+      first = line;
+      mids = end.mids;
+      last = end.last;
+      parts = ap (λ (xs : List TextLine). line ∷ xs) end.parts;
+      first_size = fence_size byte line.content is;
+      last_size = end.size;
+    }
+
+pub front_lines : (on : Constructs) (all others : List TextLine) → after_frontmatter on all ≡ Some others → FrontLines all others
+front_lines on [] others is = absurd (cc)
+front_lines on (line ∷ ls) others is =
+    let hyphens = on.frontmatter && is_metadata_fence 45 line.content in
+    let pluses = on.frontmatter && is_metadata_fence 43 line.content in
+    elim (cases_Bool hyphens) [
+      | inl h ↦
+          begun_by 45 line ls others (and_parts on.frontmatter (is_metadata_fence 45 line.content) h).1 (sym (cond-true hyphens _ _ h) ∙ is)
+      | inr h ↦
+          let other = sym (cond-false hyphens _ _ h) ∙ is in
+          elim (cases_Bool pluses) [
+            | inl k ↦ begun_by 43 line ls others (and_parts on.frontmatter (is_metadata_fence 43 line.content) k).1 (sym (cond-true pluses _ _ k) ∙ other)
+            | inr k ↦ let none : None ≡ Some others = sym (cond-false pluses _ _ k) ∙ other in absurd (cc)
+          ]
+    ]
+
+-- ---- their bytes
+
+abbrev pub AreBytes : List ℕ → Type 0
+AreBytes bs = (k : ℕ) → get_or bs k 0 < 256
+
+last_bytes : (mids : List TextLine) (last : TextLine) (others : List TextLine) → AreBytes (joined (mids ++ last ∷ others)) → AreBytes last.content
+last_bytes [] last others h =
+    bytes_before last.content (ending_text last.ending) (bytes_before (last.content ++ ending_text last.ending) (joined others) h)
+last_bytes (line ∷ mids) last others h =
+    last_bytes mids last others (bytes_after (line.content ++ ending_text line.ending) (joined (mids ++ last ∷ others)) h)
+
+pub line_bytes : (text : List ℕ) (mids : List TextLine) (last : TextLine) (others : List TextLine) → lines text ≡ mids ++ last ∷ others → AreBytes text
+    → AreBytes last.content
+line_bytes text mids last others is bytes =
+    last_bytes mids last others (subst AreBytes (sym (ap joined (sym is) ∙ lines_joined text)) bytes)
+
+-- ---- as lines of a block
+
+abbrev pub text_lines : List TextLine → List BlockLine
+text_lines [] = []
+text_lines (l ∷ ls) = rest_line (whole l.content) (beside_line Whitespace l) ∷ text_lines ls
+
+pub text_count : (ls : List TextLine) → length (text_lines ls) ≡ length ls
+text_count [] = refl
+text_count (l ∷ ls) = ap suc (text_count ls)
+
+pub text_taken : (on : Constructs) (mids others : List TextLine)
+    → AreTaken on [] (IsCutLine (λ rest. rest)) (text_lines mids) (Between (unread Whitespace (mids ++ others))) (Between (unread Whitespace others))
+text_taken on [] others = refl
+text_taken on (l ∷ ls) others =
+    let own = line_rest (whole l.content) (beside_line Whitespace l) in
+    (InAll own, unread Whitespace (ls ++ others), (refl, refl), (own, refl, refl), text_taken on ls others)
+
+-- ---- in a walk
+
+-- a line of which nothing is read
+pub fresh_left : {A : Type 0} (text content : List ℕ) (w : Walk A) (here : LineRest) (left : List LineRest) → StandsAt text (Within here left) (standing w)
+    → IsWrittenToRest w → IsInOrder text w.out → here.rest ≡ whole content → AreBytes content → AreLeft text (length content) w
+fresh_left text content w here left st at order is bytes =
+    let rest_is : rest_of w.rest ≡ whole content = st.rest ∙ is in
+    let count : length (bytes_of (whole content)) ≡ length content = ap length (bytes_of_codes 0 content bytes) in
+    let bound = left_within st.line.content st.columns st.line.parts.bytes in
+    let bound_is : length (bytes_of (drop st.columns (whole st.line.content))) ≡ length content = ap (λ (r : Rest). length (bytes_of r)) (sym st.suffix ∙ is) ∙ count in
+    record {
+      order = order;
+      at = at ∙ ap (rest_start w.line_end) rest_is ∙ start_whole w.line_end (whole content) (no_columns 0 content bytes) ∙ ap (λ (k : ℕ). end_at (w.line_end - k) 0) count;
+      within = omega (arith, bound, bound_is, st.line.end);
+      end = line_in_text text (standing w) st.line;
+      fits = st.line.over.fits;
+    }
+
+-- outside of containers a line has no prefixes
+pub top_line : (on : Constructs) (outermost : List Container) (next : LineRest) → outermost ≡ [] → line_left (prefixed on (reverse outermost) next) ≡ next
+top_line on outermost next none = ap (λ (cs : List Container). line_left (prefixed on (reverse cs) next)) none
+
+-- a fence of a line of which nothing is read
+pub record WritesFenceLine {A : Type 0} (text : List ℕ) (ending : Option LineEnding) (left : List LineRest) (b f : Walk A) : Type 0 where
+  pub nodes : Nodes
+  pub writes : Writes text b.out f.out nodes
+  pub raw : AreRaw nodes
+  pub same : standing f ≡ standing b
+  pub stands : StandsAt text (AtEnding ending left) (standing f)
+  pub written : written_to f ≡ end_at f.line_end 0
+
+pub fence_line : {A : Type 0} (text content : List ℕ) (a b f : Walk A) (here : LineRest) (left : List LineRest) → StandsAt text (Within here left) (standing a)
+    → IsWrittenToRest a → IsInOrder text a.out → here.rest ≡ whole content → AreBytes content → 3 ≤ length content → IsInOrder text b.out
+    → standing b ≡ standing a → written_to b ≡ written_to a → ((left : ℕ) → 3 ≤ left → LeadsOn left 0 b f)
+    → WritesFenceLine text here.beside.ending left b f
+fence_line text content a b f here left st at order is bytes size order_b same_b end_b writes =
+    let left_a = fresh_left text content a here left st at order is bytes in
+    let done = writes (length content) size text (left_same text (length content) a b left_a order_b same_b end_b) in
+    record {
+      nodes = done.nodes;
+      writes = done.writes;
+      raw = done.raw;
+      same = done.same;
+      stands = subst (StandsAt text (AtEnding here.beside.ending left)) (sym (done.same ∙ same_b)) (at_ending text here left (standing a) st);
+      written = left_none text 0 f refl done.after;
+    }
+
+-- the lines between the fences
+pub mid_lines : {A : Type 0} (text : List ℕ) (first : Option LineEnding) (mids others : List TextLine) (count : ℕ) (f l : Walk A) → (standing f).outermost ≡ []
+    → count ≡ length mids → StandsAt text (AtEnding first (unread Whitespace (mids ++ others))) (standing f) → written_to f ≡ end_at f.line_end 0 → IsInOrder text f.out
+    → WritesCutLines n.FrontmatterChunk (λ rest. rest) count f l
+    → WritesLines text n.FrontmatterChunk first (text_lines mids) (unread Whitespace others) f l
+mid_lines text first mids others count f l top size st at order writes =
+    writes text first (text_lines mids) (unread Whitespace (mids ++ others)) (unread Whitespace others) (size ∙ sym (text_count mids)) (inr (inr (inr refl))) st at order (
+    subst (λ (cs : List Container). AreTaken f.on.now (reverse cs) (IsCutLine (λ rest. rest)) (text_lines mids) (Between (unread Whitespace (mids ++ others)))
+    (Between (unread Whitespace others))) (sym top) (text_taken f.on.now mids others)
+    )

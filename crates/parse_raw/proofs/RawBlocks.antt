@@ -1,0 +1,134 @@
+-- What is written of a raw block, step by step (CommonMark 4.4 and 4.6).
+use Rattle.std.proofs.Common.{◌≡◌, ℕ, suc, List, [], ◌∷◌, ◌++◌, Option, None, Some, refl, sym, ap, ap₂, subst, ◌∙◌}
+use Rattle.std.proofs.Common.{append_assoc, flat_map, length, reverse}
+use Rattle.std.proofs.lemmas.Grind.{flat_map-append}
+use Rattle.std.proofs.lemmas.List.{append-nil}
+use Rattle.markdown_options.specs.declared.configuration.Constructs.{Constructs}
+use Rattle.markdown_options.specs.declared.line_ending.LineEnding.{LineEnding}
+use Rattle.engine_events.specs.declared.event.Name.{Name}
+use Rattle.engine_events.specs.declared.event.Name.TheVariants as n
+use Rattle.definition_text.specs.BlockLines.{BlockLine, last_ending, own_lines}
+use Rattle.definition_text.specs.Columns.{Code, Rest, bytes_of}
+use Rattle.definition_block.specs.Container.{Container}
+use Rattle.event_grammar.specs.Trees.{Nodes}
+use Rattle.event_meaning.specs.Raw.{Chunk, End as EndPart, RawPart, raw_lines, raw_parts}
+use Rattle.parse_output.specs.Ends.{end_at}
+use Rattle.parse_output.specs.Forest.{append}
+use Rattle.parse_output.specs.Written.{Writes}
+use Rattle.parse_output.proofs.Written.{writes_both}
+use Rattle.parse_alike.specs.BlockLines.{AreHtmlLinesAlike, HtmlPart, html_end, html_parts, html_text}
+use Rattle.parse_alike.specs.Raw.{end_part}
+use Rattle.parse_laid.specs.Leaves.{AreTaken}
+use Rattle.parse_laid.specs.Places.{AtEnding, Between, LineRest, Place, Prefixed}
+use Rattle.parse_lines.specs.declared.walk.Walk.{Walk}
+use Rattle.parse_lines.specs.Ends.{written_to}
+use Rattle.parse_lines.specs.Standing.{StandsAt, around, standing}
+use Rattle.parse_lines.specs.Steps.{HasSameOpen}
+use Rattle.parse_raw.specs.RawLines.{AreRaw, IsChunkName, IsCutLine, WritesCutLines, chunk_parts, html_chunk, parts_after}
+use Rattle.parse_raw.proofs.Nodes.{raw_append, raw_parts_append}
+use Rattle.parse_raw.proofs.RawLines.{bytes_stay}
+
+-- ---- the parts of lines
+
+-- those of a line: what is left of it, and its ending
+abbrev pub line_parts : Name → BlockLine → List RawPart
+line_parts name line = chunk_parts name line.codes ++ end_part line.ending
+
+pub parts_own : (name : Name) (first : BlockLine) (others : List BlockLine)
+    → chunk_parts name first.codes ++ parts_after name first.ending others ≡ flat_map (line_parts name) (own_lines (first ∷ others))
+parts_own name first [] = sym (append-nil (chunk_parts name first.codes ++ []))
+parts_own name first (next ∷ others) =
+    let own = chunk_parts name first.codes in
+    sym (append_assoc own (end_part first.ending) (chunk_parts name next.codes ++ parts_after name next.ending others))
+    ∙ ap (λ (ps : List RawPart). (own ++ end_part first.ending) ++ ps) (parts_own name next others)
+
+pub own_count : (first : BlockLine) (others : List BlockLine) → length (own_lines (first ∷ others)) ≡ suc (length others)
+own_count first [] = refl
+own_count first (next ∷ others) = ap suc (own_count next others)
+
+-- ---- HTML
+
+raw_lines_both : (ps qs : List RawPart) → raw_lines (ps ++ qs) ≡ raw_lines ps ++ raw_lines qs
+raw_lines_both [] qs = refl
+raw_lines_both (Chunk text ∷ ps) qs = ap (λ (ls : List BlockLine). raw_lines (Chunk text ∷ []) ++ ls) (raw_lines_both ps qs)
+raw_lines_both (EndPart ending ∷ ps) qs = ap (λ (ls : List BlockLine). raw_lines (EndPart ending ∷ []) ++ ls) (raw_lines_both ps qs)
+
+abbrev made : List RawPart → List HtmlPart
+made ps = flat_map html_parts (raw_lines ps)
+
+made_both : (ps qs : List RawPart) → made (ps ++ qs) ≡ made ps ++ made qs
+made_both ps qs = ap (flat_map html_parts) (raw_lines_both ps qs) ∙ flat_map-append html_parts (raw_lines ps) (raw_lines qs)
+
+made_chunk : (codes : List Code) → html_text (bytes_of codes) ≡ made (html_chunk codes)
+made_chunk [] = refl
+made_chunk (c ∷ cs) =
+    let bytes = bytes_of (c ∷ cs) in
+    sym (append-nil (html_text (bytes_of bytes) ++ []) ∙ append-nil (html_text (bytes_of bytes)) ∙ ap html_text (bytes_stay (c ∷ cs)).1)
+
+made_end : (ending : Option LineEnding) → html_end ending ≡ made (end_part ending)
+made_end None = refl
+made_end (Some ending) = refl
+
+made_line : (line : BlockLine) → html_parts line ≡ made (line_parts n.HtmlFlowData line)
+made_line line =
+    ap₂ (λ (xs ys : List HtmlPart). xs ++ ys) (made_chunk line.codes) (made_end line.ending)
+    ∙ sym (made_both (html_chunk line.codes) (end_part line.ending))
+
+-- lines of HTML are alike to what is left of each, and their endings
+pub html_alike : (ls : List BlockLine) → AreHtmlLinesAlike ls (raw_lines (flat_map (line_parts n.HtmlFlowData) ls))
+html_alike [] = refl
+html_alike (line ∷ ls) =
+    ap₂ (λ (xs ys : List HtmlPart). xs ++ ys) (made_line line) (html_alike ls)
+    ∙ sym (made_both (line_parts n.HtmlFlowData line) (flat_map (line_parts n.HtmlFlowData) ls))
+
+-- ---- lines of a text
+
+-- lines of one kind are of another
+pub taken_as : (on : Constructs) (around : List Container) (P Q : Prefixed → BlockLine → Type 0) (ls : List BlockLine) (from to : Place)
+    → ((here : Prefixed) (line : BlockLine) → P here line → Q here line) → AreTaken on around P ls from to → AreTaken on around Q ls from to
+taken_as on around P Q [] from to f taken = taken
+taken_as on around P Q (line ∷ ls) from to f taken =
+    (taken.0, taken.1, taken.2, f taken.0 line taken.3, taken_as on around P Q ls (Between taken.1) to f taken.4)
+
+-- ---- in a walk
+
+-- the first line is written up to its ending, without the white space that is cut
+pub record WritesFirst {A : Type 0} (text : List ℕ) (name : Name) (first : BlockLine) (left : List LineRest) (b c : Walk A) : Type 0 where
+  pub nodes : Nodes
+  pub writes : Writes text b.out c.out nodes
+  pub raw : AreRaw nodes
+  pub parts : raw_parts text nodes ≡ chunk_parts name first.codes
+  pub stands : StandsAt text (AtEnding first.ending left) (standing c)
+  pub around : HasSameOpen (standing b) (standing c)
+  pub written : written_to c ≡ end_at c.line_end 0
+
+-- all lines are written
+pub record WritesAll {A : Type 0} (text : List ℕ) (name : Name) (first : BlockLine) (others : List BlockLine) (after : List LineRest) (b e : Walk A) : Type 0 where
+  pub nodes : Nodes
+  pub writes : Writes text b.out e.out nodes
+  pub raw : AreRaw nodes
+  pub parts : raw_parts text nodes ≡ flat_map (line_parts name) (own_lines (first ∷ others))
+  pub stands : StandsAt text (AtEnding (last_ending (first ∷ others)) after) (standing e)
+  pub around : HasSameOpen (standing b) (standing e)
+  pub written : written_to e ≡ end_at e.line_end 0
+
+module _ {A : Type 0} (text : List ℕ) where
+  pub all_written : (name : Name) (cut : Rest → Rest) (first : BlockLine) (others : List BlockLine) (left after : List LineRest) (count : ℕ) (b c e : Walk A)
+      → IsChunkName name → WritesFirst text name first left b c → count ≡ length others
+      → AreTaken b.on.now (around (standing b)) (IsCutLine cut) others (Between left) (Between after)
+      → WritesCutLines name cut count c e → WritesAll text name first others after b e
+  all_written name cut first others left after count b c e is_chunk one size taken writes =
+      let taken_c = subst (λ (x : Constructs). AreTaken x (reverse (standing c).outermost) (IsCutLine cut) others (Between left) (Between after)) (sym one.around.0) (
+      subst (λ (cs : List Container). AreTaken b.on.now (reverse cs) (IsCutLine cut) others (Between left) (Between after)) (sym one.around.1) taken
+      ) in
+      let more = writes text first.ending others left after size is_chunk one.stands one.written one.writes.order taken_c in
+      record {
+        nodes = append one.nodes more.nodes;
+        writes = writes_both text b.out c.out e.out one.nodes more.nodes one.writes more.writes;
+        raw = raw_append one.nodes more.nodes one.raw more.raw;
+        parts =
+            raw_parts_append text one.nodes more.nodes ∙ ap₂ (λ (ps qs : List RawPart). ps ++ qs) one.parts more.parts ∙ parts_own name first others;
+        stands = more.stands;
+        around = (more.around.0 ∙ one.around.0, more.around.1 ∙ one.around.1);
+        written = more.written;
+      }

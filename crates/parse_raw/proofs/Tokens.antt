@@ -1,0 +1,144 @@
+-- What is written of the bytes of a line, step by step.
+use Rattle.std.proofs.Common.{◌≡◌, ℕ, ◌+◌, ◌-◌, ◌^◌, ◌<◌, ◌≤◌, Bool, ◌&&◌, List, [], ◌∷◌, ◌++◌, eqb, inl, refl, sym, ap, subst, ◌∙◌, length, get_or, arith}
+use Rattle.std.proofs.lemmas.Bool.{cond-true, cond-false, eq-eqb}
+use Rattle.engine_events.specs.Names.{same_name}
+use Rattle.engine_events.specs.declared.event.Name.{Name}
+use Rattle.engine_events.specs.declared.event.Name.TheVariants as n
+use Rattle.definition_text.specs.Runs.{run}
+use Rattle.event_grammar.specs.References.{named}
+use Rattle.event_grammar.specs.Trees.{Node, Nil, Around}
+use Rattle.parse_output.specs.declared.end.End.{End}
+use Rattle.parse_output.specs.Ends.{Follows, end_at, enter_at, exit_at}
+use Rattle.parse_output.specs.Forest.{append, cut, is_nil, one, void_nodes}
+use Rattle.parse_output.specs.Written.{Enters, Exits, IsInOrder, Writes, end_in}
+use Rattle.parse_output.proofs.Written.{writes_around, writes_both, writes_none}
+use Rattle.parse_lines.specs.declared.walk.Walk.{Walk}
+use Rattle.parse_lines.specs.Ends.{WritesUpTo, written_to}
+use Rattle.parse_lines.specs.Standing.{Standing, standing}
+use Rattle.parse_raw.specs.Tokens.{AreLeft, LeadsOn}
+use Rattle.parse_raw.proofs.Nodes.{IsRawName, raw_append, raw_none, raw_void}
+
+-- an index further on
+pub index_follows : (text : List ℕ) (i j : ℕ) → i ≤ j → j ≤ length text → Follows text (end_at i 0) (end_at j 0)
+index_follows text i j forward within = record { forward = forward; within = within; columns = λ same. omega arith; whole = inl refl }
+
+module _ {A : Type 0} where
+  -- nothing
+  pub tokens_none : (n : ℕ) (w : Walk A) → LeadsOn n n w w
+  tokens_none n w text left = record { nodes = Nil; writes = writes_none text w.out left.order; raw = raw_none; same = refl; after = left }
+
+  -- some, and then others
+  pub tokens_both : (k m n : ℕ) (a b c : Walk A) → LeadsOn k m a b → LeadsOn m n b c → LeadsOn k n a c
+  tokens_both k m n a b c first second text left =
+      let one = first text left in
+      let two = second text one.after in
+      record {
+        nodes = append one.nodes two.nodes;
+        writes = writes_both text a.out b.out c.out one.nodes two.nodes one.writes two.writes;
+        raw = raw_append one.nodes two.nodes one.raw two.raw;
+        same = two.same ∙ one.same;
+        after = two.after;
+      }
+
+  -- an event that holds no other
+  pub token_on : (name : Name) (n size : ℕ) (a b : Walk A) → IsRawName name → size ≤ n → standing b ≡ standing a
+      → ((written_to a).index + size < 2 ^ 64 → written_to b ≡ end_at ((written_to a).index + size) 0)
+      → ((written_to a).index + size < 2 ^ 64 → WritesUpTo name (end_at ((written_to a).index + size) 0) a b) → LeadsOn n (n - size) a b
+  token_on name n size a b raw le same ends writes text left =
+      let index = ap (λ (e : End). e.index) left.at in
+      let line_end = ap (λ (s : Standing). s.line_end) same in
+      let fits : (written_to a).index + size < 2 ^ 64 = omega (arith, index, left.within, left.end, left.fits, le) in
+      let to = end_at ((written_to a).index + size) 0 in
+      let reach : (written_to a).index + size ≤ length text = omega (arith, index, left.within, left.end, le) in
+      let follows : Follows text (written_to a) to =
+      subst (λ (e : End). Follows text e to) (sym left.at) (index_follows text (a.line_end - n) ((written_to a).index + size) (omega (arith, index)) reach) in
+      let there : (written_to a).index + size ≡ b.line_end - (n - size) = omega (arith, index, left.within, le, line_end) in
+      let done = writes fits text left.order follows in
+      record {
+        nodes = void_nodes text name (written_to a) to;
+        writes = done;
+        raw = raw_void text name (written_to a) to raw;
+        same = same;
+        after = record {
+          order = done.order;
+          at = ends fits ∙ ap (λ (k : ℕ). end_at k 0) there;
+          within = omega (arith, left.within, line_end);
+          end = omega (arith, left.end, line_end);
+          fits = left.fits;
+        };
+      }
+
+  -- all that is left
+  pub token_all : (name : Name) (n : ℕ) (a b : Walk A) → IsRawName name → standing b ≡ standing a → written_to b ≡ end_at a.line_end 0
+      → WritesUpTo name (end_at a.line_end 0) a b → LeadsOn n 0 a b
+  token_all name n a b raw same ends writes text left =
+      let line_end = ap (λ (s : Standing). s.line_end) same in
+      let follows : Follows text (written_to a) (end_at a.line_end 0) =
+      subst (λ (e : End). Follows text e (end_at a.line_end 0)) (sym left.at) (index_follows text (a.line_end - n) a.line_end (omega arith) left.end) in
+      let there : a.line_end ≡ b.line_end - 0 = omega (arith, line_end) in
+      let done = writes text left.order follows in
+      record {
+        nodes = void_nodes text name (written_to a) (end_at a.line_end 0);
+        writes = done;
+        raw = raw_void text name (written_to a) (end_at a.line_end 0) raw;
+        same = same;
+        after = record {
+          order = done.order;
+          at = ends ∙ ap (λ (k : ℕ). end_at k 0) there;
+          within = omega arith;
+          end = omega (arith, left.end, line_end);
+          fits = left.fits;
+        };
+      }
+
+-- bytes begin with one or more of their first
+pub run_some : (bytes : List ℕ) (first : ℕ) → 0 < length bytes → first ≡ get_or bytes 0 0 → 0 < run first bytes
+run_some [] first some is = absurd (omega arith)
+run_some (b ∷ bs) first some is =
+    let one : run first (b ∷ bs) ≡ 1 + run first bs = cond-true (eqb b first) _ _ (eq-eqb b first (sym is)) in
+    omega (arith, one)
+
+module _ {A : Type 0} (text : List ℕ) where
+  -- an event is entered or exited
+  pub left_same : (n : ℕ) (a b : Walk A) → AreLeft text n a → IsInOrder text b.out → standing b ≡ standing a → written_to b ≡ written_to a → AreLeft text n b
+  left_same n a b left order same at =
+      let line_end = ap (λ (s : Standing). s.line_end) same in
+      record {
+        order = order;
+        at = at ∙ left.at ∙ ap (λ (k : ℕ). end_at (k - n) 0) (sym line_end);
+        within = omega (arith, left.within, line_end);
+        end = omega (arith, left.end, line_end);
+        fits = left.fits;
+      }
+
+  -- nothing is left
+  pub left_none : (n : ℕ) (w : Walk A) → n ≡ 0 → AreLeft text n w → written_to w ≡ end_at w.line_end 0
+  left_none n w none left =
+      let all : w.line_end - n ≡ w.line_end = omega arith in
+      left.at ∙ ap (λ (k : ℕ). end_at k 0) all
+
+-- an event around others
+pub tokens_around : {A : Type 0} (name : Name) (k m : ℕ) (a b c d : Walk A) → IsRawName name
+    → ((text : List ℕ) → IsInOrder text a.out → Enters text name a.out b.out) → standing b ≡ standing a → written_to b ≡ written_to a → LeadsOn k m b c
+    → ((text : List ℕ) → IsInOrder text c.out → Exits text name c.out d.out) → standing d ≡ standing c → written_to d ≡ written_to c → LeadsOn k m a d
+tokens_around name k m a b c d raw enters same_b end_b kids exits same_d end_d text left =
+    let entered = enters text left.order in
+    let inner = kids text (left_same text k a b left entered.order same_b end_b) in
+    let exited = exits text inner.writes.order in
+    let node = Around (enter_at text name (end_in a.out)) inner.nodes (exit_at text name (end_in c.out)) in
+    let whole : cut node ≡ one node =
+    cond-false (same_name name n.Data && is_nil inner.nodes) _ _ (ap (λ (t : Bool). t && is_nil inner.nodes) raw.no_data) in
+    record {
+      nodes = one node;
+      writes = subst (Writes text a.out d.out) whole (writes_around text a.out b.out c.out d.out name inner.nodes entered inner.writes exited);
+      raw = record {
+        definitions =
+            ap (λ (ns : List Node). ns ++ [])
+            (cond-false (same_name name n.Definition) (node ∷ named n.Definition inner.nodes) (named n.Definition inner.nodes) raw.no_definition
+            ∙ inner.raw.definitions);
+        code = cond-false (same_name name n.CodeFencedFence) _ _ raw.no_code;
+        math = cond-false (same_name name n.MathFlowFence) _ _ raw.no_math;
+      };
+      same = same_d ∙ inner.same ∙ same_b;
+      after = left_same text m c d inner.after exited.order same_d end_d;
+    }

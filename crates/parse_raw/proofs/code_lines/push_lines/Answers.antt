@@ -1,0 +1,24 @@
+use Rattle.std.proofs.Common.{◌≡◌, ◌∙◌, arith}
+use Rattle.parse_raw.proofs.NextLines.{so_far_all, so_far_more, so_far_none}
+use Rattle.parse_raw.proofs.RawLines.{whole_written}
+use Rattle.parse_raw.proofs.code_lines.push_lines.Goals as goal
+use Rattle.std.proofs.Common.{refl}
+
+pub loop-init : goal.loop-init
+loop-init g c = record { «open» = refl; so_far = so_far_none c.args.chunk (λ rest. rest) c.args.count c.args.walk.now }
+
+pub loop-preserved : goal.loop-preserved
+loop-preserved g c =
+    let next = c.in_ok-next_line.ensures in
+    let all = c.in_ok-all.ensures in
+    record {
+      «open» = all.open ∙ next.open ∙ c.loop.invariant.open;
+      so_far = so_far_more c.args.chunk (λ rest. rest) c.args.count c.loop.counter c.args.walk.now c.loop.walk c.next_line.new.self c.all.new.self
+          (omega arith) c.loop.invariant.so_far next.passes next.written next.around
+          (λ text here left is st at order. whole_written text c.args.chunk c.next_line.new.self c.all.new.self here left is st at order all.stays all.end all.written);
+    }
+
+pub returns-clause-written : goal.returns-clause-written
+returns-clause-written g c =
+    let done : c.loop.counter ≡ c.args.count = omega arith in
+    so_far_all c.args.chunk (λ rest. rest) c.args.count c.loop.counter c.args.walk.now c.loop.walk done c.loop.invariant.so_far

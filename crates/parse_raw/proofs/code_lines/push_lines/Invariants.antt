@@ -1,0 +1,10 @@
+use Rattle.std.proofs.Common.{◌≡◌}
+use Rattle.parse_lines.specs.Open.{still_open}
+use Rattle.parse_raw.proofs.NextLines.{LinesSoFar}
+use Rattle.parse_raw.proofs.code_lines.push_lines.Given as goal
+
+abbrev pub invariant-loop : goal.invariant-loop
+invariant-loop g l = record {
+  «open» : still_open l.walk ≡ still_open l.initial.walk;
+  so_far : LinesSoFar l.chunk (λ rest. rest) l.count l.counter l.initial.walk l.walk;
+}

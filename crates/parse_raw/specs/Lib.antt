@@ -1,0 +1,9 @@
+pub mod Written
+pub mod Reads
+pub mod Laid
+pub mod RawLines
+pub mod Tokens
+pub mod FenceParts
+pub mod Before
+pub mod Fences
+pub mod Calls

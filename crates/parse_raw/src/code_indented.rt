@@ -1,0 +1,32 @@
+//! Indented code (CommonMark 4.4).
+ghost use Rattle.std.specs.Prelude.{◌≡◌, Bool, [], List, OnOk, length, true};
+ghost use Rattle.parse_output.specs.Children.{holds_blocks};
+ghost use Rattle.parse_lines.specs.Open.{still_open};
+ghost use Rattle.definition_text.specs.BlockLines.{BlockLine};
+ghost use Rattle.definition_block.specs.Tree.{IndentedCode};
+ghost use Rattle.definition_page.specs.Read.{Reading};
+ghost use Rattle.parse_raw.specs.Reads.{WritesReadLeaf};
+
+use crate::code_lines::{push_code_lines, push_indent};
+use engine_events::event::Name;
+use markdown_options::constants::TAB_SIZE;
+use parse_lines::Walk;
+use std::alloc::{AllocError, Allocator};
+
+/// Indented code of so many lines.
+#[tactic(auto, using(parse_output::proofs::Classes::blocks_may, parse_output::proofs::Classes::enters_in, parse_output::proofs::Classes::lines_in), unfolding(parse_output::specs::Children::may_hold, parse_output::specs::Children::has_lines))]
+pub fn push_indented_code<A: Allocator>(
+    walk: &mut Walk<'_, A>,
+    count: usize,
+) -> Result<(), AllocError>
+    requires blocks { holds_blocks (still_open walk.old) ≡ true }
+    ensures open { OnOk result (still_open walk.new ≡ still_open walk.old) }
+    ensures written { OnOk result ((r : Reading) (first : Bool) (ls : List BlockLine) → count ≡ length ls
+        → WritesReadLeaf r first (IndentedCode ls) [] walk.old walk.new) }
+{
+    push_indent(walk, TAB_SIZE)?;
+    walk.enter(Name::CodeIndented)?;
+    walk.all(Name::CodeFlowChunk)?;
+    push_code_lines(walk, Name::CodeFlowChunk, TAB_SIZE, count.saturating_sub(1))?;
+    walk.exit(Name::CodeIndented)
+}
