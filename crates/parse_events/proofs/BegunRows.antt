@@ -65,11 +65,6 @@ module _ {A : Type 0} where
       goes text front o within inner (begun r.parse.constructs within p) to (in_line_begun r o within inner p to row next) (next_begun r o within inner p to row other next)
       (begins r text front o within inner p to row other next was)
 
-  pub value_goes_on : (old mid new : Parser A) (r : Reading) (value row : BlockRow) → value ≡ row → ends_line row ≡ false → BeginsRow old mid
-      → GoesOnInLine r row mid new → GoesOn r value old new
-  value_goes_on old mid new r value row is other begins goes =
-      subst (λ (b : BlockRow). GoesOn r b old new) (sym is) (begun_goes_on old mid new r row other begins goes)
-
   -- if a call succeeds
   pub line_begun : {T E : Type 0} (result : Result T E) (old new : Parser A) → KeepsOpen old new → OnOk result (IsLineBegun (standing old.walk) (standing new.walk))
       → OnOk result (WritesLine old.walk new.walk) → OnOk result (HasSameOpen (standing old.walk) (standing new.walk))

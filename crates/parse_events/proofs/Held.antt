@@ -1,5 +1,6 @@
 -- What is open in a document, one more of it or one less.
-use Rattle.std.proofs.Common.{◌≡◌, arith, ℕ, zero, suc, ◌+◌, List, [], ◌∷◌, ◌++◌, true, false, refl, sym, ap, subst, ◌∙◌, get_or, length}
+use Rattle.std.proofs.Common.{◌≡◌, arith, ℕ, zero, suc, ◌+◌, List, [], ◌∷◌, ◌++◌, Bool, true, false, refl, sym, ap, ap₂, subst, ◌∙◌, get_or, length}
+use Rattle.std.specs.Prelude.{Result, Ok, Err, OnOk}
 use Rattle.std.proofs.lemmas.Bool.{true≢false}
 use Rattle.engine_events.specs.Names.{is_listed}
 use Rattle.engine_events.specs.declared.event.Name.{Name}
@@ -10,9 +11,9 @@ use Rattle.parse_output.specs.Children.{between_names, holds_blocks, holds_lines
 use Rattle.parse_output.proofs.Classes.{blocks_lines, blocks_may, lines_may}
 use Rattle.block_rows.specs.declared.row.Row.{Row}
 use Rattle.parse_lines.specs.declared.walk.Walk.{Walk}
-use Rattle.parse_lines.specs.Open.{still_open}
+use Rattle.parse_lines.specs.Open.{still_open, with_entered}
 use Rattle.parse_events.specs.declared.parser.Parser.{Parser}
-use Rattle.parse_events.specs.Closing.{HasOpen, open_around}
+use Rattle.parse_events.specs.Closing.{HasOpen, Keeps, OpensIf, more_if, open_around}
 use Rattle.parse_events.specs.Document.{IsNew}
 use Rattle.parse_events.specs.declared.opened.Opened.{Opened}
 use Rattle.parse_events.specs.declared.opened.Opened.TheVariants as held
@@ -59,16 +60,6 @@ held_more os o marks are = record {
   blocks = ap holds_blocks (around_more os o marks) ∙ are.blocks;
 }
 
-pub quote_held : (os : List Opened) (marks : List Mark) → AreHeld os marks → AreHeld (os ++ held.Quote ∷ []) (Entered n.BlockQuote ∷ marks)
-quote_held os marks are = held_more os held.Quote marks are
-
-pub footnote_held : (os : List Opened) (marks : List Mark) → AreHeld os marks
-    → AreHeld (os ++ held.Footnote ∷ []) (Entered n.GfmFootnoteDefinition ∷ marks)
-footnote_held os marks are = held_more os held.Footnote marks are
-
-pub item_held : (os : List Opened) (marks : List Mark) → AreHeld os marks → AreHeld (os ++ held.Item ∷ []) (Entered n.ListItem ∷ marks)
-item_held os marks are = held_more os held.Item marks are
-
 -- one less
 pub held_less : (os : List Opened) (o : Opened) (marks : List Mark) → AreHeld (os ++ o ∷ []) marks → AreHeld os (closed (opened_name o) marks)
 held_less os o marks are =
@@ -79,6 +70,84 @@ held_less os o marks are =
           ∙ ap (enter_all os) (close_last os o marks);
       blocks = ap holds_blocks (sym (close_last os o marks)) ∙ are.blocks;
     }
+
+-- ---- a parser after a call
+
+module _ {A : Type 0} where
+  -- its walk keeps what is open
+  pub kept_open : (old new : Parser A) → new.open.items ≡ old.open.items → HasOpen old → still_open new.walk ≡ still_open old.walk → Keeps old new
+  kept_open old new lists was same = record {
+    around = ap (λ (os : List Opened). close_all os (still_open new.walk)) lists ∙ ap (close_all old.open.items) same;
+    held = subst (λ (os : List Opened). AreHeld os (still_open new.walk)) (sym lists) (subst (AreHeld old.open.items) (sym same) was);
+  }
+
+  pub kept_both : (old mid new : Parser A) → Keeps old mid → Keeps mid new → Keeps old new
+  kept_both old mid new one two = record { around = two.around ∙ one.around; held = two.held }
+
+  -- no list is open where none was
+  pub in_no_list : (old now : Parser A) (in_list : Bool) → in_list ≡ true → in_list ≡ ends_in_list now.open.items → now ≡ record old { first = false }
+      → ends_in_list old.open.items ≡ false → ⊥
+  in_no_list old now in_list listed is same none = true≢false (sym listed ∙ is ∙ ap (λ (p : Parser A). ends_in_list p.open.items) same ∙ none)
+
+  -- one more is open, if it starts
+  opened_kept : (o : Opened) (starts : Bool) (old new : Parser A) → HasOpen old → new.open.items ≡ more_if starts o old.open.items
+      → still_open new.walk ≡ with_entered starts (opened_name o) (still_open old.walk) → Keeps old new
+  opened_kept o false old new was lists same = kept_open old new lists was same
+  opened_kept o true old new was lists same =
+      let os = old.open.items in
+      let marks = still_open old.walk in
+      record {
+        around =
+            ap (λ (all : List Opened). close_all all (still_open new.walk)) lists ∙ ap (close_all (os ++ o ∷ [])) same ∙ around_more os o marks;
+        held =
+            subst (λ (all : List Opened). AreHeld all (still_open new.walk)) (sym lists) (
+            subst (AreHeld (os ++ o ∷ [])) (sym same) (held_more os o marks was));
+      }
+
+  -- one less is open
+  closed_kept : (o : Opened) (old new : Parser A) → HasOpen old → old.open.items ≡ new.open.items ++ o ∷ []
+      → still_open new.walk ≡ closed (opened_name o) (still_open old.walk) → Keeps old new
+  closed_kept o old new was lists same =
+      let os = new.open.items in
+      let marks = still_open old.walk in
+      record {
+        around = ap (close_all os) same ∙ sym (close_last os o marks) ∙ sym (ap (λ (all : List Opened). close_all all marks) lists);
+        held = subst (AreHeld os) (sym same) (held_less os o marks (subst (λ (all : List Opened). AreHeld all marks) lists was));
+      }
+
+  -- if a call succeeds
+  pub walk_kept : {T E : Type 0} (result : Result T E) (old new : Parser A) → new.open.items ≡ old.open.items → HasOpen old
+      → OnOk result (still_open new.walk ≡ still_open old.walk) → OnOk result (Keeps old new)
+  walk_kept (Ok x) old new lists was same = kept_open old new lists was same
+  walk_kept (Err e) old new lists was same = tt
+
+  pub kept_then : {T E : Type 0} (result : Result T E) (old mid new : Parser A) → Keeps old mid → OnOk result (Keeps mid new) → OnOk result (Keeps old new)
+  kept_then (Ok x) old mid new one two = kept_both old mid new one two
+  kept_then (Err e) old mid new one two = tt
+
+  pub walk_kept_then : {T E : Type 0} (result : Result T E) (old mid new : Parser A) → Keeps old mid → new.open.items ≡ mid.open.items
+      → OnOk result (still_open new.walk ≡ still_open mid.walk) → OnOk result (Keeps old new)
+  walk_kept_then result old mid new one lists same = kept_then result old mid new one (walk_kept result mid new lists one.held same)
+
+  pub start_kept : {T E : Type 0} (result : Result T E) (o : Opened) (starts : Bool) (old mid started new : Parser A) → Keeps old mid
+      → started.open.items ≡ mid.open.items → still_open started.walk ≡ with_entered starts (opened_name o) (still_open mid.walk)
+      → OnOk result (OpensIf starts o started new) → OnOk result (Keeps old new)
+  start_kept (Ok x) o starts old mid started new one lists same opens =
+      kept_both old mid new one (
+      opened_kept o starts mid new one.held (opens.lists ∙ ap (more_if starts o) lists) (ap (λ (w : Walk A). still_open w) opens.walk ∙ same))
+  start_kept (Err e) o starts old mid started new one lists same opens = tt
+
+  pub exit_kept : {T E : Type 0} (result : Result T E) (o : Opened) (name : Name) (old new : Parser A) → name ≡ opened_name o → HasOpen old
+      → old.open.items ≡ new.open.items ++ o ∷ [] → OnOk result (still_open new.walk ≡ closed name (still_open old.walk)) → OnOk result (Keeps old new)
+  exit_kept (Ok x) o name old new is was lists same =
+      closed_kept o old new was lists (same ∙ ap (λ (n' : Name). closed n' (still_open old.walk)) is)
+  exit_kept (Err e) o name old new is was lists same = tt
+
+  -- a list is entered
+  pub list_kept : (o : Opened) (name : Name) (old new : Parser A) (between : List Mark) → name ≡ opened_name o → HasOpen old
+      → new.open.items ≡ old.open.items ++ o ∷ [] → between ≡ still_open old.walk → still_open new.walk ≡ Entered name ∷ between → Keeps old new
+  list_kept o name old new between is was lists kept same =
+      opened_kept o true old new was lists (same ∙ ap₂ (λ (n' : Name) (ms : List Mark). Entered n' ∷ ms) is kept)
 
 -- what may stand in the innermost
 item_may : (o : Opened) → is_list o ≡ true → may_enter (Entered (opened_name o) ∷ []) n.ListItem ≡ true
@@ -156,9 +225,14 @@ list_listed held.UnorderedList is = refl
 pub list_child : (o : Opened) (marks : List Mark) → is_list o ≡ true → holds_blocks marks ≡ true → may_enter marks (opened_name o) ≡ true
 list_child o marks is holds = blocks_may marks (opened_name o) holds (list_listed o is)
 
-pub list_holds_item : (o : Opened) (marks : List Mark) → is_list o ≡ true → may_enter (Entered (opened_name o) ∷ marks) n.ListItem ≡ true
+list_holds_item : (o : Opened) (marks : List Mark) → is_list o ≡ true → may_enter (Entered (opened_name o) ∷ marks) n.ListItem ≡ true
 unfolding may_enter
 list_holds_item o marks is = item_may o is
+
+pub list_entered : (o : Opened) (name : Name) (marks all : List Mark) → is_list o ≡ true → name ≡ opened_name o → all ≡ Entered name ∷ marks
+    → may_enter all n.ListItem ≡ true
+list_entered o name marks all is named same =
+    ap (λ (ms : List Mark). may_enter ms n.ListItem) (same ∙ ap (λ (n' : Name). Entered n' ∷ marks) named) ∙ list_holds_item o marks is
 
 -- the last of these
 pub none_is : (os : List Opened) → length os ≡ 0 → ends_in_list os ≡ false

@@ -30,7 +30,7 @@ use Rattle.parse_leaves.specs.Rows.{WritesRow}
 use Rattle.parse_leaves.proofs.RowLeaves.{all_taken}
 use Rattle.parse_raw.specs.Written.{WritesLeaf, node_end, node_start}
 use Rattle.parse_alike.specs.Composed.{is_unclosed}
-use Rattle.parse_laid.specs.Begun.{is_in_line}
+use Rattle.parse_laid.specs.Begun.{ends_line, is_in_line}
 use Rattle.parse_laid.specs.Laid.{IsRowLaid, IsWrittenLaid}
 use Rattle.parse_laid.specs.Leaves.{IsLeafLaid}
 use Rattle.parse_laid.specs.Places.{LineRest, Place, Between, Within, AtEnding}
@@ -389,3 +389,31 @@ leaf_row row.EnterFootnote ls a b c d e f = absurd (d refl)
 leaf_row row.Exit ls a b c d e f = absurd (f refl)
 leaf_row (row.Ending ending) ls a b c d e f = absurd (a ending refl)
 leaf_row (row.Blank ending) ls a b c d e f = absurd (b ending refl)
+
+-- a row that isn't an ending ends no line
+defined_line : (ls : List BlockLine) (d : Option LinkDefinition) → ends_line (Single (definition_value ls d)) ≡ false
+defined_line ls None = refl
+defined_line ls (Some d) = refl
+
+pub other_row : (r : Row) (ls : List BlockLine) → ((e : Option LineEnding) → r ≡ row.Ending e → ⊥) → ends_line (row_value r ls) ≡ false
+other_row (row.Paragraph count) ls other = refl
+other_row row.WholeParagraph ls other = refl
+other_row (row.Heading rank) ls other = refl
+other_row (row.SetextHeading rank count) ls other = refl
+other_row row.Break ls other = refl
+other_row (row.IndentedCode count) ls other = refl
+other_row (row.FencedCode count) ls other = refl
+other_row (row.UnclosedCode count) ls other = refl
+other_row row.WholeCode ls other = refl
+other_row (row.Html count) ls other = refl
+other_row (row.Table count) ls other = refl
+other_row (row.Definition count) ls other = defined_line (own_lines (take count ls)) (definition_on (take count ls))
+other_row row.EnterQuote ls other = refl
+other_row (row.EnterItem marker number) ls other = refl
+other_row row.EnterFootnote ls other = refl
+other_row row.Exit ls other = refl
+other_row (row.Ending ending) ls other = absurd (other ending refl)
+other_row (row.Blank ending) ls other = refl
+
+pub no_ending : (r : Row) (ls : List BlockLine) → ends_line (row_value r ls) ≡ false → (e : Option LineEnding) → r ≡ row.Ending e → ⊥
+no_ending r ls other e is = true≢false (sym (ap (λ (x : Row). ends_line (row_value x ls)) is) ∙ other)

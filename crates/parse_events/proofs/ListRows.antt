@@ -1,6 +1,6 @@
 -- A parser stands after the start of an item, and of its list if it is the first, if these are written.
-use Rattle.std.proofs.Common.{◌≡◌, ◌⊎◌, inl, inr, ℕ, Bool, true, false, List, [], ◌∷◌, ◌++◌, Option, None, Some, refl, sym, ap, ◌∙◌, subst, length, reverse, take}
-use Rattle.std.specs.Prelude.{◌+◌, ◌-◌, if◌then◌else◌, MatchOption}
+use Rattle.std.proofs.Common.{◌≡◌, ◌⊎◌, inl, inr, ℕ, Bool, true, false, List, [], ◌∷◌, ◌++◌, Option, None, Some, refl, sym, ap, ap₂, ◌∙◌, subst, length, reverse, take}
+use Rattle.std.specs.Prelude.{◌+◌, ◌-◌, if◌then◌else◌, MatchOption, Result, Ok, Err, OnOk}
 use Rattle.std.specs.Option.{UnwrapsOrElse, option_to_list}
 use Rattle.std.proofs.lemmas.Bool.{true≢false}
 use Rattle.std.proofs.lemmas.List.{append-nil}
@@ -33,6 +33,7 @@ use Rattle.parse_open.proofs.Steps.{always_go_on}
 use Rattle.parse_events.specs.declared.opened.Opened.{Opened as Held}
 use Rattle.parse_events.specs.declared.opened.Opened.TheVariants as held
 use Rattle.parse_events.specs.declared.parser.Parser.{Parser}
+use Rattle.parse_events.specs.Closing.{OpensIf, more_if}
 use Rattle.parse_events.specs.Opened.{ends_in_list, is_list, opened_name}
 use Rattle.parse_events.specs.Parsing.{BeginsList, GoesOnInLine, IsListing, IsNext, IsParsing, KnowsItems, KnowsLists, which_are_lists, which_go_on}
 use Rattle.parse_events.specs.Stands.{IsListed, Stands}
@@ -233,7 +234,7 @@ module _ {A : Type 0} where
         first = opens_one.first;
       }
 
-  pub item_goes_on : (list : Held) (old listing new : Parser A) (place : ItemPlace) (places : List ItemPlace) (starts : Bool) (r : Reading) (marker : ℕ) (number : Option ℕ)
+  item_goes_on : (list : Held) (old listing new : Parser A) (place : ItemPlace) (places : List ItemPlace) (starts : Bool) (r : Reading) (marker : ℕ) (number : Option ℕ)
       → opened_name list ≡ list_name number → TakesPlace place old.places.items places → BeginsList list old listing
       → listing.items.items ≡ old.items.items → listing.places.items ≡ places
       → StartsOf is_item_kind (standing listing.walk) starts (standing new.walk) → WritesStartOf is_item_kind n.ListItem listing.walk new.walk
@@ -255,3 +256,30 @@ module _ {A : Type 0} where
       subst (λ (b : BlockRow). IsParsing r text front (after_row o b) inner to new) row (
       item_stands r text front o item outer inner here left to number list old listing new place places starts is.2 name takes begins items_kept places_are starts_of
       writes opens laid_here stands inside was.lists was.items was.places)
+
+  -- if its start is written, it is open
+  opens_item : (starts : Bool) (place : ItemPlace) (listing started new : Parser A) → started.open.items ≡ listing.open.items
+      → started.items.items ≡ listing.items.items ++ place ∷ [] → started.places.items ≡ listing.places.items → started.first ≡ true
+      → OpensIf starts held.Item started new → starts ≡ true → OpensItem place listing new
+  opens_item starts place listing started new lists items places first opens is = record {
+    lists = opens.lists ∙ ap₂ (λ (b : Bool) (os : List Held). more_if b held.Item os) is lists;
+    items = opens.items ∙ items;
+    places = opens.places ∙ places;
+    first = opens.first ∙ first;
+  }
+
+  -- if the calls succeed
+  pub item_started : {T E : Type 0} (result : Result T E) (list : Held) (old listing started new : Parser A) (place : ItemPlace) (places : List ItemPlace)
+      (starts : Bool) → started.open.items ≡ listing.open.items → started.items.items ≡ listing.items.items ++ place ∷ []
+      → started.places.items ≡ listing.places.items → started.first ≡ true → TakesPlace place old.places.items places → BeginsList list old listing
+      → listing.items.items ≡ old.items.items → listing.places.items ≡ places
+      → StartsOf is_item_kind (standing listing.walk) starts (standing started.walk) → WritesStartOf is_item_kind n.ListItem listing.walk started.walk
+      → OnOk result (OpensIf starts held.Item started new)
+      → OnOk result ((r : Reading) (marker : ℕ) (number : Option ℕ) → opened_name list ≡ list_name number → GoesOnInLine r (EnterItem marker number) old new)
+  item_started (Ok x) list old listing started new place places starts lists items places_same first takes begins items_kept places_are starts_of writes opens =
+      λ r marker number name.
+      item_goes_on list old listing new place places starts r marker number name takes begins items_kept places_are
+      (subst (λ (v : Walk A). StartsOf is_item_kind (standing listing.walk) starts (standing v)) (sym opens.walk) starts_of)
+      (subst (λ (v : Walk A). WritesStartOf is_item_kind n.ListItem listing.walk v) (sym opens.walk) writes)
+      (opens_item starts place listing started new lists items places_same first opens)
+  item_started (Err e) list old listing started new place places starts lists items places_same first takes begins items_kept places_are starts_of writes opens = tt

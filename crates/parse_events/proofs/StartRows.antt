@@ -1,5 +1,6 @@
 -- A parser stands after the start of a container, if that is written.
 use Rattle.std.proofs.Common.{◌≡◌, inl, inr, ℕ, Bool, true, false, List, [], ◌∷◌, ◌++◌, refl, sym, ap, ◌∙◌, subst, reverse}
+use Rattle.std.specs.Prelude.{Result, Ok, Err, OnOk}
 use Rattle.std.proofs.lemmas.Bool.{true≢false}
 use Rattle.markdown_options.specs.declared.configuration.Constructs.{Constructs}
 use Rattle.definition_block.specs.Container.{Container, Quote, Item, Footnote}
@@ -25,6 +26,7 @@ use Rattle.parse_open.proofs.Steps.{always_go_on}
 use Rattle.parse_events.specs.declared.opened.Opened.{Opened as Held}
 use Rattle.parse_events.specs.declared.opened.Opened.TheVariants as held
 use Rattle.parse_events.specs.declared.parser.Parser.{Parser}
+use Rattle.parse_events.specs.Closing.{OpensIf, more_if}
 use Rattle.parse_events.specs.Opened.{ends_in_list, is_list}
 use Rattle.parse_events.specs.Parsing.{GoesOnInLine, IsNext, IsParsing, KnowsItems, KnowsLists, holder_goes_on, which_go_on}
 use Rattle.parse_events.specs.Stands.{Stands}
@@ -142,7 +144,7 @@ module _ {A : Type 0} where
           first = opened.first ∙ leaves.first ∙ sym other.first;
         }
 
-  pub quote_goes_on : (old mid new : Parser A) (starts : Bool) (r : Reading) → (ends_in_list old.open.items ≡ false → mid ≡ record old { first = false })
+  quote_goes_on : (old mid new : Parser A) (starts : Bool) (r : Reading) → (ends_in_list old.open.items ≡ false → mid ≡ record old { first = false })
       → StartsOf is_quote (standing mid.walk) starts (standing new.walk) → WritesStartOf is_quote n.BlockQuote mid.walk new.walk
       → (starts ≡ true → OpensOne held.Quote mid new) → GoesOnInLine r EnterQuote old new
   quote_goes_on old mid new starts r stays begins writes opens text front o outer inner p to in_line next was =
@@ -154,7 +156,7 @@ module _ {A : Type 0} where
       (next.laid.2 ∙ ap (λ (c : Container). c ∷ outer) is) (subst (λ (q : Place). Starts r.parse.constructs outer Quote q to) at.2 laid)
       (subst (λ (q : Place). IsParsing r text front o outer q old) at.2 was) (lists_left old mid o.outer stays was.lists next.fits) begins writes opens
 
-  pub footnote_goes_on : (old mid new : Parser A) (starts : Bool) (r : Reading) (label : List ℕ)
+  footnote_goes_on : (old mid new : Parser A) (starts : Bool) (r : Reading) (label : List ℕ)
       → (ends_in_list old.open.items ≡ false → mid ≡ record old { first = false })
       → StartsOf is_footnote (standing mid.walk) starts (standing new.walk) → WritesStartOf is_footnote n.GfmFootnoteDefinition mid.walk new.walk
       → (starts ≡ true → OpensOne held.Footnote mid new) → GoesOnInLine r (EnterFootnote label) old new
@@ -166,3 +168,34 @@ module _ {A : Type 0} where
       (record { stands = refl; is = refl; first_of = λ bs list. tt; go_on = refl; first = refl; list = refl }) refl next.fits
       (next.laid.2 ∙ ap (λ (c : Container). c ∷ outer) is) (subst (λ (q : Place). Starts r.parse.constructs outer (Footnote label) q to) at.2 laid)
       (subst (λ (q : Place). IsParsing r text front o outer q old) at.2 was) (lists_left old mid o.outer stays was.lists next.fits) begins writes opens
+
+  -- if its start is written, it is open
+  pub opens_one : (o : Held) (starts : Bool) (mid new : Parser A) (w : Walk A) → OpensIf starts o (record mid { walk = w }) new → starts ≡ true
+      → OpensOne o mid new
+  opens_one o starts mid new w opens is = record {
+    lists = opens.lists ∙ ap (λ (b : Bool). more_if b o mid.open.items) is;
+    items = opens.items;
+    places = opens.places;
+    first = opens.first;
+  }
+
+  -- if the calls succeed
+  pub quote_started : {T E : Type 0} (result : Result T E) (old mid new : Parser A) (w : Walk A) (starts : Bool)
+      → (ends_in_list old.open.items ≡ false → mid ≡ record old { first = false }) → StartsOf is_quote (standing mid.walk) starts (standing w)
+      → WritesStartOf is_quote n.BlockQuote mid.walk w → OnOk result (OpensIf starts held.Quote (record mid { walk = w }) new)
+      → OnOk result ((r : Reading) → GoesOnInLine r EnterQuote old new)
+  quote_started (Ok x) old mid new w starts stays begins writes opens = λ r.
+      quote_goes_on old mid new starts r stays (subst (λ (v : Walk A). StartsOf is_quote (standing mid.walk) starts (standing v)) (sym opens.walk) begins)
+      (subst (λ (v : Walk A). WritesStartOf is_quote n.BlockQuote mid.walk v) (sym opens.walk) writes) (opens_one held.Quote starts mid new w opens)
+  quote_started (Err e) old mid new w starts stays begins writes opens = tt
+
+  pub footnote_started : {T E : Type 0} (result : Result T E) (old mid new : Parser A) (w : Walk A) (starts : Bool)
+      → (ends_in_list old.open.items ≡ false → mid ≡ record old { first = false }) → StartsOf is_footnote (standing mid.walk) starts (standing w)
+      → WritesStartOf is_footnote n.GfmFootnoteDefinition mid.walk w → OnOk result (OpensIf starts held.Footnote (record mid { walk = w }) new)
+      → OnOk result ((r : Reading) (label : List ℕ) → GoesOnInLine r (EnterFootnote label) old new)
+  footnote_started (Ok x) old mid new w starts stays begins writes opens = λ r label.
+      footnote_goes_on old mid new starts r label stays
+      (subst (λ (v : Walk A). StartsOf is_footnote (standing mid.walk) starts (standing v)) (sym opens.walk) begins)
+      (subst (λ (v : Walk A). WritesStartOf is_footnote n.GfmFootnoteDefinition mid.walk v) (sym opens.walk) writes)
+      (opens_one held.Footnote starts mid new w opens)
+  footnote_started (Err e) old mid new w starts stays begins writes opens = tt

@@ -6,7 +6,10 @@ use Rattle.definition_block.specs.Container.{Container, Quote, Item, Footnote}
 use Rattle.definition_block.specs.Tree.{Block, Blocks, join, one as one_block, is_ending}
 use Rattle.definition_page.specs.Read.{Reading}
 use Rattle.block_rows.specs.Rows.{BlockRow}
+use Rattle.engine_events.specs.declared.event.Name.TheVariants.{ListItem}
 use Rattle.event_grammar.specs.Trees.{Nodes}
+use Rattle.parse_output.specs.Children.{may_enter}
+use Rattle.parse_lines.specs.Open.{still_open}
 use Rattle.html_looseness.specs.declared.loose.Place.{Place as ItemPlace}
 use Rattle.parse_output.specs.Written.{Exits, IsInOrder, forest_in}
 use Rattle.parse_laid.specs.Begun.{begun, ends_line, is_in_line}
@@ -132,6 +135,13 @@ BeginsList list old new =
     (r : Reading) (text : List ℕ) (front : Nodes) (o : Opened) (within : List Container) (here : LineRest) (left : List LineRest) (number : Option ℕ)
     → opened_name list ≡ list_name number → Stands r text front o within (Within here left) old.walk → KnowsLists old.open.items o.outer
     → IsListing r text front (in_list o) within here left number new
+
+-- A list is open in which an item may begin, and a parser keeps what it knows of items.
+pub record HasList {A : Type 0} (list : OpenedHere) (old new : Parser A) : Type 0 where
+  pub item : may_enter (still_open new.walk) ListItem ≡ true
+  pub begins : BeginsList list old new
+  pub items : new.items.items ≡ old.items.items
+  pub places : new.places.items ≡ old.places.items
 
 -- where nothing is open in the end, a walk stands there
 abbrev pub StandsInEnd : {A : Type 0} → Parser A → Walk A → Type 0

@@ -6,16 +6,16 @@ ghost use Rattle.definition_block.specs.Tree.{Blank, Ending, Leaf, LeafBlock};
 ghost use Rattle.definition_page.specs.Read.{Reading};
 ghost use Rattle.text_pieces.specs.Pieces.{piece_lines};
 ghost use Rattle.block_rows.specs.Rows.{EnterFootnote, EnterItem, EnterQuote, Exit, Single, row_value, rows_size};
-ghost use Rattle.engine_events.specs.declared.event.Name.TheVariants.{ListItem};
-ghost use Rattle.parse_output.specs.Children.{holds_blocks, may_enter};
+ghost use Rattle.parse_output.specs.Children.{holds_blocks};
 ghost use Rattle.parse_lines.specs.Open.{still_open};
+ghost use Rattle.parse_laid.specs.Begun.{ends_line};
 ghost use Rattle.parse_leaves.specs.Rows.{AreLinesOf};
 ghost use Rattle.parse_leaves.specs.Texts.{KnowsTargets, reading_by};
 ghost use Rattle.parse_open.specs.Levels.{list_name};
 ghost use Rattle.parse_events.specs.Opened.{close_all, ends_in_list, is_list, opened_name};
-ghost use Rattle.parse_events.specs.Closing.{HasOpen, open_around};
+ghost use Rattle.parse_events.specs.Closing.{HasOpen, Keeps, OpensIf, open_around};
 ghost use Rattle.parse_events.specs.Document.{IsNew, WritesRows};
-ghost use Rattle.parse_events.specs.Parsing.{BeginsList, BeginsRow, Closes, EndsItem, GoesOn, GoesOnInLine, StandsInEnd};
+ghost use Rattle.parse_events.specs.Parsing.{BeginsRow, Closes, EndsItem, GoesOn, GoesOnInLine, HasList, StandsInEnd};
 
 use crate::opened::Opened;
 use block_rows::Row;
@@ -53,12 +53,16 @@ impl<'a, A: Allocator + Clone> Parser<'a, A> {
     ) -> Result<Parser<'a, A>, AllocError>
         ensures { IfOk result (λ parser. IsNew rows.now walk.entry parser) }
     {
+        let places = places(alloc.clone()?, rows)?;
+        let open = Vec::new(alloc.clone()?);
+        let items = Vec::new(alloc.clone()?);
+        let buffers = Buffers::new(alloc)?;
         Ok(Parser {
             walk,
-            buffers: Buffers::new(alloc.clone()?)?,
-            open: Vec::new(alloc.clone()?),
-            items: Vec::new(alloc.clone()?),
-            places: places(alloc, rows)?,
+            buffers,
+            open,
+            items,
+            places,
             first: false,
         })
     }
@@ -73,7 +77,7 @@ impl<'a, A: Allocator + Clone> Parser<'a, A> {
     ) -> Result<(), AllocError>
         requires enough { rows_size rows.now ≤ length pieces.now }
         requires held { HasOpen self.old }
-        ensures open { OnOk result (open_around self.new ≡ open_around self.old) }
+        ensures kept { OnOk result (Keeps self.old self.new) }
         ensures written { OnOk result ((ds : Targets) → KnowsTargets texts.now ds
             → WritesRows (reading_by T.Tables texts.now ds) rows.now (piece_lines pieces.now) self.old self.new) }
     {
@@ -94,8 +98,7 @@ impl<'a, A: Allocator + Clone> Parser<'a, A> {
         lines: &[Piece<'a>],
     ) -> Result<(), AllocError>
         requires held { HasOpen self.old }
-        ensures open { OnOk result (open_around self.new ≡ open_around self.old) }
-        ensures held { OnOk result (HasOpen self.new) }
+        ensures kept { OnOk result (Keeps self.old self.new) }
         ensures goes_on { OnOk result ((ds : Targets) → KnowsTargets texts.now ds → AreLinesOf row (piece_lines lines.now)
             → GoesOn (reading_by T.Tables texts.now ds) (row_value row (piece_lines lines.now)) self.old self.new) }
     {
@@ -103,6 +106,22 @@ impl<'a, A: Allocator + Clone> Parser<'a, A> {
             return self.ending();
         }
         self.in_line()?;
+        self.row_in_line(texts, row, lines)
+    }
+
+    /// Writes a row that is no ending. Its line is begun.
+    fn row_in_line<T: Tables>(
+        &mut self,
+        texts: &Texts<'a, '_, T, A>,
+        row: Row,
+        lines: &[Piece<'a>],
+    ) -> Result<(), AllocError>
+        requires held { HasOpen self.old }
+        ensures kept { OnOk result (Keeps self.old self.new) }
+        ensures goes_on { OnOk result ((ds : Targets) → KnowsTargets texts.now ds → AreLinesOf row (piece_lines lines.now)
+            → ends_line (row_value row (piece_lines lines.now)) ≡ false
+            → GoesOnInLine (reading_by T.Tables texts.now ds) (row_value row (piece_lines lines.now)) self.old self.new) }
+    {
         match row {
             Row::Blank(_) => self.blank(),
             Row::EnterQuote => self.enter_quote(),
@@ -117,8 +136,7 @@ impl<'a, A: Allocator + Clone> Parser<'a, A> {
     #[tactic(auto, using(crate::proofs::Held::held_may))]
     fn ending(&mut self) -> Result<(), AllocError>
         requires held { HasOpen self.old }
-        ensures open { OnOk result (open_around self.new ≡ open_around self.old) }
-        ensures held { OnOk result (HasOpen self.new) }
+        ensures kept { OnOk result (Keeps self.old self.new) }
         ensures goes_on { OnOk result ((r : Reading) (ending : Option LineEnding) → GoesOn r (Single (Ending ending)) self.old self.new) }
     {
         if !self.walk.is_in_line() {
@@ -131,8 +149,7 @@ impl<'a, A: Allocator + Clone> Parser<'a, A> {
     #[tactic(auto, using(crate::proofs::Held::held_lines))]
     fn in_line(&mut self) -> Result<(), AllocError>
         requires held { HasOpen self.old }
-        ensures open { OnOk result (open_around self.new ≡ open_around self.old) }
-        ensures held { OnOk result (HasOpen self.new) }
+        ensures kept { OnOk result (Keeps self.old self.new) }
         ensures begins { OnOk result (BeginsRow self.old self.new) }
     {
         self.walk.in_line()
@@ -142,54 +159,41 @@ impl<'a, A: Allocator + Clone> Parser<'a, A> {
     #[tactic(auto, using(crate::proofs::Held::held_lines))]
     fn blank(&mut self) -> Result<(), AllocError>
         requires held { HasOpen self.old }
-        ensures open { OnOk result (open_around self.new ≡ open_around self.old) }
-        ensures held { OnOk result (HasOpen self.new) }
+        ensures kept { OnOk result (Keeps self.old self.new) }
         ensures goes_on { OnOk result ((r : Reading) (ending : Option LineEnding) → GoesOnInLine r (Single (Blank ending)) self.old self.new) }
     {
         push_blank_line(&mut self.walk)
     }
 
     /// The start of a block quote.
-    #[tactic(auto, using(parse_output::proofs::Classes::blocks_may, crate::proofs::Held::close_last, crate::proofs::Held::quote_held))]
+    #[tactic(auto, using(parse_output::proofs::Classes::blocks_may))]
     fn enter_quote(&mut self) -> Result<(), AllocError>
         requires held { HasOpen self.old }
-        ensures open { OnOk result (open_around self.new ≡ open_around self.old) }
-        ensures held { OnOk result (HasOpen self.new) }
+        ensures kept { OnOk result (Keeps self.old self.new) }
         ensures goes_on { OnOk result ((r : Reading) → GoesOnInLine r EnterQuote self.old self.new) }
     {
-        self.first = false;
-        self.leave_lists()?;
-        if !self.walk.start_quote()? {
-            return Ok(());
-        }
-        self.open.push(Opened::Quote)?;
-        Ok(())
+        self.begin_block()?;
+        let starts = self.walk.start_quote()?;
+        self.open_if(starts, Opened::Quote)
     }
 
     /// The start of a footnote definition.
-    #[tactic(auto, using(parse_output::proofs::Classes::blocks_may, crate::proofs::Held::close_last, crate::proofs::Held::footnote_held))]
+    #[tactic(auto, using(parse_output::proofs::Classes::blocks_may))]
     fn enter_footnote(&mut self) -> Result<(), AllocError>
         requires held { HasOpen self.old }
-        ensures open { OnOk result (open_around self.new ≡ open_around self.old) }
-        ensures held { OnOk result (HasOpen self.new) }
+        ensures kept { OnOk result (Keeps self.old self.new) }
         ensures goes_on { OnOk result ((r : Reading) (label : List ℕ) → GoesOnInLine r (EnterFootnote label) self.old self.new) }
     {
-        self.first = false;
-        self.leave_lists()?;
-        if !self.walk.start_footnote()? {
-            return Ok(());
-        }
-        self.open.push(Opened::Footnote)?;
-        Ok(())
+        self.begin_block()?;
+        let starts = self.walk.start_footnote()?;
+        self.open_if(starts, Opened::Footnote)
     }
 
     /// The start of an item, and of its list if it is the first.
-    #[tactic(auto, using(crate::proofs::Held::held_may, crate::proofs::Held::close_last, crate::proofs::Held::item_held))]
     fn enter_item(&mut self, list: Opened) -> Result<(), AllocError>
         requires list { is_list list ≡ true }
         requires held { HasOpen self.old }
-        ensures open { OnOk result (open_around self.new ≡ open_around self.old) }
-        ensures held { OnOk result (HasOpen self.new) }
+        ensures kept { OnOk result (Keeps self.old self.new) }
         ensures goes_on { OnOk result ((r : Reading) (marker : ℕ) (number : Option ℕ) → opened_name list ≡ list_name number
             → GoesOnInLine r (EnterItem marker number) self.old self.new) }
     {
@@ -197,23 +201,28 @@ impl<'a, A: Allocator + Clone> Parser<'a, A> {
         self.in_list(list)?;
         self.first = true;
         self.items.push(place)?;
-        if !self.walk.start_item()? {
+        let starts = self.walk.start_item()?;
+        self.open_if(starts, Opened::Item)
+    }
+
+    /// One more is open, if its start is written.
+    fn open_if(&mut self, starts: bool, opened: Opened) -> Result<(), AllocError>
+        ensures { OnOk result (OpensIf starts opened self.old self.new) }
+    {
+        if !starts {
             return Ok(());
         }
-        self.open.push(Opened::Item)?;
+        self.open.push(opened)?;
         Ok(())
     }
 
     /// Begins a list after the spaces and tabs ahead, unless one is open in which no item is.
-    #[tactic(auto, using(parse_output::proofs::Classes::blocks_may, crate::proofs::Held::held_blocks, crate::proofs::Held::held_items, crate::proofs::Held::around_more, crate::proofs::Held::held_more, crate::proofs::Held::list_child, crate::proofs::Held::list_holds_item))]
+    #[tactic(auto, using(parse_output::proofs::Classes::blocks_may, crate::proofs::Held::held_blocks, crate::proofs::Held::list_child))]
     fn in_list(&mut self, list: Opened) -> Result<(), AllocError>
         requires list { is_list list ≡ true }
         requires held { HasOpen self.old }
-        ensures open { OnOk result (open_around self.new ≡ open_around self.old) }
-        ensures held { OnOk result (HasOpen self.new) }
-        ensures item { OnOk result (may_enter (still_open self.new.walk) ListItem ≡ true) }
-        ensures begins { OnOk result (BeginsList list self.old self.new) }
-        ensures keeps { OnOk result ((self.new.items.items ≡ self.old.items.items) × (self.new.places.items ≡ self.old.places.items)) }
+        ensures kept { OnOk result (Keeps self.old self.new) }
+        ensures begins { OnOk result (HasList list self.old self.new) }
     {
         if self.is_in_list() {
             return Ok(());
@@ -237,15 +246,15 @@ impl<'a, A: Allocator + Clone> Parser<'a, A> {
         self.open[count - 1].is_list()
     }
 
-    /// The ends of the lists in which no item is.
+    /// A block begins that is no item: the ends of the lists in which no item is.
     #[tactic(auto, using(crate::proofs::Held::held_blocks))]
-    fn leave_lists(&mut self) -> Result<(), AllocError>
+    fn begin_block(&mut self) -> Result<(), AllocError>
         requires held { HasOpen self.old }
-        ensures open { OnOk result (open_around self.new ≡ open_around self.old) }
-        ensures held { OnOk result (HasOpen self.new) }
+        ensures kept { OnOk result (Keeps self.old self.new) }
         ensures blocks { OnOk result (holds_blocks (still_open self.new.walk) ≡ true) }
-        ensures stays { ends_in_list self.old.open.items ≡ false → OnOk result (self.new ≡ self.old) }
+        ensures stays { ends_in_list self.old.open.items ≡ false → OnOk result (self.new ≡ record self.old { first = false }) }
     {
+        self.first = false;
         while self.is_in_list() {
             self.close()?;
         }
@@ -255,8 +264,7 @@ impl<'a, A: Allocator + Clone> Parser<'a, A> {
     /// The end of the innermost container.
     fn exit(&mut self) -> Result<(), AllocError>
         requires held { HasOpen self.old }
-        ensures open { OnOk result (open_around self.new ≡ open_around self.old) }
-        ensures held { OnOk result (HasOpen self.new) }
+        ensures kept { OnOk result (Keeps self.old self.new) }
         ensures goes_on { OnOk result ((r : Reading) → GoesOnInLine r Exit self.old self.new) }
     {
         self.first = false;
@@ -273,8 +281,7 @@ impl<'a, A: Allocator + Clone> Parser<'a, A> {
     /// The end of its list, if the item that ended is the last.
     fn exit_item(&mut self) -> Result<(), AllocError>
         requires held { HasOpen self.old }
-        ensures open { OnOk result (open_around self.new ≡ open_around self.old) }
-        ensures held { OnOk result (HasOpen self.new) }
+        ensures kept { OnOk result (Keeps self.old self.new) }
         ensures ends { OnOk result (EndsItem self.old self.new) }
     {
         let Some(place) = self.items.pop() else {
@@ -287,11 +294,9 @@ impl<'a, A: Allocator + Clone> Parser<'a, A> {
     }
 
     /// The exit of the innermost container or list.
-    #[tactic(auto, using(crate::proofs::Held::close_last, crate::proofs::Held::held_less))]
     fn close(&mut self) -> Result<(), AllocError>
         requires held { HasOpen self.old }
-        ensures open { OnOk result (open_around self.new ≡ open_around self.old) }
-        ensures held { OnOk result (HasOpen self.new) }
+        ensures kept { OnOk result (Keeps self.old self.new) }
         ensures fewer { OnOk result (0 < vec_len self.old.open → vec_len self.new.open < vec_len self.old.open) }
         ensures closes { 0 < length self.old.open.items → OnOk result (Closes self.old self.new) }
     {
@@ -309,15 +314,13 @@ impl<'a, A: Allocator + Clone> Parser<'a, A> {
         lines: &[Piece<'a>],
     ) -> Result<(), AllocError>
         requires held { HasOpen self.old }
-        ensures open { OnOk result (open_around self.new ≡ open_around self.old) }
-        ensures held { OnOk result (HasOpen self.new) }
+        ensures kept { OnOk result (Keeps self.old self.new) }
         ensures goes_on { OnOk result ((ds : Targets) (leaf : LeafBlock) → KnowsTargets texts.now ds → AreLinesOf row (piece_lines lines.now)
             → row_value row (piece_lines lines.now) ≡ Single (Leaf leaf)
             → GoesOnInLine (reading_by T.Tables texts.now ds) (Single (Leaf leaf)) self.old self.new) }
     {
         let first = self.first;
-        self.first = false;
-        self.leave_lists()?;
+        self.begin_block()?;
         match row {
             Row::Table(_) => push_table(&mut self.walk, texts, &mut self.buffers, lines),
             _ => push_leaf(&mut self.walk, texts, &mut self.buffers, first, row, lines),

@@ -20,5 +20,6 @@ returns-clause-begins g c =
     subst (λ (k : Kind). StandsBefore on value k (without_mark value) c.push_front.new.walk) mark.ensures.kind (
     subst (λ (left : List ℕ). StandsBefore on value before left c.push_front.new.walk) mark.ensures.text (
     c.in_ok-push_front.ensures.begins value
-    (after_mark on value before rest c.saturating_sub.result c.in_ok-walk.walk c.token.new.self fits bytes mark.ensures.text c.saturating_sub.ensures begun.constructs
+    (after_mark on value before rest c.saturating_sub.result c.in_ok-walk.walk c.token.new.self fits bytes mark.ensures.text c.saturating_sub.ensures
+    begun.constructs
     begun.size begun.left begun.begins begun.written (begun.order value) (begun.forest value) begun.outside marked.stays marked.end marked.written)))

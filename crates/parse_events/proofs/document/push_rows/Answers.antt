@@ -12,13 +12,14 @@ rows-requires-clause-held g c = new_holds c.args.rows.now c.args.walk c.in_ok-pa
 pub returns-clause-open : goal.returns-clause-open
 returns-clause-open g c =
     IfOk-weaker c.into_walk.result _ _
-    (λ after ends. ends ∙ c.in_ok-rows.ensures.open ∙ new_around c.args.rows.now c.args.walk c.in_ok-parser.parser c.in_ok-parser.ensures)
+    (λ after ends. ends ∙ c.in_ok-rows.ensures.kept.around ∙ new_around c.args.rows.now c.args.walk c.in_ok-parser.parser c.in_ok-parser.ensures)
     c.into_walk.ensures.open
 
 pub returns-clause-written : goal.returns-clause-written
 returns-clause-written g c =
     IfOk-weaker c.into_walk.result _ _
     (λ after ends. λ ds knows.
-    rows_written (reading_by g.T.Tables c.args.texts.now ds) c.args.rows.now (piece_lines c.args.pieces.now) c.args.walk after c.in_ok-parser.parser c.rows.new.self
+    rows_written (reading_by g.T.Tables c.args.texts.now ds) c.args.rows.now (piece_lines c.args.pieces.now) c.args.walk after c.in_ok-parser.parser
+    c.rows.new.self
     c.in_ok-parser.ensures (c.in_ok-rows.ensures.written ds knows) ends)
     c.into_walk.ensures.stands

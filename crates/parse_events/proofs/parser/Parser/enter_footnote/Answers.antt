@@ -1,15 +1,16 @@
-use Rattle.std.proofs.Common.{refl, sym, ◌∙◌}
-use Rattle.std.proofs.lemmas.Bool.{true≢false}
-use Rattle.parse_events.proofs.StartRows.{footnote_goes_on}
+use Rattle.std.proofs.Common.{refl}
+use Rattle.parse_events.specs.declared.opened.Opened.TheVariants as held
+use Rattle.parse_events.proofs.Held.{start_kept}
+use Rattle.parse_events.proofs.StartRows.{footnote_started}
 use Rattle.parse_events.proofs.parser.Parser.enter_footnote.Goals as goal
 
-pub returns-then-not-branch-clause-goes_on : goal.returns-then-not-branch-clause-goes_on
-returns-then-not-branch-clause-goes_on g c =
-    λ r label. footnote_goes_on c.args.self.now c.leave_lists.new.self (record c.leave_lists.new.self { walk = c.start_footnote.new.self }) c.in_ok-start_footnote.field-0 r label
-    c.in_ok-leave_lists.ensures.stays c.in_ok-start_footnote.ensures.starts c.in_ok-start_footnote.ensures.written (λ is. absurd (true≢false (sym is ∙ c.if-not-branch.true)))
+pub returns-clause-kept : goal.returns-clause-kept
+returns-clause-kept g c =
+    start_kept c.open_if.result held.Footnote c.in_ok-starts.starts c.args.self.now c.begin_block.new.self
+    (record c.begin_block.new.self { walk = c.start_footnote.new.self }) c.open_if.new.self c.in_ok-begin_block.ensures.kept refl c.in_ok-starts.ensures.open
+    c.open_if.ensures
 
 pub returns-clause-goes_on : goal.returns-clause-goes_on
 returns-clause-goes_on g c =
-    λ r label. footnote_goes_on c.args.self.now c.leave_lists.new.self (record c.leave_lists.new.self { walk = c.start_footnote.new.self; «open» = c.push.new.self })
-    c.in_ok-start_footnote.field-0 r label c.in_ok-leave_lists.ensures.stays c.in_ok-start_footnote.ensures.starts c.in_ok-start_footnote.ensures.written
-    (λ is. record { lists = c.in_ok-push.ensures.items; items = refl; places = refl; first = refl })
+    footnote_started c.open_if.result c.args.self.now c.begin_block.new.self c.open_if.new.self c.start_footnote.new.self c.in_ok-starts.starts
+    c.in_ok-begin_block.ensures.stays c.in_ok-starts.ensures.starts c.in_ok-starts.ensures.written c.open_if.ensures

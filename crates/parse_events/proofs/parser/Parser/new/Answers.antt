@@ -3,4 +3,4 @@ use Rattle.parse_events.proofs.parser.Parser.new.Goals as goal
 
 pub returns : goal.returns
 returns g c =
-    record { walk = refl; lists = c.new-2.ensures.items; items = c.new-3.ensures.items; places = c.in_ok-places.ensures.rows; first = refl }
+    record { walk = refl; lists = c.new-open.ensures.items; items = c.new-items.ensures.items; places = c.in_ok-places.ensures.rows; first = refl }

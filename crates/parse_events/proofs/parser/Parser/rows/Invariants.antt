@@ -1,11 +1,11 @@
-use Rattle.std.proofs.Common.{◌≡◌, ◌≤◌, ◌+◌, ℕ, List, length, drop}
+use Rattle.std.proofs.Common.{◌≤◌, ◌+◌, ℕ, List, length, drop}
 use Rattle.definition_block.specs.Blocks.{Blocks}
 use Rattle.definition_inline.specs.Targets.{Targets}
 use Rattle.block_rows.specs.Rows.{rows_size}
 use Rattle.event_grammar.specs.Trees.{Nodes}
 use Rattle.text_pieces.specs.Pieces.{piece_lines}
 use Rattle.parse_leaves.specs.Texts.{KnowsTargets, reading_by}
-use Rattle.parse_events.specs.Closing.{HasOpen, open_around}
+use Rattle.parse_events.specs.Closing.{Keeps}
 use Rattle.parse_events.specs.Document.{IsAmongRows}
 use Rattle.parse_events.proofs.parser.Parser.rows.Given as goal
 
@@ -14,8 +14,7 @@ use Rattle.parse_events.proofs.parser.Parser.rows.Given as goal
 abbrev pub invariant-loop-row : goal.invariant-loop-row
 invariant-loop-row g l = record {
   enough : l.taken + rows_size (drop l.row-index l.rows) ≤ length l.pieces;
-  around : open_around l.self ≡ open_around l.fn.self;
-  held : HasOpen l.self;
+  kept : Keeps l.fn.self l.self;
   written : (ds : Targets) → KnowsTargets l.texts ds → (text : List ℕ) (front : Nodes) (all : Blocks)
       → IsAmongRows (reading_by g.T.Tables l.texts ds) text front all l.rows (piece_lines l.pieces) l.fn.self
       → IsAmongRows (reading_by g.T.Tables l.texts ds) text front all (drop l.row-index l.rows) (piece_lines (drop l.taken l.pieces)) l.self;
