@@ -1,5 +1,5 @@
 -- A heading by `#`, as it is written (CommonMark 4.2).
-use Rattle.std.proofs.Common.{◌≡◌, ℕ, ◌+◌, ◌-◌, ◌^◌, ◌<◌, ◌≤◌, Bool, false, List, [], ◌∷◌, ◌++◌, None, refl, sym, ap, ◌∙◌, subst, length, replicate, take, drop, arith}
+use Rattle.std.proofs.Common.{◌≡◌, ℕ, ◌<◌, ◌≤◌, Bool, false, List, [], ◌∷◌, ◌++◌, None, refl, sym, ap, ◌∙◌, subst, length, replicate, take, drop, arith}
 use Rattle.std.specs.Prelude.{◌==◌}
 use Rattle.std.specs.List.{list_any}
 use Rattle.std.proofs.Math.Seq.{drop-append_seam}
@@ -10,7 +10,7 @@ use Rattle.engine_events.specs.declared.event.Name.TheVariants as n
 use Rattle.block_starts.specs.View.{rest_of}
 use Rattle.definition_text.specs.Ascii.{number_sign}
 use Rattle.definition_text.specs.BlockLines.{BlockLine, own_lines, spaced_line}
-use Rattle.definition_text.specs.Columns.{bare, bytes_of, indent, is_tab_column, is_white, tab_column}
+use Rattle.definition_text.specs.Columns.{bare, bytes_of, indent, is_tab_column, tab_column}
 use Rattle.definition_text.specs.Runs.{run}
 use Rattle.definition_block.specs.HeadingAtx.{heading_atx}
 use Rattle.definition_inline.specs.CharacterReference.{Names}

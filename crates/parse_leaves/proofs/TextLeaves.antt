@@ -1,5 +1,5 @@
 -- Blocks that hold a text, as they are written (CommonMark 4.8).
-use Rattle.std.proofs.Common.{◌≡◌, ℕ, Bool, false, ◌&&◌, if◌then◌else◌, List, [], ◌++◌, refl, sym, ap, ◌∙◌, subst, map, drop, arith}
+use Rattle.std.proofs.Common.{◌≡◌, ℕ, Bool, false, List, [], ◌++◌, refl, sym, ap, ◌∙◌, subst, map, drop, arith}
 use Rattle.std.specs.Prelude.{OnOk, Result, Ok, Err}
 use Rattle.markdown_options.specs.declared.configuration.Constructs.{Constructs}
 use Rattle.markdown_options.specs.declared.beside.Kind.TheVariants.{Whitespace}
@@ -22,7 +22,7 @@ use Rattle.event_meaning.specs.Spelled.{definition_of}
 use Rattle.event_meaning.specs.Texts.{inlines_of}
 use Rattle.parse_output.specs.declared.end.End.{End}
 use Rattle.parse_output.specs.Ends.{end_at, enter_at, exit_at}
-use Rattle.parse_output.specs.Forest.{bytes_from, cut, is_nil, one}
+use Rattle.parse_output.specs.Forest.{one}
 use Rattle.parse_output.specs.Written.{Exits, IsInOrder, Writes, end_in}
 use Rattle.parse_output.proofs.Written.{writes_around, writes_both}
 use Rattle.parse_alike.specs.Inline.{ArePartsAlike}

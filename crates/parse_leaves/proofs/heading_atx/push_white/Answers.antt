@@ -1,4 +1,4 @@
-use Rattle.std.proofs.Common.{◌≤◌, length, refl, subst, sym}
+use Rattle.std.proofs.Common.{◌≤◌, length, refl, subst}
 use Rattle.engine_events.specs.declared.event.Name.TheVariants.{SpaceOrTab}
 use Rattle.definition_text.specs.Columns.{indent}
 use Rattle.parse_raw.specs.Calls.{TokenCall}
