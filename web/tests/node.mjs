@@ -35,7 +35,7 @@ const ESCAPES = { n: "\n", t: "\t", r: "\r", 0: "\0", "\\": "\\", '"': '"' };
 const unescaped = text =>
     text.replace(/\\(?:\n\s*|u\{([0-9a-f]+)\}|(.))/g, (_, code, mark) => (code ? String.fromCodePoint(parseInt(code, 16)) : ESCAPES[mark] ?? ""));
 
-const folder = new URL("crates/tests_pages/src/commonmark/", top);
+const folder = new URL("crates/tests_texts/src/commonmark/", top);
 let examples = 0;
 for (const name of readdirSync(folder)) {
     for (const [, text, html] of readFileSync(new URL(name, folder), "utf8").matchAll(ROW)) {

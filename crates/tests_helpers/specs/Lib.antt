@@ -1,3 +1,2 @@
 pub mod Compare
-pub mod Names
 pub mod Pages

@@ -6,7 +6,6 @@ ghost use Rattle.markdown_options.specs.Mdx.{HasNoMdx};
 ghost use Rattle.markdown_definition.specs.Html.{html};
 ghost use Rattle.markdown_tables.specs.Builtin.{builtin_tables};
 
-use crate::events::prints_by_events;
 use crate::failures::answers_failures;
 use crate::heaps::prints_in_growing_heaps;
 use crate::laws::broken_law;
@@ -17,7 +16,7 @@ use markdown::{
 };
 use std::alloc::Global;
 
-/// The first text whose page isn't the one beside it: by either call, by its events, in heaps of every size, or where a
+/// The first text whose page isn't the one beside it: by either call, in heaps of every size, or where a
 /// request for memory, a read or a write fails. Or the first that breaks a law: isn't safe under safe options, or isn't
 /// that of the text quoted, listed, escaped or with other line endings.
 pub fn first_wrong<'a>(
@@ -37,7 +36,7 @@ pub fn first_wrong<'a>(
     Ok(None)
 }
 
-/// Whether a text's page is this one, by either call, by its events, in heaps of every size and where a request for
+/// Whether a text's page is this one, by either call, in heaps of every size and where a request for
 /// memory, a read or a write fails, and keeps the laws. Then it is the page of the definition.
 fn is_right(alloc: Global, text: &str, want: &str, options: &Options) -> Result<bool, RunError>
     requires { HasNoMdx options.now }
@@ -51,8 +50,7 @@ fn is_right(alloc: Global, text: &str, want: &str, options: &Options) -> Result<
         return Ok(false);
     }
     Ok(
-        prints_by_events(alloc, text, want, options)
-            && runs_to(alloc, text, want, options)?
+        runs_to(alloc, text, want, options)?
             && prints_in_growing_heaps(alloc, text, want, options)?
             && answers_refusals(alloc, text, want, options)?
             && answers_failures(alloc, text, want, options)

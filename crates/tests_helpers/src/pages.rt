@@ -9,14 +9,6 @@ use std::io;
 /// What stands after each text and after each page: a control character that none of them has.
 const MARK: char = '\u{1F}';
 
-/// Texts, each with its page beside it, as one constant: a table of literals takes the check the square of its rows.
-#[macro_export]
-macro_rules! pages {
-    ($(($text:literal, $page:literal $(,)?)),* $(,)?) => {
-        concat!($($text, "\u{1F}", $page, "\u{1F}"),*)
-    };
-}
-
 /// The row that pages begin with, a text and its page, and what follows it.
 fn first_row(pages: &str) -> Option<((&str, &str), &str)>
     ensures row { IfSome result (λ it. between_marks pages.now ≡ row_texts it.0 ++ between_marks it.1.now) }
@@ -43,7 +35,7 @@ fn read_rows<'a>(
     Ok(if rest.is_empty() { Some(rows) } else { None })
 }
 
-/// The rows of texts and pages that `pages!` wrote: what stands between the marks, two and two. `Read` where
+/// The rows of texts and pages that `pages!` of `tests_texts` wrote: what stands between the marks, two and two. `Read` where
 /// something is left that is no row.
 pub fn rows_of<'a>(alloc: Global, pages: &'a str) -> Result<Vec<(&'a str, &'a str)>, RunError>
     ensures { IfOk result (λ rows. between_marks pages.now ≡ rows_texts rows.items ++ [] ∷ []) }

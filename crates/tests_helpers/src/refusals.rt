@@ -3,13 +3,12 @@ ghost use Rattle.markdown_options.specs.Mdx.{HasNoMdx};
 
 use markdown::{Builtin, Message, Options, RunError, Watched, fits, run, to_html_with_options};
 use std::alloc::{AllocError, Global};
-use tests_memory::Refusing;
+use tests_memory::{Outcome, Refusing};
 
 /// How many requests a text may take.
 const MOST: u64 = 8192;
 
-/// Whether either call answers the page or want of memory where any one request for memory is refused, and
-/// the page where none is.
+/// Whether either call runs out of memory where any one request for memory is refused, and answers the page where none is.
 pub(crate) fn answers_refusals(
     alloc: Global,
     text: &str,
@@ -20,33 +19,32 @@ pub(crate) fn answers_refusals(
 {
     for passed in 0..MOST {
         let heap = Refusing::new(alloc, passed);
-        if !prints(alloc, &heap, text, want, options)? {
-            return Ok(false);
-        }
-        if heap.is_unused() {
-            return Ok(answers_run(alloc, text, want, options));
+        let outcome = printed(alloc, &heap, text, want, options)?;
+        if let Some(right) = heap.verdict(passed, outcome) {
+            return Ok(right && answers_run(alloc, text, want, options));
         }
     }
     Ok(false)
 }
 
-/// Whether a text has this page over an allocator, or is refused for want of memory where that has refused a request.
-fn prints(
+/// What a text comes to over an allocator, where this page is wanted.
+fn printed(
     alloc: Global,
     heap: &Refusing<Global>,
     text: &str,
     want: &str,
     options: &Options,
-) -> Result<bool, AllocError>
+) -> Result<Outcome, AllocError>
     requires { HasNoMdx options.now }
 {
     if !fits(text) {
-        return Ok(false);
+        return Ok(Outcome::Wrong);
     }
-    match to_html_with_options(heap, text, options) {
-        Ok(page) => Ok(page.as_str() == want),
-        Err(message) => Ok(!heap.is_unused() && says_out_of_memory(alloc, &message)?),
-    }
+    Ok(match to_html_with_options(heap, text, options) {
+        Ok(page) if page.as_str() == want => Outcome::Right,
+        Err(message) if says_out_of_memory(alloc, &message)? => Outcome::Memory,
+        _ => Outcome::Wrong,
+    })
 }
 
 /// Whether a message says that memory ran out.
@@ -55,26 +53,29 @@ fn says_out_of_memory(alloc: Global, message: &Message) -> Result<bool, AllocErr
     Ok(shown.as_str() == "Out of memory (markdown:memory)")
 }
 
-/// Whether a text that is read is written as this page, or refused with nothing written, where any one request is refused,
-/// and written where none is.
+/// Whether a text that is read is out of memory with nothing written where any one request is refused, and is written as this
+/// page where none is.
 fn answers_run(alloc: Global, text: &str, want: &str, options: &Options) -> bool
     requires { HasNoMdx options.now }
 {
     for passed in 0..MOST {
         let heap = Refusing::new(alloc, passed);
-        if !writes(alloc, &heap, text, want, options) {
-            return false;
-        }
-        if heap.is_unused() {
-            return true;
+        let outcome = written(alloc, &heap, text, want, options);
+        if let Some(right) = heap.verdict(passed, outcome) {
+            return right;
         }
     }
     false
 }
 
-/// Whether a text that is read over an allocator is written as this page, or refused for want of memory with nothing written
-/// where that has refused a request.
-fn writes(alloc: Global, heap: &Refusing<Global>, text: &str, want: &str, options: &Options) -> bool
+/// What a text that is read comes to over an allocator, where this page is to be written.
+fn written(
+    alloc: Global,
+    heap: &Refusing<Global>,
+    text: &str,
+    want: &str,
+    options: &Options,
+) -> Outcome
     requires { HasNoMdx options.now }
 {
     let mut reader = Watched::new(text.as_bytes());
@@ -82,8 +83,8 @@ fn writes(alloc: Global, heap: &Refusing<Global>, text: &str, want: &str, option
     let result = run(heap, &mut reader, &mut writer, options, &Builtin);
     let out = writer.into_inner();
     match result {
-        Ok(()) => out.as_slice() == want.as_bytes(),
-        Err(RunError::Memory) => !heap.is_unused() && out.is_empty(),
-        Err(_) => false,
+        Ok(()) if out.as_slice() == want.as_bytes() => Outcome::Right,
+        Err(RunError::Memory) if out.is_empty() => Outcome::Memory,
+        _ => Outcome::Wrong,
     }
 }

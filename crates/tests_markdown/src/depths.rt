@@ -1,59 +1,63 @@
 //! Texts that are 1,000 deep, and labels of as many bytes as one may have.
-use markdown::{Options, RunError};
+use crate::asserts::assert_so;
+use markdown::RunError;
 use std::alloc::Global;
-use std::process::Abort;
-use std::test::Fail;
 use tests_helpers::first_wrong;
+use tests_texts::OptionSet;
 
 /// How deep the texts are.
 const DEPTH: usize = 1000;
 
-#[test]
-fn prints_a_thousand_brackets(rt: HostRuntime) -> Result<(), Fail> {
-    let text = "[".repeat(rt.alloc(), DEPTH)?;
-    prints_itself(&rt, &text)
+/// Whether a text has this page, in heaps of every size too, and keeps the laws of pages.
+fn is_page(alloc: Global, text: &str, want: &str, options: OptionSet) -> Result<bool, RunError> {
+    let options = options.options(alloc);
+    Ok(first_wrong(alloc, &[(text, want)], &options)?.is_none())
+}
+
+/// Whether these words, so many times, are one paragraph that is printed as it is.
+fn is_itself(alloc: Global, words: &str) -> Result<bool, RunError> {
+    let text = words.repeat(alloc, DEPTH)?;
+    let line = text.trim_end();
+    let page = format!(in alloc; "<p>{line}</p>")?;
+    is_page(alloc, line, &page, OptionSet::CommonMark)
+}
+
+/// Whether a text in so many quotes is printed in them.
+fn is_quoted(alloc: Global, options: OptionSet) -> Result<bool, RunError> {
+    let markers = "> ".repeat(alloc, DEPTH)?;
+    let starts = "<blockquote>\n".repeat(alloc, DEPTH)?;
+    let ends = "\n</blockquote>".repeat(alloc, DEPTH)?;
+    let text = format!(in alloc; "{markers}a")?;
+    let page = format!(in alloc; "{starts}<p>a</p>{ends}")?;
+    is_page(alloc, &text, &page, options)
+}
+
+/// Whether a label of 999 bytes is defined.
+fn is_defined(alloc: Global) -> Result<bool, RunError> {
+    let label = "a".repeat(alloc, 999)?;
+    let text = format!(in alloc; "[{label}]: x\n\n[{label}]")?;
+    let page = format!(in alloc; "<p><a href=\"x\">{label}</a></p>")?;
+    is_page(alloc, &text, &page, OptionSet::CommonMark)
+}
+
+/// Whether a label of 1,000 bytes is text.
+fn is_text(alloc: Global) -> Result<bool, RunError> {
+    let label = "a".repeat(alloc, 1000)?;
+    let text = format!(in alloc; "[{label}]: x\n\n[{label}]")?;
+    let page = format!(in alloc; "<p>[{label}]: x</p>\n<p>[{label}]</p>")?;
+    is_page(alloc, &text, &page, OptionSet::CommonMark)
 }
 
 #[test]
-fn prints_a_thousand_runs(rt: HostRuntime) -> Result<(), Fail> {
-    let text = "*a ".repeat(rt.alloc(), DEPTH)?;
-    prints_itself(&rt, text.trim_end())
-}
-
-#[test]
-fn prints_a_thousand_quotes(rt: HostRuntime) -> Result<(), Fail> {
-    let markers = "> ".repeat(rt.alloc(), DEPTH)?;
-    let starts = "<blockquote>\n".repeat(rt.alloc(), DEPTH)?;
-    let ends = "\n</blockquote>".repeat(rt.alloc(), DEPTH)?;
-    let text = format!(in rt.alloc(); "{markers}a")?;
-    let page = format!(in rt.alloc(); "{starts}<p>a</p>{ends}")?;
-    prints_page(&rt, &text, &page)
-}
-
-#[test]
-fn reads_labels_of_999_characters(rt: HostRuntime) -> Result<(), Fail> {
-    let label = "a".repeat(rt.alloc(), 999)?;
-    let text = format!(in rt.alloc(); "[{label}]: x\n\n[{label}]")?;
-    let page = format!(in rt.alloc(); "<p><a href=\"x\">{label}</a></p>")?;
-    prints_page(&rt, &text, &page)?;
-    let text = format!(in rt.alloc(); "[a{label}]: x\n\n[a{label}]")?;
-    let page = format!(in rt.alloc(); "<p>[a{label}]: x</p>\n<p>[a{label}]</p>")?;
-    prints_page(&rt, &text, &page)
-}
-
-/// The text is one paragraph that is printed as it is.
-fn prints_itself(rt: &(impl AllocGlobal + Abort), text: &str) -> Result<(), Fail> {
-    let page = format!(in rt.alloc(); "<p>{text}</p>")?;
-    prints_page(rt, text, &page)
-}
-
-/// Whether a text has this page by the default options, in heaps of every size too, and keeps the laws of pages.
-fn is_page(alloc: Global, text: &str, want: &str) -> Result<bool, RunError> {
-    Ok(first_wrong(alloc, &[(text, want)], &Options::default())?.is_none())
-}
-
-/// The text has this page.
-fn prints_page(rt: &(impl AllocGlobal + Abort), text: &str, want: &str) -> Result<(), Fail> {
-    assert!(rt; is_page(rt.alloc(), text, want)?);
-    Ok(())
+fn depths(rt: HostRuntime) {
+    assert_so(&rt, "brackets", is_itself(rt.alloc(), "["));
+    assert_so(&rt, "runs", is_itself(rt.alloc(), "*a "));
+    assert_so(&rt, "quotes", is_quoted(rt.alloc(), OptionSet::CommonMark));
+    assert_so(
+        &rt,
+        "quotes by blocks",
+        is_quoted(rt.alloc(), OptionSet::Blocks),
+    );
+    assert_so(&rt, "a label of 999 bytes", is_defined(rt.alloc()));
+    assert_so(&rt, "a label of 1,000 bytes", is_text(rt.alloc()));
 }

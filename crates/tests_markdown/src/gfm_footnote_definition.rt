@@ -1,5 +1,5 @@
 //! Footnote definitions: the rows of texts, and the lines that they take.
-
+use crate::asserts::{assert_no_fault, assert_so};
 use block_parser::{BlockRows, block_rows};
 use block_rows::Row;
 use markdown::{Constructs, LineEnding, fits};
@@ -81,6 +81,9 @@ const ROWS: &[(&str, &[Row])] = &[
     ),
 ];
 
+/// Rows of a text where the construct is off.
+const ROWS_WHERE_OFF: &[(&str, &[Row])] = &[("[^a]: b", &[Row::Definition(1), END])];
+
 const FOOTNOTE: Row = Row::EnterFootnote;
 
 const ONE: Row = Row::Paragraph(1);
@@ -142,13 +145,6 @@ fn first_other_label(
     Ok(None)
 }
 
-#[test]
-fn tells_labels(rt: HostRuntime) -> Result<(), AllocError> {
-    let other = first_other_label(rt.alloc(), STARTS)?;
-    assert!(rt; other.is_none(), "{other:?}");
-    Ok(())
-}
-
 /// The first of these texts that has other rows.
 fn first_other_rows(
     alloc: Global,
@@ -163,13 +159,6 @@ fn first_other_rows(
     Ok(None)
 }
 
-#[test]
-fn reads_rows(rt: HostRuntime) -> Result<(), AllocError> {
-    let other = first_other_rows(rt.alloc(), &with_footnotes(), ROWS)?;
-    assert!(rt; other.is_none(), "{other:?}");
-    Ok(())
-}
-
 /// Whether a footnote definition starts with a label of so many letters.
 fn starts_with(alloc: Global, count: usize) -> Result<bool, AllocError> {
     let mut text = String::new(alloc);
@@ -182,15 +171,15 @@ fn starts_with(alloc: Global, count: usize) -> Result<bool, AllocError> {
 }
 
 #[test]
-fn labels_have_at_most_999_bytes(rt: HostRuntime) -> Result<(), AllocError> {
-    assert!(rt; starts_with(rt.alloc(), 999)?);
-    assert!(rt; !starts_with(rt.alloc(), 1000)?);
-    Ok(())
-}
-
-#[test]
-fn none_starts_where_the_construct_is_off(rt: HostRuntime) -> Result<(), AllocError> {
-    let rows = [Row::Definition(1), END];
-    assert!(rt; has_rows(rt.alloc(), "[^a]: b", &Constructs::default(), &rows)?);
-    Ok(())
+fn footnote_definitions(rt: HostRuntime) {
+    assert_no_fault(&rt, "STARTS", first_other_label(rt.alloc(), STARTS));
+    let rows = first_other_rows(rt.alloc(), &with_footnotes(), ROWS);
+    assert_no_fault(&rt, "ROWS", rows);
+    assert_so(&rt, "a label of 999 bytes", starts_with(rt.alloc(), 999));
+    assert!(rt;
+        matches!(starts_with(rt.alloc(), 1000), Ok(false)),
+        "a label of 1,000 bytes"
+    );
+    let off = first_other_rows(rt.alloc(), &Constructs::default(), ROWS_WHERE_OFF);
+    assert_no_fault(&rt, "ROWS_WHERE_OFF", off);
 }

@@ -1,6 +1,6 @@
 //! The definitions of documents: texts, a label, the place of the first definition that has it, and
 //! where it leads.
-
+use crate::asserts::assert_no_fault;
 use block_parser::block_rows;
 use block_targets::{Definitions, definition_contents, document_definitions};
 use markdown::{Constructs, fits};
@@ -49,13 +49,6 @@ fn first_other_place(
         }
     }
     Ok(None)
-}
-
-#[test]
-fn finds_labels(rt: HostRuntime) -> Result<(), AllocError> {
-    let other = first_other_place(rt.alloc(), LABELS)?;
-    assert!(rt; other.is_none(), "{other:?}");
-    Ok(())
 }
 
 /// Texts, and the destination and the title of the only definition of each.
@@ -112,8 +105,7 @@ fn first_other_link(
 }
 
 #[test]
-fn leads_to_places(rt: HostRuntime) -> Result<(), AllocError> {
-    let other = first_other_link(rt.alloc(), LINKS)?;
-    assert!(rt; other.is_none(), "{other:?}");
-    Ok(())
+fn labels(rt: HostRuntime) {
+    assert_no_fault(&rt, "LABELS", first_other_place(rt.alloc(), LABELS));
+    assert_no_fault(&rt, "LINKS", first_other_link(rt.alloc(), LINKS));
 }

@@ -1,6 +1,6 @@
 //! What the program answers, prints and complains of.
+use crate::asserts::{assert_no_fault, assert_so};
 use markdown::{Watched, program};
-use std::process::Abort;
 use std::rt::Files;
 use std::{fs, io};
 use tests_helpers::Short;
@@ -15,144 +15,79 @@ struct Run<'a> {
     fault: &'a str,
 }
 
-/// The words as the program gets them.
-fn owned(rt: &impl AllocGlobal, words: &[&str]) -> io::Result<Vec<String>> {
-    let mut owned = Vec::new(rt.alloc());
-    for word in words {
-        owned.push(String::from_str(rt.alloc(), word)?)?;
-    }
-    Ok(owned)
-}
+/// A heading, raw HTML, and a link by a protocol that isn't allowed.
+const TEXT: &[u8] = b"# *a* <b>\n\n[c](javascript:d)";
 
-/// Which part of an answer isn't the one that is wanted, if one isn't.
-fn other_part(run: &Run<'_>, status: u8, output: &[u8], fault: &[u8]) -> Option<&'static str> {
-    if status != run.status {
-        Some("the status")
-    } else if output != run.output.as_bytes() {
-        Some("the output")
-    } else if fault != run.fault.as_bytes() {
-        Some("the complaint")
-    } else {
-        None
-    }
-}
+/// The page of `TEXT` with every construct off.
+const PLAIN: &str = "<p># *a* &lt;b&gt;</p>\n<p>[c](javascript:d)</p>";
 
-/// Which part of what the program answers isn't the one that is wanted, if one isn't.
-fn other(rt: &(impl Files + AllocGlobal), run: &Run<'_>) -> io::Result<Option<&'static str>> {
-    let words = owned(rt, run.words)?;
-    let mut reader = Watched::new(run.input);
-    let mut writer = Watched::new(Vec::new(rt.alloc()));
-    let mut faults = Watched::new(Vec::new(rt.alloc()));
-    let status = program(rt, &words, &mut reader, &mut writer, &mut faults);
-    let output = writer.into_inner();
-    let faults = faults.into_inner();
-    Ok(other_part(run, status, output.as_slice(), faults.as_slice()))
-}
-
-/// Compares a run of the program with what is wanted.
-fn compare(rt: &(impl Files + AllocGlobal + Abort), run: &Run<'_>) -> io::Result<()> {
-    let other = other(rt, run)?;
-    assert!(rt; other.is_none(), "{other:?} at {:?}", run.words);
-    Ok(())
-}
-
-/// Compares a page that the program prints.
-fn prints(
-    rt: &(impl Files + AllocGlobal + Abort),
-    words: &[&str],
-    input: &[u8],
-    output: &str,
-) -> io::Result<()> {
-    let run = Run {
-        words,
-        input,
-        status: 0,
-        output,
-        fault: "",
-    };
-    compare(rt, &run)
-}
-
-/// Compares a complaint of the program, which prints nothing else.
-fn complains(
-    rt: &(impl Files + AllocGlobal + Abort),
-    words: &[&str],
-    input: &[u8],
-    status: u8,
-    fault: &str,
-) -> io::Result<()> {
-    let run = Run {
-        words,
-        input,
-        status,
-        output: "",
-        fault,
-    };
-    compare(rt, &run)
-}
-
-#[test]
-fn prints_pages(rt: HostRuntime) -> io::Result<()> {
-    let text = b"# *a* <b>\n\n[c](javascript:d)";
-    let safe = "<h1><em>a</em> &lt;b&gt;</h1>\n<p><a href=\"\">c</a></p>";
-    prints(&rt, &[], text, safe)?;
-    let dangerous = "<h1><em>a</em> <b></h1>\n<p><a href=\"javascript:d\">c</a></p>";
-    prints(&rt, &["--dangerous"], text, dangerous)?;
-    let plain = "<p># *a* &lt;b&gt;</p>\n<p>[c](javascript:d)</p>";
-    prints(&rt, &["--plain"], text, plain)?;
-    prints(&rt, &["--plain", "--dangerous"], text, plain)?;
-    prints(&rt, &["--plain", "--gfm"], text, plain)?;
-    prints(&rt, &["--gfm"], b"~a~", "<p><del>a</del></p>")?;
-    prints(&rt, &["--mark"], b"==a== ~b~", "<p><mark>a</mark> ~b~</p>")?;
-    prints(
-        &rt,
+/// Words, input, and the page that the program prints.
+const PRINTED: &[(&[&str], &[u8], &str)] = &[
+    (
+        &[],
+        TEXT,
+        "<h1><em>a</em> &lt;b&gt;</h1>\n<p><a href=\"\">c</a></p>",
+    ),
+    (
+        &["--dangerous"],
+        TEXT,
+        "<h1><em>a</em> <b></h1>\n<p><a href=\"javascript:d\">c</a></p>",
+    ),
+    (&["--plain"], TEXT, PLAIN),
+    (&["--plain", "--dangerous"], TEXT, PLAIN),
+    (&["--plain", "--gfm"], TEXT, PLAIN),
+    (&["--gfm"], b"~a~", "<p><del>a</del></p>"),
+    (&["--mark"], b"==a== ~b~", "<p><mark>a</mark> ~b~</p>"),
+    (
         &["--gfm", "--mark"],
         b"==a== ~b~",
         "<p><mark>a</mark> <del>b</del></p>",
-    )?;
-    prints(&rt, &["--mark", "--plain"], b"==a==", "<p>==a==</p>")?;
-    prints(&rt, &[], b"==a==", "<p>==a==</p>")?;
-    let filtered = "<p>a <b>&lt;title></b></p>";
-    let html = b"a <b><title></b>";
-    prints(&rt, &["--gfm", "--dangerous"], html, filtered)?;
-    let link = "<p><a href=\"javascript:x\">a</a></p>";
-    prints(&rt, &["--dangerous"], b"<b>x</b>", "<p><b>x</b></p>")?;
-    prints(&rt, &["--dangerous"], b"[a](javascript:x)", link)
-}
+    ),
+    (&["--mark", "--plain"], b"==a==", "<p>==a==</p>"),
+    (&[], b"==a==", "<p>==a==</p>"),
+    (
+        &["--gfm", "--dangerous"],
+        b"a <b><title></b>",
+        "<p>a <b>&lt;title></b></p>",
+    ),
+    (&["--dangerous"], b"<b>x</b>", "<p><b>x</b></p>"),
+    (
+        &["--dangerous"],
+        b"[a](javascript:x)",
+        "<p><a href=\"javascript:x\">a</a></p>",
+    ),
+    (&["--version"], b"\xFF", "markdown 0.1.0\n"),
+    (&["--help"], b"\xFF", HELP),
+    (&["--plain", "-h"], b"\xFF", HELP),
+];
 
-#[test]
-fn refuses_bytes(rt: HostRuntime) -> io::Result<()> {
-    complains(&rt, &[], b"a\xFF", 1, "markdown: input is not UTF-8\n")
-}
+/// Words that are refused.
+const REFUSED: &[&[&str]] = &[
+    &["--x"],
+    &[""],
+    &["page.md"],
+    &["--plain "],
+    &["--plain=true"],
+    &["--plain", "--plain"],
+    &["--gfm", "--gfm"],
+    &["--mark", "--mark"],
+    &["--marked"],
+    &["--mar"],
+    &["--references"],
+];
 
-#[test]
-fn refuses_words(rt: HostRuntime) -> io::Result<()> {
-    let fault = "markdown: wrong command line\n";
-    for words in [
-        ["--x"].as_slice(),
-        [""].as_slice(),
-        ["page.md"].as_slice(),
-        ["--plain "].as_slice(),
-        ["--plain=true"].as_slice(),
-        ["--plain", "--plain"].as_slice(),
-        ["--gfm", "--gfm"].as_slice(),
-        ["--mark", "--mark"].as_slice(),
-        ["--marked"].as_slice(),
-        ["--mar"].as_slice(),
-        ["--references"].as_slice(),
-    ] {
-        complains(&rt, words, b"a", 2, fault)?;
-    }
-    Ok(())
-}
+/// References, and what is said of the first that is at fault.
+const FAULTS: &[(&[u8], &str)] = &[
+    (b"a=41\n\nb=\n", "markdown: references line 3\n"),
+    (b"x=41\n\nx=42", "markdown: references line 3\n"),
+    (b"a=41\ra=42\r", "markdown: references line 2\n"),
+    (b"x=D800", "markdown: references line 1\n"),
+    (b"=41", "markdown: references line 1\n"),
+    (b"x", "markdown: references line 1\n"),
+    (b"a=41\n\xFF", "markdown: cannot read references\n"),
+];
 
-#[test]
-fn prints_help(rt: HostRuntime) -> io::Result<()> {
-    prints(&rt, &["--version"], b"\xFF", "markdown 0.1.0\n")?;
-    prints(&rt, &["--help"], b"\xFF", HELP)?;
-    prints(&rt, &["--plain", "-h"], b"\xFF", HELP)
-}
-
+/// What `--help` prints.
 const HELP: &str = "\
 Converts Markdown on standard input to safe HTML on standard output.
 
@@ -182,110 +117,184 @@ Examples:
   markdown --references names.txt < page.md > page.html
 ";
 
-#[test]
-fn reads_references(rt: HostRuntime) -> io::Result<()> {
-    let path = "references_read";
-    fs::write(&rt, path, "amp=41\n\nzz=1F600+FE0F\r\n")?;
-    let text = "&amp;&zz;&lt;&yy;".as_bytes();
-    prints(
-        &rt,
-        &["--references", path],
-        text,
-        "<p>A😀\u{FE0F}&lt;&amp;yy;</p>",
-    )?;
-    let written = "<p>&amp;amp;&amp;zz;&amp;lt;&amp;yy;</p>";
-    prints(
-        &rt,
-        &["--references=references_read", "--plain"],
-        text,
-        written,
-    )?;
-    fs::write(&rt, path, "foo=41+42\namp=42\n")?;
-    prints(&rt, &["--references", path], b"&foo;&amp;", "<p>ABB</p>")?;
-    prints(&rt, &[], b"&foo;", "<p>&amp;foo;</p>")?;
-    fs::remove_file(&rt, path)
+/// The words as the program gets them.
+fn owned(rt: &impl AllocGlobal, words: &[&str]) -> io::Result<Vec<String>> {
+    let mut owned = Vec::new(rt.alloc());
+    for word in words {
+        owned.push(String::from_str(rt.alloc(), word)?)?;
+    }
+    Ok(owned)
 }
 
-#[test]
-fn refuses_references(rt: HostRuntime) -> io::Result<()> {
+/// Whether the program does what a run says.
+fn is_run(rt: &(impl Files + AllocGlobal), run: &Run<'_>) -> io::Result<bool> {
+    let words = owned(rt, run.words)?;
+    let mut reader = Watched::new(run.input);
+    let mut writer = Watched::new(Vec::new(rt.alloc()));
+    let mut faults = Watched::new(Vec::new(rt.alloc()));
+    let status = program(rt, &words, &mut reader, &mut writer, &mut faults);
+    let output = writer.into_inner();
+    let faults = faults.into_inner();
+    Ok(
+        status == run.status
+            && output.as_slice() == run.output.as_bytes()
+            && faults.as_slice() == run.fault.as_bytes(),
+    )
+}
+
+/// Whether the program prints a page.
+fn prints(
+    rt: &(impl Files + AllocGlobal),
+    words: &[&str],
+    input: &[u8],
+    output: &str,
+) -> io::Result<bool> {
+    let run = Run {
+        words,
+        input,
+        status: 0,
+        output,
+        fault: "",
+    };
+    is_run(rt, &run)
+}
+
+/// Whether the program complains, and prints nothing else.
+fn complains(
+    rt: &(impl Files + AllocGlobal),
+    words: &[&str],
+    input: &[u8],
+    status: u8,
+    fault: &str,
+) -> io::Result<bool> {
+    let run = Run {
+        words,
+        input,
+        status,
+        output: "",
+        fault,
+    };
+    is_run(rt, &run)
+}
+
+/// The first of these pages that the program doesn't print.
+fn first_unprinted(
+    rt: &(impl Files + AllocGlobal),
+    cases: &[(&[&str], &[u8], &'static str)],
+) -> io::Result<Option<&'static str>> {
+    for (words, input, output) in cases {
+        if !prints(rt, words, input, output)? {
+            return Ok(Some(output));
+        }
+    }
+    Ok(None)
+}
+
+/// The first word of the first of these that the program doesn't refuse.
+fn first_taken(
+    rt: &(impl Files + AllocGlobal),
+    cases: &[&[&'static str]],
+) -> io::Result<Option<&'static str>> {
+    for words in cases {
+        if !complains(rt, words, b"a", 2, "markdown: wrong command line\n")? {
+            return Ok(words.first().copied());
+        }
+    }
+    Ok(None)
+}
+
+/// Whether names are read from a file, and from none.
+fn reads_references(rt: &(impl Files + AllocGlobal)) -> io::Result<bool> {
+    let path = "references_read";
+    let words = ["--references", path];
+    let plain = ["--references=references_read", "--plain"];
+    let text = "&amp;&zz;&lt;&yy;".as_bytes();
+    fs::write(rt, path, "amp=41\n\nzz=1F600+FE0F\r\n")?;
+    let first = prints(rt, &words, text, "<p>A😀\u{FE0F}&lt;&amp;yy;</p>")?
+        && prints(rt, &plain, text, "<p>&amp;amp;&amp;zz;&amp;lt;&amp;yy;</p>")?;
+    fs::write(rt, path, "foo=41+42\namp=42\n")?;
+    let second = prints(rt, &words, b"&foo;&amp;", "<p>ABB</p>")?
+        && prints(rt, &[], b"&foo;", "<p>&amp;foo;</p>")?;
+    fs::remove_file(rt, path)?;
+    Ok(first && second)
+}
+
+/// What should be said of the first of these references, but isn't; or of a file that isn't there.
+fn first_unsaid(
+    rt: &(impl Files + AllocGlobal),
+    cases: &[(&[u8], &'static str)],
+) -> io::Result<Option<&'static str>> {
     let path = "references_refused";
     let words = ["--references", path];
-    complains(&rt, &words, b"a", 1, "markdown: cannot read references\n")?;
-    for (rows, fault) in [
-        ("a=41\n\nb=\n", "markdown: references line 3\n"),
-        ("x=41\n\nx=42", "markdown: references line 3\n"),
-        ("a=41\ra=42\r", "markdown: references line 2\n"),
-        ("x=D800", "markdown: references line 1\n"),
-        ("=41", "markdown: references line 1\n"),
-        ("x", "markdown: references line 1\n"),
-    ] {
-        fs::write(&rt, path, rows)?;
-        complains(&rt, &words, b"a", 1, fault)?;
+    if !complains(rt, &words, b"a", 1, "markdown: cannot read references\n")? {
+        return Ok(Some("no file"));
     }
-    fs::write(&rt, path, b"a=41\n\xFF")?;
-    complains(&rt, &words, b"a", 1, "markdown: cannot read references\n")?;
-    fs::remove_file(&rt, path)
+    for (references, fault) in cases {
+        fs::write(rt, path, *references)?;
+        if !complains(rt, &words, b"a", 1, fault)? {
+            return Ok(Some(fault));
+        }
+    }
+    fs::remove_file(rt, path)?;
+    Ok(None)
 }
 
-#[test]
-fn complains_of_devices(rt: HostRuntime) -> io::Result<()> {
+/// Whether a read that fails is complained of, with nothing written.
+fn complains_of_reader(rt: &(impl Files + AllocGlobal)) -> bool {
     let mut faults = Watched::new(Vec::new(rt.alloc()));
     let mut reader = Watched::new(Short::new(&b"abc"[..], 1, 2));
     let mut writer = Watched::new(Vec::new(rt.alloc()));
-    let status = program(&rt, &[], &mut reader, &mut writer, &mut faults);
-    assert_eq!(rt; status, 1);
-    assert!(rt; writer.into_inner().is_empty());
-    assert_eq!(rt;
-        faults.into_inner().as_slice(),
-        b"markdown: cannot read\n".as_slice()
-    );
+    let status = program(rt, &[], &mut reader, &mut writer, &mut faults);
+    status == 1
+        && writer.into_inner().is_empty()
+        && faults.into_inner().as_slice() == b"markdown: cannot read\n".as_slice()
+}
+
+/// Whether a write that fails is complained of, of a page or of the help.
+fn complains_of_writer(rt: &(impl Files + AllocGlobal), words: &[&str]) -> io::Result<bool> {
+    let words = owned(rt, words)?;
     let mut faults = Watched::new(Vec::new(rt.alloc()));
     let mut reader = Watched::new(&b"abc"[..]);
     let mut writer = Watched::new(Short::new(Vec::new(rt.alloc()), 1, 2));
-    let status = program(&rt, &[], &mut reader, &mut writer, &mut faults);
-    assert_eq!(rt; status, 1);
-    assert_eq!(rt;
-        faults.into_inner().as_slice(),
-        b"markdown: cannot write\n".as_slice()
-    );
-    Ok(())
+    let status = program(rt, &words, &mut reader, &mut writer, &mut faults);
+    Ok(status == 1 && faults.into_inner().as_slice() == b"markdown: cannot write\n".as_slice())
 }
 
-#[test]
-fn complains_where_help_cannot_be_written(rt: HostRuntime) -> io::Result<()> {
-    let words = owned(&rt, &["--help"])?;
-    let mut faults = Watched::new(Vec::new(rt.alloc()));
-    let mut reader = Watched::new(&b"abc"[..]);
-    let mut writer = Watched::new(Short::new(Vec::new(rt.alloc()), 1, 2));
-    let status = program(&rt, &words, &mut reader, &mut writer, &mut faults);
-    assert_eq!(rt; status, 1);
-    assert_eq!(rt;
-        faults.into_inner().as_slice(),
-        b"markdown: cannot write\n".as_slice()
-    );
-    Ok(())
-}
-
-#[test]
-fn complains_of_what_is_not_flushed(rt: HostRuntime) {
+/// Whether a page that is written but can't be flushed is complained of.
+fn complains_of_flush(rt: &(impl Files + AllocGlobal)) -> bool {
     let mut faults = Watched::new(Vec::new(rt.alloc()));
     let mut reader = Watched::new(&b"a"[..]);
     let mut writer = Watched::new(Short::stuck(Vec::new(rt.alloc()), 1, 20));
-    let status = program(&rt, &[], &mut reader, &mut writer, &mut faults);
-    assert_eq!(rt; status, 1);
+    let status = program(rt, &[], &mut reader, &mut writer, &mut faults);
     let output = writer.into_inner().into_inner();
-    assert_eq!(rt; output.as_slice(), b"<p>a</p>".as_slice());
-    assert_eq!(rt;
-        faults.into_inner().as_slice(),
-        b"markdown: cannot write\n".as_slice()
-    );
+    status == 1
+        && output.as_slice() == b"<p>a</p>".as_slice()
+        && faults.into_inner().as_slice() == b"markdown: cannot write\n".as_slice()
 }
 
-#[test]
-fn keeps_the_status_where_a_fault_cannot_be_printed(rt: HostRuntime) {
+/// Whether the status is kept where a complaint can't be printed.
+fn keeps_status(rt: &(impl Files + AllocGlobal)) -> bool {
     let mut faults = Watched::new(Short::new(Vec::new(rt.alloc()), 1, 0));
     let mut reader = Watched::new(&b"\xFF"[..]);
     let mut writer = Watched::new(Vec::new(rt.alloc()));
-    let status = program(&rt, &[], &mut reader, &mut writer, &mut faults);
-    assert_eq!(rt; status, 1);
+    program(rt, &[], &mut reader, &mut writer, &mut faults) == 1
+}
+
+#[test]
+fn programs(rt: HostRuntime) {
+    assert_no_fault(&rt, "PRINTED", first_unprinted(&rt, PRINTED));
+    assert_no_fault(&rt, "REFUSED", first_taken(&rt, REFUSED));
+    let utf8 = complains(&rt, &[], b"a\xFF", 1, "markdown: input is not UTF-8\n");
+    assert_so(&rt, "bytes are refused", utf8);
+    assert_so(&rt, "names are read", reads_references(&rt));
+    assert_no_fault(&rt, "FAULTS", first_unsaid(&rt, FAULTS));
+    assert!(rt; complains_of_reader(&rt), "a read");
+    assert_so(&rt, "a write of a page", complains_of_writer(&rt, &[]));
+    assert_so(
+        &rt,
+        "a write of the help",
+        complains_of_writer(&rt, &["--help"]),
+    );
+    assert!(rt; complains_of_flush(&rt), "a flush");
+    assert!(rt; keeps_status(&rt), "the status");
 }

@@ -1,10 +1,10 @@
 //! Rows of names, read from a text.
+use crate::asserts::{assert_no_fault, assert_so};
 use linked_list_allocator::LocalHeap;
 use markdown::{
     Options, Rows, RowsError, RunError, Tables, Watched, fits, run, to_html_with_tables,
 };
 use std::alloc::{AllocError, Global};
-use std::test::Fail;
 use tests_helpers::Short;
 
 /// Names, and what they stand for by the rows of a text, or built in.
@@ -32,14 +32,17 @@ fn first_other_name(
     None
 }
 
-#[test]
-fn reads_rows(rt: HostRuntime) -> Result<(), Fail> {
+/// The first of these names that stands for something else by the rows of a text.
+fn first_other_name_by_rows(
+    alloc: Global,
+    cases: &[(&'static str, Option<&str>)],
+) -> Result<Option<&'static str>, RowsError> {
     let text = "amp=41\n\n \t\nb=42\r\n0=1F600+fe0f\rZ9=10FFFF";
-    let rows = Rows::read(rt.alloc(), text)?;
-    let other = first_other_name(&rows, NAMES);
-    assert!(rt; other.is_none(), "{other:?}");
-    assert!(rt; rows.is_punctuation('€') && !rows.is_punctuation('a'));
-    Ok(())
+    let rows = Rows::read(alloc, text)?;
+    if !rows.is_punctuation('€') || rows.is_punctuation('a') {
+        return Ok(Some("punctuation"));
+    }
+    Ok(first_other_name(&rows, cases))
 }
 
 /// Texts, and the first fault of each.
@@ -85,12 +88,6 @@ fn first_other_fault(alloc: Global, cases: &[(&'static str, RowsError)]) -> Opti
     None
 }
 
-#[test]
-fn answers_the_first_fault(rt: HostRuntime) {
-    let other = first_other_fault(rt.alloc(), FAULTS);
-    assert!(rt; other.is_none(), "{other:?}");
-}
-
 /// The fault of a text that is read in a heap of a size, if it has one there; none of both where other rows are read.
 fn fault_in(
     alloc: Global,
@@ -123,15 +120,6 @@ fn is_read_in_growing_heaps(
         last = fault;
     }
     Ok(last == own)
-}
-
-#[test]
-fn reads_rows_in_growing_heaps(rt: HostRuntime) -> Result<(), Fail> {
-    let text = "amp=41\n\nzz=1F600+FE0F\r\nb=42";
-    assert!(rt; is_read_in_growing_heaps(rt.alloc(), text, None)?);
-    let text = "amp=41\n\nzz=42\r\nb=42\nzz=43";
-    assert!(rt; is_read_in_growing_heaps(rt.alloc(), text, Some(RowsError::Repeated(5)))?);
-    Ok(())
 }
 
 /// Rows, a text and its HTML by their names.
@@ -193,8 +181,19 @@ fn first_other_page(
 }
 
 #[test]
-fn prints_by_rows(rt: HostRuntime) -> Result<(), Fail> {
-    let other = first_other_page(rt.alloc(), PAGES)?;
-    assert!(rt; other.is_none(), "{other:?}");
-    Ok(())
+fn references(rt: HostRuntime) {
+    let alloc = rt.alloc();
+    assert_no_fault(&rt, "NAMES", first_other_name_by_rows(alloc, NAMES));
+    let fault = first_other_fault(alloc, FAULTS);
+    assert!(rt; fault.is_none(), "FAULTS: {fault:?}");
+    let text = "amp=41\n\nzz=1F600+FE0F\r\nb=42";
+    assert_so(
+        &rt,
+        "rows in growing heaps",
+        is_read_in_growing_heaps(alloc, text, None),
+    );
+    let text = "amp=41\n\nzz=42\r\nb=42\nzz=43";
+    let repeated = is_read_in_growing_heaps(alloc, text, Some(RowsError::Repeated(5)));
+    assert_so(&rt, "a fault in growing heaps", repeated);
+    assert_no_fault(&rt, "PAGES", first_other_page(alloc, PAGES));
 }

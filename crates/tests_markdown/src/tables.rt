@@ -1,7 +1,8 @@
 //! Tables of the caller.
+use crate::asserts::assert_no_fault;
 use markdown::{Message, Options, fits, to_html_with_tables};
 use std::alloc::Global;
-use tests_helpers::Names;
+use tests_texts::Names;
 
 /// Texts with names of the caller, and their HTML.
 const NAMED: &[(&str, &str)] = &[
@@ -36,8 +37,6 @@ fn first_other(
 }
 
 #[test]
-fn reads_names_of_the_caller(rt: HostRuntime) -> Result<(), Message> {
-    let other = first_other(rt.alloc(), NAMED)?;
-    assert!(rt; other.is_none(), "{other:?}");
-    Ok(())
+fn tables(rt: HostRuntime) {
+    assert_no_fault(&rt, "NAMED", first_other(rt.alloc(), NAMED));
 }

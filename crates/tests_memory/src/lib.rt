@@ -4,6 +4,17 @@
 use std::alloc::{AllocError, Allocator};
 use std::cell::Cell;
 
+/// What a call came to over an allocator that refuses one request.
+#[derive(Clone, Copy)]
+pub enum Outcome {
+    /// It returned what is wanted.
+    Right,
+    /// It ran out of memory.
+    Memory,
+    /// It returned something else, or failed in another way.
+    Wrong,
+}
+
 /// An allocator that refuses one request for memory, after as many as `left` says, and passes every other on.
 pub struct Refusing<B: Allocator> {
     inner: B,
@@ -22,6 +33,16 @@ impl<B: Allocator> Refusing<B> {
     /// Whether no request was refused so far, where fewer than 2 ^ 63 were to be passed on.
     pub fn is_unused(&self) -> bool {
         self.left.get() < 1 << 63
+    }
+
+    /// Whether a call is right in all runs, of which this is the last or one that is wrong. None if the next request is to be
+    /// refused. A run with a refused request must run out of memory, and at least one run must have one.
+    pub fn verdict(&self, passed: u64, outcome: Outcome) -> Option<bool> {
+        match outcome {
+            Outcome::Memory if !self.is_unused() => None,
+            Outcome::Right if self.is_unused() => Some(passed > 0),
+            _ => Some(false),
+        }
     }
 }
 

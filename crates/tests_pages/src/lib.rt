@@ -1,7 +1,15 @@
-//! Texts and their pages: of blocks alone, and the examples of CommonMark.
+//! Texts and their pages: the tables of `tests_texts`, alone and joined.
 #![tactic(auto)]
 
 #[cfg(test)]
-mod blocks;
+mod asserts;
 #[cfg(test)]
 mod commonmark;
+#[cfg(test)]
+mod joined;
+#[cfg(test)]
+mod pages;
+#[cfg(test)]
+mod pairs;
+#[cfg(test)]
+mod worked;

@@ -1,10 +1,8 @@
 //! Code and math between fences and by indentation (CommonMark 4.4 and 4.5), and frontmatter.
-use crate::right::assert_right;
 use crate::texts::texts;
-use markdown_options::Message;
 
 /// Fences, closed and open, with blank lines at the end.
-const CODE: &str = texts![
+pub(crate) const CODE: &str = texts![
     "- ```\n  a\n\n\nb",
     "> ~~~\n>\n>  a\n>\n\nb",
     "- a\n  ```\n\n\n",
@@ -33,7 +31,7 @@ const CODE: &str = texts![
 ];
 
 /// Math as a block.
-const MATH: &str = texts![
+pub(crate) const MATH: &str = texts![
     "$$\na\n$$\n> $$ b\\* &amp;\n> c\nd",
     "- $$$\n\n  a\n  $$\n  $$$ \n\n",
     "$$ a$b\nc\n$$\n\nd\n$$",
@@ -42,7 +40,7 @@ const MATH: &str = texts![
 ];
 
 /// Frontmatter, closed and not.
-const FRONTMATTER: &str = texts![
+pub(crate) const FRONTMATTER: &str = texts![
     "---\na: b\n\n---\nc",
     "---\na",
     "+++\n---\n+++ \t\n# b",
@@ -59,18 +57,3 @@ const FRONTMATTER: &str = texts![
     "---\n+++\n",
     "---\n---\n---\n---",
 ];
-
-#[test]
-fn code(rt: HostRuntime) -> Result<(), Message> {
-    assert_right(&rt, CODE)
-}
-
-#[test]
-fn math(rt: HostRuntime) -> Result<(), Message> {
-    assert_right(&rt, MATH)
-}
-
-#[test]
-fn frontmatter(rt: HostRuntime) -> Result<(), Message> {
-    assert_right(&rt, FRONTMATTER)
-}

@@ -1,10 +1,8 @@
 //! Quotes, items and lists (CommonMark 5).
-use crate::right::assert_right;
 use crate::texts::texts;
-use markdown_options::Message;
 
 /// Lines that a paragraph takes from outside its containers.
-const LAZY: &str = texts![
+pub(crate) const LAZY: &str = texts![
     "> a\nb\n> c\nd",
     "> - a\nb\n  c\n> d",
     "- a\nb\n\nc",
@@ -22,7 +20,7 @@ const LAZY: &str = texts![
 ];
 
 /// Lists in lists, and blank lines in them.
-const LISTS: &str = texts![
+pub(crate) const LISTS: &str = texts![
     "- a\n\n- b\n\n\n- c\n",
     "-\n- a\n-\n\n- b\n-   ",
     "-\n\n  a",
@@ -42,13 +40,3 @@ const LISTS: &str = texts![
     "> - a\n\n> - b\n>\n>   c\n>>- d",
     "1. [a]: b\n\n1. c\n   1.\n      [d]: e\n\n[a] [d]",
 ];
-
-#[test]
-fn lazy_lines(rt: HostRuntime) -> Result<(), Message> {
-    assert_right(&rt, LAZY)
-}
-
-#[test]
-fn lists(rt: HostRuntime) -> Result<(), Message> {
-    assert_right(&rt, LISTS)
-}

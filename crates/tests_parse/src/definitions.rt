@@ -1,10 +1,8 @@
 //! Definitions of links (CommonMark 4.7).
-use crate::right::assert_right;
 use crate::texts::texts;
-use markdown_options::Message;
 
 /// Definitions over several lines, before other blocks, and wrong ones.
-const DEFINITIONS: &str = texts![
+pub(crate) const DEFINITIONS: &str = texts![
     "> [a\n> b]:\n> <c d>\n> 'e\n> f'\n> [a b]",
     "> [a]: b\n> 'c'\n> d\n\n[A]",
     "[a]: b\n===\n[a]\n---",
@@ -31,8 +29,3 @@ const DEFINITIONS: &str = texts![
     "[a]: b\\\n[c]: d\\ 'e'\n\n[a] [c]",
     "[a]: b\n| c |\n| - |\n| [a] |",
 ];
-
-#[test]
-fn definitions(rt: HostRuntime) -> Result<(), Message> {
-    assert_right(&rt, DEFINITIONS)
-}

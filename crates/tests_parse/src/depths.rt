@@ -1,7 +1,16 @@
 //! Texts that are up to 100,000 deep.
+use crate::asserts::assert_so;
 use crate::wrong::wrong_of;
 use markdown_options::{Message, Options};
 use std::alloc::Global;
+
+/// Words, and how many times each stands before a letter.
+const DEEP: &[(&str, usize)] = &[
+    ("> ", 100_000),
+    ("1) ", 20_000),
+    ("*a ", 100_000),
+    ("[", 100_000),
+];
 
 /// Whether the events of a text are right that has these words so many times before a letter.
 fn is_right(alloc: Global, words: &str, depth: usize) -> Result<bool, Message> {
@@ -11,25 +20,8 @@ fn is_right(alloc: Global, words: &str, depth: usize) -> Result<bool, Message> {
 }
 
 #[test]
-fn quotes(rt: HostRuntime) -> Result<(), Message> {
-    assert!(rt; is_right(rt.alloc(), "> ", 100_000)?);
-    Ok(())
-}
-
-#[test]
-fn items(rt: HostRuntime) -> Result<(), Message> {
-    assert!(rt; is_right(rt.alloc(), "1) ", 20_000)?);
-    Ok(())
-}
-
-#[test]
-fn runs(rt: HostRuntime) -> Result<(), Message> {
-    assert!(rt; is_right(rt.alloc(), "*a ", 100_000)?);
-    Ok(())
-}
-
-#[test]
-fn brackets(rt: HostRuntime) -> Result<(), Message> {
-    assert!(rt; is_right(rt.alloc(), "[", 100_000)?);
-    Ok(())
+fn depths(rt: HostRuntime) {
+    for (words, depth) in DEEP {
+        assert_so(&rt, words, is_right(rt.alloc(), words, *depth));
+    }
 }

@@ -1,10 +1,8 @@
 //! Footnotes (in neither standard).
-use crate::right::assert_right;
 use crate::texts::texts;
-use markdown_options::Message;
 
 /// Footnotes in each other and in other containers, with what they hold.
-const FOOTNOTES: &str = texts![
+pub(crate) const FOOTNOTES: &str = texts![
     "[^a]: b\n\n    [^c]: d\n\n        e\n\n[^c] [^a]",
     "[^a]: [^b]: c\n\n[^b] [^a]",
     "[^a]: b\n[^a]: c\n\n[^A][^a]",
@@ -21,8 +19,3 @@ const FOOTNOTES: &str = texts![
     "[^a b]: c\n[^]: d\n[^e\n]: f\n\n[^a b] [^] [^g]",
     "*[^a\n]* ~~[^a]~~ [b [^a]](c) ![^a](d)\n\n[^a]: e [^a]",
 ];
-
-#[test]
-fn footnotes(rt: HostRuntime) -> Result<(), Message> {
-    assert_right(&rt, FOOTNOTES)
-}

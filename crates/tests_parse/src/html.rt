@@ -1,10 +1,8 @@
 //! HTML blocks of each kind (CommonMark 4.6).
-use crate::right::assert_right;
 use crate::texts::texts;
-use markdown_options::Message;
 
 /// HTML blocks, closed and open, in containers too.
-const HTML: &str = texts![
+pub(crate) const HTML: &str = texts![
     "<pre>\n\na</pre> b\nc",
     "> <script>\n> a\n\nb",
     "<!-- a\n\nb --> c\nd",
@@ -25,8 +23,3 @@ const HTML: &str = texts![
     "<x\n<hr/>\n\n</div\n> a",
     "<!---->\r\n<!A>\r<?b?>\n\n<pre>",
 ];
-
-#[test]
-fn html(rt: HostRuntime) -> Result<(), Message> {
-    assert_right(&rt, HTML)
-}

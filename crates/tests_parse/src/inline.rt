@@ -1,10 +1,8 @@
 //! Inline structure (CommonMark 6, GFM 6), marked text and math.
-use crate::right::assert_right;
 use crate::texts::texts;
-use markdown_options::Message;
 
 /// Emphasis and other spans, code and math.
-const SPANS: &str = texts![
+pub(crate) const SPANS: &str = texts![
     "*a **b*** __c _d_ e__ ***f* g**",
     "~~a~~ ~b~ ==c== =d= ~~~e~~~ ===f===",
     "`` a`b `` ` ` `c\nd` ```e",
@@ -17,7 +15,7 @@ const SPANS: &str = texts![
 ];
 
 /// Links, images, autolinks, raw HTML and references.
-const LINKS: &str = texts![
+pub(crate) const LINKS: &str = texts![
     "[a](b \"c\") ![d *e*](<f g> 'h\ni') [j][] [k]\n\n[j]: l\n[k]: m",
     "<https://a.b?c=d&e> <f@g.h> <i> <!-- j --> </k > <?l?> <!M n> <![CDATA[o]]>",
     "&amp; &#65; &#x1F600; &nope; \\& \\a &copy &#0;",
@@ -33,13 +31,3 @@ const LINKS: &str = texts![
     "[a]: b\n\n[a][c] [a] [] ![a][a][a]() [a\\][a]",
     "<a b\n c='d\n e'> <f\n\ng>",
 ];
-
-#[test]
-fn spans(rt: HostRuntime) -> Result<(), Message> {
-    assert_right(&rt, SPANS)
-}
-
-#[test]
-fn links(rt: HostRuntime) -> Result<(), Message> {
-    assert_right(&rt, LINKS)
-}

@@ -1,4 +1,5 @@
 //! The labels that texts define, which `ParseState` has.
+use crate::asserts::assert_no_fault;
 use crate::options::every;
 use markdown_options::Message;
 use markdown_tables::Builtin;
@@ -54,8 +55,6 @@ fn first_other<'a>(
 }
 
 #[test]
-fn labels(rt: HostRuntime) -> Result<(), Message> {
-    let other = first_other(rt.alloc(), LABELS)?;
-    assert!(rt; other.is_none(), "{other:?}");
-    Ok(())
+fn labels(rt: HostRuntime) {
+    assert_no_fault(&rt, "LABELS", first_other(rt.alloc(), LABELS));
 }

@@ -2,6 +2,8 @@
 #![tactic(auto)]
 
 #[cfg(test)]
+mod asserts;
+#[cfg(test)]
 mod code;
 #[cfg(test)]
 mod containers;
@@ -23,6 +25,10 @@ mod lines;
 mod memory;
 #[cfg(test)]
 mod options;
+#[cfg(test)]
+mod pages;
+#[cfg(test)]
+mod pairs;
 #[cfg(test)]
 mod right;
 #[cfg(test)]

@@ -1,10 +1,8 @@
 //! Lines and what ends them (CommonMark 2.1 to 2.3), headings and breaks (CommonMark 4.1 to 4.3).
-use crate::right::assert_right;
 use crate::texts::texts;
-use markdown_options::Message;
 
 /// Blank lines, mixed line endings, characters of several bytes.
-const LINES: &str = texts![
+pub(crate) const LINES: &str = texts![
     "",
     "\n",
     "\n\n\n",
@@ -22,7 +20,7 @@ const LINES: &str = texts![
 ];
 
 /// Headings and thematic breaks, in containers too.
-const HEADINGS: &str = texts![
+pub(crate) const HEADINGS: &str = texts![
     "# a\n##\tb\t##\t\n### ###\n#### c # \\#\n####### d\n#e",
     "a\n===\nb *c\nd*\n  ---  \n\ne\n= =\n-",
     "> a\n===\n> b\n> ===\n> c\n---\n",
@@ -30,13 +28,3 @@ const HEADINGS: &str = texts![
     "***\n - - -\n__ _\n*\t*\t*\t\n--\n+++",
     "é `b\nc`\n===\n\n🪐\n- - -",
 ];
-
-#[test]
-fn lines(rt: HostRuntime) -> Result<(), Message> {
-    assert_right(&rt, LINES)
-}
-
-#[test]
-fn headings(rt: HostRuntime) -> Result<(), Message> {
-    assert_right(&rt, HEADINGS)
-}

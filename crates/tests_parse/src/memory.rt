@@ -1,4 +1,5 @@
 //! Memory that runs out: heaps of fixed size, and one request refused.
+use crate::asserts::assert_no_fault;
 use crate::options::every;
 use crate::texts::{MARK, texts};
 use engine_events::event::Event;
@@ -7,7 +8,7 @@ use markdown_options::Message;
 use markdown_tables::Builtin;
 use parse_events::{SIZE_MAX, parse};
 use std::alloc::{AllocError, Allocator, Global};
-use tests_memory::Refusing;
+use tests_memory::{Outcome, Refusing};
 
 /// Short texts, with each kind of container and of leaf among them.
 const TEXTS: &str = texts![
@@ -26,38 +27,16 @@ const UNITS: usize = 8192;
 /// How many requests of a text are refused, one at a time.
 const MOST: u64 = 8192;
 
-/// What a text is parsed to with an allocator.
-#[derive(Clone, Copy)]
-enum Outcome {
-    /// The events that are wanted.
-    Same,
-    /// Out of memory.
-    Memory,
-    /// Other events, or another error.
-    Other,
-}
-
 /// What a text is parsed to with this allocator, where these events are wanted.
-fn parse_with<A: Allocator + Clone>(alloc: A, text: &str, events: &[Event]) -> Outcome {
+fn parsed<A: Allocator + Clone>(alloc: A, text: &str, events: &[Event]) -> Outcome {
     if text.len() > SIZE_MAX {
-        return Outcome::Other;
+        return Outcome::Wrong;
     }
     let options = every();
     match parse(alloc, text, &options, &Builtin) {
-        Ok((found, _state)) => {
-            if found.as_slice() == events {
-                Outcome::Same
-            } else {
-                Outcome::Other
-            }
-        }
-        Err(message) => {
-            if message == Message::out_of_memory() {
-                Outcome::Memory
-            } else {
-                Outcome::Other
-            }
-        }
+        Ok((found, _state)) if found.as_slice() == events => Outcome::Right,
+        Err(message) if message == Message::out_of_memory() => Outcome::Memory,
+        _ => Outcome::Wrong,
     }
 }
 
@@ -69,27 +48,41 @@ fn parses_in_growing_heaps(
 ) -> Result<bool, AllocError> {
     for units in 0..UNITS {
         let heap = LocalHeap::new(alloc, units * UNIT)?;
-        match parse_with(&heap, text, events) {
-            Outcome::Same => return Ok(true),
+        match parsed(&heap, text, events) {
+            Outcome::Right => return Ok(true),
             Outcome::Memory => {}
-            Outcome::Other => return Ok(false),
+            Outcome::Wrong => return Ok(false),
         }
     }
     Ok(false)
 }
 
-/// Whether a text is parsed to these events, or is out of memory, if any one request is refused, and is parsed if none is.
+/// Whether a text is out of memory if any one request is refused, and is parsed to these events if none is.
 fn parses_with_refusals(alloc: Global, text: &str, events: &[Event]) -> bool {
     for passed in 0..MOST {
         let heap = Refusing::new(alloc, passed);
-        match parse_with(&heap, text, events) {
-            Outcome::Same if heap.is_unused() => return true,
-            Outcome::Same => {}
-            Outcome::Memory if !heap.is_unused() => {}
-            _ => return false,
+        let outcome = parsed(&heap, text, events);
+        if let Some(right) = heap.verdict(passed, outcome) {
+            return right;
         }
     }
     false
+}
+
+/// Whether a text is parsed to these events with no request for memory.
+fn parses_without_memory(alloc: Global, text: &str, events: &[Event]) -> bool {
+    let heap = Refusing::new(alloc, 0);
+    matches!(parsed(&heap, text, events), Outcome::Right) && heap.is_unused()
+}
+
+/// Whether a text is out of memory in each heap that refuses a request, and else is parsed to these events. An empty text needs
+/// no memory.
+fn answers_refusals(alloc: Global, text: &str, events: &[Event]) -> bool {
+    if text.is_empty() {
+        parses_without_memory(alloc, text, events)
+    } else {
+        parses_with_refusals(alloc, text, events)
+    }
 }
 
 /// Whether a text is parsed to the same events in any heap, or is out of memory.
@@ -99,7 +92,7 @@ fn is_same_in_heaps(alloc: Global, text: &str) -> Result<bool, Message> {
     }
     let options = every();
     let (events, _) = parse(alloc, text, &options, &Builtin)?;
-    Ok(parses_with_refusals(alloc, text, &events) && parses_in_growing_heaps(alloc, text, &events)?)
+    Ok(answers_refusals(alloc, text, &events) && parses_in_growing_heaps(alloc, text, &events)?)
 }
 
 /// The first of these texts that a heap changes.
@@ -113,8 +106,6 @@ fn first_other<'a>(alloc: Global, texts: &'a str) -> Result<Option<&'a str>, Mes
 }
 
 #[test]
-fn memory_runs_out(rt: HostRuntime) -> Result<(), Message> {
-    let other = first_other(rt.alloc(), TEXTS)?;
-    assert!(rt; other.is_none(), "{other:?}");
-    Ok(())
+fn memory(rt: HostRuntime) {
+    assert_no_fault(&rt, "TEXTS", first_other(rt.alloc(), TEXTS));
 }

@@ -2,7 +2,16 @@
 ghost use Rattle.std.specs.Prelude.{◌≡◌, false};
 ghost use Rattle.markdown_options.specs.Mdx.{HasNoMdx, has_mdx};
 
+use crate::code::{CODE, FRONTMATTER, MATH};
+use crate::containers::{LAZY, LISTS};
+use crate::definitions::DEFINITIONS;
+use crate::footnotes::FOOTNOTES;
+use crate::html::HTML;
+use crate::inline::{LINKS, SPANS};
+use crate::lines::{HEADINGS, LINES};
 use crate::options::{every, extended};
+use crate::tables::TABLES;
+use crate::tabs::TABS;
 use crate::texts::{MARK, VARIANTS};
 use crate::wrong::{Wrong, wrong_of};
 use markdown_options::{CompileOptions, Message, Options, ParseOptions};
@@ -38,14 +47,6 @@ fn first_wrong<'a>(
     Ok(None)
 }
 
-/// Fails, and shows the first text, if the events of one of these are wrong, as it is or as a variant, by any of four options.
-pub(crate) fn assert_right(rt: &(impl AllocGlobal + Abort), texts: &str) -> Result<(), Message> {
-    assert_right_by(rt, texts, Options::default())?;
-    assert_right_by(rt, texts, Options::gfm())?;
-    assert_right_by(rt, texts, printed_safely(extended()))?;
-    assert_right_by(rt, texts, printed_safely(every()))
-}
-
 /// These options, with safe pages.
 fn printed_safely(parse: ParseOptions) -> Options
     requires { has_mdx parse.constructs ≡ false }
@@ -57,15 +58,41 @@ fn printed_safely(parse: ParseOptions) -> Options
     }
 }
 
-/// Fails, and shows the first text, if the events of one of these are wrong by these options.
-fn assert_right_by(
-    rt: &(impl AllocGlobal + Abort),
-    texts: &str,
-    options: Options,
-) -> Result<(), Message>
+/// The tables of texts, by name.
+const ALL: &[(&str, &str)] = &[
+    ("LAZY", LAZY),
+    ("LISTS", LISTS),
+    ("LINES", LINES),
+    ("HEADINGS", HEADINGS),
+    ("TABS", TABS),
+    ("DEFINITIONS", DEFINITIONS),
+    ("CODE", CODE),
+    ("MATH", MATH),
+    ("FRONTMATTER", FRONTMATTER),
+    ("HTML", HTML),
+    ("TABLES", TABLES),
+    ("FOOTNOTES", FOOTNOTES),
+    ("SPANS", SPANS),
+    ("LINKS", LINKS),
+];
+
+/// Fails, and shows the table and the text, if the events of one of these are wrong by these options, as it is or as a variant.
+fn assert_right_by(rt: &(impl AllocGlobal + Abort), table: &str, texts: &str, options: Options)
     requires { HasNoMdx options }
 {
-    let wrong = first_wrong(rt.alloc(), texts, &options)?;
-    assert!(rt; wrong.is_none(), "{wrong:?}");
-    Ok(())
+    match first_wrong(rt.alloc(), texts, &options) {
+        Ok(None) => {}
+        Ok(Some((text, wrong))) => panic!(rt; "{table}: {wrong:?} in {text:?}"),
+        Err(_) => panic!(rt; "{table}: an error"),
+    }
+}
+
+#[test]
+fn texts(rt: HostRuntime) {
+    for (table, texts) in ALL {
+        assert_right_by(&rt, table, texts, Options::default());
+        assert_right_by(&rt, table, texts, Options::gfm());
+        assert_right_by(&rt, table, texts, printed_safely(extended()));
+        assert_right_by(&rt, table, texts, printed_safely(every()));
+    }
 }

@@ -1,10 +1,8 @@
 //! Tables (GFM 4.10).
-use crate::right::assert_right;
 use crate::texts::texts;
-use markdown_options::Message;
 
 /// Tables, in containers too.
-const TABLES: &str = texts![
+pub(crate) const TABLES: &str = texts![
     "| a | b |\n| :- | -: |\n| c |\n| d | e | f |",
     "- | a |\n  | - |\n  | b \\| `c|d` |\n  e",
     "> a | b\n> - | -\n> c\nd",
@@ -23,8 +21,3 @@ const TABLES: &str = texts![
     "| a |\n| - |\n# b\n| c |\n|-|\n    d",
     "[a]: b\n|c|\n|-|\n[^d] | e\n\n[^d]: | f |\n    | - |\n    g",
 ];
-
-#[test]
-fn tables(rt: HostRuntime) -> Result<(), Message> {
-    assert_right(&rt, TABLES)
-}

@@ -1,10 +1,8 @@
 //! Tabs (CommonMark 2.2), which containers may share out between them.
-use crate::right::assert_right;
 use crate::texts::texts;
-use markdown_options::Message;
 
 /// Tabs in the prefixes of containers and in what they hold.
-const TABS: &str = texts![
+pub(crate) const TABS: &str = texts![
     ">\t\ta\n>\tb\n> \tc",
     "-\ta\n\n\tb\n\n\t\tc",
     "- \t\ta\n>\t- \tb\n>\t\tc",
@@ -23,8 +21,3 @@ const TABS: &str = texts![
     "-\t~~~\n\n\t\ta\n   \t b\n  c",
     ">\t$$\n>\t\ta\n>b\n> \t$$\n",
 ];
-
-#[test]
-fn tabs(rt: HostRuntime) -> Result<(), Message> {
-    assert_right(&rt, TABS)
-}

@@ -1,19 +1,20 @@
 //! Texts, raw HTML and URLs: what the tools make of them.
+use crate::asserts::assert_no_fault;
 use html_escape::encode::encode;
 use html_escape::{gfm_tagfilter, sanitize, sanitize_with_protocols};
 use markdown_options::Message;
 use std::alloc::Global;
-use std::test::Fail;
 
-#[test]
-fn texts(rt: HostRuntime) -> Result<(), Fail> {
-    let text = "I <3 \"🦀\" & é>\0";
-    let want = "I &lt;3 &quot;🦀&quot; &amp; é&gt;\u{FFFD}";
-    assert!(rt; encode(rt.alloc(), text, true)?.as_str() == want);
-    assert!(rt; encode(rt.alloc(), "I <3 🦀", true)?.as_str() == "I &lt;3 🦀");
-    assert!(rt; encode(rt.alloc(), text, false)?.as_str() == "I <3 \"🦀\" & é>\u{FFFD}");
-    Ok(())
-}
+/// Texts, whether each is encoded for HTML or only for NUL, and what it becomes.
+const TEXTS: &[(&str, bool, &str)] = &[
+    (
+        "I <3 \"🦀\" & é>\0",
+        true,
+        "I &lt;3 &quot;🦀&quot; &amp; é&gt;\u{FFFD}",
+    ),
+    ("I <3 🦀", true, "I &lt;3 🦀"),
+    ("I <3 \"🦀\" & é>\0", false, "I <3 \"🦀\" & é>\u{FFFD}"),
+];
 
 /// HTML, and what the filter of tags makes of it.
 const TAGS: &[(&str, &str)] = &[
@@ -39,13 +40,6 @@ fn first_other_tag(
     Ok(None)
 }
 
-#[test]
-fn tags(rt: HostRuntime) -> Result<(), Fail> {
-    let other = first_other_tag(rt.alloc(), TAGS)?;
-    assert!(rt; other.is_none(), "{other:?}");
-    Ok(())
-}
-
 /// URLs, and what is printed of each.
 const URLS: &[(&str, &str)] = &[
     ("a&b", "a&amp;b"),
@@ -65,13 +59,6 @@ fn first_other_url(
         }
     }
     Ok(None)
-}
-
-#[test]
-fn urls(rt: HostRuntime) -> Result<(), Fail> {
-    let other = first_other_url(rt.alloc(), URLS)?;
-    assert!(rt; other.is_none(), "{other:?}");
-    Ok(())
 }
 
 /// URLs, and what is printed of each that may have the protocols of the web alone.
@@ -96,9 +83,24 @@ fn first_other_safe_url(
     Ok(None)
 }
 
+/// The first of these texts that is encoded as another, for HTML or only NUL.
+fn first_other_text(
+    alloc: Global,
+    cases: &[(&'static str, bool, &str)],
+) -> Result<Option<&'static str>, Message> {
+    for (text, for_html, want) in cases {
+        if encode(alloc, text, *for_html)?.as_str() != *want {
+            return Ok(Some(text));
+        }
+    }
+    Ok(None)
+}
+
 #[test]
-fn protocols(rt: HostRuntime) -> Result<(), Fail> {
-    let other = first_other_safe_url(rt.alloc(), &["http", "https"], PROTOCOLS)?;
-    assert!(rt; other.is_none(), "{other:?}");
-    Ok(())
+fn escape(rt: HostRuntime) {
+    assert_no_fault(&rt, "TEXTS", first_other_text(rt.alloc(), TEXTS));
+    assert_no_fault(&rt, "TAGS", first_other_tag(rt.alloc(), TAGS));
+    assert_no_fault(&rt, "URLS", first_other_url(rt.alloc(), URLS));
+    let safe = first_other_safe_url(rt.alloc(), &["http", "https"], PROTOCOLS);
+    assert_no_fault(&rt, "PROTOCOLS", safe);
 }

@@ -1,8 +1,8 @@
 //! Footnotes: calls, and the section at a page's end.
+use crate::asserts::assert_so;
 use html_footnotes::{Call, Footnote, push_call, push_section};
 use markdown_options::{CompileOptions, LineEnding};
 use std::alloc::{AllocError, Global};
-use std::test::Fail;
 
 /// Whether a call is printed as this.
 fn is_call(alloc: Global, call: Call<'_>, want: &str) -> Result<bool, AllocError> {
@@ -11,8 +11,8 @@ fn is_call(alloc: Global, call: Call<'_>, want: &str) -> Result<bool, AllocError
     Ok(out.as_str() == want)
 }
 
-#[test]
-fn calls(rt: HostRuntime) -> Result<(), Fail> {
+/// Whether two calls are printed as they should be.
+fn are_calls(alloc: Global) -> Result<bool, AllocError> {
     let call = Call {
         label: "a",
         number: 1,
@@ -21,7 +21,7 @@ fn calls(rt: HostRuntime) -> Result<(), Fail> {
     let want =
         "<sup><a href=\"#user-content-fn-a\" id=\"user-content-fnref-a\" data-footnote-ref=\"\" \
          aria-describedby=\"footnote-label\">1</a></sup>";
-    assert!(rt; is_call(rt.alloc(), call, want)?);
+    let first = is_call(alloc, call, want)?;
     let call = Call {
         label: "é\"",
         number: 12,
@@ -29,8 +29,7 @@ fn calls(rt: HostRuntime) -> Result<(), Fail> {
     };
     let want = "<sup><a href=\"#user-content-fn-%C3%A9%22\" id=\"user-content-fnref-%C3%A9%22-3\" \
          data-footnote-ref=\"\" aria-describedby=\"footnote-label\">12</a></sup>";
-    assert!(rt; is_call(rt.alloc(), call, want)?);
-    Ok(())
+    Ok(first && is_call(alloc, call, want)?)
 }
 
 /// Whether a page with a section of these footnotes at its end is this.
@@ -47,7 +46,7 @@ fn is_section(
     Ok(out.as_str() == want)
 }
 
-/// The same by the default options.
+/// Whether that is so by the default options.
 fn is_default_section(
     alloc: Global,
     page: &str,
@@ -64,8 +63,8 @@ fn is_default_section(
     )
 }
 
-#[test]
-fn sections(rt: HostRuntime) -> Result<(), Fail> {
+/// Whether a section is printed as it should be, and none without footnotes.
+fn are_sections(alloc: Global) -> Result<bool, AllocError> {
     let note = Footnote {
         label: "a",
         calls: 1,
@@ -76,9 +75,10 @@ fn sections(rt: HostRuntime) -> Result<(), Fail> {
          class=\"sr-only\">Footnotes</h2>\n<ol>\n<li id=\"user-content-fn-a\">\n<p>b <a \
          href=\"#user-content-fnref-a\" data-footnote-backref=\"\" aria-label=\"Back to content\" \
          class=\"data-footnote-backref\">↩</a></p>\n</li>\n</ol>\n</section>\n";
-    assert!(rt; is_default_section(rt.alloc(), "<p>x</p>", &[note], want)?);
-    assert!(rt; is_default_section(rt.alloc(), "", &[], "")?);
-    Ok(())
+    Ok(
+        is_default_section(alloc, "<p>x</p>", &[note], want)?
+            && is_default_section(alloc, "", &[], "")?,
+    )
 }
 
 /// Options of footnotes.
@@ -109,8 +109,8 @@ fn is_optional_section(
     )
 }
 
-#[test]
-fn ways_back(rt: HostRuntime) -> Result<(), Fail> {
+/// Whether the ways back from a footnote with two calls are printed as they should be.
+fn are_ways_back(alloc: Global) -> Result<bool, AllocError> {
     let note = Footnote {
         label: "a",
         calls: 2,
@@ -122,6 +122,12 @@ fn ways_back(rt: HostRuntime) -> Result<(), Fail> {
          class=\"data-footnote-backref\">↩</a> <a href=\"#fnref-a-2\" data-footnote-backref=\"\" \
          aria-label=\"&quot;Back&quot;\" class=\"data-footnote-backref\">↩<sup>2</sup></a>\r</li>\r\
          </ol>\r</section>\r";
-    assert!(rt; is_optional_section(rt.alloc(), &[note], want)?);
-    Ok(())
+    is_optional_section(alloc, &[note], want)
+}
+
+#[test]
+fn footnotes(rt: HostRuntime) {
+    assert_so(&rt, "calls", are_calls(rt.alloc()));
+    assert_so(&rt, "sections", are_sections(rt.alloc()));
+    assert_so(&rt, "ways back", are_ways_back(rt.alloc()));
 }

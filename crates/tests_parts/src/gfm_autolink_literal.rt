@@ -1,4 +1,5 @@
 //! Links with no brackets (GFM 6.9).
+use crate::asserts::assert_no_fault;
 use inline_content::whole_content;
 use inline_labels::LabelTable;
 use inline_leaves::{LeafPart, LiteralKind};
@@ -7,8 +8,7 @@ use inline_parser::{Room, RowRoom, content_start, inline_rows};
 use inline_rows::InlineRow;
 use markdown_options::{Constructs, ParseOptions};
 use std::alloc::{AllocError, Global};
-use std::test::Fail;
-use tests_helpers::Names;
+use tests_texts::Names;
 
 /// The kind and the text of the literal that a line begins with, and what follows it.
 fn first(line: &str) -> Option<(LiteralKind, &str, &str)> {
@@ -27,10 +27,13 @@ fn first(line: &str) -> Option<(LiteralKind, &str, &str)> {
     }
 }
 
+/// A link by `www.`.
 const WWW: LiteralKind = LiteralKind::Www;
 
+/// A link by a protocol.
 const PROTOCOL: LiteralKind = LiteralKind::Protocol;
 
+/// An email address.
 const EMAIL: LiteralKind = LiteralKind::Email;
 
 /// Lines, and the literal that each begins with: its kind, its text, and what follows it.
@@ -67,12 +70,6 @@ fn first_other_literal(
         }
     }
     None
-}
-
-#[test]
-fn literals(rt: HostRuntime) {
-    let other = first_other_literal(LITERALS);
-    assert!(rt; other.is_none(), "{other:?}");
 }
 
 /// The row of a line as a mark: the start of anything that holds parts `(` and its end `)`, or text.
@@ -141,6 +138,9 @@ const SHAPES: &[(&str, &str)] = &[
     ("who what ht", "who what ht"),
 ];
 
+/// A line, and its rows where the construct is off.
+const OFF: &[(&str, &str)] = &[("www.a", "www.a")];
+
 /// The first of these lines that has other rows.
 fn first_other_shape(
     alloc: Global,
@@ -153,15 +153,6 @@ fn first_other_shape(
         }
     }
     Ok(None)
-}
-
-#[test]
-fn literals_in_a_content(rt: HostRuntime) -> Result<(), Fail> {
-    let other = first_other_shape(rt.alloc(), &ParseOptions::gfm(), SHAPES)?;
-    assert!(rt; other.is_none(), "{other:?}");
-    let off = first_other_shape(rt.alloc(), &ParseOptions::default(), &[("www.a", "www.a")])?;
-    assert!(rt; off.is_none());
-    Ok(())
 }
 
 /// Texts, and the first address of each: its kind, where it begins, and where it ends.
@@ -195,7 +186,13 @@ fn first_other_address(
 }
 
 #[test]
-fn addresses(rt: HostRuntime) {
+fn literals(rt: HostRuntime) {
+    let other = first_other_literal(LITERALS);
+    assert!(rt; other.is_none(), "LITERALS: {other:?}");
+    let shapes = first_other_shape(rt.alloc(), &ParseOptions::gfm(), SHAPES);
+    assert_no_fault(&rt, "SHAPES", shapes);
+    let off = first_other_shape(rt.alloc(), &ParseOptions::default(), OFF);
+    assert_no_fault(&rt, "OFF", off);
     let other = first_other_address(ADDRESSES);
-    assert!(rt; other.is_none(), "{other:?}");
+    assert!(rt; other.is_none(), "ADDRESSES: {other:?}");
 }

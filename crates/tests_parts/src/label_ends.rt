@@ -1,9 +1,9 @@
 //! What a `]` forms.
+use crate::asserts::assert_no_fault;
 use inline_label_ends::{LabelEnd, label_end};
 use inline_labels::LabelTable;
 use inline_rows::LinkTarget;
 use std::alloc::{AllocError, Global};
-use std::test::Fail;
 
 /// The destination, or none; the place of the definition, or 9; and what follows.
 fn parts(found: Option<LabelEnd<'_>>) -> (&str, usize, &str) {
@@ -50,10 +50,13 @@ fn labels(alloc: Global) -> Result<LabelTable<Global>, AllocError> {
     Ok(table)
 }
 
+/// The first of the forms that is another by a table with two labels.
+fn first_other_form(alloc: Global) -> Result<Option<&'static str>, AllocError> {
+    let table = labels(alloc)?;
+    first_other(&table, FORMS)
+}
+
 #[test]
-fn forms(rt: HostRuntime) -> Result<(), Fail> {
-    let table = labels(rt.alloc())?;
-    let other = first_other(&table, FORMS)?;
-    assert!(rt; other.is_none(), "{other:?}");
-    Ok(())
+fn label_ends(rt: HostRuntime) {
+    assert_no_fault(&rt, "FORMS", first_other_form(rt.alloc()));
 }

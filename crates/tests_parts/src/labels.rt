@@ -1,7 +1,7 @@
 //! Labels as they are matched.
+use crate::asserts::{assert_no_fault, assert_so};
 use inline_labels::{LabelTable, normalize_label};
 use std::alloc::{AllocError, Global};
-use std::test::Fail;
 
 /// Labels, and what each is matched as.
 const NORMAL: &[(&str, &str)] = &[
@@ -32,21 +32,6 @@ fn first_other(
         }
     }
     Ok(None)
-}
-
-#[test]
-fn normal_labels(rt: HostRuntime) -> Result<(), Fail> {
-    let other = first_other(rt.alloc(), NORMAL)?;
-    assert!(rt; other.is_none(), "{other:?}");
-    Ok(())
-}
-
-/// Bytes that are no text.
-#[test]
-fn no_text(rt: HostRuntime) -> Result<(), Fail> {
-    let mut normal = String::new(rt.alloc());
-    assert!(rt; is_matched_as(&mut normal, b"A\xff \xe2\x82B", "a\u{fffd} \u{fffd}b")?);
-    Ok(())
 }
 
 /// Labels in the order in which they come, and whether each is new.
@@ -91,24 +76,32 @@ fn first_other_found(
     Ok(None)
 }
 
-/// Of equal labels the first counts.
-#[test]
-fn first_counts(rt: HostRuntime) -> Result<(), Fail> {
-    let mut table = LabelTable::new(rt.alloc())?;
-    let inserted = first_other_inserted(&mut table, INSERTED)?;
-    let found = first_other_found(&table, FOUND)?;
-    assert!(rt;
-        inserted.is_none() && found.is_none(),
-        "{inserted:?}, {found:?}"
-    );
-    Ok(())
+/// Whether bytes that are no text are matched with U+FFFD in their place.
+fn matches_other_bytes(alloc: Global) -> Result<bool, AllocError> {
+    let mut normal = String::new(alloc);
+    is_matched_as(&mut normal, b"A\xff \xe2\x82B", "a\u{fffd} \u{fffd}b")
 }
 
-/// A table without labels.
+/// The first of these labels that a table without labels, or with some of which the first counts, has otherwise.
+fn first_other_in_tables(alloc: Global) -> Result<Option<&'static str>, AllocError> {
+    let mut table = LabelTable::new(alloc)?;
+    let none = first_other_found(&table, &[("a", None)])?;
+    if none.is_some() {
+        return Ok(none);
+    }
+    match first_other_inserted(&mut table, INSERTED)? {
+        None => first_other_found(&table, FOUND),
+        other => Ok(other),
+    }
+}
+
 #[test]
-fn no_labels(rt: HostRuntime) -> Result<(), Fail> {
-    let table = LabelTable::new(rt.alloc())?;
-    let found = first_other_found(&table, &[("a", None)])?;
-    assert!(rt; found.is_none());
-    Ok(())
+fn labels(rt: HostRuntime) {
+    assert_no_fault(&rt, "NORMAL", first_other(rt.alloc(), NORMAL));
+    assert_so(
+        &rt,
+        "bytes that are no text",
+        matches_other_bytes(rt.alloc()),
+    );
+    assert_no_fault(&rt, "INSERTED, FOUND", first_other_in_tables(rt.alloc()));
 }

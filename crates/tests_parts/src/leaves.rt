@@ -1,12 +1,11 @@
 //! One content of each construct.
+use crate::asserts::assert_no_fault;
 use inline_constructs::leaf_at::leaf_at;
 use inline_constructs::searches::Searches;
 use inline_leaves::leaf::{Leaf, LeafPart};
 use markdown_options::{Constructs, LineEnding, ParseOptions};
 use std::alloc::{AllocError, Global};
-use std::process::Abort;
-use std::test::Fail;
-use tests_helpers::Names;
+use tests_texts::Names;
 
 /// Default options, but with math: a single dollar may open it or not.
 fn with_math(single_dollar: bool) -> ParseOptions {
@@ -48,13 +47,7 @@ fn first_other(
     Ok(None)
 }
 
-/// Fails, and shows the first content, where one begins with another part by the default options.
-fn assert_begin(rt: &(impl AllocGlobal + Abort), cases: &[Case<'static>]) -> Result<(), Fail> {
-    let other = first_other(rt.alloc(), &ParseOptions::default(), cases)?;
-    assert!(rt; other.is_none(), "{other:?}");
-    Ok(())
-}
-
+/// Escapes and references.
 const ESCAPES: &[Case<'static>] = &[
     ("\\*a", Some((LeafPart::Escape("*"), "a"))),
     ("&and;a", Some((LeafPart::Character("&"), "a"))),
@@ -80,20 +73,11 @@ const ESCAPES: &[Case<'static>] = &[
     ),
 ];
 
-#[test]
-fn escapes_and_references(rt: HostRuntime) -> Result<(), Fail> {
-    assert_begin(&rt, ESCAPES)
-}
-
+/// Code spans.
 const CODE: &[Case<'static>] = &[
     ("``a`b``c", Some((LeafPart::Code("a`b"), "c"))),
     ("```a``", Some((LeafPart::Unclosed("```"), "a``"))),
 ];
-
-#[test]
-fn code_spans(rt: HostRuntime) -> Result<(), Fail> {
-    assert_begin(&rt, CODE)
-}
 
 /// Where math is off.
 const NO_MATH: &[Case<'static>] = &[("$a$", None)];
@@ -111,16 +95,7 @@ const TWO_DOLLARS: &[Case<'static>] = &[
     ("$$a$", Some((LeafPart::Unclosed("$$"), "a$"))),
 ];
 
-/// A run of dollars, where math is off, and where a single dollar may open it or not.
-#[test]
-fn math(rt: HostRuntime) -> Result<(), Fail> {
-    assert_begin(&rt, NO_MATH)?;
-    let one = first_other(rt.alloc(), &with_math(true), ONE_DOLLAR)?;
-    let two = first_other(rt.alloc(), &with_math(false), TWO_DOLLARS)?;
-    assert!(rt; one.is_none() && two.is_none(), "{one:?}, {two:?}");
-    Ok(())
-}
-
+/// Autolinks.
 const AUTOLINKS: &[Case<'static>] = &[
     (
         "<ab:é>c",
@@ -144,22 +119,14 @@ const AUTOLINKS: &[Case<'static>] = &[
     ),
 ];
 
-#[test]
-fn autolinks(rt: HostRuntime) -> Result<(), Fail> {
-    assert_begin(&rt, AUTOLINKS)
-}
-
+/// Raw HTML.
 const HTML: &[Case<'static>] = &[
     ("<a\r\nb='é'>c", Some((LeafPart::Html("<a\r\nb='é'>"), "c"))),
     ("<!-- a\n--->c", Some((LeafPart::Html("<!-- a\n--->"), "c"))),
     ("<?a?>", Some((LeafPart::Html("<?a?>"), ""))),
 ];
 
-#[test]
-fn raw_html(rt: HostRuntime) -> Result<(), Fail> {
-    assert_begin(&rt, HTML)
-}
-
+/// Line breaks, and spaces at the end.
 const BREAKS: &[Case<'static>] = &[
     ("\\\na", Some((LeafPart::EscapedBreak, "\na"))),
     ("  \r\na", Some((LeafPart::TrailingBreak, "\r\na"))),
@@ -171,6 +138,21 @@ const BREAKS: &[Case<'static>] = &[
 ];
 
 #[test]
-fn breaks(rt: HostRuntime) -> Result<(), Fail> {
-    assert_begin(&rt, BREAKS)
+fn leaves(rt: HostRuntime) {
+    let alloc = rt.alloc();
+    let default = ParseOptions::default();
+    for (table, cases) in [
+        ("ESCAPES", ESCAPES),
+        ("CODE", CODE),
+        ("NO_MATH", NO_MATH),
+        ("AUTOLINKS", AUTOLINKS),
+        ("HTML", HTML),
+        ("BREAKS", BREAKS),
+    ] {
+        assert_no_fault(&rt, table, first_other(alloc, &default, cases));
+    }
+    let one = first_other(alloc, &with_math(true), ONE_DOLLAR);
+    assert_no_fault(&rt, "ONE_DOLLAR", one);
+    let two = first_other(alloc, &with_math(false), TWO_DOLLARS);
+    assert_no_fault(&rt, "TWO_DOLLARS", two);
 }

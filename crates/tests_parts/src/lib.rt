@@ -2,6 +2,8 @@
 #![tactic(auto)]
 
 #[cfg(test)]
+mod asserts;
+#[cfg(test)]
 mod escape;
 #[cfg(test)]
 mod footnotes;
@@ -13,6 +15,8 @@ mod label_ends;
 mod labels;
 #[cfg(test)]
 mod leaves;
+#[cfg(test)]
+mod memory;
 #[cfg(test)]
 mod options;
 #[cfg(test)]

@@ -1,8 +1,8 @@
 //! Printed texts, and line endings that are read.
+use crate::asserts::assert_so;
 use markdown_options::unist::{Point, Position};
 use markdown_options::{LineEnding, LineEndingError, Message, Place};
 use std::alloc::{AllocError, Global};
-use std::test::Fail;
 
 /// A point, a position, a place of each kind, two messages and an error, each on a line.
 const SHOWN: &str = "\
@@ -38,15 +38,6 @@ fn messages(alloc: Global, position: Position) -> Result<String, AllocError> {
     )
 }
 
-#[test]
-fn shows_places_and_messages(rt: HostRuntime) -> Result<(), Fail> {
-    let position = Position::new(1, 2, 3, 4, 5, 6);
-    let mut shown = places(rt.alloc(), Point::new(1, 2, 3), position)?;
-    shown.push_str(&messages(rt.alloc(), position)?)?;
-    assert!(rt; shown.as_str() == SHOWN, "{shown}");
-    Ok(())
-}
-
 /// Texts, and the endings that they are.
 const ENDINGS: &[(&str, LineEnding)] = &[
     ("\r\n", LineEnding::CarriageReturnLineFeed),
@@ -64,9 +55,18 @@ fn first_other(cases: &[(&'static str, LineEnding)]) -> Option<&'static str> {
     None
 }
 
+/// Whether places and messages are shown so.
+fn are_shown(alloc: Global, want: &str) -> Result<bool, AllocError> {
+    let position = Position::new(1, 2, 3, 4, 5, 6);
+    let mut shown = places(alloc, Point::new(1, 2, 3), position)?;
+    shown.push_str(&messages(alloc, position)?)?;
+    Ok(shown.as_str() == want)
+}
+
 #[test]
-fn reads_line_endings(rt: HostRuntime) {
+fn options(rt: HostRuntime) {
+    assert_so(&rt, "SHOWN", are_shown(rt.alloc(), SHOWN));
     let other = first_other(ENDINGS);
-    assert!(rt; other.is_none(), "{other:?}");
-    assert!(rt; "aaa".parse::<LineEnding>() == Err(LineEndingError));
+    assert!(rt; other.is_none(), "ENDINGS: {other:?}");
+    assert!(rt; "aaa".parse::<LineEnding>() == Err(LineEndingError), "aaa");
 }

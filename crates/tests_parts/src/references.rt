@@ -1,11 +1,11 @@
 //! What numbers, names and texts are decoded to.
+use crate::asserts::{assert_no_fault, assert_so};
 use inline_references::parse::parse;
 use inline_references::{builtin_reference, decode_numeric};
 use markdown_options::Message;
 use markdown_tables::Builtin;
 use std::alloc::Global;
-use std::test::Fail;
-use tests_helpers::Names;
+use tests_texts::Names;
 
 /// Names, and what they stand for.
 const BUILTIN: &[(&str, Option<&str>)] = &[
@@ -24,19 +24,6 @@ fn first_other_name(cases: &[(&'static str, Option<&str>)]) -> Option<&'static s
         }
     }
     None
-}
-
-#[test]
-fn built_in_names(rt: HostRuntime) {
-    let other = first_other_name(BUILTIN);
-    assert!(rt; other.is_none(), "{other:?}");
-}
-
-#[test]
-fn numbers(rt: HostRuntime) -> Result<(), Fail> {
-    assert!(rt; decode_numeric(rt.alloc(), "41", 16)?.as_str() == "A");
-    assert!(rt; decode_numeric(rt.alloc(), "110000", 16)?.as_str() == "\u{FFFD}");
-    Ok(())
 }
 
 /// Texts, and what they are decoded to.
@@ -60,10 +47,24 @@ fn first_other_text(
     Ok(None)
 }
 
+/// Whether numbers are decoded as they should be.
+fn are_numbers(alloc: Global) -> Result<bool, Message> {
+    Ok(
+        decode_numeric(alloc, "41", 16)?.as_str() == "A"
+            && decode_numeric(alloc, "110000", 16)?.as_str() == "\u{FFFD}",
+    )
+}
+
+/// Whether a built-in name is decoded in a text.
+fn is_built_in(alloc: Global) -> Result<bool, Message> {
+    Ok(parse(alloc, "a&amp;b&x;", &Builtin)?.as_str() == "a&b&x;")
+}
+
 #[test]
-fn texts(rt: HostRuntime) -> Result<(), Fail> {
-    assert!(rt; parse(rt.alloc(), "a&amp;b&x;", &Builtin)?.as_str() == "a&b&x;");
-    let other = first_other_text(rt.alloc(), TEXTS)?;
-    assert!(rt; other.is_none(), "{other:?}");
-    Ok(())
+fn references(rt: HostRuntime) {
+    let other = first_other_name(BUILTIN);
+    assert!(rt; other.is_none(), "BUILTIN: {other:?}");
+    assert_so(&rt, "numbers", are_numbers(rt.alloc()));
+    assert_so(&rt, "a built-in name", is_built_in(rt.alloc()));
+    assert_no_fault(&rt, "TEXTS", first_other_text(rt.alloc(), TEXTS));
 }

@@ -1,8 +1,8 @@
 //! Runs of `*`, `_`, `~` and `=`: what each becomes.
+use crate::asserts::{assert_no_fault, assert_so};
 use inline_runs::{Pairing, Run, RunSpans, Span, pair_runs};
 use markdown_options::{Kind, ParseOptions};
 use std::alloc::{AllocError, Global};
-use std::test::Fail;
 
 /// A run between characters of these kinds, where single tildes may form spans.
 fn run_between(marker: u8, size: usize, before: Kind, after: Kind) -> Run {
@@ -74,6 +74,7 @@ fn first_other<'a>(
     Ok(None)
 }
 
+/// The mark of a kind of span.
 fn mark(span: Span, marks: [&'static str; 4]) -> &'static str {
     match span {
         Span::Emphasis => marks[0],
@@ -83,9 +84,8 @@ fn mark(span: Span, marks: [&'static str; 4]) -> &'static str {
     }
 }
 
-/// `*a*`, `***a** b*`, `***a* b**`, `**a*`, `*a**`, `*a**b*`, `**a*b*` and `a*b`.
-#[test]
-fn spans(rt: HostRuntime) -> Result<(), Fail> {
+/// What is expected of the first that becomes something else of `*a*`, `***a** b*`, `***a* b**`, `**a*`, `*a**`, `*a**b*`, `**a*b*` and `a*b`.
+fn first_other_span(alloc: Global) -> Result<Option<&'static str>, AllocError> {
     let star = opening(b'*', 1);
     let end = closing(b'*', 1);
     let cases: [(&[Run], &str); 8] = [
@@ -98,14 +98,11 @@ fn spans(rt: HostRuntime) -> Result<(), Fail> {
         (&[opening(b'*', 2), both(b'*', 1), end], ".. ( ) "),
         (&[both(b'*', 1)], ". "),
     ];
-    let other = first_other(rt.alloc(), &cases)?;
-    assert!(rt; other.is_none(), "{other:?}");
-    Ok(())
+    first_other(alloc, &cases)
 }
 
-/// `==a==`, `=a=`, `===a===`, `==a=`, `==a~~` and `==a==b==`.
-#[test]
-fn marked_text(rt: HostRuntime) -> Result<(), Fail> {
+/// What is expected of the first that becomes something else of `==a==`, `=a=`, `===a===`, `==a=`, `==a~~` and `==a==b==`.
+fn first_other_mark(alloc: Global) -> Result<Option<&'static str>, AllocError> {
     let start = opening(b'=', 2);
     let end = closing(b'=', 2);
     let cases: [(&[Run], &str); 6] = [
@@ -116,27 +113,22 @@ fn marked_text(rt: HostRuntime) -> Result<(), Fail> {
         (&[start, closing(b'~', 2)], ".. .. "),
         (&[start, both(b'=', 2), end], "< > .. "),
     ];
-    let other = first_other(rt.alloc(), &cases)?;
-    assert!(rt; other.is_none(), "{other:?}");
-    Ok(())
+    first_other(alloc, &cases)
 }
 
-/// `*a _b* c_`: a pair that would cross another.
-#[test]
-fn crossing(rt: HostRuntime) -> Result<(), Fail> {
+/// Whether in `*a _b* c_` a pair that would cross another is none.
+fn is_crossing(alloc: Global) -> Result<bool, AllocError> {
     let runs = [
         opening(b'*', 1),
         opening(b'_', 1),
         closing(b'*', 1),
         closing(b'_', 1),
     ];
-    assert!(rt; is_shape(rt.alloc(), &runs, "( . ) . ")?);
-    Ok(())
+    is_shape(alloc, &runs, "( . ) . ")
 }
 
-/// `~~a~~`, `~a~`, `~a~~`, `~~a ~b~~ c~` and `~~~a~~~`: runs of equal sizes, one or two.
-#[test]
-fn strikethrough(rt: HostRuntime) -> Result<(), Fail> {
+/// What is expected of the first that becomes something else of `~~a~~`, `~a~`, `~a~~`, `~~a ~b~~ c~` and `~~~a~~~`: runs of equal sizes, one or two.
+fn first_other_strikethrough(alloc: Global) -> Result<Option<&'static str>, AllocError> {
     let one = opening(b'~', 1);
     let two = opening(b'~', 2);
     let cases: [(&[Run], &str); 5] = [
@@ -146,9 +138,7 @@ fn strikethrough(rt: HostRuntime) -> Result<(), Fail> {
         (&[two, one, closing(b'~', 2), closing(b'~', 1)], "{ . } . "),
         (&[opening(b'~', 3), closing(b'~', 3)], "... ... "),
     ];
-    let other = first_other(rt.alloc(), &cases)?;
-    assert!(rt; other.is_none(), "{other:?}");
-    Ok(())
+    first_other(alloc, &cases)
 }
 
 /// Whether each of these runs may open and may close as it says.
@@ -161,28 +151,35 @@ fn all_open_and_close(runs: &[(Run, bool, bool)]) -> bool {
     true
 }
 
-/// Which runs may open and close: `_` not inside of a word.
-#[test]
-fn flanking(rt: HostRuntime) -> Result<(), Fail> {
+/// Whether runs may open and close, `_` not inside of a word.
+fn is_flanking() -> bool {
     let runs = [
         (both(b'*', 1), true, true),
         (both(b'_', 1), false, false),
         (opening(b'_', 1), true, false),
         (closing(b'_', 1), false, true),
     ];
-    assert!(rt; all_open_and_close(&runs));
-    Ok(())
+    all_open_and_close(&runs)
 }
 
-/// `a****b** c* d**`: with fewer bytes left an opener fits where it didn't before.
-#[test]
-fn fewer_left(rt: HostRuntime) -> Result<(), Fail> {
+/// Whether in `a****b** c* d**` an opener with fewer bytes left fits where it didn't before.
+fn is_fewer_left(alloc: Global) -> Result<bool, AllocError> {
     let runs = [
         both(b'*', 4),
         closing(b'*', 2),
         closing(b'*', 1),
         closing(b'*', 2),
     ];
-    assert!(rt; is_shape(rt.alloc(), &runs, ".[( .. ) ] ")?);
-    Ok(())
+    is_shape(alloc, &runs, ".[( .. ) ] ")
+}
+
+#[test]
+fn runs(rt: HostRuntime) {
+    assert_no_fault(&rt, "spans", first_other_span(rt.alloc()));
+    assert_no_fault(&rt, "marked text", first_other_mark(rt.alloc()));
+    let other = first_other_strikethrough(rt.alloc());
+    assert_no_fault(&rt, "strikethrough", other);
+    assert_so(&rt, "crossing", is_crossing(rt.alloc()));
+    assert!(rt; is_flanking(), "flanking");
+    assert_so(&rt, "fewer bytes left", is_fewer_left(rt.alloc()));
 }

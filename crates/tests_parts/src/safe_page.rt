@@ -1,7 +1,7 @@
 //! Pages that are safe, and pages that are not.
+use crate::asserts::assert_no_fault;
 use html_safe_page::is_safe_page;
 use std::alloc::{AllocError, Global};
-use std::test::Fail;
 
 /// Pages, and whether each is safe.
 const PAGES: &[(&str, bool)] = &[
@@ -73,8 +73,6 @@ fn first_wrong(
 }
 
 #[test]
-fn pages(rt: HostRuntime) -> Result<(), Fail> {
-    let wrong = first_wrong(rt.alloc(), PAGES)?;
-    assert!(rt; wrong.is_none(), "{wrong:?}");
-    Ok(())
+fn safe_page(rt: HostRuntime) {
+    assert_no_fault(&rt, "PAGES", first_wrong(rt.alloc(), PAGES));
 }

@@ -1,9 +1,9 @@
 //! Runs told apart among rows.
+use crate::asserts::assert_so;
 use inline_rows::{InlineRow, tell_apart};
 use inline_runs::{Pairing, Span, run_between};
 use markdown_options::{Kind, ParseOptions};
 use std::alloc::{AllocError, Global};
-use std::test::Fail;
 
 /// A row as a mark: the start of a span `(`, `[`, `{` or `<`, the end of one `)`, or its text.
 fn mark<'a>(row: &InlineRow<'a>) -> &'a str {
@@ -28,6 +28,7 @@ fn is_shape(alloc: Global, rows: &[InlineRow<'_>], expected: &str) -> Result<boo
     Ok(shape.as_str() == expected)
 }
 
+/// A byte of a run.
 const STAR: InlineRow<'static> = InlineRow::Text("*");
 
 /// `***b**c**` after another row.
@@ -44,9 +45,8 @@ const ROWS: [InlineRow<'static>; 10] = [
     STAR,
 ];
 
-/// `***b**c**` after another row: strong emphasis within emphasis, and a byte that is text.
-#[test]
-fn strong_within_emphasis(rt: HostRuntime) -> Result<(), Fail> {
+/// Whether `***b**c**` after another row is strong emphasis within emphasis, and a byte that is text.
+fn is_strong_within_emphasis(alloc: Global) -> Result<bool, AllocError> {
     let mut rows = ROWS;
     let options = ParseOptions::default();
     let runs = [
@@ -54,8 +54,12 @@ fn strong_within_emphasis(rt: HostRuntime) -> Result<(), Fail> {
         run_between(&options, b'*', 2, Kind::Other, Kind::Other),
         run_between(&options, b'*', 2, Kind::Other, Kind::Whitespace),
     ];
-    let mut pairing = Pairing::new(rt.alloc())?;
+    let mut pairing = Pairing::new(alloc)?;
     tell_apart(&mut rows, &runs, &[1, 5, 8], &mut pairing)?;
-    assert!(rt; is_shape(rt.alloc(), &rows, "a([b)c)*")?);
-    Ok(())
+    is_shape(alloc, &rows, "a([b)c)*")
+}
+
+#[test]
+fn spans(rt: HostRuntime) {
+    assert_so(&rt, "***b**c**", is_strong_within_emphasis(rt.alloc()));
 }

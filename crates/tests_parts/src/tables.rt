@@ -22,12 +22,6 @@ fn first_other_name(cases: &[(&'static str, Option<&str>)]) -> Option<&'static s
     None
 }
 
-#[test]
-fn names(rt: HostRuntime) {
-    let other = first_other_name(NAMES);
-    assert!(rt; other.is_none(), "{other:?}");
-}
-
 /// Characters, and whether they are punctuation.
 const CHARACTERS: &[(char, bool)] = &[
     ('_', true),
@@ -54,18 +48,19 @@ fn first_other_character(cases: &[(char, bool)]) -> Option<char> {
     None
 }
 
-#[test]
-fn characters(rt: HostRuntime) {
-    let other = first_other_character(CHARACTERS);
-    assert!(rt; other.is_none(), "{other:?}");
-}
-
 /// Whether tables know a name by a text.
 fn knows<T: Tables>(tables: &T, name: &str, text: &str) -> bool {
     tables.reference(name) == Some(text)
 }
 
 #[test]
-fn through_the_trait(rt: HostRuntime) {
-    assert!(rt; knows(&Builtin, "amp", "&") && !knows(&Builtin, "amp", "<"));
+fn tables(rt: HostRuntime) {
+    let other = first_other_name(NAMES);
+    assert!(rt; other.is_none(), "NAMES: {other:?}");
+    let other = first_other_character(CHARACTERS);
+    assert!(rt; other.is_none(), "CHARACTERS: {other:?}");
+    assert!(rt;
+        knows(&Builtin, "amp", "&") && !knows(&Builtin, "amp", "<"),
+        "the trait"
+    );
 }

@@ -1,0 +1,27 @@
+//! The 652 examples of CommonMark 0.31.2, by number and section.
+pub mod attention;
+pub mod autolink;
+pub mod blank_line;
+pub mod block_quote;
+pub mod character_escape;
+pub mod character_reference;
+pub mod code_fenced;
+pub mod code_indented;
+pub mod code_text;
+pub mod definition;
+pub mod hard_break;
+pub mod heading_atx;
+pub mod heading_setext;
+pub mod html_flow;
+pub mod inline;
+pub mod label_start_image;
+pub mod label_start_link;
+pub mod list;
+pub mod list_item;
+pub mod paragraph;
+pub mod precedence;
+pub mod raw_html;
+pub mod soft_break;
+pub mod tabs;
+pub mod textual_content;
+pub mod thematic_break;
