@@ -2,10 +2,6 @@
 #![tactic(auto)]
 
 mod answers;
-#[cfg(test)]
-mod depths;
-#[cfg(test)]
-mod memory;
 mod options;
 
 use answers::print_answer;

@@ -4,8 +4,6 @@
 
 mod answers;
 mod edits;
-#[cfg(test)]
-mod named;
 
 use answers::Answers;
 use std::env;

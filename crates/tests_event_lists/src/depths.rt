@@ -1,9 +1,10 @@
 //! Lists that are 100,000 deep, or have a million events.
-use crate::options::options_of;
+use crate::asserts::assert_so;
 use compile_html::compile;
 use engine_events::event::{Event, Kind, Name};
 use engine_events::place::Point;
 use event_check::CompileError;
+use markdown_options::CompileOptions;
 use markdown_tables::Builtin;
 use std::alloc::{AllocError, Global};
 
@@ -30,12 +31,12 @@ fn push_void(events: &mut Vec<Event>, name: Name) -> Result<(), AllocError> {
 
 /// The page of a list of an empty text.
 fn page_of(alloc: Global, events: &[Event]) -> Result<String, CompileError> {
-    compile(alloc, events, b"", &options_of(""), &Builtin)
+    compile(alloc, events, b"", &CompileOptions::default(), &Builtin)
 }
 
-#[test]
-fn quotes(rt: HostRuntime) -> Result<(), CompileError> {
-    let mut events = Vec::new(rt.alloc());
+/// Whether quotes in each other spell a page of the size that they should have.
+fn are_quotes(alloc: Global) -> Result<bool, CompileError> {
+    let mut events = Vec::new(alloc);
     for _ in 0..DEPTH {
         push(&mut events, Kind::Enter, Name::BlockQuote)?;
         push(&mut events, Kind::Enter, Name::BlockQuotePrefix)?;
@@ -45,14 +46,13 @@ fn quotes(rt: HostRuntime) -> Result<(), CompileError> {
     for _ in 0..DEPTH {
         push(&mut events, Kind::Exit, Name::BlockQuote)?;
     }
-    let page = page_of(rt.alloc(), &events)?;
-    assert_eq!(rt; page.len(), DEPTH * 27 - 1);
-    Ok(())
+    let page = page_of(alloc, &events)?;
+    Ok(page.len() == DEPTH * 27 - 1)
 }
 
-#[test]
-fn lists(rt: HostRuntime) -> Result<(), CompileError> {
-    let mut events = Vec::new(rt.alloc());
+/// Whether lists in each other spell a page of the size that they should have.
+fn are_lists(alloc: Global) -> Result<bool, CompileError> {
+    let mut events = Vec::new(alloc);
     for _ in 0..DEPTH {
         push(&mut events, Kind::Enter, Name::ListUnordered)?;
         push(&mut events, Kind::Enter, Name::ListItem)?;
@@ -64,14 +64,13 @@ fn lists(rt: HostRuntime) -> Result<(), CompileError> {
         push(&mut events, Kind::Exit, Name::ListItem)?;
         push(&mut events, Kind::Exit, Name::ListUnordered)?;
     }
-    let page = page_of(rt.alloc(), &events)?;
-    assert_eq!(rt; page.len(), DEPTH * 22 - 2);
-    Ok(())
+    let page = page_of(alloc, &events)?;
+    Ok(page.len() == DEPTH * 22 - 2)
 }
 
-#[test]
-fn images(rt: HostRuntime) -> Result<(), CompileError> {
-    let mut events = Vec::new(rt.alloc());
+/// Whether images in each other spell the first one alone.
+fn are_images(alloc: Global) -> Result<bool, CompileError> {
+    let mut events = Vec::new(alloc);
     push(&mut events, Kind::Enter, Name::Paragraph)?;
     for _ in 0..DEPTH {
         push(&mut events, Kind::Enter, Name::Image)?;
@@ -95,20 +94,26 @@ fn images(rt: HostRuntime) -> Result<(), CompileError> {
         push(&mut events, Kind::Exit, Name::Image)?;
     }
     push(&mut events, Kind::Exit, Name::Paragraph)?;
-    let page = page_of(rt.alloc(), &events)?;
-    assert_eq!(rt; page.as_str(), "<p><img src=\"\" alt=\"\" /></p>");
-    Ok(())
+    let page = page_of(alloc, &events)?;
+    Ok(page.as_str() == "<p><img src=\"\" alt=\"\" /></p>")
 }
 
-#[test]
-fn paragraphs(rt: HostRuntime) -> Result<(), CompileError> {
-    let mut events = Vec::new(rt.alloc());
+/// Whether paragraphs after each other spell a page of the size that they should have.
+fn are_paragraphs(alloc: Global) -> Result<bool, CompileError> {
+    let mut events = Vec::new(alloc);
     for _ in 0..250_000 {
         push(&mut events, Kind::Enter, Name::Paragraph)?;
         push_void(&mut events, Name::Data)?;
         push(&mut events, Kind::Exit, Name::Paragraph)?;
     }
-    let page = page_of(rt.alloc(), &events)?;
-    assert_eq!(rt; page.len(), 250_000 * 8 - 1);
-    Ok(())
+    let page = page_of(alloc, &events)?;
+    Ok(page.len() == 250_000 * 8 - 1)
+}
+
+#[test]
+fn depths(rt: HostRuntime) {
+    assert_so(&rt, "quotes", are_quotes(rt.alloc()));
+    assert_so(&rt, "lists", are_lists(rt.alloc()));
+    assert_so(&rt, "images", are_images(rt.alloc()));
+    assert_so(&rt, "paragraphs", are_paragraphs(rt.alloc()));
 }
