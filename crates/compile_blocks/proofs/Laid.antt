@@ -5,31 +5,12 @@ use Rattle.markdown_options.specs.declared.line_ending.LineEnding.{LineEnding}
 use Rattle.markdown_options.specs.LineEndings.{ending_bytes}
 use Rattle.definition_page.specs.BlockPieces.{heading_name}
 use Rattle.definition_page.specs.InlinePieces.{element}
-use Rattle.definition_page.specs.Pieces.{Piece, Close, Fresh}
-use Rattle.definition_page.specs.Tags.{bare_tag, end_tag}
+use Rattle.definition_page.specs.Pieces.{Piece, Fresh}
+use Rattle.definition_page.specs.Tags.{bare_tag}
 use Rattle.html_bytes.specs.Layout.{LayoutState}
 use Rattle.html_bytes.specs.Pieces.{in_bytes}
-use Rattle.html_bytes.proofs.SameText.{laid_both}
 use Rattle.html_leaves.specs.Prints.{layout_after, with_bytes, with_fresh, with_tag}
-use Rattle.html_leaves.proofs.LeafLaid.{after_pieces, element_laid}
-
--- pieces after others
-pub then_laid : (options : CompileOptions) (e later : LineEnding) (before now after : LayoutState) (ps qs : List Piece) → later ≡ e
-    → now ≡ layout_after options e before (in_bytes ps) → after ≡ layout_after options later now (in_bytes qs)
-    → after ≡ layout_after options e before (in_bytes (ps ++ qs))
-then_laid options e later before now after ps qs same first second =
-    second
-    ∙ ap (λ (x : LineEnding). layout_after options x now (in_bytes qs)) same
-    ∙ ap (λ x. layout_after options e x (in_bytes qs)) first
-    ∙ sym (laid_both options (ending_bytes e) before ps qs)
-
-module _ (options : CompileOptions) (default : List ℕ) where
-  -- pieces, a fresh line, and an end tag
-  pub ended : (out : LayoutState) (ps : List Piece) (name : List ℕ)
-      → after_pieces options default out ((ps ++ Fresh ∷ []) ++ Close name ∷ []) ≡ with_tag default (end_tag name) (after_pieces options default out ps)
-  ended out ps name =
-      laid_both options default out (ps ++ Fresh ∷ []) (Close name ∷ [])
-      ∙ ap (with_bytes (end_tag name)) (laid_both options default out ps (Fresh ∷ []))
+use Rattle.html_leaves.proofs.LeafLaid.{element_laid}
 
 -- a paragraph between its tags
 pub paragraph_laid : (options : CompileOptions) (e later : LineEnding) (out tag text : LayoutState) (ps : List Piece) → later ≡ e

@@ -94,10 +94,24 @@ ending_law m place ending =
     ap (λ (b : Bool). in_bytes (if b then [] else endings_pieces (ending ∷ []))) (sym (silent_by place.top place.tight place.silent))
 
 -- the names of a kind
+abbrev is_html : BlockKind → Bool
+is_html k.HtmlFlow = true
+is_html kind = false
+
+html_law : (name : Name) → is_html (kind_of name) ≡ same_name name n.HtmlFlow
+html_law n.HtmlFlow = refl
+html_law name = refl
+
 pub html_name : (name : Name) → k.HtmlFlow ≡ kind_of name → same_name name n.HtmlFlow ≡ true
-html_name n.HtmlFlow h = refl
-html_name name h = cc
+html_name name h = sym (html_law name) ∙ sym (ap is_html h)
+
+abbrev is_atx : BlockKind → Bool
+is_atx k.HeadingAtx = true
+is_atx kind = false
+
+atx_law : (name : Name) → is_atx (kind_of name) ≡ same_name name n.HeadingAtx
+atx_law n.HeadingAtx = refl
+atx_law name = refl
 
 pub atx_name : (name : Name) → k.HeadingAtx ≡ kind_of name → same_name name n.HeadingAtx ≡ true
-atx_name n.HeadingAtx h = refl
-atx_name name h = cc
+atx_name name h = sym (atx_law name) ∙ sym (ap is_atx h)

@@ -1,17 +1,3 @@
-pub mod Children
-pub mod Sound
-pub mod Pieces
-pub mod RawLaid
-pub mod RawParts
-pub mod RawWalk
-pub mod Endings
-pub mod FencedLaid
 pub mod LeafLaw
-pub mod TextKids
-pub mod TextLaid
-pub mod Found
-pub mod HeadAt
 pub mod Ranks
 pub mod Laid
-pub mod GfmTableLaid
-pub mod GfmTableLeft

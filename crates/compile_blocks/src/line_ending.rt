@@ -1,49 +1,13 @@
-//! Line endings (CommonMark 2.1).
+//! Line endings between blocks (CommonMark 2.1).
 ghost use Rattle.std.specs.Prelude.{◌≡◌, if◌then◌else◌, [], ◌∷◌, OnOk};
 ghost use Rattle.markdown_options.specs.declared.configuration.CompileOptions.{CompileOptions};
-ghost use Rattle.definition_inline.specs.CharacterReference.{Names};
 ghost use Rattle.definition_page.specs.GfmTable.{endings_pieces};
-ghost use Rattle.event_grammar.specs.Trees as tree;
-ghost use Rattle.event_grammar.specs.Trees.{Nodes, Nil, Cons, AreNodes, events_of};
-ghost use Rattle.compile_levels.specs.Siblings.{Reads};
-ghost use Rattle.event_meaning.specs.Children.{text_of};
-ghost use Rattle.event_meaning.specs.GfmTable.{endings_in};
-ghost use Rattle.event_meaning.specs.Raw as meaning;
 ghost use Rattle.html_bytes.specs.Pieces.{in_bytes};
-ghost use Rattle.html_leaves.specs.Prints.{KeepsEnding, LaysOut, Prints};
-ghost use Rattle.compile_blocks.specs.Endings.{endings_bytes};
+ghost use Rattle.html_leaves.specs.Prints.{KeepsEnding, LaysOut};
 
-use crate::piece::piece_of;
 use crate::printer::LeafPrinter;
-use crate::source::Source;
-use compile_levels::node::{Node, first_node};
-use engine_events::event::{Event, Name};
-use html_leaves::Page;
 use markdown_options::LineEnding;
 use std::alloc::{AllocError, Allocator};
-
-/// Returns the line ending that an event of the text is.
-pub fn ending_of(bytes: &[u8], node: &Node<'_>) -> LineEnding
-    ensures { (n : tree.Node) → Reads node.now n → result ≡ meaning.ending_of (text_of bytes.now n) }
-{
-    ending_of_bytes(piece_of(bytes, node))
-}
-
-fn ending_of_bytes(bytes: &[u8]) -> LineEnding
-    ensures { result ≡ meaning.ending_of bytes.now }
-{
-    match bytes {
-        [] => LineEnding::LineFeed,
-        [byte] => {
-            if *byte == b'\r' {
-                LineEnding::CarriageReturn
-            } else {
-                LineEnding::LineFeed
-            }
-        }
-        _ => LineEnding::CarriageReturnLineFeed,
-    }
-}
 
 impl<A: Allocator + Clone> LeafPrinter<A> {
     /// Prints an ending between blocks, unless it follows a block that prints nothing.
@@ -57,41 +21,5 @@ impl<A: Allocator + Clone> LeafPrinter<A> {
             return Ok(());
         }
         self.page.push_ending(Some(ending))
-    }
-
-    /// Prints the endings among these siblings.
-    pub(crate) fn endings<T>(
-        &mut self,
-        source: &Source<'_, T, A>,
-        events: &[Event],
-    ) -> Result<(), AllocError>
-        ensures default { KeepsEnding self.old.page self.new.page }
-        ensures columns { self.new.columns ≡ self.old.columns }
-        ensures printed { (names : Names) (options : CompileOptions) (ns : Nodes) → AreNodes ns → events.now ≡ events_of ns →
-            OnOk result (LaysOut options self.old.page self.new.page (in_bytes (endings_pieces (endings_in names source.now.checked.bytes.now ns)))) }
-    {
-        let mut rest = events;
-        while let Some((node, after)) = first_node(rest) {
-            push_if_ending(&mut self.page, source.bytes(), &node)?;
-            rest = after;
-        }
-        Ok(())
-    }
-}
-
-/// Prints an event if it is a line ending.
-fn push_if_ending<A: Allocator + Clone>(
-    page: &mut Page<A>,
-    bytes: &[u8],
-    node: &Node<'_>,
-) -> Result<(), AllocError>
-    ensures default { KeepsEnding page.old page.new }
-    ensures printed { (names : Names) (n : tree.Node) → Reads node.now n →
-        OnOk result (Prints page.old page.new (endings_bytes (endings_in names bytes.now (Cons n Nil)))) }
-{
-    if node.name == Name::LineEnding {
-        page.push_ending(Some(ending_of(bytes, node)))
-    } else {
-        Ok(())
     }
 }

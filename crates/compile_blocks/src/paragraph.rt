@@ -9,11 +9,11 @@ ghost use Rattle.event_meaning.specs.Texts.{inlines_of};
 ghost use Rattle.html_bytes.specs.Pieces.{in_bytes};
 ghost use Rattle.html_leaves.specs.Prints.{KeepsEnding, LaysOut};
 ghost use Rattle.compile_rows.specs.Columns.{AreCounted};
-ghost use Rattle.compile_blocks.specs.Meant.{IsMeant};
-ghost use Rattle.compile_blocks.specs.Sound.{AreSound};
+ghost use Rattle.compile_texts.specs.Meant.{IsMeant};
+ghost use Rattle.compile_raw.specs.Sound.{AreSound};
 
 use crate::printer::LeafPrinter;
-use crate::source::Source;
+use compile_texts::Source;
 use engine_events::event::Event;
 use markdown_options::Tables;
 use std::alloc::{AllocError, Allocator};
@@ -36,10 +36,13 @@ impl<A: Allocator + Clone> LeafPrinter<A> {
             OnOk result (LaysOut m.compile self.old.page self.new.page (in_bytes (leaf_block_pieces m place paragraph))) }
     {
         if tight {
-            return self.text(source, false, inside);
+            return self
+                .texts
+                .text(&mut self.page, &mut self.columns, source, false, inside);
         }
         self.page.fresh_tag("<p>")?;
-        self.text(source, false, inside)?;
+        self.texts
+            .text(&mut self.page, &mut self.columns, source, false, inside)?;
         self.page.say("</p>")
     }
 }

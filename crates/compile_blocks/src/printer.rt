@@ -15,15 +15,17 @@ ghost use Rattle.event_meaning.specs.Children.{text_of};
 ghost use Rattle.html_bytes.specs.Pieces.{in_bytes};
 ghost use Rattle.html_leaves.specs.Prints.{KeepsEnding, LaysOut, page_view};
 ghost use Rattle.compile_blocks.specs.Leaf.{is_leaf, first_pieces};
-ghost use Rattle.compile_blocks.specs.Meant.{IsMeant};
-ghost use Rattle.compile_blocks.specs.Sound.{IsSound, StandsAt};
+ghost use Rattle.compile_texts.specs.Meant.{IsMeant};
+ghost use Rattle.compile_raw.specs.Sound.{IsSound, StandsAt};
 
-use crate::line_ending::ending_of;
-use crate::source::Source;
 use compile_levels::kind::BlockKind;
 use compile_levels::node::Node;
+use compile_raw::{
+    ending_of, push_code_fenced, push_code_indented, push_html_flow, push_math_flow,
+};
 use compile_rows::Columns;
-use html_inline::Scratch;
+use compile_tables::push_table;
+use compile_texts::{Source, TextPrinter};
 use html_leaves::Page;
 use markdown_options::{CompileOptions, LineEnding, Tables};
 use std::alloc::{AllocError, Allocator};
@@ -34,10 +36,9 @@ pub struct LeafPrinter<A: Allocator + Clone> {
     /// What is printed.
     pub page: Page<A>,
     pub(crate) columns: Columns,
-    pub(crate) scratch: Scratch<A>,
+    pub(crate) texts: TextPrinter<A>,
     /// Room for the info of fenced code.
     pub(crate) info: String<A>,
-    pub(crate) alloc: A,
 }
 
 /// Where a leaf block stands.
@@ -65,9 +66,8 @@ impl<A: Allocator + Clone> LeafPrinter<A> {
         Ok(LeafPrinter {
             page: Page::new(alloc.clone()?, room, default_ending)?,
             columns: Columns::new(),
-            scratch: Scratch::new(alloc.clone()?)?,
             info: String::new(alloc.clone()?),
-            alloc,
+            texts: TextPrinter::new(alloc)?,
         })
     }
 
@@ -100,18 +100,42 @@ impl<A: Allocator + Clone> LeafPrinter<A> {
             let blocks = block_of names bytes place.top enter.name (text_of bytes leaf) kids inner in
             OnOk result (LaysOut m.compile self.old.page self.new.page (in_bytes (first_pieces m place blocks))) }
     {
+        let bytes = source.bytes();
         let inside = node.inside;
         match kind {
-            BlockKind::Ending => self.line_ending(place.silent, ending_of(source.bytes(), node)),
+            BlockKind::Ending => self.line_ending(place.silent, ending_of(bytes, node)),
             BlockKind::Paragraph => self.paragraph(source, place.tight, inside),
             BlockKind::HeadingAtx => self.heading_atx(source, inside),
             BlockKind::HeadingSetext => self.heading_setext(source, inside),
             BlockKind::ThematicBreak => self.thematic_break(),
-            BlockKind::CodeIndented => self.code_indented(source, inside),
-            BlockKind::CodeFenced => self.code_fenced(source, place.top, inside),
-            BlockKind::MathFlow => self.math_flow(source, place.top, inside),
-            BlockKind::HtmlFlow => self.html_flow(source, inside),
-            BlockKind::Table => self.table(source, index, inside),
+            BlockKind::CodeIndented => {
+                push_code_indented(&mut self.page, &mut self.columns, bytes, inside)
+            }
+            BlockKind::CodeFenced => push_code_fenced(
+                &mut self.page,
+                &mut self.columns,
+                &mut self.info,
+                bytes,
+                source.tables,
+                place.top,
+                inside,
+            ),
+            BlockKind::MathFlow => push_math_flow(
+                &mut self.page,
+                &mut self.columns,
+                bytes,
+                place.top,
+                inside,
+            ),
+            BlockKind::HtmlFlow => push_html_flow(&mut self.page, source.options, bytes, inside),
+            BlockKind::Table => push_table(
+                &mut self.texts,
+                &mut self.page,
+                &mut self.columns,
+                source,
+                index,
+                inside,
+            ),
             BlockKind::Blank
             | BlockKind::Definition
             | BlockKind::Quote

@@ -7,7 +7,7 @@ use Rattle.engine_events.specs.Names.{same_name, is_listed}
 use Rattle.engine_events.specs.declared.event.Event.{Event}
 use Rattle.engine_events.specs.declared.event.Name.{Name}
 use Rattle.engine_events.specs.declared.event.Name.TheVariants as n
-use Rattle.compile_blocks.specs.Sound.{HasRank, HaveRanks, chunk_names, HaveNoChunk, HasHtml, HaveHtml, AreSound}
+use Rattle.compile_raw.specs.Sound.{HasRank, HaveRanks, chunk_names, HaveNoChunk, HasHtml, HaveHtml, AreSound}
 use Rattle.event_check.specs.Loose.{is_loose_list}
 use Rattle.event_check.specs.Matches.{NodeMatches, matches, KidsMatch, nothing, between, one, opt, no_opt, many, no_more, lead, no_lead, MatchesGrammar}
 use Rattle.event_grammar.specs.declared.slot.Between.{Between}

@@ -11,7 +11,7 @@ use Rattle.definition_page.specs.BlockPieces.{block_pieces}
 use Rattle.definition_page.specs.InlinePieces.{Meaning}
 use Rattle.definition_page.specs.Page as page
 use Rattle.compile_blocks.specs.Leaf.{is_leaf, first_pieces}
-use Rattle.compile_blocks.proofs.Sound.{first_sound}
+use Rattle.compile_raw.proofs.Sound.{first_sound}
 use Rattle.compile_blocks.specs.declared.printer.LeafPlace.{LeafPlace}
 use Rattle.event_check.specs.Loose.{is_loose_list}
 use Rattle.event_grammar.specs.InGrammar.{node_name}

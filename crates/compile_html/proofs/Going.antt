@@ -18,7 +18,7 @@ use Rattle.definition_page.specs.Pieces.{Piece}
 use Rattle.html_bytes.specs.Layout.{LayoutState}
 use Rattle.html_bytes.specs.Pieces.{in_bytes, piece_bytes}
 use Rattle.html_leaves.specs.Prints.{KeepsEnding, page_view, layout_after}
-use Rattle.compile_blocks.proofs.Sound.{first_sound, inner_sound}
+use Rattle.compile_raw.proofs.Sound.{first_sound, inner_sound}
 use Rattle.compile_blocks.specs.Leaf.{is_leaf, first_pieces}
 use Rattle.compile_blocks.specs.declared.printer.LeafPrinter.{LeafPrinter}
 use Rattle.event_grammar.specs.Trees.{Node, Nodes, Around, Nil, Cons, node_events, events_of, AreNodes}

@@ -3,7 +3,7 @@ use Rattle.std.specs.Prelude.{◌≡◌, ℕ, Bool, true, false, List, [], ◌�
 use Rattle.engine_events.specs.declared.event.Event.{Event}
 use Rattle.engine_events.specs.declared.event.Kind.TheVariants.{Exit}
 use Rattle.definition_page.specs.Page as page
-use Rattle.compile_blocks.specs.Sound.{AreSound}
+use Rattle.compile_raw.specs.Sound.{AreSound}
 use Rattle.event_grammar.specs.Trees.{Nodes}
 use Rattle.compile_levels.specs.Levels.{new_level}
 use Rattle.compile_levels.specs.declared.level.Holder as levels

@@ -13,7 +13,7 @@ returns-clause-printed g c = λ m ds place kids meant events sound.
     let page = c.args.self.now.page in
     subst (λ x. OnOk c.heading_tag-2.result (page_view c.heading_tag-2.new.self ≡ x))
     (heading_laid m.compile page.default_ending c.heading_tag.new.self.default_ending c.args.rank (page_view page) (page_view c.fresh.new.self)
-    (page_view c.heading_tag.new.self) (page_view c.text.new.self.page) (inline_pieces m (inlines_of names bytes false kids))
+    (page_view c.heading_tag.new.self) (page_view c.text.new.page) (inline_pieces m (inlines_of names bytes false kids))
     (c.in_ok-heading_tag.ensures.default ∙ c.in_ok-fresh.ensures.default) c.in_ok-fresh.ensures.printed c.in_ok-heading_tag.ensures.printed
     (c.in_ok-text.ensures.printed m ds kids meant events sound))
     c.heading_tag-2.ensures.printed

@@ -9,9 +9,9 @@ use Rattle.event_meaning.specs.Children.{text_in}
 use Rattle.event_meaning.specs.Texts.{inlines_of}
 use Rattle.html_bytes.specs.Pieces.{in_bytes}
 use Rattle.html_leaves.specs.Prints.{layout_after, page_view}
-use Rattle.compile_blocks.specs.Texts.{text_kids}
+use Rattle.compile_texts.specs.Texts.{text_kids}
 use Rattle.compile_blocks.proofs.Ranks.{size_parts}
-use Rattle.compile_blocks.proofs.TextKids.{text_law, text_sound}
+use Rattle.compile_texts.proofs.TextKids.{text_law, text_sound}
 use Rattle.compile_blocks.proofs.printer.LeafPrinter.heading_atx.Goals as goal
 
 pub returns-clause-printed : goal.returns-clause-printed

@@ -3,7 +3,7 @@ use Rattle.definition_inline.specs.Definition.{Definition}
 use Rattle.definition_page.specs.InlinePieces.{Meaning}
 use Rattle.html_bytes.specs.Layout.{LayoutState}
 use Rattle.html_leaves.specs.Prints.{KeepsEnding}
-use Rattle.compile_blocks.specs.Meant.{IsMeant}
+use Rattle.compile_texts.specs.Meant.{IsMeant}
 use Rattle.compile_rows.specs.Columns.{AreCounted}
 use Rattle.compile_html.specs.Going.{GoesOn}
 use Rattle.compile_html.proofs.printer.Printer.all.Given as goal

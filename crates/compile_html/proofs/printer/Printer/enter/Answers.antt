@@ -1,6 +1,6 @@
 use Rattle.std.proofs.Common.{◌≡◌, true, false, List, ◌∷◌, ◌++◌, reverse, refl, sym, ap, ◌∙◌}
 use Rattle.engine_events.specs.declared.event.Kind.TheVariants.{Exit}
-use Rattle.compile_blocks.proofs.Sound.{first_sound}
+use Rattle.compile_raw.proofs.Sound.{first_sound}
 use Rattle.event_grammar.specs.Trees.{Node, Around, events_of}
 use Rattle.compile_levels.specs.Levels.{begins}
 use Rattle.compile_levels.specs.declared.level.Level.{Level}

@@ -1,7 +1,7 @@
 use Rattle.std.proofs.Common.{◌≡◌, true, not, List, None, ◌∷◌, ◌++◌, sym, ap, ◌∙◌, subst}
 use Rattle.engine_events.specs.declared.event.Event.{Event}
 use Rattle.engine_events.specs.declared.event.Kind.TheVariants.{Exit}
-use Rattle.compile_blocks.proofs.Sound.{first_sound}
+use Rattle.compile_raw.proofs.Sound.{first_sound}
 use Rattle.compile_blocks.specs.Leaf.{is_leaf}
 use Rattle.event_grammar.specs.Trees.{Node, Around, events_of}
 use Rattle.compile_levels.specs.Kinds.{kind_of}

@@ -1,9 +1,9 @@
 use Rattle.std.proofs.Common.{◌≡◌, Bool, true, List, ◌∷◌, ◌++◌, reverse, refl, ap, ◌∙◌, subst}
 use Rattle.engine_events.specs.declared.event.Event.{Event}
 use Rattle.engine_events.specs.declared.event.Kind.TheVariants.{Exit}
-use Rattle.compile_blocks.proofs.Sound.{first_sound}
+use Rattle.compile_raw.proofs.Sound.{first_sound}
 use Rattle.compile_blocks.specs.Leaf.{is_leaf, first_pieces}
-use Rattle.compile_blocks.specs.Sound.{StandsAt}
+use Rattle.compile_raw.specs.Sound.{StandsAt}
 use Rattle.compile_blocks.specs.declared.printer.LeafPlace.{LeafPlace}
 use Rattle.event_grammar.specs.Trees.{Node, Around, events_of}
 use Rattle.compile_levels.specs.Levels.{is_document as level_document, passed as level_passed}

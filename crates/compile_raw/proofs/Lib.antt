@@ -1,0 +1,8 @@
+pub mod Children
+pub mod Sound
+pub mod Pieces
+pub mod RawLaid
+pub mod RawParts
+pub mod RawWalk
+pub mod Endings
+pub mod FencedLaid

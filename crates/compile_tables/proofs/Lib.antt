@@ -1,0 +1,4 @@
+pub mod Found
+pub mod HeadAt
+pub mod GfmTableLaid
+pub mod GfmTableLeft

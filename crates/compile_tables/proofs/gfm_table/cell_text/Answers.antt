@@ -1,0 +1,40 @@
+use Rattle.std.proofs.Common.{◌≡◌, ◌∙◌, false, sym, ap, subst}
+use Rattle.std.specs.Result.{OnOk}
+use Rattle.engine_events.specs.declared.event.Name.TheVariants as n
+use Rattle.definition_inline.specs.Inline.{Inlines}
+use Rattle.definition_page.specs.GfmTable.{in_cell}
+use Rattle.definition_page.specs.InlinePieces.{inline_pieces}
+use Rattle.event_grammar.specs.InGrammar.{kids_of}
+use Rattle.event_meaning.specs.Texts.{inlines_of}
+use Rattle.html_bytes.specs.Pieces.{in_bytes}
+use Rattle.html_leaves.specs.Prints.{layout_after, page_view}
+use Rattle.compile_tables.specs.GfmTable.{cell_or_none, next_cell}
+use Rattle.compile_texts.specs.Texts.{text_kids}
+use Rattle.compile_tables.proofs.Found.{none_found, some_found, reads_inside}
+use Rattle.compile_raw.proofs.Sound.{child_sound}
+use Rattle.compile_texts.proofs.TextKids.{text_law, text_sound}
+use Rattle.compile_tables.proofs.gfm_table.cell_text.Goals as goal
+
+pub returns-in-None-clause-printed : goal.returns-in-None-clause-printed
+returns-in-None-clause-printed g c = λ m ds kids meant found sound.
+    let names = g.T.Tables.reference_of c.args.source.now.tables.now in
+    let bytes = c.args.source.now.checked.bytes.now in
+    let page = c.args.page.now in
+    ap (λ o. layout_after m.compile page.default_ending (page_view page) (in_bytes (inline_pieces m (cell_or_none names bytes o))))
+    (sym (none_found n.GfmTableCell kids c.args.cell c.in-None.is found))
+
+pub returns-in-Some-clause-printed : goal.returns-in-Some-clause-printed
+returns-in-Some-clause-printed g c = λ m ds kids meant found sound.
+    let names = g.T.Tables.reference_of c.args.source.now.tables.now in
+    let bytes = c.args.source.now.checked.bytes.now in
+    let page = c.args.page.now in
+    let f = some_found n.GfmTableCell kids c.args.cell c.in-Some.cell c.in-Some.is found in
+    let inner = kids_of f.node in
+    let held = child_sound bytes n.GfmTableCell kids f.node f.named sound in
+    let is : in_cell (inlines_of names bytes false (text_kids inner)) ≡ next_cell names bytes kids =
+    ap in_cell (sym (text_law names bytes false inner)) ∙ ap (cell_or_none names bytes) (sym f.named) in
+    subst (λ (x : Inlines). OnOk c.text.result (page_view c.text.new.page
+    ≡ layout_after m.compile page.default_ending (page_view page) (in_bytes (inline_pieces m x))))
+    is
+    (c.text.ensures.printed m ds (text_kids inner) meant (c.text_within.ensures inner held.nodes (reads_inside c.in-Some.cell.node f.node f.reads))
+    (text_sound bytes inner held))

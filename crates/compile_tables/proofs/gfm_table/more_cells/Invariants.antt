@@ -1,0 +1,32 @@
+use Rattle.std.proofs.Common.{◌≡◌, List, length}
+use Rattle.std.specs.List.{flat_map}
+use Rattle.markdown_options.specs.LineEndings.{ending_bytes}
+use Rattle.definition_inline.specs.Definition.{Definition}
+use Rattle.definition_page.specs.InlinePieces.{Meaning, inline_counts}
+use Rattle.event_grammar.specs.Trees.{Nodes, events_of}
+use Rattle.html_bytes.specs.Pieces.{in_bytes}
+use Rattle.html_leaves.specs.Prints.{layout_after, page_view}
+use Rattle.compile_rows.specs.Columns.{AreCounted}
+use Rattle.compile_tables.specs.GfmTable.{cells_in}
+use Rattle.compile_texts.specs.Meant.{IsMeant}
+use Rattle.compile_raw.specs.Sound.{AreSound}
+use Rattle.compile_tables.proofs.GfmTableLeft.{IsLeft}
+use Rattle.compile_tables.proofs.gfm_table.more_cells.Given as goal
+
+-- the calls in the cells that are left are still to be counted
+abbrev pub invariant-loop-cell : goal.invariant-loop-cell
+invariant-loop-cell g l = record {
+  same_default : l.page.default_ending ≡ l.initial.page.default_ending;
+  counted : AreCounted l.source.checked.bytes.now l.columns;
+  printed : (m : Meaning) (ds : List Definition) (kids : Nodes) →
+      let names = g.T.Tables.reference_of l.source.tables.now in
+      let bytes = l.source.checked.bytes.now in
+      let e = l.initial.page.default_ending in
+      let pieces = λ (ns : Nodes). flat_map (inline_counts m) (cells_in names bytes ns) in
+      IsMeant names l.source ds m → l.row ≡ events_of kids → AreSound bytes kids →
+      IsLeft m (ending_bytes e) bytes pieces l.rest (page_view l.page)
+      (layout_after m.compile e (page_view l.initial.page) (in_bytes (pieces kids)));
+}
+
+abbrev pub decreases-loop-cell : goal.decreases-loop-cell
+decreases-loop-cell g l = length l.rest

@@ -1,0 +1,33 @@
+use Rattle.std.proofs.Common.{◌≡◌, ◌∙◌, ap, subst}
+use Rattle.std.specs.Result.{OnOk}
+use Rattle.markdown_options.specs.LineEndings.{ending_bytes}
+use Rattle.markdown_options.specs.declared.line_ending.LineEnding.{LineEnding}
+use Rattle.definition_page.specs.InlinePieces.{inline_pieces}
+use Rattle.definition_page.specs.Tags.{end_tag}
+use Rattle.html_bytes.specs.Pieces.{in_bytes}
+use Rattle.html_leaves.specs.GfmTable.{cell_name}
+use Rattle.html_leaves.specs.Prints.{layout_after, page_view, with_bytes, with_tag}
+use Rattle.compile_tables.specs.GfmTable.{next_cell}
+use Rattle.compile_tables.proofs.GfmTableLaid.{cell_laid}
+use Rattle.compile_tables.proofs.gfm_table.table_cell.Goals as goal
+
+pub returns-clause-printed : goal.returns-clause-printed
+returns-clause-printed g c = λ m ds kids meant found sound.
+    let names = g.T.Tables.reference_of c.args.source.now.tables.now in
+    let bytes = c.args.source.now.checked.bytes.now in
+    let out = page_view c.args.page.now in
+    let e = c.args.page.now.default_ending in
+    let default = ending_bytes e in
+    let name = cell_name c.args.kind in
+    let is = next_cell names bytes kids in
+    let ps = in_bytes (inline_pieces m is) in
+    let opened = c.in_ok-fresh_tag.ensures.printed ∙ ap (λ tag. with_tag default tag out) c.cell_tag.ensures in
+    let text =
+    c.in_ok-cell_text.ensures.printed m ds kids meant found sound
+    ∙ ap (λ (x : LineEnding). layout_after m.compile x (page_view c.fresh_tag.new.self) ps) c.in_ok-fresh_tag.ensures.default
+    ∙ ap (λ x. layout_after m.compile e x ps) opened in
+    subst (λ x. OnOk c.say.result (page_view c.say.new.self ≡ x))
+    (ap (λ end. with_bytes end (page_view c.cell_text.new.page)) c.cell_end.ensures
+    ∙ ap (with_bytes (end_tag name)) text
+    ∙ cell_laid m default name c.args.align is out)
+    c.say.ensures.printed

@@ -1,0 +1,2 @@
+pub mod TextKids
+pub mod TextLaid

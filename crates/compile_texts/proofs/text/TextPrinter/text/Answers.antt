@@ -1,0 +1,47 @@
+use Rattle.std.proofs.Common.{◌≡◌, ◌∙◌, ◌∷◌, [], ℕ, Bool, false, List, sym, ap, subst}
+use Rattle.std.specs.List.{fold}
+use Rattle.std.specs.Result.{OnOk}
+use Rattle.markdown_options.specs.LineEndings.{ending_bytes}
+use Rattle.definition_inline.specs.Targets.{labels_of, leads_to, linked_at, linked_by}
+use Rattle.definition_page.specs.InlinePieces.{Meaning, inline_pieces}
+use Rattle.event_meaning.specs.Texts.{inlines_of}
+use Rattle.compile_rows.specs.Texts.{HaveEndings}
+use Rattle.compile_written.specs.Texts.{AreTexts}
+use Rattle.html_bytes.specs.Layout.{lay}
+use Rattle.html_bytes.specs.Pieces.{in_bytes}
+use Rattle.html_footnotes.specs.Output.{output_view}
+use Rattle.html_inline.specs.GfmTable.{parts_in_cell}
+use Rattle.html_inline.specs.Opens.{place_target}
+use Rattle.html_inline.specs.Prints.{meaning_by}
+use Rattle.inline_labels.specs.Table.{HasLabels}
+use Rattle.inline_rows.specs.InlineRows.{inline_rows}
+use Rattle.inline_rows.specs.View.{rows_view}
+use Rattle.compile_texts.proofs.TextLaid.{places_law, meaning_law}
+use Rattle.compile_texts.proofs.text.TextPrinter.text.Goals as goal
+
+pub returns-in-Some-clause-printed : goal.returns-in-Some-clause-printed
+returns-in-Some-clause-printed g c = λ m ds kids meant events sound.
+    let source = c.args.source.now in
+    let names = g.T.Tables.reference_of source.tables.now in
+    let bytes = source.checked.bytes.now in
+    let page = c.args.page.now in
+    let default = ending_bytes page.default_ending in
+    let is = inlines_of names bytes false kids in
+    let same = sym c.bytes.ensures in
+    let definition = linked_by ds in
+    let rows : rows_view (place_target c.printing.result.definitions.now) (c.in-Some.row ∷ []) ≡ inline_rows (leads_to definition) is =
+    ap (λ at. rows_view at (c.in-Some.row ∷ [])) (ap place_target c.printing.ensures.definitions ∙ places_law source.links.now ds meant.links)
+    ∙ c.in-Some.ensures.structure names (leads_to definition) (linked_at ds) false kids events sound.nodes
+    (subst (λ (bs : List ℕ). AreTexts bs kids) same sound.texts) (subst (λ (bs : List ℕ). HaveEndings bs kids) same sound.endings)
+    ∙ ap (λ (bs : List ℕ). inline_rows (leads_to definition) (inlines_of names bs false kids)) (sym same) in
+    let footnotes = subst (λ table. HasLabels table m.footnotes) (sym c.printing.ensures.footnotes) meant.footnotes in
+    let told = g.T.Tables.reference_of c.printing.result.tables.now in
+    let law =
+    meaning_law names source ds m c.printing.result told meant c.printing.ensures.on c.printing.ensures.compile
+    (ap g.T.Tables.reference_of c.printing.ensures.tables) in
+    let P : Meaning → Bool → Type 0 =
+    λ x cell. OnOk c.push_alone.result (output_view c.push_alone.new.out
+    ≡ fold (lay x.compile default) (output_view page.out) (in_bytes (inline_pieces x (parts_in_cell cell is)))) in
+    subst (λ x. P x c.args.cell) law
+    (subst (P (meaning_by told c.printing.result definition m.footnotes)) c.printing.ensures.cell
+    (c.push_alone.ensures definition m.footnotes default is footnotes rows))

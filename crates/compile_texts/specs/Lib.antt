@@ -1,0 +1,3 @@
+-- What the printers of texts are stated with.
+pub mod Meant
+pub mod Texts
