@@ -11,21 +11,35 @@ pub enum BlockKind {
     Ending,
     /// The ending of a blank line.
     Blank,
+    /// A paragraph.
     Paragraph,
+    /// A heading that begins with `#`.
     HeadingAtx,
+    /// A heading with a line below it.
     HeadingSetext,
+    /// A thematic break.
     ThematicBreak,
+    /// Indented code.
     CodeIndented,
+    /// Fenced code.
     CodeFenced,
+    /// A block of math.
     MathFlow,
+    /// An HTML block.
     HtmlFlow,
+    /// A table.
     Table,
     /// A link reference definition, or frontmatter: it prints nothing.
     Definition,
+    /// A block quote.
     Quote,
+    /// A bullet list.
     UnorderedList,
+    /// An ordered list.
     OrderedList,
+    /// An item of a list.
     Item,
+    /// A footnote definition.
     Footnote,
     /// No block.
     Other,

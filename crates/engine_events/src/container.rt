@@ -3,8 +3,11 @@
 /// A kind of container.
 #[derive(Clone, Copy, Debug, PartialEq, Eq)]
 pub enum Container {
+    /// A block quote (CommonMark 5.1).
     BlockQuote,
+    /// A list item (CommonMark 5.2).
     ListItem,
+    /// A footnote definition (GitHub).
     GfmFootnoteDefinition,
 }
 

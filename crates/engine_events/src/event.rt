@@ -8,7 +8,9 @@ use std::mem::size_of;
 /// Whether an event begins or ends something.
 #[derive(Clone, Copy, Debug, PartialEq, Eq)]
 pub enum Kind {
+    /// The start, before what is inside.
     Enter,
+    /// The end, after what is inside.
     Exit,
 }
 
@@ -40,154 +42,303 @@ pub struct Link {
 /// The five names of MDX are never made; they are kept to be refused.
 #[derive(Clone, Copy, Debug, PartialEq, Eq)]
 pub enum Name {
+    /// A run of `*`, `_`, `~` or `=` while a text is read. Never in a finished list.
     AttentionSequence,
+    /// A link in `<` and `>` (CommonMark 6.5).
     Autolink,
+    /// The address in an autolink. Void.
     AutolinkEmail,
+    /// The `<` or the `>` of an autolink. Void.
     AutolinkMarker,
+    /// The URL in an autolink, with its scheme. Void.
     AutolinkProtocol,
+    /// The ending of a blank line (CommonMark 4.9). Void.
     BlankLineEnding,
+    /// A block quote (CommonMark 5.1).
     BlockQuote,
+    /// The `>` of a block quote. Void.
     BlockQuoteMarker,
+    /// The `>` at the start of a line, with a space or tab after it.
     BlockQuotePrefix,
+    /// U+FEFF at the start of the text: three bytes. Void.
     ByteOrderMark,
+    /// A backslash and the punctuation after it (CommonMark 2.4).
     CharacterEscape,
+    /// The backslash of an escape. Void.
     CharacterEscapeMarker,
+    /// The byte after the backslash. Void.
     CharacterEscapeValue,
+    /// A character by its name or number, from `&` to `;` (CommonMark 2.5).
     CharacterReference,
+    /// The `&` of a reference. Void.
     CharacterReferenceMarker,
+    /// The `x` or `X` of a hexadecimal reference. Void.
     CharacterReferenceMarkerHexadecimal,
+    /// The `#` of a reference by number. Void.
     CharacterReferenceMarkerNumeric,
+    /// The `;` of a reference. Void.
     CharacterReferenceMarkerSemi,
+    /// The name or the digits of a reference. Void.
     CharacterReferenceValue,
+    /// Fenced code (CommonMark 4.5).
     CodeFenced,
+    /// The opening or closing fence of code, without white space before it.
     CodeFencedFence,
+    /// The first word after an opening fence: the language.
     CodeFencedFenceInfo,
+    /// What follows the info on an opening fence.
     CodeFencedFenceMeta,
+    /// The backticks or tildes of a fence. Void.
     CodeFencedFenceSequence,
+    /// A line of fenced or indented code, without its indent and its ending. Void.
     CodeFlowChunk,
+    /// Indented code (CommonMark 4.4).
     CodeIndented,
+    /// Code in a text, with its backticks (CommonMark 6.1).
     CodeText,
+    /// A part of a line of code in a text. Void.
     CodeTextData,
+    /// The backticks before or after code in a text. Void.
     CodeTextSequence,
+    /// The lines of a paragraph before they are read. Never in a finished list.
     Content,
+    /// Bytes that stand for themselves, on one line. Void.
     Data,
+    /// A link reference definition (CommonMark 4.7).
     Definition,
+    /// The destination of a definition.
     DefinitionDestination,
+    /// A destination in `<` and `>`.
     DefinitionDestinationLiteral,
+    /// The `<` or `>` of a destination. Void.
     DefinitionDestinationLiteralMarker,
+    /// A destination without `<` and `>`.
     DefinitionDestinationRaw,
+    /// The destination itself.
     DefinitionDestinationString,
+    /// The label of a definition, with its brackets.
     DefinitionLabel,
+    /// The `[` or `]` of a definition's label. Void.
     DefinitionLabelMarker,
+    /// The label itself.
     DefinitionLabelString,
+    /// The `:` after the label of a definition or a footnote definition. Void.
     DefinitionMarker,
+    /// The title of a definition, with its quotes or parentheses.
     DefinitionTitle,
+    /// A quote or parenthesis of a definition's title. Void.
     DefinitionTitleMarker,
+    /// The title itself.
     DefinitionTitleString,
+    /// Emphasis, with its sequences (CommonMark 6.2).
     Emphasis,
+    /// The `*` or `_` before or after emphasis. Void.
     EmphasisSequence,
+    /// What is emphasized.
     EmphasisText,
+    /// Frontmatter, with its fences (in no standard).
     Frontmatter,
+    /// A line of frontmatter, without its ending. Void.
     FrontmatterChunk,
+    /// The first or last line of frontmatter.
     FrontmatterFence,
+    /// The `---` or `+++` of a fence. Void.
     FrontmatterSequence,
+    /// An email address that is a link (GFM 6.9). Void.
     GfmAutolinkLiteralEmail,
+    /// An email address after `mailto:`, with it. Void.
     GfmAutolinkLiteralMailto,
+    /// A link that begins with `http://` or `https://`. Void.
     GfmAutolinkLiteralProtocol,
+    /// A link that begins with `www.`. Void.
     GfmAutolinkLiteralWww,
+    /// An address after `xmpp:`, with it. Void.
     GfmAutolinkLiteralXmpp,
+    /// A call of a footnote, as `[^a]`.
     GfmFootnoteCall,
+    /// The `[^` of a call.
     GfmFootnoteCallLabel,
+    /// The `^` of a call. Void.
     GfmFootnoteCallMarker,
+    /// A footnote definition: a container.
     GfmFootnoteDefinition,
+    /// The label of a footnote definition, from `[` to `]`.
     GfmFootnoteDefinitionLabel,
+    /// The `[` or `]` of such a label. Void.
     GfmFootnoteDefinitionLabelMarker,
+    /// The label itself.
     GfmFootnoteDefinitionLabelString,
+    /// The `^` before such a label. Void.
     GfmFootnoteDefinitionMarker,
+    /// The label, the `:`, and the white space after it.
     GfmFootnoteDefinitionPrefix,
+    /// Text that is struck through, with its sequences (GFM 6.5).
     GfmStrikethrough,
+    /// The one or two tildes before or after it. Void.
     GfmStrikethroughSequence,
+    /// What is struck through.
     GfmStrikethroughText,
+    /// A table (GFM 4.10).
     GfmTable,
+    /// The rows of a table after its delimiter row.
     GfmTableBody,
+    /// A cell of a row, with the white space in it.
     GfmTableCell,
+    /// A bar between cells, or at an end of a row. Void.
     GfmTableCellDivider,
+    /// The text of a cell.
     GfmTableCellText,
+    /// A cell of the delimiter row.
     GfmTableDelimiterCell,
+    /// The dashes of such a cell, with its colons.
     GfmTableDelimiterCellValue,
+    /// The dashes. Void.
     GfmTableDelimiterFiller,
+    /// A colon, which aligns the column. Void.
     GfmTableDelimiterMarker,
+    /// The row of delimiters.
     GfmTableDelimiterRow,
+    /// The first row and the delimiter row.
     GfmTableHead,
+    /// A row of cells.
     GfmTableRow,
+    /// The check of a task list item, from `[` to `]` (GFM 5.3).
     GfmTaskListItemCheck,
+    /// The `[` or `]` of a check. Void.
     GfmTaskListItemMarker,
+    /// The `x` or `X` in a check. Void.
     GfmTaskListItemValueChecked,
+    /// The white space in a check. Void.
     GfmTaskListItemValueUnchecked,
+    /// A backslash at the end of a line (CommonMark 6.7). Void.
     HardBreakEscape,
+    /// Two spaces or more at the end of a line (CommonMark 6.7). Void.
     HardBreakTrailing,
+    /// A heading that begins with `#` (CommonMark 4.2).
     HeadingAtx,
+    /// The `#`s before or after such a heading's text. Void.
     HeadingAtxSequence,
+    /// The text of such a heading.
     HeadingAtxText,
+    /// A heading with a line below it (CommonMark 4.3).
     HeadingSetext,
+    /// The text of such a heading, which may have several lines.
     HeadingSetextText,
+    /// The line below such a heading.
     HeadingSetextUnderline,
+    /// The `=`s or `-`s of that line. Void.
     HeadingSetextUnderlineSequence,
+    /// An HTML block (CommonMark 4.6).
     HtmlFlow,
+    /// A line of an HTML block, without its ending. Void.
     HtmlFlowData,
+    /// Raw HTML in a text (CommonMark 6.6).
     HtmlText,
+    /// A part of a line of raw HTML in a text. Void.
     HtmlTextData,
+    /// An image (CommonMark 6.4).
     Image,
+    /// The brackets of a link, an image or a footnote call, and what is between them.
     Label,
+    /// The `]` of a label.
     LabelEnd,
+    /// The `![` of an image.
     LabelImage,
+    /// The `!` of an image. Void.
     LabelImageMarker,
+    /// The `[` of a link.
     LabelLink,
+    /// A bracket of a label. Void.
     LabelMarker,
+    /// What is between the brackets.
     LabelText,
+    /// A line ending: LF, CR or CR LF. Void.
     LineEnding,
+    /// A link (CommonMark 6.3).
     Link,
+    /// An item of a list (CommonMark 5.2).
     ListItem,
+    /// The marker of an item: `*`, `+` or `-`, or the `.` or `)` after a number. Void.
     ListItemMarker,
+    /// The number and the marker of an item, and the white space after them.
     ListItemPrefix,
+    /// The number of an ordered item. Void.
     ListItemValue,
+    /// An ordered list (CommonMark 5.3).
     ListOrdered,
+    /// A bullet list (CommonMark 5.3).
     ListUnordered,
+    /// Marked text, with its sequences (in no standard).
     Mark,
+    /// The `==` before or after it. Void.
     MarkSequence,
+    /// What is marked.
     MarkText,
+    /// A block of math, with its fences (in no standard).
     MathFlow,
+    /// A line of such a block, without its indent and its ending. Void.
     MathFlowChunk,
+    /// The opening or closing fence of math.
     MathFlowFence,
+    /// What follows an opening fence of math.
     MathFlowFenceMeta,
+    /// The dollars of a fence. Void.
     MathFlowFenceSequence,
+    /// Math in a text, with its dollars (in no standard).
     MathText,
+    /// A part of a line of math in a text. Void.
     MathTextData,
+    /// The dollars before or after math in a text. Void.
     MathTextSequence,
+    /// An import or export of MDX. Never in a list.
     MdxEsm,
+    /// A block in braces of MDX. Never in a list.
     MdxFlowExpression,
+    /// A tag of MDX that is a block. Never in a list.
     MdxJsxFlowTag,
+    /// A tag of MDX in a text. Never in a list.
     MdxJsxTextTag,
+    /// Braces of MDX in a text. Never in a list.
     MdxTextExpression,
+    /// A paragraph (CommonMark 4.8).
     Paragraph,
+    /// The second pair of brackets of a link or an image, full or collapsed.
     Reference,
+    /// A bracket of a reference. Void.
     ReferenceMarker,
+    /// The label between them.
     ReferenceString,
+    /// The destination and the title of a link or an image, from `(` to `)`.
     Resource,
+    /// The destination of a resource.
     ResourceDestination,
+    /// A destination in `<` and `>`.
     ResourceDestinationLiteral,
+    /// The `<` or `>` of a destination. Void.
     ResourceDestinationLiteralMarker,
+    /// A destination without `<` and `>`.
     ResourceDestinationRaw,
+    /// The destination itself.
     ResourceDestinationString,
+    /// A parenthesis of a resource. Void.
     ResourceMarker,
+    /// The title of a resource, with its quotes or parentheses.
     ResourceTitle,
+    /// A quote or parenthesis of a title. Void.
     ResourceTitleMarker,
+    /// The title itself.
     ResourceTitleString,
+    /// Spaces and tabs, one or more columns. Void.
     SpaceOrTab,
+    /// Strong emphasis, with its sequences (CommonMark 6.2).
     Strong,
+    /// The two `*` or `_` before or after it. Void.
     StrongSequence,
+    /// What is strongly emphasized.
     StrongText,
+    /// A thematic break (CommonMark 4.1).
     ThematicBreak,
+    /// A run of the bytes of a thematic break. Void.
     ThematicBreakSequence,
 }
 

@@ -3,9 +3,13 @@
 /// What a label belongs to.
 #[derive(Clone, Copy, Debug, PartialEq, Eq)]
 pub enum LabelKind {
+    /// `![`: an image (CommonMark 6.4).
     Image,
+    /// `[`: a link (CommonMark 6.3).
     Link,
+    /// `[^`: a call of a footnote that is defined.
     GfmFootnote,
+    /// `[^` of a footnote that is not defined.
     GfmUndefinedFootnote,
 }
 

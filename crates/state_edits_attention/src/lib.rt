@@ -1,4 +1,4 @@
-//! Edits that put emphasis, strong emphasis, strikethrough and marked text in place of runs.
+//! Edits that put spans in place of runs: emphasis, strong emphasis and the others.
 #![tactic(auto)]
 
 pub mod attention;

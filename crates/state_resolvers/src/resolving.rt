@@ -46,7 +46,7 @@ pub fn resolve_label<M, T, A: Allocator + Clone>(
     make(tokenizer, edits)
 }
 
-/// Puts emphasis, strong emphasis and strikethrough in place of the runs that go together.
+/// Puts emphasis and the other spans in place of the runs that go together.
 pub fn resolve_attention<M, T: Tables, A: Allocator + Clone>(
     tokenizer: &mut Tokenizer<'_, M, T, A>,
 ) -> Result<(), Message>

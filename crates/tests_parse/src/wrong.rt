@@ -5,7 +5,7 @@ ghost use Rattle.markdown_options.specs.Mdx.{HasNoMdx};
 use engine_events::event::{Event, Kind, Name};
 use engine_events::place::START;
 use event_grammar::void::is_void;
-use event_page::to_html_by_events;
+use markdown_by_events::to_html_by_events;
 use markdown::to_html_with_options;
 use markdown_options::{Message, Options};
 use markdown_tables::Builtin;

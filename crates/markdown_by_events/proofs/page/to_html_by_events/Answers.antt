@@ -6,8 +6,8 @@ use Rattle.event_check.specs.Matches.{MatchesGrammar}
 use Rattle.event_meaning.specs.Spelled.{html_of_events, spelled}
 use Rattle.parse_output.specs.Placed.{ArePlaced}
 use Rattle.parse_alike.specs.Spelled.{IsPageOfText}
-use Rattle.event_page.proofs.SamePage.{same_page}
-use Rattle.event_page.proofs.page.to_html_by_events.Goals as goal
+use Rattle.markdown_by_events.proofs.SamePage.{same_page}
+use Rattle.markdown_by_events.proofs.page.to_html_by_events.Goals as goal
 
 pub returns-clause-same : goal.returns-clause-same
 returns-clause-same g c =
