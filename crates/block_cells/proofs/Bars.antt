@@ -2,12 +2,10 @@
 use Rattle.std.proofs.Common.{◌≡◌, ◌≢◌, ℕ, suc, ◌+◌, ◌<◌, ◌≤◌, Bool, List, [], ◌∷◌, ◌||◌, ◌&&◌, true, false, not, eqb, refl, sym, ap, ◌∙◌}
 use Rattle.std.proofs.Common.{length, drop, get_or, arith, inl, inr}
 use Rattle.std.specs.List.{position_or_len}
-use Rattle.std.proofs.lemmas.Bool.{cases_Bool, cond-true, cond-false, or_parts, or_cases, eqb-true}
-use Rattle.std.proofs.lemmas.List.{drop_more, drop_all, length-drop}
+use Rattle.block_cells.proofs.Prelude.{bar_at, cases_Bool, cond-false, cond-true, drop_all, drop_more, eqb-true, is_bar, may_escape, or_parts}
+use Rattle.std.proofs.lemmas.Bool.{or_cases}
+use Rattle.std.proofs.lemmas.List.{length-drop}
 use Rattle.std.proofs.lemmas.List.Sums.{passes_at_first, prefix_len-le-length}
-use Rattle.definition_text.specs.Content.{may_escape}
-use Rattle.definition_block.specs.GfmTable.{is_bar}
-use Rattle.block_cells.specs.GfmTable.{bar_at}
 use Rattle.block_cells.proofs.Parts.{bar_within}
 
 abbrev pub is_bar_or_backslash : ℕ → Bool

@@ -1,9 +1,6 @@
 -- Columns that are left of a tab stand before a text like spaces.
 use Rattle.std.proofs.Common.{◌≡◌, ℕ, suc, zero, ◌+◌, ◌-◌, List, ◌∷◌, ◌++◌, refl, ap, ◌∙◌, length, drop, take, arith}
-use Rattle.std.specs.Prelude.{replicate}
-use Rattle.std.specs.List.{list_any, prefix_len, suffix_len}
-use Rattle.definition_text.specs.Columns.{is_white, is_blank, trim}
-use Rattle.definition_block.specs.GfmTable.{is_bar_or_colon}
+use Rattle.block_cells.proofs.Prelude.{is_bar_or_colon, is_blank, is_white, list_any, prefix_len, replicate, suffix_len, trim}
 
 pub any_columns : (owed : ℕ) (text : List ℕ) → list_any is_bar_or_colon (replicate owed 256 ++ text) ≡ list_any is_bar_or_colon text
 any_columns zero text = refl

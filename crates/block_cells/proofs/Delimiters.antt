@@ -1,16 +1,14 @@
 -- The alignments that a row of delimiters says, cell by cell.
 use Rattle.std.proofs.Common.{◌≡◌, ◌≢◌, ℕ, List, [], ◌∷◌, ◌++◌, Option, None, Some, false, refl, sym, ap, ◌∙◌, get_or, inl, inr}
-use Rattle.std.specs.Prelude.{codes, unwrap_or}
-use Rattle.std.specs.List.{list_any}
-use Rattle.std.specs.Option.{option_map}
-use Rattle.std.proofs.lemmas.Bool.{cases_Bool, cond-true, cond-false, false_from_ne_true}
+use Rattle.block_cells.proofs.Prelude.{alignments_of, and_alignment, cases_Bool, Cell, cells, column_delimiter, cond-false, cond-true, delimiters}
+use Rattle.block_cells.proofs.Prelude.{is_bar_or_colon, list_any, option_map, some_alignments, trim, unwrap_or}
+use Rattle.std.specs.Prelude.{codes}
+use Rattle.std.proofs.lemmas.Bool.{false_from_ne_true}
 use Rattle.std.proofs.lemmas.List.{append_assoc}
 use Rattle.std.proofs.lemmas.Slice.Eq.{bytes_eq-Decides}
 use Rattle.definition_text.specs.Bytes.{begins_with}
-use Rattle.definition_text.specs.Columns.{trim}
 use Rattle.markdown_options.specs.declared.beside.Kind.TheVariants.{Whitespace}
 use Rattle.markdown_options.specs.declared.align_kind.AlignKind.{AlignKind}
-use Rattle.definition_block.specs.GfmTable.{Cell, cells, column_delimiter, delimiters, alignments_of, and_alignment, some_alignments, is_bar_or_colon}
 
 -- a text that doesn't begin with a colon
 pub no_colon : (text : List ℕ) → ((rest : List ℕ) → text ≢ 58 ∷ rest) → begins_with (codes ":") text ≡ false

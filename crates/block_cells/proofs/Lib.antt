@@ -1,3 +1,4 @@
+mod Prelude
 pub mod Bars
 pub mod Parts
 pub mod Columns

@@ -1,18 +1,13 @@
 -- The first part of a line.
 use Rattle.std.proofs.Common.{◌≡◌, Bool, ℕ, suc, zero, ◌+◌, ◌<◌, ◌≤◌, List, [], ◌∷◌, ◌++◌, true, false, not, eqb, refl, sym, ap, ◌∙◌, length, drop, take}
 use Rattle.std.proofs.Common.{get_or, arith, inl, inr, Option, None, Some}
-use Rattle.std.specs.Prelude.{replicate, is_some}
-use Rattle.std.proofs.lemmas.Bool.{true≢false, cases_Bool, cond-true, cond-false, and_parts, eqb-true}
-use Rattle.std.specs.Str.{IsCharBoundary, IsUtf8}
-use Rattle.markdown_options.specs.declared.beside.Kind.{Kind}
+use Rattle.block_cells.proofs.Prelude.{bar_at, cases_Bool, Cell, cell, cond-false, cond-true, eqb-true, in_first_cell, is_bar, is_blank, IsCharBoundary}
+use Rattle.block_cells.proofs.Prelude.{IsUtf8, Kind, may_escape, parts, parts_if, piece_line, replicate, without_blank_last}
+use Rattle.std.specs.Prelude.{is_some}
+use Rattle.std.proofs.lemmas.Bool.{true≢false, and_parts}
 use Rattle.markdown_options.specs.declared.beside.Kind.TheVariants.{Whitespace, Punctuation}
-use Rattle.definition_text.specs.Content.{may_escape}
-use Rattle.definition_block.specs.GfmTable.{Cell, cell, parts, is_bar, in_first_cell, without_blank_last}
-use Rattle.definition_text.specs.Columns.{is_blank}
 use Rattle.text_pieces.specs.declared.piece.Piece.{Piece}
-use Rattle.text_pieces.specs.Pieces.{piece_line}
 use Rattle.text_bytes.proofs.Ascii.{boundary_before, boundary_after}
-use Rattle.block_cells.specs.GfmTable.{bar_at, parts_if}
 
 bar_byte : (escaped : Bool) (c : ℕ) → is_bar escaped c ≡ true → c ≡ 124
 bar_byte escaped c h = eqb-true c 124 (and_parts (eqb c 124) (not escaped) h).0

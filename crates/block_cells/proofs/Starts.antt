@@ -1,15 +1,14 @@
 -- What a row of delimiters begins with.
 use Rattle.std.proofs.Common.{◌≡◌, ◌≢◌, ℕ, zero, suc, ◌+◌, ◌-◌, Bool, List, [], ◌∷◌, ◌||◌, ◌&&◌, true, false, not, eqb, refl, sym, ap, ◌∙◌}
 use Rattle.std.proofs.Common.{length, drop, take, get_or, arith, inl, inr, None}
-use Rattle.std.specs.List.{prefix_len, list_any, suffix_len}
-use Rattle.std.proofs.lemmas.Bool.{cases_Bool, cond-true, cond-false, or_parts, eqb-false, ne_eqb}
-use Rattle.markdown_options.specs.declared.beside.Kind.{Kind}
+use Rattle.block_cells.proofs.Prelude.{alignments_of, and_alignment, begins_delimiters, begins_row, cases_Bool, Cell, cell, cells, column_delimiter}
+use Rattle.block_cells.proofs.Prelude.{cond-false, cond-true, delimiters, in_first_cell, is_bar, is_bar_or_colon, is_blank, is_white, Kind, list_any}
+use Rattle.block_cells.proofs.Prelude.{may_escape, or_parts, parts, prefix_len, some_alignments, suffix_len, trim, without_blank_last}
+use Rattle.std.proofs.lemmas.Bool.{eqb-false, ne_eqb}
 use Rattle.markdown_options.specs.declared.beside.Kind.TheVariants.{Whitespace}
-use Rattle.definition_text.specs.Columns.{is_white, is_blank, trim, bare}
-use Rattle.definition_text.specs.Content.{may_escape}
-use Rattle.definition_block.specs.GfmTable.{Cell, cell, cells, parts, is_bar, in_first_cell, without_blank_first, without_blank_last}
-use Rattle.definition_block.specs.GfmTable.{column_delimiter, alignments_of, and_alignment, some_alignments, delimiters, is_bar_or_colon}
-use Rattle.block_cells.specs.GfmTable.{begins_delimiters, begins_row, may_be_delimiters}
+use Rattle.definition_text.specs.Columns.{bare}
+use Rattle.definition_block.specs.GfmTable.{without_blank_first}
+use Rattle.block_cells.specs.GfmTable.{may_be_delimiters}
 use Rattle.block_cells.proofs.Parts.{some_part}
 use Rattle.block_cells.proofs.Delimiters.{no_colon}
 

@@ -1,11 +1,10 @@
 -- Bytes with the same codes, and later bytes.
 use Rattle.std.proofs.Common.{◌≡◌, ℕ, ◌<◌, ◌+◌, List, sym, ap, ◌∙◌, subst}
-use Rattle.std.specs.List.{flat_map}
+use Rattle.block_definitions.proofs.Prelude.{AreBytes, content_codes, flat_map}
 use Rattle.std.specs.Prelude.{drop}
 use Rattle.std.proofs.lemmas.List.{get_or-drop}
-use Rattle.definition_text.specs.Content.{content_codes}
 use Rattle.inline_links.specs.Texts.{code_text}
-use Rattle.inline_links.proofs.Texts.{AreBytes, bytes_back}
+use Rattle.inline_links.proofs.Texts.{bytes_back}
 
 -- bytes with the same codes are the same
 pub same_bytes : (xs ys : List ℕ) → AreBytes xs → AreBytes ys → content_codes xs ≡ content_codes ys → xs ≡ ys

@@ -1,14 +1,10 @@
 -- The codes of a paragraph's content.
 use Rattle.std.proofs.Common.{◌≡◌, ℕ, ◌<◌, List, [], ◌∷◌, ◌++◌, Option, None, Some, length, refl, sym, ap, ◌∙◌, arith}
-use Rattle.std.specs.Prelude.{map}
-use Rattle.std.specs.List.{flat_map}
-use Rattle.std.proofs.lemmas.List.{length-map, map-append}
-use Rattle.markdown_options.specs.declared.line_ending.LineEnding.{LineEnding}
+use Rattle.block_definitions.proofs.Prelude.{AreLines, BlockLine, code_byte, content_codes, content_of, content_text, ending_code, flat_map, length-map}
+use Rattle.block_definitions.proofs.Prelude.{line_text, LineEnding, map, own_lines}
+use Rattle.std.proofs.lemmas.List.{map-append}
 use Rattle.markdown_options.specs.declared.line_ending.LineEnding.TheVariants.{CarriageReturnLineFeed, CarriageReturn, LineFeed}
-use Rattle.definition_text.specs.Columns.{code_byte}
-use Rattle.definition_text.specs.BlockLines.{BlockLine, block_line, own_lines}
-use Rattle.definition_text.specs.Content.{content_codes, ending_code, content_of, line_text, content_text}
-use Rattle.text_pieces.specs.ParagraphLines.{AreLines}
+use Rattle.definition_text.specs.BlockLines.{block_line}
 use Rattle.text_pieces.proofs.InLine.{in_line}
 use Rattle.definition_text.proofs.ContentBytes.{AreFilled, block_line_bytes, content_codes_of}
 

@@ -1,18 +1,13 @@
 -- One definition of those at the front of a paragraph.
 use Rattle.std.proofs.Common.{◌≡◌, ℕ, ◌+◌, ◌≤◌, ltb, subst, List, [], ◌∷◌, None, length, take, drop, refl, sym, ap, ◌∙◌, arith}
 use Rattle.std.proofs.lemmas.Bool.{lt-ltb, le-ltb}
-use Rattle.std.proofs.lemmas.Option.{none-some}
+use Rattle.block_definitions.proofs.Prelude.{AreLines, BlockLine, content_of, content_text, cut_most, definition_at, DefinitionCut, EndsAt, is_some_line}
+use Rattle.block_definitions.proofs.Prelude.{none-some, own_lines}
 use Rattle.std.proofs.lemmas.List.{length-drop, drop-drop}
-use Rattle.definition_text.specs.BlockLines.{BlockLine, own_lines}
 use Rattle.definition_block.specs.Blocks.{Nil, join}
-use Rattle.definition_text.specs.Content.{content_of, content_text}
-use Rattle.definition_block.specs.Tree.{is_some_line}
-use Rattle.definition_block.specs.Definitions.{DefinitionCut, cut_into, cut_after, cut_most, definition_lines}
-use Rattle.definition_inline.specs.Definition.{definition_at}
-use Rattle.text_pieces.specs.ParagraphLines.{AreLines}
+use Rattle.definition_block.specs.Definitions.{cut_into, cut_after, definition_lines}
 use Rattle.block_rows.proofs.DefinitionLines.{cut_enough}
 use Rattle.block_definitions.specs.declared.front.DefinitionEnd.{DefinitionEnd}
-use Rattle.block_definitions.specs.Ends.{EndsAt}
 
 -- all definitions that these lines can have
 abbrev pub cut_all : List BlockLine → DefinitionCut

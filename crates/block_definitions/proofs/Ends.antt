@@ -1,20 +1,13 @@
 -- Where a definition that was read off a content ends.
 use Rattle.std.proofs.Common.{◌≡◌, ℕ, ◌<◌, ◌≤◌, ◌-◌, suc, List, ◌++◌, Option, None, Some, length, take, drop, refl, sym, ap, ◌∙◌, arith, subst}
-use Rattle.std.specs.Prelude.{map}
+use Rattle.block_definitions.proofs.Prelude.{AreBytes, AreLines, BlockLine, code_byte, content_codes, content_of, content_text, definition_at, length-append}
+use Rattle.block_definitions.proofs.Prelude.{map, none-some, own_lines, the_same, total}
 use Rattle.std.specs.Option.{option_map}
-use Rattle.std.proofs.lemmas.Option.{none-some}
-use Rattle.std.proofs.lemmas.List.{length-append, drop-append-le, drop_all}
-use Rattle.definition_text.specs.Columns.{code_byte}
-use Rattle.definition_text.specs.BlockLines.{BlockLine, own_lines}
-use Rattle.definition_text.specs.Content.{content_codes, content_of, content_text}
+use Rattle.std.proofs.lemmas.List.{drop-append-le, drop_all}
 use Rattle.definition_block.specs.Definitions.{lines_before}
-use Rattle.definition_inline.specs.Definition.{Definition, definition_at}
-use Rattle.text_pieces.specs.ParagraphLines.{AreLines}
-use Rattle.definition_inline.proofs.DefinitionParts.{the_same}
+use Rattle.definition_inline.specs.Definition.{Definition}
 use Rattle.block_rows.proofs.DefinitionLines.{definition_cuts}
 use Rattle.definition_inline.proofs.LinkRenaming.{renamed_definition, definition_renamed, code_byte-renames}
-use Rattle.block_definitions.specs.Contents.{total}
-use Rattle.inline_links.proofs.Texts.{AreBytes}
 use Rattle.block_definitions.proofs.Codes.{same_bytes, later_bytes}
 use Rattle.block_definitions.proofs.Contents.{content_is}
 use Rattle.block_definitions.proofs.Splits.{split_at}

@@ -1,16 +1,11 @@
 -- A paragraph's content, cut after some of its lines.
 use Rattle.std.proofs.Common.{◌≡◌, ℕ, ◌+◌, ◌<◌, ◌≤◌, get_or, zero, suc, List, [], ◌∷◌, ◌++◌, length, take, drop, refl, sym, ap, ◌∙◌, append_assoc, arith}
-use Rattle.std.specs.Prelude.{map}
-use Rattle.std.proofs.lemmas.List.{append-nil, length-append, length-map, take_more, get_or-map}
+use Rattle.block_definitions.proofs.Prelude.{AreLines, BlockLine, code_byte, content_text, length-append, length-map, line_text, map, Piece, piece_line}
+use Rattle.block_definitions.proofs.Prelude.{piece_lines, total}
+use Rattle.std.proofs.lemmas.List.{append-nil, take_more, get_or-map}
 use Rattle.std.proofs.lemmas.List.Sums.{sum_by-cons, sum_by-append}
-use Rattle.definition_text.specs.Columns.{code_byte}
 use Rattle.definition_text.specs.Lines.{ending_text}
-use Rattle.definition_text.specs.BlockLines.{BlockLine}
-use Rattle.text_pieces.specs.ParagraphLines.{AreLines}
-use Rattle.text_pieces.specs.declared.piece.Piece.{Piece}
-use Rattle.text_pieces.specs.Pieces.{piece_line, piece_lines}
-use Rattle.definition_text.specs.Content.{line_text, content_text}
-use Rattle.block_definitions.specs.Contents.{room, total}
+use Rattle.block_definitions.specs.Contents.{room}
 
 -- so many lines and one more of a content: the last of all has its ending outside
 pub record Split (n : ℕ) (ls : List BlockLine) : Type 0 where

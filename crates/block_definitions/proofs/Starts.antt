@@ -3,22 +3,17 @@ use Rattle.std.proofs.Common.{◌≡◌, ℕ, zero, suc, List, [], ◌∷◌, �
 use Rattle.std.specs.Prelude.{replicate}
 use Rattle.std.specs.List.{slice_get}
 use Rattle.std.proofs.lemmas.Bool.{cases_Bool, cond-false}
-use Rattle.std.proofs.lemmas.Option.{none-some}
-use Rattle.markdown_options.specs.declared.line_ending.LineEnding.{LineEnding}
+use Rattle.block_definitions.proofs.Prelude.{after_spaces, AreLines, begins_label, BlockLine, content_codes, content_of, definition_at, ending_code}
+use Rattle.block_definitions.proofs.Prelude.{LineEnding, none-some, own_lines, Piece, piece_line, piece_lines, the_same}
 use Rattle.markdown_options.specs.declared.line_ending.LineEnding.TheVariants.{CarriageReturnLineFeed, CarriageReturn, LineFeed}
-use Rattle.text_pieces.specs.declared.piece.Piece.{Piece}
-use Rattle.text_pieces.specs.Pieces.{piece_line, piece_lines}
 use Rattle.definition_text.specs.Columns.{is_white, tab_column}
-use Rattle.definition_text.specs.BlockLines.{BlockLine, own_lines}
-use Rattle.definition_text.specs.Content.{line_ending_code, ending_code, content_codes, content_of}
-use Rattle.definition_inline.specs.Space.{after_spaces}
+use Rattle.definition_text.specs.Content.{line_ending_code}
 use Rattle.definition_inline.specs.Label.{label_at}
-use Rattle.definition_inline.specs.Definition.{definition_at}
-use Rattle.text_pieces.specs.ParagraphLines.{HaveNoEnding, AreLines}
+use Rattle.text_pieces.specs.ParagraphLines.{HaveNoEnding}
 use Rattle.text_pieces.proofs.InLine.{plain_codes}
 use Rattle.definition_inline.proofs.PartSteps.{with_label}
-use Rattle.definition_inline.proofs.DefinitionParts.{the_same, spaces_pass, spaces_stop}
-use Rattle.block_definitions.specs.Contents.{begins_label, begins_with_bracket}
+use Rattle.definition_inline.proofs.DefinitionParts.{spaces_pass, spaces_stop}
+use Rattle.block_definitions.specs.Contents.{begins_with_bracket}
 
 -- nothing, or a line ending and what follows it
 abbrev EndsHere : List ℕ → Type 0

@@ -1,32 +1,24 @@
 -- What is shown after a leaf goes on, starts or is closed.
 use Rattle.std.proofs.Common.{◌≡◌, ℕ, ◌+◌, ◌-◌, ◌≤◌, ◌<◌, ◌==◌, get_or, List, [], ◌∷◌, ◌++◌, Option, Bool, true, false, refl, sym, ap, ◌∙◌, subst, take, drop}
 use Rattle.std.proofs.Common.{length, append_assoc, arith, vec_len}
-use Rattle.std.specs.Prelude.{map}
+use Rattle.block_leaves.proofs.Prelude.{append-nil, AreRead, At, block_and_ending, block_rows, BlockLine, Blocks, close_leaf, Constructs, Container, drop-drop}
+use Rattle.block_leaves.proofs.Prelude.{drop_all, Footnote, Indented, InText, is_nothing, join, join-assoc, join-nil, last_ending, Leaf, leaf_lines}
+use Rattle.block_leaves.proofs.Prelude.{leaf_state, Leaves, length-append, length-drop, length-map, length-take, Level, LineEnding, lines_from, map, Nil}
+use Rattle.block_leaves.proofs.Prelude.{OpenLeaf, own_lines, Piece, piece_line, piece_lines, row_size, row_value, rows_size, Shows, Single, spine, state_of}
+use Rattle.block_leaves.proofs.Prelude.{take-map, take_all, Text}
 use Rattle.std.proofs.lemmas.Bool.{eq-eqb, ne_eqb}
-use Rattle.std.proofs.lemmas.List.{append-nil, length-append, length-map, map-append, take_all, drop_all, take-append-le, drop-append-le, take-map, drop-map}
-use Rattle.std.proofs.lemmas.List.{drop-drop, take_more, get_or-drop, length-drop, length-take, take-append-drop}
+use Rattle.std.proofs.lemmas.List.{map-append, take-append-le, drop-append-le, drop-map}
+use Rattle.std.proofs.lemmas.List.{take_more, get_or-drop, take-append-drop}
 use Rattle.std.proofs.lemmas.List.Sums.{sum_by-append}
-use Rattle.markdown_options.specs.declared.line_ending.LineEnding.{LineEnding}
-use Rattle.markdown_options.specs.declared.configuration.Constructs.{Constructs}
-use Rattle.definition_block.specs.Container.{Container, Quote, Footnote}
+use Rattle.definition_block.specs.Container.{Quote}
 use Rattle.block_rows.specs.declared.row.Row.{Row}
 use Rattle.block_rows.specs.declared.row.Row.TheVariants as row
-use Rattle.text_pieces.specs.declared.piece.Piece.{Piece}
-use Rattle.definition_text.specs.BlockLines.{BlockLine, last_ending, own_lines}
-use Rattle.definition_block.specs.Tree.{Block, Leaf, IndentedCode, Ending, Blank, Blocks, Nil, join, one, block_and_ending, container_block}
-use Rattle.definition_block.specs.Tree.{OpenLeaf, Text, Indented, At}
-use Rattle.definition_block.specs.Tree.{is_nothing, close_leaf, blanks, is_ending, front}
-use Rattle.text_pieces.proofs.Pieces.{lines_from}
-use Rattle.block_rows.specs.Rows.{Single, start_row, block_rows, row_value, rows_of, rows_value, value_with, row_size, rows_size}
-use Rattle.text_pieces.specs.Pieces.{piece_line}
-use Rattle.text_pieces.specs.Pieces.{piece_lines}
-use Rattle.block_leaves.specs.declared.leaves.Leaves.{Leaves}
-use Rattle.block_state.specs.Spine.{Level, Spine, level, spine, rows_around}
+use Rattle.definition_block.specs.Tree.{Block, IndentedCode, Ending, Blank, one, container_block}
+use Rattle.definition_block.specs.Tree.{blanks, is_ending, front}
+use Rattle.block_rows.specs.Rows.{start_row, rows_of, rows_value, value_with}
+use Rattle.block_state.specs.Spine.{Spine, level, rows_around}
 use Rattle.block_state.specs.Waits.{enter_row, inside, outside}
-use Rattle.block_leaves.specs.View.{AreRead}
-use Rattle.block_state.specs.Leaves.{leaf_state}
-use Rattle.block_state.specs.Shows.{InText, LeafState, state_of, leaf_lines, lone, AreWritten, Shows}
-use Rattle.block_state.proofs.Trees.{join-assoc, join-nil}
+use Rattle.block_state.specs.Shows.{LeafState, lone, AreWritten}
 use Rattle.block_state.proofs.Shown.{left_count, left_shown}
 use Rattle.block_state.proofs.Written.{with_block, with_ending, with_line, without_lines, with_enter, with_exit}
 

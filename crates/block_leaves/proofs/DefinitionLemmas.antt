@@ -1,32 +1,22 @@
 -- Definitions that are cut from the front of the open paragraph.
 use Rattle.std.proofs.Common.{◌≡◌, ◌∷◌, [], ◌≤◌, ℕ, zero, suc, if◌then◌else◌, Bool, true, false, List, Option, None, Some, refl, sym, ap, ◌∙◌, subst, take}
 use Rattle.std.proofs.Common.{drop, length, arith}
-use Rattle.std.proofs.lemmas.Bool.{cond-true, cond_both}
-use Rattle.std.proofs.lemmas.List.{length-map}
-use Rattle.markdown_options.specs.declared.configuration.Constructs.{Constructs}
+use Rattle.block_leaves.proofs.Prelude.{AreLines, AreRead, block_rows, BlockLine, Blocks, cond-true, Constructs, Container, content_of, content_text, cut_into}
+use Rattle.block_leaves.proofs.Prelude.{cut_most, Definition, definition_at, definition_cut, DefinitionCut, is_some_line, join, join-assoc, join-nil, Leaf}
+use Rattle.block_leaves.proofs.Prelude.{Leaves, length-map, Level, Nil, own_lines, Piece, piece_line, piece_lines, row_value, Single, spine, Text}
+use Rattle.std.proofs.lemmas.Bool.{cond_both}
 use Rattle.block_rows.specs.declared.row.Row.TheVariants as row
-use Rattle.text_pieces.specs.declared.piece.Piece.{Piece}
-use Rattle.definition_text.specs.BlockLines.{BlockLine, own_lines}
-use Rattle.definition_block.specs.Container.{Container}
-use Rattle.definition_block.specs.Tree.{Blocks, Nil, join, Leaf, Definition, Text, is_some_line}
 use Rattle.std.specs.Option.{option_map}
 use Rattle.definition_text.specs.Columns.{code_byte}
-use Rattle.definition_text.specs.Content.{content_of, content_text}
-use Rattle.definition_inline.specs.Definition.{Definition as LinkDefinition, definition, definition_at}
-use Rattle.definition_block.specs.Definitions.{DefinitionCut, cut_after, cut_into, cut_most, definition_cut, definition_lines, lines_before}
-use Rattle.text_pieces.specs.ParagraphLines.{AreLines}
-use Rattle.block_rows.specs.Rows.{Single, definition_on, definition_value, row_value, block_rows}
-use Rattle.text_pieces.specs.Pieces.{piece_line, piece_lines}
+use Rattle.definition_inline.specs.Definition.{Definition as LinkDefinition, definition}
+use Rattle.definition_block.specs.Definitions.{cut_after, definition_lines, lines_before}
+use Rattle.block_rows.specs.Rows.{definition_on, definition_value}
 use Rattle.block_rows.proofs.DefinitionLines.{definition_cuts}
 use Rattle.definition_inline.proofs.LinkRenaming.{renamed_definition, definition_renamed, code_byte-renames}
 use Rattle.block_definitions.specs.declared.front.DefinitionEnd.{DefinitionEnd}
 use Rattle.block_definitions.specs.Ends.{EndsAt}
 use Rattle.block_definitions.proofs.Contents.{content_is}
 use Rattle.block_definitions.proofs.Cuts.{cut_all, cut_none, cut_one}
-use Rattle.block_leaves.specs.declared.leaves.Leaves.{Leaves}
-use Rattle.block_state.specs.Spine.{Level, spine}
-use Rattle.block_leaves.specs.View.{AreRead}
-use Rattle.block_state.proofs.Trees.{join-assoc, join-nil}
 
 -- ---- whether any are cut
 

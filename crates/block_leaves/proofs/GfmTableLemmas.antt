@@ -1,11 +1,8 @@
 -- The head of a table above its row of delimiters.
 use Rattle.std.proofs.Common.{◌≡◌, ℕ, ◌<◌, ◌-◌, suc, ◌==◌, List, [], ◌∷◌, refl, ap, ◌∙◌, get_or, length, arith}
-use Rattle.definition_text.specs.BlockLines.{BlockLine, own_lines, last_ending}
+use Rattle.block_leaves.proofs.Prelude.{block_and_ending, BlockLine, is_head, last_ending, Leaf, line_cells, own_lines, Paragraph, paragraph_of, Piece}
+use Rattle.block_leaves.proofs.Prelude.{piece_line, piece_lines}
 use Rattle.markdown_options.specs.declared.align_kind.AlignKind.{AlignKind}
-use Rattle.definition_block.specs.GfmTable.{is_head, line_cells}
-use Rattle.definition_block.specs.Tree.{Leaf, Paragraph, block_and_ending, paragraph_of}
-use Rattle.text_pieces.specs.declared.piece.Piece.{Piece}
-use Rattle.text_pieces.specs.Pieces.{piece_line, piece_lines}
 use Rattle.block_leaves.specs.GfmTable.{fits}
 
 -- a paragraph of some lines

@@ -1,19 +1,16 @@
 -- How the open leaf takes a line, and what is left where nothing is open.
 use Rattle.std.proofs.Common.{◌≡◌, ℕ, List, [], ◌∷◌, ◌++◌, Option, Bool, if◌then◌else◌, true, false, ◌&&◌, refl, ap, ◌∙◌, length}
-use Rattle.std.proofs.lemmas.Bool.{cond-true, cond-false}
-use Rattle.markdown_options.specs.declared.line_ending.LineEnding.{LineEnding}
-use Rattle.markdown_options.specs.declared.configuration.Constructs.{Constructs}
+use Rattle.block_leaves.proofs.Prelude.{At, block_and_ending, BlockLine, cond-false, cond-true, Constructs, cut_into, cut_most, Fence, fence_line, Fenced}
+use Rattle.block_leaves.proofs.Prelude.{FencedCode, Indented, is_some_line, Leaf, LineEnding, Nil, OpenHtml, OpenLeaf, outdent, Rest, rest_line, Tree}
+use Rattle.block_leaves.proofs.Prelude.{with_paragraph}
 use Rattle.markdown_options.specs.declared.beside.Beside.{Beside}
-use Rattle.definition_text.specs.Columns.{Rest, is_blank}
-use Rattle.definition_text.specs.Indents.{outdent}
-use Rattle.definition_text.specs.BlockLines.{BlockLine}
+use Rattle.definition_text.specs.Columns.{is_blank}
 use Rattle.definition_block.specs.CodeIndented.{starts_code_indented}
-use Rattle.definition_block.specs.CodeFenced.{Fence, is_fence_end, fence_line}
+use Rattle.definition_block.specs.CodeFenced.{is_fence_end}
 use Rattle.definition_block.specs.HtmlFlow.{ends_before_blank}
-use Rattle.definition_block.specs.Definitions.{cut_into, cut_most}
 use Rattle.std.specs.Prelude.{unwrap_or}
-use Rattle.definition_block.specs.Tree.{Leaf, FencedCode, Nil, block_and_ending, OpenLeaf, Indented, Fenced, OpenHtml, At, Tree, tree, nothing}
-use Rattle.definition_block.specs.Tree.{is_some_line, rest_line, html_with, new, with_paragraph}
+use Rattle.definition_block.specs.Tree.{tree, nothing}
+use Rattle.definition_block.specs.Tree.{html_with, new}
 use Rattle.block_leaves.specs.View.{leaf_grown}
 
 -- ---- the open leaf takes a line

@@ -1,3 +1,4 @@
+mod Prelude
 pub mod Changes
 pub mod Going
 pub mod DefinitionLemmas

@@ -1,11 +1,9 @@
 -- Closing what is open, seen from the innermost container.
 use Rattle.std.proofs.Common.{◌≡◌, ℕ, zero, suc, ◌+◌, ◌<◌, get_or, List, [], ◌∷◌, ◌++◌, refl, sym, ap, ◌∙◌, subst, length, arith}
-use Rattle.std.proofs.lemmas.List.{length-append, length-map, map-append, get_or-map}
-use Rattle.markdown_options.specs.declared.configuration.Constructs.{Constructs}
-use Rattle.markdown_options.specs.declared.container.Container.{Container as CodeContainer}
-use Rattle.block_starts.specs.View.{container_view, container_views}
-use Rattle.definition_block.specs.Tree.{Blocks, join, OpenLeaf, Text, Opening, At, Inside, Tree, close, close_leaf, after}
-use Rattle.block_state.specs.Spine.{Level, level, Spine, spine, spine_at, spine_after, containers_of, without_innermost, without_innermost_at}
+use Rattle.block_parser.proofs.Prelude.{after, At, Blocks, close, close_leaf, CodeContainer, Constructs, container_view, container_views, containers_of}
+use Rattle.block_parser.proofs.Prelude.{get_or-map, Inside, join, length-append, length-map, level, Level, map-append, Opening, OpenLeaf, spine, Spine}
+use Rattle.block_parser.proofs.Prelude.{spine_after, spine_at, Text, Tree, without_innermost_at}
+use Rattle.block_state.specs.Spine.{without_innermost}
 use Rattle.block_state.proofs.Trees.{join-assoc}
 
 -- ---- how many containers are open

@@ -1,30 +1,19 @@
 -- A line in the containers that are open.
 use Rattle.std.proofs.Common.{◌≡◌, ℕ, ◌+◌, ◌<◌, Bool, true, false, ◌&&◌, ◌==◌, List, [], ◌∷◌, ◌++◌, Option, None, Some, refl, sym, ap, ◌∙◌, subst, length}
 use Rattle.std.proofs.Common.{get_or, take, arith}
-use Rattle.std.proofs.lemmas.Bool.{ne_eqb, eq-eqb}
-use Rattle.std.proofs.lemmas.List.{append-nil}
-use Rattle.std.specs.Prelude.{map, if◌then◌else◌}
-use Rattle.markdown_options.specs.declared.line_ending.LineEnding.{LineEnding}
-use Rattle.markdown_options.specs.declared.configuration.Constructs.{Constructs}
-use Rattle.markdown_options.specs.declared.beside.Beside.{Beside}
-use Rattle.definition_block.specs.Container.{Container}
-use Rattle.block_rows.specs.declared.row.Row.{Row}
+use Rattle.block_parser.proofs.Prelude.{append-nil, At, began_blank, Beside, beside_in, Blank, BlockLine, Blocks, Constructs, Container, ContainerLine}
+use Rattle.block_parser.proofs.Prelude.{containers_of, continues, Descent, eq-eqb, Fence, Fenced, grow, Indented, InFenced, Inside, InText, is_nothing}
+use Rattle.block_parser.proofs.Prelude.{is_one_blank, is_one_blank_row, join, join-nil, last_ending_or, level, Level, LineEnding, map, ne_eqb, new, Nil}
+use Rattle.block_parser.proofs.Prelude.{OpenHtml, Opening, OpenTable, own_lines, Rest, Row, rows_of, spine, Spine, spine_after, spine_at, spine_of, state_of}
+use Rattle.block_parser.proofs.Prelude.{Text, Tree}
+use Rattle.std.specs.Prelude.{if◌then◌else◌}
 use Rattle.block_rows.specs.declared.row.Row.TheVariants as row
-use Rattle.definition_text.specs.Columns.{Rest}
-use Rattle.definition_block.specs.ContainerLine.{ContainerLine}
-use Rattle.definition_block.specs.Containers.{continues}
-use Rattle.definition_block.specs.CodeFenced.{Fence}
 use Rattle.definition_inline.specs.Definition.{Definition as LinkDefinition}
-use Rattle.definition_text.specs.BlockLines.{BlockLine, last_ending_or, own_lines}
-use Rattle.definition_block.specs.Tree.{Block, Ending, Blank, Blocks, Nil, Cons, join, all_endings, front, trailing, Text, Indented, Fenced, OpenHtml}
-use Rattle.definition_block.specs.Tree.{OpenTable, Opening, At, Inside, Tree, beside_in, grow, goes_on, new, began_blank, is_nothing, is_one_blank}
-use Rattle.block_rows.specs.Rows.{definition_on, definition_value, BlockRow, Single, rows_of}
-use Rattle.block_state.specs.Spine.{Level, level, Spine, spine, spine_at, spine_of, spine_after, containers_of}
-use Rattle.block_state.specs.Waits.{is_one_blank_row}
-use Rattle.block_state.specs.Shows.{InText, InIndented, InFenced, InHtml, InTable, state_of, lone, is_nil, AreWritten}
+use Rattle.definition_block.specs.Tree.{Block, Ending, Cons, all_endings, front, trailing}
+use Rattle.definition_block.specs.Tree.{goes_on}
+use Rattle.block_rows.specs.Rows.{definition_on, definition_value, BlockRow, Single}
+use Rattle.block_state.specs.Shows.{InIndented, InHtml, InTable, lone, is_nil, AreWritten}
 use Rattle.block_leaves.specs.View.{leaf_grown}
-use Rattle.block_parser.specs.View.{Descent}
-use Rattle.block_state.proofs.Trees.{join-nil}
 use Rattle.block_parser.proofs.Closing.{opening_depth, length-around, length-containers}
 
 -- ---- the container at a depth

@@ -2,36 +2,24 @@
 use Rattle.std.proofs.Common.{◌≡◌, ℕ, ◌<◌, ◌-◌, false, true, List, [], ◌∷◌, ◌++◌, Option, refl, sym, ap, ◌∙◌, subst, get_or, length, take}
 use Rattle.std.proofs.Common.{append_assoc, arith}
 use native.Mathlib.Numerals.{unary_clauses}
-use Rattle.std.specs.Prelude.{◌||◌, map}
-use Rattle.std.specs.List.{list_any}
-use Rattle.std.specs.Str.{IsUtf8, IsCharBoundary}
+use Rattle.block_parser.proofs.Prelude.{append-nil, AreFenced, At, beside_line, block_and_ending, block_codes_whole, block_line, BlockLine, Blocks, code_line}
+use Rattle.block_parser.proofs.Prelude.{Constructs, container_views, ending_text, Fence, Fenced, front_bytes, HasRead, InFenced, Inside, IsUtf8, IsWholeCode}
+use Rattle.block_parser.proofs.Prelude.{join, join-nil, last_ending_or, later_bytes, Leaf, leaf_state, length-append, LineEnding, lines, list_any, map}
+use Rattle.block_parser.proofs.Prelude.{map-append, nothing, Opening, Parser, ReadsSome, Rest, rest_line, spine, Spine, spine_after, spine_at, spine_of}
+use Rattle.block_parser.proofs.Prelude.{state_of, step, steps, text_back, text_of, TextLine, tree, Tree, whole, whole_line, whole_lines}
+use Rattle.std.specs.Prelude.{◌||◌}
+use Rattle.std.specs.Str.{IsCharBoundary}
 use Rattle.std.proofs.lemmas.Bool.{or_parts}
-use Rattle.std.proofs.lemmas.List.{append-nil, length-append, map-append, take_at}
+use Rattle.std.proofs.lemmas.List.{take_at}
 use Rattle.std.proofs.lemmas.List.Concat.{flat_map-append}
 use Rattle.std.proofs.lemmas.List.Folds.{list_any-append}
 use Rattle.std.proofs.lemmas.Str.{IsCharBoundary-at_seam}
-use Rattle.markdown_options.specs.declared.line_ending.LineEnding.{LineEnding}
-use Rattle.markdown_options.specs.declared.configuration.Constructs.{Constructs}
 use Rattle.markdown_options.specs.declared.beside.Kind.TheVariants.{Whitespace}
-use Rattle.definition_text.specs.Lines.{TextLine, lines, ending_text}
-use Rattle.definition_text.specs.Columns.{Rest, whole}
-use Rattle.definition_text.specs.BlockLines.{BlockLine, block_line, last_ending_or}
-use Rattle.definition_block.specs.CodeFenced.{Fence, fence_line, is_fence_end}
-use Rattle.definition_block.specs.Tree.{Blocks, Leaf, FencedCode, block_and_ending, join, nothing, rest_line}
-use Rattle.definition_block.specs.Tree.{Fenced, Opening, At, Inside, Tree, tree, beside_line, step, steps}
-use Rattle.text_pieces.specs.Pieces.{whole_line, whole_lines}
+use Rattle.definition_block.specs.CodeFenced.{fence_line, is_fence_end}
+use Rattle.definition_block.specs.Tree.{FencedCode}
 use Rattle.block_rows.proofs.OpenLines.{AreTextLines, lines_of_text}
-use Rattle.block_rows.proofs.TextLines.{front_bytes, front_of_text, later_bytes, line_bytes, lines_of_front, text_back, text_of}
-use Rattle.text_lines.proofs.Codes.{block_codes_whole}
-use Rattle.block_starts.specs.View.{container_views}
-use Rattle.block_state.specs.Leaves.{leaf_state}
-use Rattle.block_state.specs.Shows.{InFenced, state_of}
-use Rattle.block_state.specs.Spine.{Spine, spine, spine_after, spine_at, spine_of}
-use Rattle.block_state.proofs.Trees.{join-nil}
-use Rattle.block_leaves.specs.View.{AreFenced}
-use Rattle.block_parser.specs.declared.parser.Parser.{Parser}
-use Rattle.block_parser.specs.Fences.{IsWholeCode, code_line, line_closes}
-use Rattle.block_parser.specs.View.{HasRead, ReadsSome}
+use Rattle.block_rows.proofs.TextLines.{front_of_text, line_bytes, lines_of_front}
+use Rattle.block_parser.specs.Fences.{line_closes}
 use Rattle.block_parser.proofs.Closing.{opening_depth}
 use Rattle.block_parser.proofs.PlainLines.{some_lines}
 use Rattle.block_parser.proofs.Read.{split_more, steps_to}

@@ -1,19 +1,12 @@
 -- A row of delimiters under the open paragraph.
 use Rattle.std.proofs.Common.{◌≡◌, Bool, true, false, if◌then◌else◌, ◌&&◌, List, [], ◌∷◌, Option, None, Some, refl, sym, ap, ◌∙◌}
 use Rattle.std.proofs.Common.{length}
-use Rattle.std.specs.Prelude.{unwrap_or}
-use Rattle.std.specs.List.{list_any}
+use Rattle.block_parser.proofs.Prelude.{bare, BlockLine, bytes_of, Constructs, definition_cut, delimiter_row, fits, is_some_line, list_any, Rest, small_indent}
+use Rattle.block_parser.proofs.Prelude.{table_from_cut, table_if, Tree, unwrap_or}
 use Rattle.std.proofs.lemmas.Bool.{cond_both}
-use Rattle.markdown_options.specs.declared.configuration.Constructs.{Constructs}
-use Rattle.definition_text.specs.BlockLines.{BlockLine}
-use Rattle.definition_text.specs.Columns.{Rest, bare, bytes_of}
-use Rattle.definition_text.specs.Indents.{small_indent}
 use Rattle.markdown_options.specs.declared.align_kind.AlignKind.{AlignKind}
-use Rattle.definition_block.specs.Definitions.{definition_cut}
-use Rattle.definition_block.specs.GfmTable.{alignments_of, cells, delimiter_row, delimiters, is_bar_or_colon, is_head, some_alignments}
-use Rattle.definition_block.specs.Tree.{Tree, is_some_line}
+use Rattle.definition_block.specs.GfmTable.{alignments_of, cells, delimiters, is_bar_or_colon, is_head, some_alignments}
 use Rattle.markdown_options.specs.declared.beside.Kind.TheVariants.{Whitespace}
-use Rattle.block_leaves.specs.GfmTable.{fits, table_from_cut, table_if}
 use Rattle.block_parser.proofs.Steps.{none_cut}
 
 -- whether there are columns

@@ -1,11 +1,6 @@
 -- A paragraph that is open where a line leaves the containers, and may be interrupted.
 use Rattle.std.proofs.Common.{◌≡◌, ℕ, ◌==◌, ◌&&◌, [], List, true, false, ap, length, arith, vec_len}
-use Rattle.std.proofs.lemmas.Bool.{and_parts, eqb-true, eq-eqb}
-use Rattle.definition_block.specs.Tree.{Blocks, Opening, has_text, text_here}
-use Rattle.block_starts.specs.View.{container_views}
-use Rattle.block_parser.specs.declared.parser.Parser.{Parser}
-use Rattle.block_state.specs.Spine.{Level, spine_at}
-use Rattle.block_parser.specs.View.{HasRead}
+use Rattle.block_parser.proofs.Prelude.{and_parts, Blocks, container_views, eq-eqb, eqb-true, has_text, HasRead, Level, Opening, Parser, spine_at, text_here}
 use Rattle.block_parser.proofs.Closing.{opening_depth, length-around, length-containers, views_length}
 use Rattle.block_parser.proofs.Descending.{no_deeper}
 use Rattle.block_parser.proofs.Steps.{here_or_not}

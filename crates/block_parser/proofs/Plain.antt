@@ -1,21 +1,12 @@
 -- Plain lines.
 use Rattle.std.proofs.Common.{◌≡◌, ℕ, List, [], Bool, true, ◌&&◌, ap, ◌∙◌, arith}
 use Rattle.std.specs.Prelude.{leb}
-use Rattle.std.specs.Option.{option_or}
-use Rattle.std.proofs.lemmas.Bool.{and_parts}
-use Rattle.markdown_options.specs.declared.configuration.Constructs.{Constructs}
-use Rattle.markdown_options.specs.declared.beside.Beside.{Beside}
-use Rattle.definition_text.specs.Columns.{Rest, indent, bare, bytes_of}
-use Rattle.definition_text.specs.BlockLines.{BlockLine}
-use Rattle.definition_block.specs.MathFlow.{math_start}
-use Rattle.definition_block.specs.Tree.{Blocks, Text, Opening, At, Inside, Tree, tree}
-use Rattle.definition_block.specs.Tree.{has_text, text_here, rest_line, leaf_line, text_line_of, new}
-use Rattle.block_leaves.specs.GfmTable.{table_if}
-use Rattle.block_starts.specs.Plain.{begins_plain, is_plain}
+use Rattle.block_parser.proofs.Prelude.{and_parts, At, bare, Beside, BlockLine, Blocks, bytes_of, Constructs, has_text, indent, Inside, InText, is_plain}
+use Rattle.block_parser.proofs.Prelude.{leaf_line, math_start, new, Opening, option_or, Rest, rest_line, spine_at, state_of, table_if, Text, text_here}
+use Rattle.block_parser.proofs.Prelude.{text_line_of, tree, Tree}
+use Rattle.block_starts.specs.Plain.{begins_plain}
 use Rattle.block_starts.proofs.PlainLemmas.{plain_starts, plain_not_blank, plain_not_code, plain_fence, plain_math, plain_html, plain_heading, plain_underline}
 use Rattle.block_starts.proofs.PlainLemmas.{plain_break, plain_delimiters}
-use Rattle.block_state.specs.Shows.{InText, state_of}
-use Rattle.block_state.specs.Spine.{spine_at}
 use Rattle.block_parser.proofs.Closing.{opening_depth}
 use Rattle.block_parser.proofs.Starting.{new_none}
 use Rattle.block_parser.proofs.Steps.{text_leaf, turns_not}

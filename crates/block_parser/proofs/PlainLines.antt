@@ -1,32 +1,17 @@
 -- Plain lines at the front of a text, which a paragraph takes at once.
 use Rattle.std.proofs.Common.{◌≡◌, ℕ, ◌<◌, true, List, [], ◌∷◌, ◌++◌, Option, None, Some, refl, sym, ap, ◌∙◌, subst, get_or}
 use Rattle.std.proofs.Common.{◌-◌, length, take, append_assoc, arith}
-use Rattle.std.specs.Prelude.{map}
-use Rattle.std.specs.List.{flat_map}
-use Rattle.std.proofs.lemmas.List.{append-nil, length-append, map-append}
-use Rattle.markdown_options.specs.declared.line_ending.LineEnding.{LineEnding}
+use Rattle.block_parser.proofs.Prelude.{append-nil, AreLines, At, Beside, beside_line, block_codes_whole, block_line, BlockLine, Blocks, closed_nothing}
+use Rattle.block_parser.proofs.Prelude.{Constructs, ending_text, flat_map, front_bytes, grow, HasRead, is_plain, join, join-nil, KeepsLines, later_bytes}
+use Rattle.block_parser.proofs.Prelude.{length-append, line_text, LineEnding, lines, map, map-append, Nil, open_text, Parser, ReadsSome, Rest, rest_line}
+use Rattle.block_parser.proofs.Prelude.{Spine, spine, spine_of, step, steps, Text, text_back, text_line, text_line_of, text_of, TextLine, tree, Tree, whole}
+use Rattle.block_parser.proofs.Prelude.{whole_line, whole_lines}
 use Rattle.markdown_options.specs.declared.line_ending.LineEnding.TheVariants.{CarriageReturnLineFeed, CarriageReturn, LineFeed}
-use Rattle.markdown_options.specs.declared.configuration.Constructs.{Constructs}
-use Rattle.markdown_options.specs.declared.beside.Beside.{Beside}
 use Rattle.markdown_options.specs.declared.beside.Kind.TheVariants.{Whitespace}
-use Rattle.definition_text.specs.Lines.{TextLine, text_line, lines, ending_text}
-use Rattle.definition_text.specs.Columns.{Rest, whole}
-use Rattle.definition_text.specs.BlockLines.{BlockLine, block_line}
-use Rattle.definition_text.specs.Content.{line_text}
 use Rattle.definition_text.proofs.CodeBytes.{code_bytes}
-use Rattle.definition_block.specs.Tree.{Blocks, Nil, join, Text, At, Tree, tree, beside_line, grow, open_text, rest_line, step, steps, text_line_of}
-use Rattle.text_pieces.specs.ParagraphLines.{AreLines}
-use Rattle.text_pieces.specs.Pieces.{whole_line, whole_lines}
-use Rattle.block_rows.proofs.TextLines.{first_bytes, front_bytes, later_bytes, text_back, text_of}
-use Rattle.block_starts.specs.Plain.{is_plain}
-use Rattle.text_lines.proofs.Codes.{block_codes_whole}
-use Rattle.block_parser.specs.declared.parser.Parser.{Parser}
-use Rattle.block_state.specs.Spine.{Spine, spine, spine_of}
-use Rattle.block_parser.specs.View.{HasRead, KeepsLines, ReadsSome}
+use Rattle.block_rows.proofs.TextLines.{first_bytes}
 use Rattle.block_parser.proofs.Plain.{plain_new}
 use Rattle.block_parser.proofs.Read.{split_more, steps_to}
-use Rattle.block_leaves.proofs.Going.{closed_nothing}
-use Rattle.block_state.proofs.Trees.{join-nil}
 use Rattle.block_state.specs.WholeLines.{Begins}
 use Rattle.block_state.proofs.WholeLines.{begins_none, begins_line, front_lines}
 

@@ -2,22 +2,16 @@
 use Rattle.std.proofs.Common.{◌≡◌, ℕ, zero, suc, ◌+◌, ◌-◌, ◌<◌, Bool, true, false, not, eqb, List, [], ◌∷◌, ◌++◌, Some, inl, inr, refl, sym, ap, ◌∙◌, subst}
 use Rattle.std.proofs.Common.{if◌then◌else◌, length, get_or, arith}
 use Rattle.std.proofs.Math.Seq.{drop-nil}
-use Rattle.std.proofs.lemmas.Bool.{cases_lt, cond-true, and_parts, ne_eqb}
-use Rattle.std.proofs.lemmas.List.{get_or_append_left, get_or_default, length-append, map-append}
-use Rattle.markdown_options.specs.declared.configuration.Constructs.{Constructs}
-use Rattle.markdown_options.specs.declared.beside.Beside.{Beside}
+use Rattle.block_parser.proofs.Prelude.{and_parts, At, began_blank, Beside, beside_in, Blocks, choose_if, CodeContainer, cond-true, Constructs, Container}
+use Rattle.block_parser.proofs.Prelude.{container_line, container_view, container_views, containers_of, continues, Descent, indent, Inside, is_blank}
+use Rattle.block_parser.proofs.Prelude.{is_one_blank, is_quote, length-append, Level, map-append, ne_eqb, NoQuoteFrom, Opening, Quote, Rest, Spine, spine_at}
+use Rattle.block_parser.proofs.Prelude.{spine_of, Tree}
+use Rattle.std.proofs.lemmas.Bool.{cases_lt}
+use Rattle.std.proofs.lemmas.List.{get_or_append_left, get_or_default}
 use Rattle.markdown_options.specs.declared.beside.Kind.TheVariants.{Whitespace}
-use Rattle.definition_text.specs.Columns.{Code, Rest, is_white, is_blank, indent}
-use Rattle.markdown_options.specs.declared.container.Container.{Container as CodeContainer}
-use Rattle.definition_block.specs.Container.{Container, Quote, Item, Footnote}
-use Rattle.definition_block.specs.ContainerLine.{container_line}
-use Rattle.definition_block.specs.Containers.{continues}
-use Rattle.definition_block.specs.Tree.{Blocks, Opening, At, Inside, Tree, beside_in, began_blank, is_one_blank}
-use Rattle.block_starts.specs.View.{container_view, container_views}
-use Rattle.block_state.specs.Spine.{Level, Spine, spine_at, spine_of, containers_of}
-use Rattle.block_state.proofs.Trees.{choose_if}
-use Rattle.block_parser.specs.Quotes.{is_quote, NoQuoteFrom, NoneBeganBlank}
-use Rattle.block_parser.specs.View.{Descent}
+use Rattle.definition_text.specs.Columns.{Code, is_white}
+use Rattle.definition_block.specs.Container.{Item, Footnote}
+use Rattle.block_parser.specs.Quotes.{NoneBeganBlank}
 use Rattle.block_parser.proofs.Closing.{length-containers}
 use Rattle.block_parser.proofs.Descending.{get-append, goes_inside, and-swap}
 

@@ -1,16 +1,9 @@
 -- Lines that were read, some at a time.
 use Rattle.std.proofs.Common.{◌≡◌, ℕ, ◌≤◌, ◌<◌, List, [], ◌∷◌, ◌++◌, refl, sym, ap, ◌∙◌, subst, get_or, length, append_assoc, arith}
-use Rattle.std.proofs.lemmas.List.{length-append}
-use Rattle.markdown_options.specs.declared.configuration.Constructs.{Constructs}
-use Rattle.markdown_options.specs.declared.beside.Kind.{Kind}
+use Rattle.block_parser.proofs.Prelude.{AreLines, Constructs, empty_tree, HasRead, KeepsLines, Kind, length-append, lines, open_lines, open_text, Parser}
+use Rattle.block_parser.proofs.Prelude.{ReadsSome, spine_of, step, steps, TextLine, Tree}
 use Rattle.markdown_options.specs.declared.beside.Kind.TheVariants.{Whitespace}
-use Rattle.definition_text.specs.Lines.{TextLine, lines}
-use Rattle.definition_block.specs.Tree.{Tree, empty_tree, open_text, step, steps}
-use Rattle.text_pieces.specs.ParagraphLines.{AreLines}
-use Rattle.block_rows.proofs.OpenLines.{open_lines}
-use Rattle.block_parser.specs.declared.parser.Parser.{Parser}
-use Rattle.block_state.specs.Spine.{spine_of}
-use Rattle.block_parser.specs.View.{HasRead, KeepsLines, ReadsSome, kind_after_lines}
+use Rattle.block_parser.specs.View.{kind_after_lines}
 
 kind_later : (ls : List TextLine) → kind_after_lines Whitespace ls ≡ Whitespace
 kind_later [] = refl

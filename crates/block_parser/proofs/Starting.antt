@@ -4,14 +4,10 @@ use Rattle.std.proofs.Common.{refl, sym, ap, ◌∙◌, subst, length, drop, tak
 use Rattle.std.proofs.lemmas.List.{length-drop}
 use Rattle.std.specs.Prelude.{min}
 use Rattle.std.specs.List.{prefix_len}
-use Rattle.markdown_options.specs.declared.configuration.Constructs.{Constructs}
-use Rattle.markdown_options.specs.declared.beside.Beside.{Beside}
-use Rattle.definition_block.specs.Container.{Container}
-use Rattle.definition_text.specs.Columns.{Rest, bare, indent}
-use Rattle.definition_text.specs.Indents.{small_indent}
-use Rattle.definition_block.specs.ContainerLine.{ContainerLine}
+use Rattle.block_parser.proofs.Prelude.{after, bare, Beside, beside_in, Blocks, choose_if, closed_nothing, Constructs, Container, ContainerLine, has_text}
+use Rattle.block_parser.proofs.Prelude.{indent, Inside, is_break, join, join-nil, leaf_line, level, Level, new, new_inside, Nil, nothing, Opening, Rest}
+use Rattle.block_parser.proofs.Prelude.{small_indent, spine_after, spine_at, starts, tree, Tree}
 use Rattle.definition_block.specs.ContainerStart.{ContainerStart}
-use Rattle.definition_block.specs.ThematicBreak.{is_break}
 use Rattle.definition_block.specs.BlockQuote.{after_byte, after_mark, quote_prefix}
 use Rattle.definition_block.specs.ListItem.{Marker, marker_of, is_digit, number_of, bullet, after_number, ordered_marker, marker, gap, is_item, item}
 use Rattle.definition_block.specs.ListItem.{item_after}
@@ -20,12 +16,8 @@ use Rattle.definition_text.specs.Content.{Part, may_escape, closed_by}
 use Rattle.definition_inline.specs.Label.{ends_label, label_end}
 use Rattle.definition_block.specs.GfmFootnoteDefinition.{is_footnote_label, label_before, with_colon, after_open, after_bracket, footnote_mark, footnote_of}
 use Rattle.definition_block.specs.GfmFootnoteDefinition.{footnote_start}
-use Rattle.definition_block.specs.Containers.{quote_or, footnote_or, starts}
-use Rattle.definition_block.specs.Tree.{Blocks, Nil, join, Opening, Inside, Tree, tree, nothing, after, has_text, leaf_line, beside_in, start, new}
-use Rattle.block_state.specs.Spine.{Level, level, spine_at, spine_after}
-use Rattle.block_leaves.proofs.Going.{closed_nothing}
-use Rattle.block_parser.specs.View.{new_inside}
-use Rattle.block_state.proofs.Trees.{choose_if, join-nil}
+use Rattle.definition_block.specs.Containers.{quote_or, footnote_or}
+use Rattle.definition_block.specs.Tree.{start}
 
 -- ---- what starts a container makes the rest shorter
 

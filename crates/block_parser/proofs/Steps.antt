@@ -1,36 +1,23 @@
 -- The steps of the definition, case by case.
 use Rattle.std.proofs.Common.{◌≡◌, ℕ, List, [], ◌∷◌, ◌++◌, Option, None, Some, Bool, if◌then◌else◌, true, false, not, ◌&&◌, ◌||◌, ◌==◌, refl, sym, ap, ◌∙◌}
 use Rattle.std.proofs.Common.{subst, arith}
-use Rattle.std.proofs.lemmas.Bool.{cond-true, cond-false, or_left, or_from}
-use Rattle.markdown_options.specs.declared.line_ending.LineEnding.{LineEnding}
-use Rattle.markdown_options.specs.declared.configuration.Constructs.{Constructs}
-use Rattle.markdown_options.specs.declared.beside.Beside.{Beside}
-use Rattle.definition_text.specs.Columns.{Rest, is_blank}
-use Rattle.definition_text.specs.Indents.{outdent}
-use Rattle.definition_block.specs.CodeIndented.{starts_code_indented}
-use Rattle.definition_block.specs.CodeFenced.{Fence, fence_start}
-use Rattle.definition_block.specs.MathFlow.{math_start}
-use Rattle.std.specs.Prelude.{unwrap_or}
+use Rattle.block_parser.proofs.Prelude.{after, AreLines, At, Beside, Blank, block_and_ending, BlockLine, Blocks, Break, close, cond-true, Constructs}
+use Rattle.block_parser.proofs.Prelude.{definition_cut, Fence, Fenced, has_text, Heading, heading_blocks, heading_tree, html_start, html_with, Indented}
+use Rattle.block_parser.proofs.Prelude.{Inside, is_blank, is_break, is_some_line, IsText, join, join-nil, Leaf, leaf_line, leaf_text, level, Level, LineEnding}
+use Rattle.block_parser.proofs.Prelude.{math_start, Nil, no_text, nothing, one, open_text, Opening, OpenTable, option_or, outdent, own_lines, Rest, rest_line}
+use Rattle.block_parser.proofs.Prelude.{spaced_line, spine, Spine, spine_after, spine_at, starts_code_indented, table_from_cut, Text, text_here, text_line_of}
+use Rattle.block_parser.proofs.Prelude.{tree, Tree, turns, unwrap_or}
+use Rattle.std.proofs.lemmas.Bool.{cond-false, or_left, or_from}
+use Rattle.definition_block.specs.CodeFenced.{fence_start}
 use Rattle.std.specs.Bool.{then_some}
-use Rattle.std.specs.Option.{option_or, option_map, option_and_then}
+use Rattle.std.specs.Option.{option_map, option_and_then}
 use Rattle.block_leaves.specs.Fences.{opening_fence}
-use Rattle.definition_block.specs.HtmlFlow.{html_start}
 use Rattle.definition_block.specs.HeadingAtx.{Atx, heading_atx}
 use Rattle.definition_block.specs.HeadingSetext.{underline}
-use Rattle.definition_block.specs.ThematicBreak.{is_break}
-use Rattle.definition_block.specs.Definitions.{definition_cut, cut_into, cut_most}
-use Rattle.text_pieces.specs.ParagraphLines.{AreLines}
-use Rattle.definition_text.specs.BlockLines.{BlockLine, spaced_line, own_lines}
-use Rattle.definition_block.specs.Tree.{Leaf, Heading, Break, Blank, Blocks, Nil, join, one, block_and_ending, Text, Indented, Fenced}
-use Rattle.definition_block.specs.Tree.{OpenTable, Opening, At, Inside, Tree, tree, nothing, close, after, leaf_text, open_text, text_here}
-use Rattle.definition_block.specs.Tree.{is_some_line, has_text, is_table_leaf, has_table, makes_table, with_line, rest_line, leaf_line, html_with}
-use Rattle.definition_block.specs.Tree.{text_line_of, turns, indented_tree, fence_tree, html_tree, atx_tree, break_tree, underlined, heading_of, anew}
+use Rattle.definition_block.specs.Definitions.{cut_into, cut_most}
+use Rattle.definition_block.specs.Tree.{is_table_leaf, has_table, makes_table, with_line}
+use Rattle.definition_block.specs.Tree.{indented_tree, fence_tree, html_tree, atx_tree, break_tree, underlined, heading_of, anew}
 use Rattle.definition_block.specs.Tree.{first_of, leaf_starts}
-use Rattle.block_state.specs.Spine.{Level, level, Spine, spine, spine_at, spine_after}
-use Rattle.block_leaves.specs.HeadingSetext.{IsText, heading_blocks, heading_tree}
-use Rattle.block_leaves.specs.GfmTable.{table_from_cut}
-use Rattle.block_leaves.proofs.Going.{no_text}
-use Rattle.block_state.proofs.Trees.{join-nil}
 use Rattle.block_parser.proofs.Closing.{after_added, opening_depth}
 
 -- ---- a line that the open leaf doesn't take

@@ -1,3 +1,4 @@
+mod Prelude
 mod Notes
 mod NoDefinition
 mod NoFootnote

@@ -1,13 +1,8 @@
 -- Rows without a definition have none.
 use Rattle.std.proofs.Common.{◌≡◌, false, List, [], ◌∷◌, ◌++◌, refl, ap, ◌∙◌}
-use Rattle.std.specs.List.{flat_map, fold, list_any}
-use Rattle.std.proofs.lemmas.Bool.{or_parts, true≢false}
-use Rattle.std.proofs.lemmas.List.{append-nil}
-use Rattle.std.proofs.lemmas.List.Concat.{flat_map-append}
-use Rattle.definition_text.specs.BlockLines.{BlockLine}
-use Rattle.block_rows.specs.declared.row.Row.{Row}
+use Rattle.block_targets.proofs.Prelude.{append-nil, BlockLine, flat_map, flat_map-append, fold, list_any, or_parts, Row, row_definitions, row_size, row_value}
+use Rattle.block_targets.proofs.Prelude.{rows_value, RowsValue, show_row, true≢false, value_with}
 use Rattle.block_rows.specs.declared.row.Row.TheVariants as row
-use Rattle.block_rows.specs.Rows.{RowsValue, row_definitions, row_size, row_value, rows_value, show_row, value_with}
 use Rattle.block_targets.specs.Read.{is_definition, takes_lines}
 
 none_in : (r : Row) (ls : List BlockLine) → is_definition r ≡ false → row_definitions (row_value r ls) ++ [] ≡ []

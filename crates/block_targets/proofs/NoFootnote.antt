@@ -1,15 +1,9 @@
 -- Rows in which no footnote definition starts note none.
 use Rattle.std.proofs.Common.{◌≡◌, ℕ, false, List, [], ◌∷◌, Option, None, Some, refl, sym, ap, ◌∙◌, subst}
-use Rattle.std.specs.List.{fold, list_any}
-use Rattle.std.proofs.lemmas.Bool.{or_parts, true≢false}
-use Rattle.std.proofs.lemmas.List.Sums.{fold-append}
-use Rattle.definition_text.specs.BlockLines.{BlockLine}
-use Rattle.definition_block.specs.Blocks.{Blocks}
-use Rattle.definition_block.specs.Definitions.{footnotes}
-use Rattle.block_rows.specs.declared.row.Row.{Row}
+use Rattle.block_targets.proofs.Prelude.{BlockLine, Blocks, fold, fold-append, footnotes, labels_so_far, LabelsSoFar, list_any, note_exit, note_row, note_rows}
+use Rattle.block_targets.proofs.Prelude.{nothing_noted, or_parts, Row, row_value, rows_of, rows_value, RowsValue, show_row, true≢false, value_with}
 use Rattle.block_rows.specs.declared.row.Row.TheVariants as row
-use Rattle.block_rows.specs.Rows.{RowsValue, row_value, rows_of, rows_value, show_row, value_with}
-use Rattle.block_targets.specs.GfmFootnoteDefinition.{LabelsSoFar, labels_so_far, note_exit, note_row, note_rows, nothing_noted, starts_footnote}
+use Rattle.block_targets.specs.GfmFootnoteDefinition.{starts_footnote}
 use Rattle.block_targets.proofs.Notes.{notes_of}
 
 -- no container that is open has a label

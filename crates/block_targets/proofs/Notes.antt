@@ -2,17 +2,15 @@
 use Rattle.std.proofs.Common.{◌≡◌, ℕ, zero, suc, Bool, true, false, not, eqb, List, [], ◌∷◌, ◌++◌, Option, None, Some, refl, sym, ap, ◌∙◌}
 use Rattle.std.proofs.Common.{append_assoc, inl, inr}
 use Rattle.std.specs.Prelude.{replicate}
-use Rattle.std.specs.List.{fold, list_any}
-use Rattle.std.proofs.lemmas.Bool.{cases_Bool, cond-false, eqb-true, false≢true, true≢false, or_parts}
-use Rattle.std.proofs.lemmas.List.{append-nil}
-use Rattle.std.proofs.lemmas.List.Sums.{fold-append}
+use Rattle.block_targets.proofs.Prelude.{append-nil, Blocks, content_codes, fold, fold-append, footnotes, labels_so_far, LabelsSoFar, list_any, note_exit}
+use Rattle.block_targets.proofs.Prelude.{note_row, or_parts, rows_of, true≢false}
+use Rattle.std.proofs.lemmas.Bool.{cases_Bool, cond-false, eqb-true, false≢true}
 use Rattle.definition_text.specs.Columns.{tab_column}
-use Rattle.definition_text.specs.Content.{is_space, content_codes}
+use Rattle.definition_text.specs.Content.{is_space}
 use Rattle.definition_block.specs.Container.{Container, Footnote}
-use Rattle.definition_block.specs.Blocks.{Block, Holds, Items, Blocks, Nil, Cons}
-use Rattle.definition_block.specs.Definitions.{container_footnotes, block_footnotes, footnotes}
-use Rattle.block_rows.specs.Rows.{Exit, start_row, block_rows, rows_of}
-use Rattle.block_targets.specs.GfmFootnoteDefinition.{LabelsSoFar, labels_so_far, note_exit, note_row}
+use Rattle.definition_block.specs.Blocks.{Block, Holds, Items, Nil, Cons}
+use Rattle.definition_block.specs.Definitions.{container_footnotes, block_footnotes}
+use Rattle.block_rows.specs.Rows.{Exit, start_row, block_rows}
 
 nothing_more : (ended : List (List ℕ)) (containers : _) → labels_so_far ended containers ≡ labels_so_far (ended ++ []) containers
 nothing_more ended containers = ap (λ x. labels_so_far x containers) (sym (append-nil ended))

@@ -1,15 +1,12 @@
 -- What is laid out, step by step.
 use Rattle.std.proofs.Common.{◌≡◌, ℕ, ◌+◌, List, [], ◌∷◌, ◌++◌, sym, ap, ◌∙◌, codes}
 use Rattle.markdown_options.specs.declared.configuration.CompileOptions.{CompileOptions}
-use Rattle.markdown_options.specs.declared.line_ending.LineEnding.{LineEnding}
+use Rattle.compile_blocks.proofs.Prelude.{bare_tag, element, Fresh, in_bytes, layout_after, LineEnding}
 use Rattle.markdown_options.specs.LineEndings.{ending_bytes}
 use Rattle.definition_page.specs.BlockPieces.{heading_name}
-use Rattle.definition_page.specs.InlinePieces.{element}
-use Rattle.definition_page.specs.Pieces.{Piece, Fresh}
-use Rattle.definition_page.specs.Tags.{bare_tag}
+use Rattle.definition_page.specs.Pieces.{Piece}
 use Rattle.html_bytes.specs.Layout.{LayoutState}
-use Rattle.html_bytes.specs.Pieces.{in_bytes}
-use Rattle.html_leaves.specs.Prints.{layout_after, with_bytes, with_fresh, with_tag}
+use Rattle.html_leaves.specs.Prints.{with_bytes, with_fresh, with_tag}
 use Rattle.html_leaves.proofs.LeafLaid.{element_laid}
 
 -- a paragraph between its tags

@@ -3,23 +3,20 @@ use Rattle.std.proofs.Common.{◌≡◌, ◌⊎◌, inl, inr, ◌∷◌, ℕ, Bo
 use Rattle.engine_events.specs.Names.{same_name}
 use Rattle.engine_events.specs.declared.event.Name.{Name}
 use Rattle.engine_events.specs.declared.event.Name.TheVariants as n
-use Rattle.markdown_options.specs.declared.line_ending.LineEnding.{LineEnding}
+use Rattle.compile_blocks.proofs.Prelude.{code_fenced_of, ending_of, first_pieces, heading_atx_of, heading_setext_of, in_bytes, inlines_of, kind_of}
+use Rattle.compile_blocks.proofs.Prelude.{LineEnding, math_flow_of, one, raw_lines, raw_parts}
 use Rattle.definition_inline.specs.CharacterReference.{Names}
 use Rattle.definition_page.specs.BlockPieces.{is_silent}
 use Rattle.definition_page.specs.GfmTable.{endings_pieces}
 use Rattle.definition_page.specs.InlinePieces.{Meaning}
 use Rattle.definition_page.specs.Page as page
 use Rattle.event_grammar.specs.Trees.{Nodes}
-use Rattle.compile_levels.specs.Kinds.{kind_of}
 use Rattle.compile_levels.specs.declared.kind.BlockKind.{BlockKind}
 use Rattle.compile_levels.specs.declared.kind.BlockKind.TheVariants as k
-use Rattle.event_meaning.specs.Blocks.{one, leaf, block_of, heading_atx_of, heading_setext_of, code_fenced_of, math_flow_of}
+use Rattle.event_meaning.specs.Blocks.{leaf, block_of}
 use Rattle.event_meaning.specs.GfmTable.{table_of}
-use Rattle.event_meaning.specs.Raw.{ending_of, raw_lines, raw_parts}
-use Rattle.event_meaning.specs.Texts.{inlines_of}
 use Rattle.event_meaning.specs.Left.{sibling_of}
-use Rattle.html_bytes.specs.Pieces.{in_bytes}
-use Rattle.compile_blocks.specs.Leaf.{is_leaf, first_pieces}
+use Rattle.compile_blocks.specs.Leaf.{is_leaf}
 use Rattle.compile_blocks.specs.declared.printer.LeafPlace.{LeafPlace}
 
 module _ (names : Names) (bytes : List ℕ) (top : Bool) (text : List ℕ) (kids : Nodes) (inner : page.Blocks) where

@@ -1,3 +1,4 @@
+mod Prelude
 pub mod LeafLaw
 pub mod Ranks
 pub mod Laid

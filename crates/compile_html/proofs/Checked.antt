@@ -1,15 +1,12 @@
 -- What the grammar says of the nodes of a list: they are sound, lists are in containers, and numbers have digits.
 use Rattle.std.proofs.Common.{◌≡◌, ℕ, Bool, true, false, not, ◌&&◌, ◌||◌, if◌then◌else◌, List, [], ◌∷◌, ◌++◌, Option, None, Some, refl, sym, ap, ◌∙◌, subst, drop}
-use Rattle.std.proofs.lemmas.Bool.{and_parts}
+use Rattle.compile_html.proofs.Prelude.{and_parts, are_digits, Around, checked_nodes, Cons, container_names, Event, HasNumber, HaveNumbers, HoldsLists}
+use Rattle.compile_html.proofs.Prelude.{is_list, is_listed, is_loose_list, lists_before, loose_lists, MatchesGrammar, Name, Nil, Node, node_lists, node_name}
+use Rattle.compile_html.proofs.Prelude.{Nodes, PlacesFit, same_name, spot, start_of, text_of, the_type}
 use denote.Enum.Bare.{same_true, true_same}
-use Rattle.engine_events.specs.contracts.event.Name.{the_type}
-use Rattle.engine_events.specs.Names.{same_name, is_listed}
-use Rattle.engine_events.specs.declared.event.Event.{Event}
-use Rattle.engine_events.specs.declared.event.Name.{Name}
 use Rattle.engine_events.specs.declared.event.Name.TheVariants as n
 use Rattle.compile_raw.specs.Sound.{HasRank, HaveRanks, chunk_names, HaveNoChunk, HasHtml, HaveHtml, AreSound}
-use Rattle.event_check.specs.Loose.{is_loose_list}
-use Rattle.event_check.specs.Matches.{NodeMatches, matches, KidsMatch, nothing, between, one, opt, no_opt, many, no_more, lead, no_lead, MatchesGrammar}
+use Rattle.event_check.specs.Matches.{NodeMatches, matches, KidsMatch, nothing, between, one, opt, no_opt, many, no_more, lead, no_lead}
 use Rattle.event_grammar.specs.declared.slot.Between.{Between}
 use Rattle.event_grammar.specs.declared.slot.Between.TheVariants.{Nothing, Spaces, Lines}
 use Rattle.event_grammar.specs.declared.slot.Child.{Child}
@@ -19,21 +16,14 @@ use Rattle.event_grammar.specs.declared.slot.Form.TheVariants.{Plain, Ordered, C
 use Rattle.event_grammar.specs.declared.slot.Slot.{Slot}
 use Rattle.event_grammar.specs.declared.slot.Slot.TheVariants.{One, Opt, Lead, Many}
 use Rattle.event_grammar.specs.Checks.{stands_between}
-use Rattle.event_grammar.specs.Facts.{is_fact, is_ending, are_digits}
+use Rattle.event_grammar.specs.Facts.{is_fact, is_ending}
 use Rattle.event_grammar.specs.Grammar.{row, space_names, line_names, string_names, text_names}
-use Rattle.event_grammar.specs.InGrammar.{Within, inside, Before, before, node_name, PlacesFit}
-use Rattle.event_grammar.specs.Points.{spot}
+use Rattle.event_grammar.specs.InGrammar.{Within, inside, Before, before}
 use Rattle.event_grammar.specs.SlotViews.{child_of}
 use Rattle.event_grammar.specs.Slots.{has}
-use Rattle.event_grammar.specs.Trees.{Node, Nodes, Around, Nil, Cons}
-use Rattle.event_meaning.specs.Blocks.{start_of}
-use Rattle.event_meaning.specs.Children.{text_of}
 use Rattle.compile_rows.specs.Texts.{HasEndings, HaveEndings}
-use Rattle.compile_written.specs.GfmFootnoteDefinition.{container_names}
-use Rattle.compile_written.specs.List.{is_list, node_lists, loose_lists}
-use Rattle.compile_written.proofs.CheckedNodes.{checked_nodes, checked_texts}
-use Rattle.compile_html.specs.Containers.{lists_before, HoldsLists, HoldLists}
-use Rattle.compile_html.specs.Numbers.{HasNumber, HaveNumbers}
+use Rattle.compile_written.proofs.CheckedNodes.{checked_texts}
+use Rattle.compile_html.specs.Containers.{HoldLists}
 use Rattle.compile_safe_page.proofs.Facts as facts
 
 -- ---- which children a row has

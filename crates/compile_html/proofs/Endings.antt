@@ -1,14 +1,12 @@
 -- The first line ending of a text, found by its first byte.
 use Rattle.std.proofs.Common.{◌≡◌, ℕ, suc, ◌+◌, ◌<◌, ◌≤◌, Bool, true, false, not, ◌&&◌, ◌||◌, if◌then◌else◌, ◌==◌, List, [], ◌∷◌, Option, None, Some, drop, length, get_or, refl, sym, ap, ◌∙◌, subst, arith}
-use Rattle.std.specs.List.{position_or_len}
+use Rattle.compile_html.proofs.Prelude.{and_parts, first_line, is_of_pair, LineEnding, position_or_len, without_mark}
 use Rattle.std.proofs.Math.Seq.{drop-cons}
-use Rattle.std.proofs.lemmas.Bool.{and_parts, eqb-true}
+use Rattle.std.proofs.lemmas.Bool.{eqb-true}
 use Rattle.std.proofs.lemmas.List.{drop_all}
-use Rattle.markdown_options.specs.declared.line_ending.LineEnding.{LineEnding}
 use Rattle.markdown_options.specs.declared.line_ending.LineEnding.TheVariants.{LineFeed, CarriageReturn, CarriageReturnLineFeed}
 use Rattle.definition_text.specs.Ascii.{line_feed, carriage_return}
-use Rattle.definition_text.specs.Lines.{TextLine, text_line, in_first_line, after_return, lines, first_of, first_line, has_mark, without_mark}
-use Rattle.text_search.specs.Pairs.{is_of_pair}
+use Rattle.definition_text.specs.Lines.{TextLine, text_line, in_first_line, after_return, lines, first_of, has_mark}
 use Rattle.text_search.specs.declared.pair.BytePair.{BytePair}
 
 abbrev pub ends : BytePair

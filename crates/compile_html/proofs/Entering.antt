@@ -1,34 +1,16 @@
 -- Containers and lists that begin, one by one.
 use Rattle.std.proofs.Common.{◌≡◌, ℕ, Bool, true, false, not, if◌then◌else◌, List, [], ◌∷◌, ◌++◌, Option, None, Some, refl, sym, ap, ◌∙◌, append_assoc, reverse, drop}
-use Rattle.std.specs.declared.vec.Vec.{Vec}
-use Rattle.engine_events.specs.Names.{is_listed}
-use Rattle.engine_events.specs.declared.event.Event.{Event}
-use Rattle.engine_events.specs.declared.event.Name.{Name}
+use Rattle.compile_html.proofs.Prelude.{Around, block_of, BlockKind, blocks_from, container_names, Event, first_name, Footnote, GoesOn, Holder, holder_of}
+use Rattle.compile_html.proofs.Prelude.{is_document, is_leaf, is_list, is_listed, is_loose_list, Item, KeepsEnding, kind_of, LayoutState, left_lists, Level}
+use Rattle.compile_html.proofs.Prelude.{level_of, list_number, ListOf, loose_lists, Meaning, Name, Names, next_loose, Node, node_lists, Opened, opened_of}
+use Rattle.compile_html.proofs.Prelude.{opening, place_of, Printer, Prints, Quote, sibling_of, start_of, text_of, Vec, within}
 use Rattle.engine_events.specs.declared.event.Name.TheVariants as n
-use Rattle.definition_inline.specs.CharacterReference.{Names}
-use Rattle.definition_page.specs.InlinePieces.{Meaning}
 use Rattle.definition_page.specs.Page as page
-use Rattle.html_bytes.specs.Layout.{LayoutState}
-use Rattle.html_leaves.specs.Prints.{KeepsEnding}
-use Rattle.compile_blocks.specs.Leaf.{is_leaf}
-use Rattle.event_check.specs.Loose.{is_loose_list}
-use Rattle.event_grammar.specs.Trees.{Node, Around}
-use Rattle.compile_levels.specs.Kinds.{kind_of}
-use Rattle.compile_levels.specs.declared.kind.BlockKind.{BlockKind}
 use Rattle.compile_levels.specs.declared.kind.BlockKind.TheVariants as k
-use Rattle.compile_levels.specs.declared.level.Level.{Level}
 use Rattle.compile_levels.specs.declared.level.Holder.TheVariants as holders
-use Rattle.event_meaning.specs.Blocks.{start_of, block_of, blocks_from, list_number, footnote_label}
-use Rattle.event_meaning.specs.Children.{text_of}
-use Rattle.event_meaning.specs.Left.{Holder, Quote, Item, Footnote, ListOf, is_document, first_name, place_of, sibling_of, opening}
+use Rattle.event_meaning.specs.Blocks.{footnote_label}
 use Rattle.event_meaning.proofs.Steps.{quote_opens, item_opens, footnote_opens, list_opens}
-use Rattle.compile_written.specs.GfmFootnoteDefinition.{container_names}
-use Rattle.compile_written.specs.List.{is_list, node_lists, loose_lists}
-use Rattle.compile_html.specs.Frames.{holder_of, level_of, left_lists}
-use Rattle.compile_html.specs.Going.{GoesOn}
-use Rattle.compile_html.specs.Opened.{Opened, within}
-use Rattle.compile_html.specs.Views.{opened_of, Prints, head_or_tight, next_loose}
-use Rattle.compile_html.specs.declared.printer.Printer.{Printer}
+use Rattle.compile_html.specs.Views.{head_or_tight}
 use Rattle.compile_html.proofs.Frames.{named_quote, named_unordered, named_ordered, named_item, named_footnote}
 use Rattle.compile_html.proofs.Going.{Entering, holder_step}
 

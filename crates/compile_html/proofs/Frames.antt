@@ -1,33 +1,19 @@
 -- What a child makes of the frame that it is in.
 use Rattle.std.proofs.Common.{◌≡◌, ℕ, Bool, true, false, ◌&&◌, ◌||◌, if◌then◌else◌, List, [], ◌∷◌, ◌++◌, refl, sym, ap, ◌∙◌, append_assoc}
 use denote.Enum.Bare.{same_true}
-use Rattle.engine_events.specs.contracts.event.Name.{the_type}
-use Rattle.engine_events.specs.Names.{same_name, is_listed}
-use Rattle.engine_events.specs.declared.event.Event.{Event}
-use Rattle.engine_events.specs.declared.event.Name.{Name}
+use Rattle.compile_html.proofs.Prelude.{after_spelled, AreOpen, Around, begins, block_of, block_pieces, BlockKind, blocks_from, blocks_of, Cons}
+use Rattle.compile_html.proofs.Prelude.{container_names, counts, Document, Event, events_of, first_name, first_pieces, first_sound, Footnote, Frame}
+use Rattle.compile_html.proofs.Prelude.{frame_pieces, has_begun, HasChildren, HasExit, Holder, holder_of, holder_view, HoldsLists, is_document, is_leaf}
+use Rattle.compile_html.proofs.Prelude.{is_list, is_listed, is_loose_list, Item, kind_of, LeafPlace, left_events, left_lists, left_pieces, level_document}
+use Rattle.compile_html.proofs.Prelude.{level_of, level_passed, ListOf, lists_before, loose_lists, Meaning, Name, Names, new_frame, Nil, Node, node_lists}
+use Rattle.compile_html.proofs.Prelude.{node_name, Nodes, one, opening, passed, passes, place_of, Quote, same_name, sibling_of, spelled_by, the_type}
+use Rattle.compile_html.proofs.Prelude.{with_siblings}
 use Rattle.engine_events.specs.declared.event.Name.TheVariants as n
-use Rattle.definition_inline.specs.CharacterReference.{Names}
-use Rattle.definition_page.specs.BlockPieces.{block_pieces}
-use Rattle.definition_page.specs.InlinePieces.{Meaning}
 use Rattle.definition_page.specs.Page as page
-use Rattle.compile_blocks.specs.Leaf.{is_leaf, first_pieces}
-use Rattle.compile_raw.proofs.Sound.{first_sound}
-use Rattle.compile_blocks.specs.declared.printer.LeafPlace.{LeafPlace}
-use Rattle.event_check.specs.Loose.{is_loose_list}
-use Rattle.event_grammar.specs.InGrammar.{node_name}
-use Rattle.event_grammar.specs.Trees.{Node, Nodes, Around, Nil, Cons, events_of}
-use Rattle.compile_levels.specs.Kinds.{kind_of}
-use Rattle.compile_levels.specs.Levels.{begins, is_document as level_document, passed as level_passed}
-use Rattle.compile_levels.specs.declared.kind.BlockKind.{BlockKind}
 use Rattle.compile_levels.specs.declared.kind.BlockKind.TheVariants as k
-use Rattle.event_meaning.specs.Blocks.{one, block_of, blocks_of, blocks_from}
-use Rattle.event_meaning.specs.Left.{Holder, Document, Quote, Item, Footnote, ListOf, Frame, is_document, first_name, place_of, sibling_of, blocks_by}
-use Rattle.event_meaning.specs.Left.{left_events, left_pieces, has_begun, counts, passed, new_frame, opening, frame_pieces}
-use Rattle.event_meaning.proofs.Steps.{with_siblings, spelled_by, passes, stands, opens}
-use Rattle.compile_written.specs.GfmFootnoteDefinition.{container_names}
-use Rattle.compile_written.specs.List.{is_list, node_lists, loose_lists}
-use Rattle.compile_html.specs.Containers.{lists_before, HoldsLists}
-use Rattle.compile_html.specs.Frames.{holder_of, holder_view, level_of, levels_of, left_lists, HasExit, HasChildren, AreOpen, after_spelled}
+use Rattle.event_meaning.specs.Left.{blocks_by}
+use Rattle.event_meaning.proofs.Steps.{stands, opens}
+use Rattle.compile_html.specs.Frames.{levels_of}
 
 -- ---- names and kinds
 

@@ -1,42 +1,26 @@
 -- One event after another: a printer that stands before an event stands after it, and the page will be the same.
 use Rattle.std.proofs.Common.{◌≡◌, ℕ, ◌-◌, Bool, true, false, ◌||◌, if◌then◌else◌, List, [], ◌∷◌, ◌++◌, refl, sym, ap, ◌∙◌, subst, append_assoc, reverse, drop, length, map, arith}
-use Rattle.std.specs.List.{fold}
-use Rattle.std.proofs.lemmas.List.{map-append, length-append}
+use Rattle.compile_html.proofs.Prelude.{after_spelled, AreNodes, AreOpen, Around, block_pieces, children_pieces, closing, Cons, container_names, counts}
+use Rattle.compile_html.proofs.Prelude.{Document, drop-append_seam, Event, events_of, first_name, first_pieces, first_sound, fold, Frame, frame_pieces, GoesOn}
+use Rattle.compile_html.proofs.Prelude.{has_begun, HasChildren, HasExit, Holder, holder_of, holder_view, in_bytes, is_document, is_leaf, is_listed}
+use Rattle.compile_html.proofs.Prelude.{KeepsEnding, kind_of, layout_after, LayoutState, left_events, left_lists, left_pieces, length-append, Level, level_of}
+use Rattle.compile_html.proofs.Prelude.{level_passed, LineEnding, lists_before, loose_lists, Meaning, Name, Names, new_frame, Nil, Node, node_lists, Nodes}
+use Rattle.compile_html.proofs.Prelude.{one, Opened, opened, opened_of, opening, page_after, page_view, passed, passed_events, passes, Piece, place_of}
+use Rattle.compile_html.proofs.Prelude.{Printer, Prints, same_name, sibling_of, spelled_by, start_of, Vec, with_siblings, within}
+use Rattle.std.proofs.lemmas.List.{map-append}
 use Rattle.std.proofs.lemmas.List.Sums.{fold-append}
-use Rattle.std.proofs.Math.Seq.{drop-append_seam}
-use Rattle.std.specs.declared.vec.Vec.{Vec}
-use Rattle.markdown_options.specs.declared.line_ending.LineEnding.{LineEnding}
-use Rattle.engine_events.specs.Names.{same_name, is_listed}
-use Rattle.engine_events.specs.declared.event.Event.{Event}
 use Rattle.engine_events.specs.declared.event.Kind.TheVariants.{Enter, Exit}
-use Rattle.engine_events.specs.declared.event.Name.{Name}
-use Rattle.definition_inline.specs.CharacterReference.{Names}
-use Rattle.definition_page.specs.BlockPieces.{block_pieces, children_pieces, ends_plainly, last_visible}
-use Rattle.definition_page.specs.InlinePieces.{Meaning}
+use Rattle.definition_page.specs.BlockPieces.{ends_plainly, last_visible}
 use Rattle.definition_page.specs.Page as page
-use Rattle.definition_page.specs.Pieces.{Piece}
-use Rattle.html_bytes.specs.Layout.{LayoutState}
-use Rattle.html_bytes.specs.Pieces.{in_bytes, piece_bytes}
-use Rattle.html_leaves.specs.Prints.{KeepsEnding, page_view, layout_after}
-use Rattle.compile_raw.proofs.Sound.{first_sound, inner_sound}
-use Rattle.compile_blocks.specs.Leaf.{is_leaf, first_pieces}
+use Rattle.html_bytes.specs.Pieces.{piece_bytes}
+use Rattle.compile_raw.proofs.Sound.{inner_sound}
 use Rattle.compile_blocks.specs.declared.printer.LeafPrinter.{LeafPrinter}
-use Rattle.event_grammar.specs.Trees.{Node, Nodes, Around, Nil, Cons, node_events, events_of, AreNodes}
-use Rattle.compile_levels.specs.Kinds.{kind_of}
-use Rattle.compile_levels.specs.Levels.{new_level, begun_at, passed as level_passed}
-use Rattle.compile_levels.specs.declared.level.Level.{Level}
-use Rattle.event_meaning.specs.Blocks.{one, start_of}
-use Rattle.event_meaning.specs.Left.{Holder, Document, is_document, first_name, Frame, place_of, sibling_of, visible_of, opening, closing, left_events}
-use Rattle.event_meaning.specs.Left.{frame_pieces, left_pieces, has_begun, counts, passed, new_frame}
-use Rattle.event_meaning.proofs.Steps.{with_siblings, spelled_by, passes, ends, passed_events}
-use Rattle.compile_written.specs.GfmFootnoteDefinition.{container_names}
-use Rattle.compile_written.specs.List.{node_lists, loose_lists}
-use Rattle.compile_html.specs.Containers.{lists_before}
-use Rattle.compile_html.specs.Frames.{holder_of, holder_view, level_of, left_lists, HasExit, HasChildren, AreOpen, after_spelled}
-use Rattle.compile_html.specs.Going.{page_after, StandsIn, GoesOn}
-use Rattle.compile_html.specs.Opened.{Opened, opened, within, outside}
-use Rattle.compile_html.specs.Views.{opened_of, Prints}
-use Rattle.compile_html.specs.declared.printer.Printer.{Printer}
+use Rattle.event_grammar.specs.Trees.{node_events}
+use Rattle.compile_levels.specs.Levels.{new_level, begun_at}
+use Rattle.event_meaning.specs.Left.{visible_of}
+use Rattle.event_meaning.proofs.Steps.{ends}
+use Rattle.compile_html.specs.Going.{StandsIn}
+use Rattle.compile_html.specs.Opened.{outside}
 use Rattle.compile_html.proofs.Frames.{begun, begins_is, content_begins, no_lists, level_after, exit_spelled, children_spelled, events_spelled, lists_spelled}
 use Rattle.compile_html.proofs.Frames.{left_spelled, left_opened, holder_back, holder_document}
 

@@ -1,18 +1,15 @@
 -- The number of an item fits.
 use Rattle.std.proofs.Common.{◌≡◌, ℕ, zero, suc, ◌+◌, ◌-◌, ◌*◌, ◌<◌, ◌≤◌, Bool, true, false, ◌&&◌, if◌then◌else◌, List, [], ◌∷◌, Option, None, Some, length, refl, sym, ap, ◌∙◌, arith, subst}
-use Rattle.std.specs.Prelude.{min, ◌^◌, nat_le}
+use Rattle.compile_html.proofs.Prelude.{and_parts, are_digits, Around, Cons, fold, HasNumber, HaveNumbers, kids_in, min, Name, Nil, Node, node_name, Nodes}
+use Rattle.compile_html.proofs.Prelude.{number_of, same_name, text_of}
+use Rattle.std.specs.Prelude.{◌^◌, nat_le}
 use Rattle.std.specs.Char.{is_ascii_digit}
-use Rattle.std.specs.List.{fold, list_all}
-use Rattle.std.proofs.lemmas.Bool.{and_parts, leb-true}
-use Rattle.definition_block.specs.ListItem.{number_of}
-use Rattle.engine_events.specs.Names.{same_name}
-use Rattle.engine_events.specs.declared.event.Name.{Name}
+use Rattle.std.specs.List.{list_all}
+use Rattle.std.proofs.lemmas.Bool.{leb-true}
 use Rattle.engine_events.specs.declared.event.Name.TheVariants as n
-use Rattle.event_grammar.specs.Facts.{is_size, are_digits}
-use Rattle.event_grammar.specs.InGrammar.{kids_of, node_name}
-use Rattle.event_grammar.specs.Trees.{Node, Nodes, Around, Nil, Cons}
-use Rattle.event_meaning.specs.Children.{child, inside_of, kids_in, text_of, text_or_none, text_in}
-use Rattle.compile_html.specs.Numbers.{HasNumber, HaveNumbers}
+use Rattle.event_grammar.specs.Facts.{is_size}
+use Rattle.event_grammar.specs.InGrammar.{kids_of}
+use Rattle.event_meaning.specs.Children.{child, inside_of, text_or_none, text_in}
 
 abbrev Fits : List ℕ → Type 0
 Fits ds = min (number_of ds) (2 ^ 32 - 1) ≡ number_of ds

@@ -1,3 +1,4 @@
+mod Prelude
 pub mod Frames
 pub mod Going
 pub mod Reading

@@ -1,12 +1,10 @@
 -- A node by the events after its enter.
 use Rattle.std.proofs.Common.{◌≡◌, ℕ, ◌+◌, ◌-◌, ◌<◌, ◌≤◌, List, [], ◌∷◌, ◌++◌, suc, drop, take, get_or, length, refl, sym, ap, ◌∙◌, arith}
-use Rattle.std.proofs.lemmas.List.{length-append}
-use Rattle.std.proofs.Math.Seq.{drop-append_seam, take-length}
-use Rattle.engine_events.specs.declared.event.Event.{Event}
+use Rattle.compile_html.proofs.Prelude.{AreNodes, Around, drop-append_seam, Event, events_of, length-append, Nodes, Reads}
+use Rattle.std.proofs.Math.Seq.{take-length}
 use Rattle.engine_events.specs.declared.event.Kind.TheVariants.{Exit}
 use Rattle.event_grammar.specs.Checks.{spot_of}
-use Rattle.event_grammar.specs.Trees.{Nodes, Around, events_of, AreNodes}
-use Rattle.compile_levels.specs.Siblings.{size_inside, inside, first_or, Reads}
+use Rattle.compile_levels.specs.Siblings.{size_inside, inside, first_or}
 use Rattle.compile_levels.specs.declared.node.Node.{Node}
 use Rattle.compile_levels.proofs.SiblingLaw.{inside_law, after_law}
 

@@ -1,9 +1,8 @@
 -- The tree of the events of nodes is these nodes.
 use Rattle.std.proofs.Common.{◌≡◌, List, [], ◌∷◌, ◌++◌, refl, sym, ap, ◌∙◌, append_assoc, append-nil}
-use Rattle.std.specs.List.{fold}
-use Rattle.engine_events.specs.declared.event.Event.{Event}
+use Rattle.compile_html.proofs.Prelude.{AreNodes, Around, Cons, Event, events_of, fold, Nil, Node, Nodes, tree}
 use Rattle.engine_events.specs.declared.event.Kind.{Kind}
-use Rattle.event_grammar.specs.Trees.{Node, Nodes, Around, Nil, Cons, followed_by, events_of, AreNodes, Part, Growth, growth, grown, closed, tree}
+use Rattle.event_grammar.specs.Trees.{followed_by, Part, Growth, growth, grown, closed}
 
 -- nodes, and then others
 abbrev joined : Nodes → Nodes → Nodes

@@ -1,13 +1,9 @@
 -- Children of a name: the first and the others, and what all nodes have.
 use Rattle.std.proofs.Common.{◌≡◌, Bool, true, false, if◌then◌else◌, List, [], ◌∷◌, ◌++◌, Option, None, Some, refl, sym, ap, ◌∙◌, subst}
 use Rattle.std.proofs.lemmas.List.{append_assoc}
-use Rattle.std.specs.Option.{MatchOption, IfSome}
-use Rattle.engine_events.specs.Names.{same_name}
-use Rattle.engine_events.specs.declared.event.Name.{Name}
-use Rattle.event_grammar.specs.InGrammar.{node_name}
-use Rattle.engine_events.specs.declared.event.Event.{Event}
-use Rattle.event_grammar.specs.Trees.{Node, Nodes, Nil, Cons, node_events, events_of}
-use Rattle.event_meaning.specs.Children.{child, children, after_child, before_child}
+use Rattle.compile_raw.proofs.Prelude.{after_child, before_child, child, children, Cons, Event, events_of, IfSome, Name, Nil, Node, node_events, node_name}
+use Rattle.compile_raw.proofs.Prelude.{Nodes, same_name}
+use Rattle.std.specs.Option.{MatchOption}
 
 module _ (name : Name) where
   first_by : (b : Bool) (node : Node) (ns : Nodes)

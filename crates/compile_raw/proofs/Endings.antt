@@ -1,27 +1,12 @@
 -- Line endings, one after another.
 use Rattle.std.proofs.Common.{◌≡◌, ℕ, Bool, true, false, List, [], ◌∷◌, ◌++◌, Some, if◌then◌else◌, map, refl, sym, ap, ◌∙◌}
-use Rattle.std.specs.List.{fold}
-use Rattle.std.proofs.lemmas.Bool.{cond-true, cond-false}
-use Rattle.std.proofs.lemmas.List.{append-nil}
-use Rattle.engine_events.specs.Names.{same_name}
+use Rattle.compile_raw.proofs.Prelude.{add_add, add_nil, append-nil, children, CompileOptions, cond-false, cond-true, Cons, ending_bytes, endings_bytes}
+use Rattle.compile_raw.proofs.Prelude.{endings_in, fold, in_bytes, lay, LayoutState, LineEnding, Names, Nil, node_name, Nodes, same_name, text_of, with_bytes}
 use Rattle.engine_events.specs.declared.event.Name.TheVariants as n
-use Rattle.markdown_options.specs.LineEndings.{ending_bytes}
-use Rattle.markdown_options.specs.declared.configuration.CompileOptions.{CompileOptions}
-use Rattle.markdown_options.specs.declared.line_ending.LineEnding.{LineEnding}
-use Rattle.definition_inline.specs.CharacterReference.{Names}
 use Rattle.definition_page.specs.GfmTable.{endings_pieces}
-use Rattle.event_grammar.specs.InGrammar.{node_name}
 use Rattle.event_grammar.specs.Trees as tree
-use Rattle.event_grammar.specs.Trees.{Nodes, Nil, Cons}
-use Rattle.event_meaning.specs.Children.{children, text_of}
-use Rattle.event_meaning.specs.GfmTable.{endings_in}
 use Rattle.event_meaning.specs.Raw.{ending_of}
 use Rattle.html_bytes.proofs.SameBlocks.{end_said}
-use Rattle.html_bytes.proofs.SameLayout.{add_add, add_nil}
-use Rattle.html_bytes.specs.Layout.{LayoutState, lay}
-use Rattle.html_bytes.specs.Pieces.{in_bytes}
-use Rattle.html_leaves.specs.Prints.{with_bytes}
-use Rattle.compile_raw.specs.Endings.{endings_bytes}
 
 -- endings are printed as their bytes
 pub endings_laid : (options : CompileOptions) (default : List ℕ) (endings : List LineEnding) (l : LayoutState)

@@ -1,25 +1,18 @@
 -- What fenced code prints, step by step.
 use Rattle.std.proofs.Common.{◌≡◌, ◌&&◌, ◌||◌, not, if◌then◌else◌, ℕ, Bool, true, false, List, [], ◌∷◌, ◌++◌, Option, Some, codes, refl, sym, ap, ◌∙◌, append_assoc}
-use Rattle.std.specs.List.{fold, flat_map}
-use Rattle.std.proofs.lemmas.List.{append-nil}
+use Rattle.compile_raw.proofs.Prelude.{add_add, add_nil, append-nil, attribute_bytes, BlockLine, code_of, CompileOptions, encode, fenced_close, fenced_end}
+use Rattle.compile_raw.proofs.Prelude.{fenced_lines, FencedCode, flat_map, fold, has_any, in_bytes, info_attributes, last_end, lay, LayoutState}
+use Rattle.compile_raw.proofs.Prelude.{leaf_block_pieces, lines_behind, raw_lines, RawPart, with_bytes, with_fresh, with_tag, without_first_end}
 use Rattle.std.proofs.lemmas.List.Sums.{fold-append}
-use Rattle.markdown_options.specs.declared.configuration.CompileOptions.{CompileOptions}
-use Rattle.definition_page.specs.BlockPieces.{Place, says, code_line, fenced_pieces, fresh_unless, info_attributes, leaf_block_pieces}
+use Rattle.definition_page.specs.BlockPieces.{Place, says, code_line, fenced_pieces, fresh_unless}
 use Rattle.definition_page.specs.InlinePieces.{Meaning, element}
-use Rattle.definition_page.specs.Page.{FencedCode}
 use Rattle.definition_page.specs.Pieces as page
-use Rattle.definition_page.specs.Tags.{attribute_bytes, tag, bare_tag}
-use Rattle.definition_text.specs.Encode.{encode}
-use Rattle.definition_text.specs.BlockLines.{BlockLine}
-use Rattle.event_meaning.specs.Raw.{RawPart, some_line, fenced_lines, raw_lines, without_first_end}
-use Rattle.html_bytes.proofs.SameLayout.{add_add, add_nil}
+use Rattle.definition_page.specs.Tags.{tag, bare_tag}
+use Rattle.event_meaning.specs.Raw.{some_line}
 use Rattle.html_bytes.proofs.SameText.{laid_both}
-use Rattle.html_bytes.specs.Layout.{LayoutState, lay}
-use Rattle.html_bytes.specs.Pieces.{Bytes, in_bytes}
-use Rattle.html_leaves.specs.CodeLines.{code_of}
-use Rattle.html_leaves.specs.Prints.{with_bytes, with_fresh, with_tag}
+use Rattle.html_bytes.specs.Pieces.{Bytes}
 use Rattle.html_leaves.proofs.LeafLaid.{after_pieces, code_element_laid, kept_lines_laid, cut_lines_laid}
-use Rattle.compile_raw.specs.Raw.{code_tags, fenced_close, fenced_end, has_any, last_end, lines_behind}
+use Rattle.compile_raw.specs.Raw.{code_tags}
 
 module _ (options : CompileOptions) (default : List ℕ) where
   -- ---- lines

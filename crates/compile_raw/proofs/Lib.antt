@@ -1,3 +1,4 @@
+mod Prelude
 pub mod Children
 pub mod Sound
 pub mod Pieces

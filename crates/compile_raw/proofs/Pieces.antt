@@ -1,20 +1,11 @@
 -- The bytes of an event that is read as a node.
 use Rattle.std.proofs.Common.{◌≡◌, ◌==◌, ◌&&◌, ◌-◌, ◌++◌, ℕ, List, [], true, false, not, codes, sym, ap, ◌∙◌}
-use Rattle.std.specs.List.{repeat}
-use Rattle.std.proofs.lemmas.Bool.{cond-true, cond-false}
-use Rattle.std.proofs.lemmas.List.{append-nil}
-use Rattle.event_grammar.specs.Checks.{spot_of}
-use Rattle.event_grammar.specs.Points.{bytes_between}
+use Rattle.compile_raw.proofs.Prelude.{after_child, append-nil, AreNodes, Around, bytes_between, columns_after, cond-false, cond-true, events_of, IsNode}
+use Rattle.compile_raw.proofs.Prelude.{IsTextNode, kids_of, Name, Nodes, repeat, Spot, spot_of, text_of, valid}
 use Rattle.event_grammar.specs.Trees as tree
-use Rattle.event_grammar.specs.InGrammar.{kids_of}
-use Rattle.event_grammar.specs.Trees.{Nodes, Around, IsNode, AreNodes, events_of}
-use Rattle.engine_events.specs.declared.event.Name.{Name}
-use Rattle.event_grammar.specs.declared.spot.Spot.{Spot}
 use Rattle.compile_levels.specs.Siblings.{Reads}
 use Rattle.compile_levels.specs.declared.node.Node.{Node}
-use Rattle.event_meaning.specs.Children.{after_child, columns_after, spaced_between, spaced_text_of, text_of}
-use Rattle.compile_written.specs.Strings.{valid}
-use Rattle.compile_written.specs.Texts.{IsTextNode}
+use Rattle.event_meaning.specs.Children.{spaced_between, spaced_text_of}
 use Rattle.compile_written.proofs.FormedTexts.{valid_is}
 use Rattle.compile_raw.proofs.Children.{after_has}
 

@@ -1,20 +1,16 @@
 -- What pieces of raw blocks print.
 use Rattle.std.proofs.Common.{◌≡◌, ◌<◌, ◌||◌, ℕ, zero, suc, Bool, true, false, List, [], ◌∷◌, ◌++◌, None, Some, codes, map, refl, sym, ap, ◌∙◌, get_or}
-use Rattle.std.specs.Prelude.{replicate}
-use Rattle.std.specs.List.{repeat}
-use Rattle.std.proofs.lemmas.List.{append-nil, map-append}
+use Rattle.compile_raw.proofs.Prelude.{append-nil, BlockLine, Chunk, code_of, CodePart, CompileOptions, encode, has_any, html_of, lines_behind, part_bytes}
+use Rattle.compile_raw.proofs.Prelude.{part_view, Passed, passed, raw_lines, RawPart, repeat, replicate, without_first_end}
+use Rattle.std.proofs.lemmas.List.{map-append}
 use Rattle.std.proofs.lemmas.List.Concat.{flat_map-append}
-use Rattle.markdown_options.specs.declared.configuration.CompileOptions.{CompileOptions}
 use Rattle.definition_text.proofs.CodeBytes.{code_bytes}
-use Rattle.definition_text.specs.BlockLines.{BlockLine, spaced_line}
+use Rattle.definition_text.specs.BlockLines.{spaced_line}
 use Rattle.definition_text.specs.Columns.{code_byte}
-use Rattle.definition_text.specs.Encode.{encode, encoded_byte}
-use Rattle.event_meaning.specs.Raw.{RawPart, Chunk, End, without_first_end, raw_lines}
-use Rattle.html_leaves.specs.CodeLines.{code_of, html_of, html_line_bytes}
-use Rattle.compile_raw.specs.Raw.{has_any, lines_behind, part_bytes, part_view, passed}
-use Rattle.compile_raw.specs.declared.raw.CodePart.{CodePart}
+use Rattle.definition_text.specs.Encode.{encoded_byte}
+use Rattle.event_meaning.specs.Raw.{End}
+use Rattle.html_leaves.specs.CodeLines.{html_line_bytes}
 use Rattle.compile_raw.specs.declared.raw.CodePart.TheVariants as parts
-use Rattle.compile_raw.specs.declared.raw.Passed.{Passed}
 
 -- ---- chunks
 

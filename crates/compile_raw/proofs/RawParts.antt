@@ -1,16 +1,9 @@
 -- What events of raw blocks are, by their names.
 use Rattle.std.proofs.Common.{◌≡◌, ◌<◌, ℕ, true, false, List, [], ◌∷◌, ◌++◌, refl, ap, ◌∙◌, get_or}
-use Rattle.std.proofs.lemmas.List.{append-nil}
-use Rattle.engine_events.specs.Names.{same_name}
-use Rattle.engine_events.specs.declared.event.Name.{Name}
+use Rattle.compile_raw.proofs.Prelude.{append-nil, Chunk, CompileOptions, html_of, Name, Node, raw_lines, raw_part, same_name, text_of}
 use Rattle.engine_events.specs.declared.event.Name.TheVariants as n
-use Rattle.markdown_options.specs.declared.configuration.CompileOptions.{CompileOptions}
 use Rattle.definition_text.specs.Columns.{bytes_of}
-use Rattle.event_grammar.specs.Trees.{Node}
-use Rattle.event_meaning.specs.Children.{text_of}
-use Rattle.event_meaning.specs.Raw.{Chunk, raw_lines, raw_part}
 use Rattle.html_bytes.specs.RawHtml.{raw_bytes}
-use Rattle.html_leaves.specs.CodeLines.{html_of}
 use Rattle.text_pieces.proofs.Pieces.{only_bytes}
 
 module _ (bytes : List ℕ) (node : Node) where

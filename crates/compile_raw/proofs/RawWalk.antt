@@ -1,19 +1,9 @@
 -- A walk over siblings that prints them one by one.
 use Rattle.std.proofs.Common.{◌≡◌, ◌||◌, ℕ, Bool, false, List, [], ◌++◌, refl, sym, ap, ◌∙◌, subst}
-use Rattle.engine_events.specs.declared.event.Event.{Event}
-use Rattle.event_grammar.specs.InGrammar.{node_name}
-use Rattle.event_grammar.specs.Trees.{Nodes, Nil, Cons, events_of}
+use Rattle.compile_raw.proofs.Prelude.{add_add, add_nil, AreSound, code_of, CodePart, Cons, Event, events_of, has_any, IsSound, LayoutState, lines_behind, Nil}
+use Rattle.compile_raw.proofs.Prelude.{node_name, Nodes, part_bytes, part_view, Passed, passed, raw_part, raw_parts, RawPart, with_bytes}
 use Rattle.compile_levels.specs.Children.{IsFirstOf}
 use Rattle.compile_levels.specs.declared.node.Node.{Node}
-use Rattle.event_meaning.specs.Raw.{RawPart, raw_part, raw_parts}
-use Rattle.html_bytes.proofs.SameLayout.{add_add, add_nil}
-use Rattle.html_bytes.specs.Layout.{LayoutState}
-use Rattle.html_leaves.specs.CodeLines.{code_of}
-use Rattle.html_leaves.specs.Prints.{with_bytes}
-use Rattle.compile_raw.specs.Raw.{has_any, lines_behind, part_bytes, part_view, passed}
-use Rattle.compile_raw.specs.Sound.{AreSound, IsSound}
-use Rattle.compile_raw.specs.declared.raw.CodePart.{CodePart}
-use Rattle.compile_raw.specs.declared.raw.Passed.{Passed}
 use Rattle.compile_raw.proofs.RawLaid.{lines_on, some_on, line_on, none_behind, or_false}
 use Rattle.compile_raw.proofs.Sound.{first_sound}
 

@@ -1,17 +1,13 @@
 -- What the nodes of a list in the grammar have, their children have.
 use Rattle.std.proofs.Common.{◌≡◌, ℕ, List, [], ◌∷◌, ◌++◌, Option, None, Some, refl, sym, subst}
-use Rattle.std.specs.Option.{IfSome}
-use Rattle.engine_events.specs.declared.event.Name.{Name}
-use Rattle.engine_events.specs.declared.event.Event.{Event}
-use Rattle.event_grammar.specs.Checks.{spot_of}
-use Rattle.event_grammar.specs.InGrammar.{kids_of, PlacesFit}
+use Rattle.compile_raw.proofs.Prelude.{after_child, AreNodes, AreSound, Around, before_child, child, Cons, Event, events_of, IfSome, IsNode, IsSound}
+use Rattle.compile_raw.proofs.Prelude.{IsTextNode, kids_in, kids_of, Name, Nil, Node, node_events, Nodes, Spot, spot_of}
+use Rattle.event_grammar.specs.InGrammar.{PlacesFit}
 use Rattle.event_grammar.specs.Points.{spot}
-use Rattle.event_grammar.specs.Trees.{Node, Nodes, Around, Nil, Cons, node_events, events_of, IsNode, AreNodes}
-use Rattle.event_grammar.specs.declared.spot.Spot.{Spot}
-use Rattle.event_meaning.specs.Children.{child, kids_in, inside_of, after_child, before_child}
+use Rattle.event_meaning.specs.Children.{inside_of}
 use Rattle.compile_rows.specs.Texts.{HasEndings, HaveEndings}
-use Rattle.compile_written.specs.Texts.{IsTextNode, AreTexts}
-use Rattle.compile_raw.specs.Sound.{IsSound, AreSound, HasRank, HaveRanks, HasHtml, HaveHtml, HavePlaces}
+use Rattle.compile_written.specs.Texts.{AreTexts}
+use Rattle.compile_raw.specs.Sound.{HasRank, HaveRanks, HasHtml, HaveHtml, HavePlaces}
 use Rattle.compile_raw.proofs.Children.{child_has, after_has, before_has, no_child_before, child_around}
 
 module _ (bytes : List ℕ) where

@@ -1,19 +1,12 @@
 -- Strings that were read ahead of the rows, one after another.
 use Rattle.std.proofs.Common.{◌≡◌, ℕ, ◌+◌, Bool, true, false, if◌then◌else◌, List, ◌∷◌, Option, Some, sym, ap, ◌∙◌, arith, drop, get_or}
-use Rattle.std.specs.Option.{option_map}
+use Rattle.compile_rows.proofs.Prelude.{AreLeft, Event, first_raw, first_target, is_listed, LinkTexts, media_names, Name, Names, option_map, raw_after}
+use Rattle.compile_rows.proofs.Prelude.{raws_view, sequence_of, Spelled, spelled_by, SpelledStrings, Target, targets_view, Walk}
 use Rattle.std.proofs.lemmas.List.{get_or-drop, drop-drop}
-use Rattle.engine_events.specs.Names.{is_listed}
-use Rattle.engine_events.specs.declared.event.Event.{Event}
-use Rattle.engine_events.specs.declared.event.Name.{Name}
-use Rattle.definition_inline.specs.CharacterReference.{Names}
-use Rattle.definition_inline.specs.Inline.{Target, LinkTexts}
-use Rattle.event_grammar.specs.References.{media_names}
-use Rattle.compile_strings.specs.RawTexts.{sequence_of, raw_after, whole_by}
-use Rattle.compile_rows.specs.Ahead.{AreLeft, AreStringsOf}
-use Rattle.compile_strings.specs.Spelled.{Spelled, no_spelled, first_raw, first_target, joined_before, raws_view, spelled_by, targets_view}
+use Rattle.compile_strings.specs.RawTexts.{whole_by}
+use Rattle.compile_rows.specs.Ahead.{AreStringsOf}
+use Rattle.compile_strings.specs.Spelled.{no_spelled, joined_before}
 use Rattle.compile_rows.specs.declared.rows.PartStrings.{PartStrings}
-use Rattle.compile_rows.specs.declared.rows.Walk.{Walk}
-use Rattle.compile_strings.specs.declared.spelled.SpelledStrings.{SpelledStrings}
 
 -- ---- one of a list, from its front on
 

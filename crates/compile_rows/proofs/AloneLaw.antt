@@ -1,25 +1,10 @@
 -- The rows of an event whose text has no rows of its own are those of what it spells.
 use Rattle.std.proofs.Common.{◌≡◌, ℕ, ◌==◌, Bool, false, ◌||◌, not, List, [], ◌∷◌, ◌++◌, map, Some, refl, sym, ap, ◌∙◌}
-use Rattle.engine_events.specs.Names.{same_name, is_listed}
-use Rattle.engine_events.specs.declared.event.Event.{Event}
-use Rattle.engine_events.specs.declared.event.Name.{Name}
+use Rattle.compile_rows.proofs.Prelude.{Around, CallRow, Character, Data, data_rows, ending_rows, Escape, Event, events_of, HasEndings, inline_rows}
+use Rattle.compile_rows.proofs.Prelude.{InlineLeaf, Inlines, is_around, is_listed, IsNode, IsTextNode, LinkTexts, literal_rows, media_names, Name, Names}
+use Rattle.compile_rows.proofs.Prelude.{Nodes, Part, part_rows, same_name, span_of, Target, TaskCheck, text_in, text_is, text_of, text_part, without_padding}
 use Rattle.engine_events.specs.declared.event.Name.TheVariants as n
-use Rattle.definition_inline.specs.CharacterReference.{Names}
-use Rattle.definition_inline.specs.CodeText.{without_padding}
-use Rattle.definition_inline.specs.Inline.{Target, LinkTexts, InlineLeaf, Www, Protocol, Email, Data, Escape, Character, Code, Math, TaskCheck, Inlines}
-use Rattle.inline_rows.specs.InlineRows.{Part, CallRow, inline_rows}
-use Rattle.inline_rows.specs.View.{data_rows}
-use Rattle.event_grammar.specs.References.{media_names}
-use Rattle.event_grammar.specs.Trees.{Nodes, Around, events_of, IsNode}
-use Rattle.event_meaning.specs.Children.{text_of, text_in}
-use Rattle.event_meaning.specs.Texts.{text_part}
-use Rattle.compile_written.specs.Texts.{IsTextNode}
-use Rattle.compile_written.proofs.ChildLaw.{text_is}
-use Rattle.event_grammar.specs.Spans.{span_of}
-use Rattle.compile_rows.specs.Places.{is_around}
-use Rattle.compile_rows.specs.Leaves.{literal_rows, ending_rows}
-use Rattle.compile_rows.specs.Texts.{HasEndings}
-use Rattle.compile_rows.specs.Rows.{part_rows}
+use Rattle.definition_inline.specs.Inline.{Www, Protocol, Email, Code, Math}
 use Rattle.compile_rows.proofs.InlineRows.{leaves_rows, endings_rows}
 use Rattle.compile_rows.proofs.Leaves.{within, stands, own_text, value_is, has_is, reference_is, autolink_is, literal_is, html_is, raw_is}
 use Rattle.compile_strings.proofs.TargetLaw.{label_law}

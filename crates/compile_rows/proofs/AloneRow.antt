@@ -1,24 +1,12 @@
 -- A text that is one piece of data, with spaces around it or not.
 use Rattle.std.proofs.Common.{◌≡◌, ◌≤◌, ◌-◌, ◌==◌, ℕ, Bool, true, false, ◌&&◌, not, List, [], ◌∷◌, ◌++◌, refl, sym, ap, ◌∙◌, drop, take, length, get_or, arith}
 use Rattle.std.proofs.Math.Seq.{take-length}
-use Rattle.std.proofs.lemmas.Bool.{eqb-true}
-use Rattle.engine_events.specs.Names.{same_name}
-use Rattle.engine_events.specs.declared.event.Kind.{Kind}
-use Rattle.engine_events.specs.declared.event.Event.{Event}
+use Rattle.compile_rows.proofs.Prelude.{data_rows, enter_rows, entered, eqb-true, Event, InlineRow, Kind, LinkTexts, Name, Names, place, Place, rows_by}
+use Rattle.compile_rows.proofs.Prelude.{same_name, Target, text_first, valid}
 use Rattle.engine_events.specs.declared.event.Kind.TheVariants.{Enter, Exit}
-use Rattle.engine_events.specs.declared.event.Name.{Name}
 use Rattle.engine_events.specs.declared.event.Name.TheVariants as n
-use Rattle.definition_inline.specs.CharacterReference.{Names}
-use Rattle.definition_inline.specs.Inline.{Target, LinkTexts}
-use Rattle.compile_written.specs.Child.{text_first}
-use Rattle.compile_written.specs.Strings.{valid}
-use Rattle.inline_rows.specs.InlineRows.{InlineRow}
-use Rattle.inline_rows.specs.View.{data_rows}
-use Rattle.compile_rows.specs.Places.{place, entered}
 use Rattle.compile_strings.specs.RawTexts.{begins, is_exit}
-use Rattle.compile_rows.specs.Rows.{enter_rows, rows_by}
 use Rattle.compile_rows.specs.declared.rows.Mode.TheVariants.{Text}
-use Rattle.compile_rows.specs.declared.rows.Place.{Place}
 use Rattle.compile_rows.proofs.Walks.{enters, exits}
 
 -- ---- the first two events

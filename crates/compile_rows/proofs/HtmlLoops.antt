@@ -1,16 +1,10 @@
 -- Raw HTML, event by event.
 use Rattle.std.proofs.Common.{◌≡◌, ◌<◌, ◌≤◌, ℕ, ◌+◌, ◌-◌, ◌==◌, Bool, true, false, if◌then◌else◌, List, [], ◌∷◌, ◌++◌, refl, sym, ap, ◌∙◌, get_or}
 use Rattle.std.proofs.Common.{append_assoc, drop, length}
-use Rattle.std.proofs.lemmas.Bool.{eqb-true}
-use Rattle.std.proofs.lemmas.List.{append-nil, drop_all}
-use Rattle.engine_events.specs.declared.event.Event.{Event}
-use Rattle.engine_events.specs.declared.event.Kind.{Kind}
+use Rattle.compile_rows.proofs.Prelude.{append-nil, eqb-true, Event, html_after, html_next, html_part_rows, InlineRow, Kind, no_event, text_first}
+use Rattle.std.proofs.lemmas.List.{drop_all}
 use Rattle.engine_events.specs.declared.event.Kind.TheVariants.{Enter, Exit}
-use Rattle.event_grammar.proofs.Runs.{no_event}
 use Rattle.event_references.proofs.Loops.{drop_next}
-use Rattle.compile_written.specs.Child.{text_first}
-use Rattle.inline_rows.specs.InlineRows.{InlineRow}
-use Rattle.compile_rows.specs.Leaves.{html_part_rows, html_next, html_after}
 
 pub zero_is : (d : ℕ) → d ≡ 0 → (d == 0) ≡ true
 zero_is d h = ap (λ (z : ℕ). z == 0) h

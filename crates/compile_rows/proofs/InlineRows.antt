@@ -3,14 +3,14 @@ use Rattle.std.proofs.Common.{◌≡◌, ℕ, Bool, true, false, ◌||◌, List,
 use Rattle.std.specs.Prelude.{map}
 use Rattle.std.specs.Str.{bytes_eq}
 use Rattle.std.proofs.lemmas.Slice.Eq.{bytes_eq-Decides}
-use Rattle.definition_text.specs.Content.{content_codes, line_ending_code}
-use Rattle.definition_inline.specs.Inline.{Target, LinkTexts, InlineLeaf, LineEnd, Data, Inline, Leaf, Inlines}
+use Rattle.compile_rows.proofs.Prelude.{content_codes, Data, ending_rows, inline_rows, InlineLeaf, InlineRow, Inlines, line_ending_code, LineEnd, LinkTexts}
+use Rattle.compile_rows.proofs.Prelude.{Part, Target}
+use Rattle.definition_inline.specs.Inline.{Inline, Leaf}
 use Rattle.definition_inline.specs.Inline as inline
-use Rattle.inline_rows.specs.InlineRows.{InlineRow, Part, part_rows, inline_rows}
+use Rattle.inline_rows.specs.InlineRows.{part_rows}
 use Rattle.event_grammar.specs.Facts.{is_ending}
 use Rattle.event_meaning.specs.Raw.{ending_of}
 use Rattle.event_meaning.specs.Texts.{append, leaves, endings}
-use Rattle.compile_rows.specs.Leaves.{ending_rows}
 
 abbrev ReadsOne : List ℕ → Type 0
 ReadsOne piece = content_codes piece ≡ line_ending_code (ending_of piece) ∷ []

@@ -1,37 +1,29 @@
 -- Events that hold no text with rows of its own: their rows by events and by their nodes.
 use Rattle.std.proofs.Common.{◌≡◌, ℕ, ◌+◌, ◌-◌, Bool, true, false, not, if◌then◌else◌, List, [], ◌∷◌, ◌++◌, map}
 use Rattle.std.proofs.Common.{Option, None, Some, refl, sym, ap, ◌∙◌, append_assoc}
-use Rattle.std.specs.Prelude.{is_some, unwrap_or}
+use Rattle.compile_rows.proofs.Prelude.{AreNodes, AreTexts, Around, Autolink, autolink_by, Cons, content_codes, Data, ending_rows, Event, events_of, has}
+use Rattle.compile_rows.proofs.Prelude.{HasEndings, HaveEndings, Html, html_after, html_next, html_part_rows, inline_rows, InlineRow, IsNode, IsTextNode, Kind}
+use Rattle.compile_rows.proofs.Prelude.{less, LinkTexts, literal_rows, Name, Names, Nil, Nodes, nonzero, number_of, numbered_text, Part, passes, PassesOver}
+use Rattle.compile_rows.proofs.Prelude.{raw_after, reference_by, same_name, split, Target, text_first, text_in, text_is, text_of, unwrap_or, valid, value_of}
+use Rattle.std.specs.Prelude.{is_some}
 use Rattle.std.specs.Str.{is_utf8}
 use Rattle.std.proofs.lemmas.Str.{IsUtf8-nil, is_utf8-from_IsUtf8}
-use Rattle.engine_events.specs.Names.{same_name}
-use Rattle.engine_events.specs.declared.event.Event.{Event}
-use Rattle.engine_events.specs.declared.event.Kind.{Kind}
 use Rattle.engine_events.specs.declared.event.Kind.TheVariants.{Enter, Exit}
-use Rattle.engine_events.specs.declared.event.Name.{Name}
 use Rattle.engine_events.specs.declared.event.Name.TheVariants as n
-use Rattle.definition_text.specs.Content.{content_codes}
-use Rattle.definition_inline.specs.CharacterReference.{Names, number_of, numbered_text}
-use Rattle.definition_inline.specs.Inline.{Target, LinkTexts, LiteralKind, Data, Html, Autolink}
-use Rattle.inline_rows.specs.InlineRows.{InlineRow, Part, inline_rows}
+use Rattle.definition_inline.specs.Inline.{LiteralKind}
 use Rattle.event_grammar.specs.declared.spot.Spot.{Spot}
 use Rattle.event_grammar.specs.Checks.{spot_of}
 use Rattle.event_grammar.specs.InGrammar.{node_name}
-use Rattle.event_grammar.specs.Trees.{Node, Nodes, Around, Nil, Cons, events_of, IsNode, AreNodes}
-use Rattle.event_meaning.specs.Children.{child, text_of, text_or_none, text_in, spaced_text_of, before_child, after_child}
+use Rattle.event_grammar.specs.Trees.{Node}
+use Rattle.event_meaning.specs.Children.{child, text_or_none, spaced_text_of, before_child, after_child}
 use Rattle.event_meaning.specs.Strings.{reference_text_of}
 use Rattle.event_meaning.specs.Texts.{code_part, code_parts, html_part, html_parts, autolink_of, literal_of}
-use Rattle.event_references.proofs.TextLaw.{split}
-use Rattle.compile_written.specs.Child.{from_child, text_first}
-use Rattle.compile_written.specs.Strings.{valid, is_some_event}
-use Rattle.compile_written.specs.Texts.{IsTextNode, AreTexts}
+use Rattle.compile_written.specs.Child.{from_child}
+use Rattle.compile_written.specs.Strings.{is_some_event}
 use Rattle.compile_written.specs.Within.{AreWithin, StandsFirst}
-use Rattle.compile_written.proofs.ChildLaw.{child_within, text_is, text_in_is}
+use Rattle.compile_written.proofs.ChildLaw.{child_within, text_in_is}
 use Rattle.compile_written.proofs.FormedTexts.{valid_is}
-use Rattle.compile_rows.specs.Leaves.{literal_rows, html_part_rows, html_next, html_after, value_of, has, reference_by, autolink_by, ending_rows}
-use Rattle.compile_strings.specs.RawTexts.{spot_next, exit_spot, raw_next, chunk_between, chunk_first, raw_part_first, raw_after}
-use Rattle.compile_rows.specs.Texts.{HasEndings, HaveEndings}
-use Rattle.compile_strings.proofs.Passes.{PassesOver, passes, nonzero, less}
+use Rattle.compile_strings.specs.RawTexts.{spot_next, exit_spot, raw_next, chunk_between, chunk_first, raw_part_first}
 use Rattle.compile_rows.proofs.InlineRows.{append_rows, leaves_rows, endings_rows}
 
 module _ (enter : Event) (kids : Nodes) (exit : Event) (rest : List Event) (nodes : AreNodes kids) (x : exit.kind ≡ Exit) where

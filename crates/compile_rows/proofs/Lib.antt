@@ -1,3 +1,4 @@
+mod Prelude
 pub mod Ahead
 pub mod RowParts
 pub mod RowLoops

@@ -1,20 +1,10 @@
 -- Events in one that is skipped, unless their strings were read ahead, change nothing but how many are open.
 use Rattle.std.proofs.Common.{◌≡◌, ◌<◌, ◌≤◌, ℕ, ◌+◌, ◌-◌, Bool, true, false, ◌||◌, if◌then◌else◌, List, [], ◌∷◌, ◌++◌, Option, None, Some, refl, sym, ap, ◌∙◌, length, arith}
-use Rattle.engine_events.specs.Names.{same_name, is_listed}
-use Rattle.engine_events.specs.declared.event.Event.{Event}
-use Rattle.engine_events.specs.declared.event.Kind.{Kind}
+use Rattle.compile_rows.proofs.Prelude.{enter_in, entered, Event, exit_in, exited, first_raw, is_listed, Kind, less, LinkTexts, media_names, Mode, Name, Names}
+use Rattle.compile_rows.proofs.Prelude.{nonzero, place, raws_by, raws_next, rows_by, same_name, sequence_of, spelled_by, Target, targets_by, targets_next}
 use Rattle.engine_events.specs.declared.event.Kind.TheVariants.{Enter, Exit}
-use Rattle.engine_events.specs.declared.event.Name.{Name}
 use Rattle.engine_events.specs.declared.event.Name.TheVariants as n
-use Rattle.definition_inline.specs.CharacterReference.{Names}
-use Rattle.definition_inline.specs.Inline.{Target, LinkTexts}
-use Rattle.event_grammar.specs.References.{media_names}
-use Rattle.compile_rows.specs.Places.{place, entered, exited, is_counted}
-use Rattle.compile_strings.specs.RawTexts.{sequence_of}
-use Rattle.compile_rows.specs.Rows.{enter_in, exit_in, rows_by}
-use Rattle.compile_strings.specs.Spelled.{first_raw, raws_by, raws_next, spelled_by, targets_by, targets_next}
-use Rattle.compile_rows.specs.declared.rows.Mode.{Mode}
-use Rattle.compile_strings.proofs.Passes.{nonzero, less}
+use Rattle.compile_rows.specs.Places.{is_counted}
 use Rattle.compile_rows.proofs.Walks.{enters, exits}
 
 -- ---- names that aren't counted

@@ -1,20 +1,14 @@
 -- Rows and texts that are pushed.
 use Rattle.std.proofs.Common.{◌≡◌, ℕ, Bool, true, false, if◌then◌else◌, List, [], ◌∷◌, ◌++◌, Option, Some, sym, ap, ◌∙◌, subst}
-use Rattle.std.specs.Prelude.{Result, OnOk, unwrap_or}
-use Rattle.std.specs.Option.{option_map}
-use Rattle.engine_events.specs.Names.{same_name}
-use Rattle.engine_events.specs.declared.event.Event.{Event}
-use Rattle.engine_events.specs.declared.event.Name.{Name}
+use Rattle.compile_rows.proofs.Prelude.{Autolink, autolink_by, Character, content_codes, ending_rows, Event, has, Html, html_part_rows, InlineRow}
+use Rattle.compile_rows.proofs.Prelude.{literal_kind, literal_rows, Name, Names, number_of, numbered_text, OnOk, option_map, Part, reference_by, same_name}
+use Rattle.compile_rows.proofs.Prelude.{unwrap_or, valid, value_of}
+use Rattle.std.specs.Prelude.{Result}
 use Rattle.engine_events.specs.declared.event.Name.TheVariants as n
-use Rattle.definition_text.specs.Content.{content_codes}
-use Rattle.definition_inline.specs.CharacterReference.{Names, number_of, numbered_text}
-use Rattle.definition_inline.specs.Inline.{Character, Autolink, Html, Literal}
+use Rattle.definition_inline.specs.Inline.{Literal}
 use Rattle.definition_inline.specs.Inline as inline
 use Rattle.inline_leaves.specs.Leaves.{kind_view}
 use Rattle.inline_leaves.specs.declared.leaf.LiteralKind.{LiteralKind}
-use Rattle.inline_rows.specs.InlineRows.{InlineRow, Part}
-use Rattle.compile_written.specs.Strings.{valid}
-use Rattle.compile_rows.specs.Leaves.{ending_rows, literal_kind, literal_rows, html_part_rows, value_of, has, reference_by, autolink_by}
 
 -- other rows that are the same are pushed, too
 pub along : {X E : Type 0} (r : Result X E) (new old x y : List InlineRow) → x ≡ y → OnOk r (new ≡ old ++ x) → OnOk r (new ≡ old ++ y)

@@ -1,23 +1,11 @@
 -- The rows of a text, event by event.
 use Rattle.std.proofs.Common.{◌≡◌, ◌≤◌, ◌+◌, ℕ, Bool, List, [], ◌∷◌, ◌++◌, sym, ap, ◌∙◌, arith}
 use Rattle.std.proofs.Common.{append_assoc, drop, length}
-use Rattle.std.proofs.lemmas.List.{append-nil}
-use Rattle.engine_events.specs.declared.event.Event.{Event}
-use Rattle.engine_events.specs.declared.event.Kind.{Kind}
+use Rattle.compile_rows.proofs.Prelude.{append-nil, AreLeft, AreSpelled, enter_rows, entered, Event, exit_rows, exited, first_raw, first_target, InlineRow}
+use Rattle.compile_rows.proofs.Prelude.{Kind, LinkTexts, Names, Place, place, raws_by, raws_next, raws_view, rows_by, rows_view, sequence_of, SpelledStrings}
+use Rattle.compile_rows.proofs.Prelude.{Target, targets_by, targets_next, targets_view, Walk}
 use Rattle.engine_events.specs.declared.event.Kind.TheVariants.{Enter, Exit}
-use Rattle.definition_inline.specs.CharacterReference.{Names}
-use Rattle.definition_inline.specs.Inline.{Target, LinkTexts}
-use Rattle.inline_rows.specs.InlineRows.{InlineRow}
-use Rattle.inline_rows.specs.View.{rows_view}
-use Rattle.compile_rows.specs.Ahead.{AreLeft}
-use Rattle.compile_rows.specs.Places.{place, entered, exited}
-use Rattle.compile_strings.specs.RawTexts.{sequence_of}
-use Rattle.compile_rows.specs.Rows.{enter_rows, exit_rows, rows_by}
-use Rattle.compile_strings.specs.Spelled.{AreSpelled, first_raw, first_target, raws_by, raws_next, raws_view, targets_by, targets_next, targets_view}
 use Rattle.compile_rows.specs.declared.rows.Mode.TheVariants.{Text}
-use Rattle.compile_rows.specs.declared.rows.Place.{Place}
-use Rattle.compile_rows.specs.declared.rows.Walk.{Walk}
-use Rattle.compile_strings.specs.declared.spelled.SpelledStrings.{SpelledStrings}
 use Rattle.compile_rows.proofs.Walks.{enters, exits}
 
 module _ (names : Names) (bytes : List ℕ) (leads : Target → LinkTexts) (e : Event) (es own : List Event) (split : own ≡ e ∷ es) where

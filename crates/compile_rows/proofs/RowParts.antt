@@ -1,28 +1,17 @@
 -- The rows of one event.
 use Rattle.std.proofs.Common.{◌≡◌, ℕ, ◌==◌, Bool, true, false, ◌&&◌, ◌||◌, not, if◌then◌else◌, List, [], ◌∷◌, drop, Option, None, Some, refl, sym, ap, ◌∙◌}
 use denote.Enum.Bare.{sameb}
-use Rattle.engine_events.specs.Names.{same_name, is_listed}
-use Rattle.engine_events.specs.declared.event.Event.{Event}
-use Rattle.engine_events.specs.declared.event.Name.{Name}
+use Rattle.compile_rows.proofs.Prelude.{alone_rows, CallRow, data_rows, enter_in, enter_rows, EnterLinked, Event, exit_in, exit_rows, has, Image, InlineLeaf}
+use Rattle.compile_rows.proofs.Prelude.{InlineRow, is_listed, leaf_rows, Leave, Link, LinkedKind, LinkTexts, media_names, Mode, Name, Names, Part, part_rows}
+use Rattle.compile_rows.proofs.Prelude.{Place, raw_after, same_name, sequence_of, SpanKind, Spelled, spelled_by, Target, target_by, TaskCheck, text_first}
+use Rattle.compile_rows.proofs.Prelude.{valid, without_padding}
 use Rattle.engine_events.specs.declared.event.Name.TheVariants as n
-use Rattle.definition_inline.specs.CharacterReference.{Names}
-use Rattle.definition_inline.specs.CodeText.{without_padding}
-use Rattle.definition_inline.specs.Inline.{Target, LinkTexts, InlineLeaf, TaskCheck, SpanKind, LinkedKind, Link, Image}
-use Rattle.inline_rows.specs.InlineRows.{InlineRow, Part, EnterLinked, Leave, CallRow}
-use Rattle.event_grammar.specs.References.{media_names}
-use Rattle.inline_rows.specs.View.{data_rows}
-use Rattle.compile_written.specs.Child.{text_first}
-use Rattle.compile_written.specs.Strings.{valid}
-use Rattle.compile_rows.specs.Leaves.{has, leaf_rows}
 use Rattle.compile_rows.specs.Places.{in_text, is_in_text}
-use Rattle.compile_strings.specs.RawTexts.{sequence_of, raw_after}
-use Rattle.compile_rows.specs.Rows.{raw_leaf, alone_rows, part_rows, enter_in, enter_rows, exit_in, exit_rows}
-use Rattle.compile_strings.specs.Targets.{label_by, target_by}
-use Rattle.compile_strings.specs.Spelled.{Spelled, spelled, nowhere, spelled_by}
+use Rattle.compile_rows.specs.Rows.{raw_leaf}
+use Rattle.compile_strings.specs.Targets.{label_by}
+use Rattle.compile_strings.specs.Spelled.{spelled, nowhere}
 use Rattle.compile_rows.specs.contracts.rows.Mode.{the_type}
-use Rattle.compile_rows.specs.declared.rows.Mode.{Mode}
 use Rattle.compile_rows.specs.declared.rows.Mode.TheVariants.{Text, Before, Behind}
-use Rattle.compile_rows.specs.declared.rows.Place.{Place}
 use Rattle.compile_rows.proofs.Ahead.{raw_of}
 use Rattle.compile_rows.proofs.HtmlLoops.{zero_is, zero_not}
 

@@ -1,32 +1,21 @@
 -- The law of rows: the rows of the events of a text are those of the inline structure that the events spell.
 use Rattle.std.proofs.Common.{◌≡◌, ℕ, ◌+◌, ◌==◌, Bool, true, false, ◌||◌, not, if◌then◌else◌, ◌⊎◌, inl, inr, List, [], ◌∷◌, ◌++◌}
 use Rattle.std.proofs.Common.{Option, Some, None, refl, sym, ap, subst, ◌∙◌, append_assoc}
-use Rattle.std.proofs.lemmas.List.{append-nil}
+use Rattle.compile_rows.proofs.Prelude.{append-nil, AreNodes, AreTexts, Around, Cons, enter_rows, entered, EnterLinked, Event, events_of, exit_rows, exited}
+use Rattle.compile_rows.proofs.Prelude.{HasEndings, HaveEndings, Image, inline_rows, InlineRow, Inlines, is_around, is_listed, IsNode, IsTextNode, Leave, less}
+use Rattle.compile_rows.proofs.Prelude.{Link, LinkedKind, LinkTexts, media_names, Name, Names, Nil, Nodes, nonzero, part_rows, Place, place, rows_by}
+use Rattle.compile_rows.proofs.Prelude.{same_name, span_of, SpanKind, split, Target, target_by, text_of, text_part}
 use Rattle.std.proofs.Math.Bool.{or-false}
-use Rattle.engine_events.specs.Names.{same_name, is_listed}
-use Rattle.engine_events.specs.declared.event.Event.{Event}
 use Rattle.engine_events.specs.declared.event.Kind.TheVariants.{Exit}
-use Rattle.engine_events.specs.declared.event.Name.{Name}
 use Rattle.engine_events.specs.declared.event.Name.TheVariants as n
-use Rattle.definition_inline.specs.CharacterReference.{Names}
-use Rattle.definition_inline.specs.Inline.{Target, LinkTexts, SpanKind, LinkedKind, Link, Image, Span, Linked, Inlines}
+use Rattle.definition_inline.specs.Inline.{Span, Linked}
 use Rattle.definition_inline.specs.Inline as inline
-use Rattle.inline_rows.specs.InlineRows.{InlineRow, EnterSpan, EnterLinked, Leave, inline_rows}
-use Rattle.event_grammar.specs.References.{media_names}
-use Rattle.event_grammar.specs.Trees.{Nodes, Around, Nil, Cons, events_of, IsNode, AreNodes}
-use Rattle.event_meaning.specs.Children.{text_of}
-use Rattle.event_meaning.specs.Texts.{text_names, target_of, text_part, inlines_of, text_within}
-use Rattle.event_references.proofs.TextLaw.{split}
-use Rattle.compile_written.specs.Texts.{IsTextNode, AreTexts}
-use Rattle.event_grammar.specs.Spans.{span_names, span_of}
-use Rattle.compile_rows.specs.Places.{place, is_around, links_in, links_after, entered, exited}
-use Rattle.compile_rows.specs.Texts.{HasEndings, HaveEndings}
-use Rattle.compile_rows.specs.Rows.{part_rows, enter_rows, exit_rows, rows_by}
-use Rattle.compile_strings.specs.Targets.{target_by}
+use Rattle.inline_rows.specs.InlineRows.{EnterSpan}
+use Rattle.event_meaning.specs.Texts.{text_names, target_of, inlines_of, text_within}
+use Rattle.event_grammar.specs.Spans.{span_names}
+use Rattle.compile_rows.specs.Places.{links_in, links_after}
 use Rattle.compile_rows.specs.declared.rows.Mode.TheVariants.{Text, Before, Behind}
-use Rattle.compile_rows.specs.declared.rows.Place.{Place}
 use Rattle.compile_rows.proofs.InlineRows.{append_rows}
-use Rattle.compile_strings.proofs.Passes.{nonzero, less}
 use Rattle.compile_rows.proofs.Walks.{enters, exits, skipped, behind}
 use Rattle.compile_rows.proofs.AloneLaw.{alone_law}
 use Rattle.compile_strings.proofs.TargetLaw.{target_law}

@@ -1,19 +1,10 @@
 -- A walk over the events of nodes: what is skipped has no rows.
 use Rattle.std.proofs.Common.{◌≡◌, ℕ, ◌+◌, ◌-◌, Bool, if◌then◌else◌, List, [], ◌∷◌, ◌++◌, refl, ap, ◌∙◌}
-use Rattle.engine_events.specs.declared.event.Event.{Event}
-use Rattle.engine_events.specs.declared.event.Kind.{Kind}
+use Rattle.compile_rows.proofs.Prelude.{AreNodes, Around, Cons, enter_in, enter_rows, entered, Event, events_of, exit_in, exit_rows, exited, InlineRow, Kind}
+use Rattle.compile_rows.proofs.Prelude.{less, LinkTexts, Mode, Names, Nil, Nodes, nonzero, passes, PassesOver, Place, place, rows_by, split, Target}
 use Rattle.engine_events.specs.declared.event.Kind.TheVariants.{Enter, Exit}
-use Rattle.definition_inline.specs.CharacterReference.{Names}
-use Rattle.definition_inline.specs.Inline.{Target, LinkTexts}
-use Rattle.event_grammar.specs.Trees.{Nodes, Around, Nil, Cons, events_of, AreNodes}
-use Rattle.event_references.proofs.TextLaw.{split}
-use Rattle.inline_rows.specs.InlineRows.{InlineRow}
-use Rattle.compile_rows.specs.Places.{place, entered, exited}
-use Rattle.compile_rows.specs.Rows.{enter_rows, exit_rows, rows_next, rows_by, enter_in, exit_in}
-use Rattle.compile_rows.specs.declared.rows.Mode.{Mode}
+use Rattle.compile_rows.specs.Rows.{rows_next}
 use Rattle.compile_rows.specs.declared.rows.Mode.TheVariants.{Behind}
-use Rattle.compile_rows.specs.declared.rows.Place.{Place}
-use Rattle.compile_strings.proofs.Passes.{PassesOver, passes, nonzero, less}
 
 module _ (names : Names) (bytes : List ℕ) (leads : Target → LinkTexts) (in_link : Bool) where
   abbrev walk : Place → List Event → List InlineRow

@@ -1,10 +1,10 @@
 -- Columns that are counted on from a known index.
 use Rattle.std.proofs.Common.{◌≡◌, ◌≤◌, ℕ, ◌-◌, List, length, take, drop, min, max, sym, ap, ◌∙◌, arith}
-use Rattle.std.specs.List.{fold}
-use Rattle.std.proofs.lemmas.List.{drop_all, take_min}
+use Rattle.compile_strings.proofs.Prelude.{drop_all, fold, phase_at, phase_on}
+use Rattle.std.proofs.lemmas.List.{take_min}
 use Rattle.engine_events.specs.Columns.{mark_size}
 use Rattle.event_grammar.specs.Points.{column_on}
-use Rattle.event_grammar.specs.Phases.{phase, phase_at, phase_on}
+use Rattle.event_grammar.specs.Phases.{phase}
 use Rattle.event_grammar.proofs.PlaceLaws.{phase_more}
 
 -- at the start of a text there is none

@@ -1,20 +1,12 @@
 -- What is held of links, images and calls: one event more, before the others.
 use Rattle.std.proofs.Common.{◌≡◌, ◌<◌, ℕ, zero, suc, ◌+◌, ◌==◌, Bool, true, false, ◌&&◌, ◌||◌, if◌then◌else◌, List, [], ◌∷◌, ◌++◌, drop, length, Option}
 use Rattle.std.proofs.Common.{refl, sym, ap, ◌∙◌, subst, get_or, arith}
-use Rattle.std.specs.Prelude.{reverse, slice_index_or}
-use Rattle.std.proofs.lemmas.List.{drop_all, reverse-append}
-use Rattle.engine_events.specs.Names.{same_name, is_listed}
-use Rattle.engine_events.specs.declared.event.Event.{Event}
-use Rattle.engine_events.specs.declared.event.Kind.{Kind}
+use Rattle.compile_strings.proofs.Prelude.{AreHeld, drop_all, drop_next, Event, has_own, Held, HoldsAt, is_listed, IsFoundAt, IsHeld, Kind, media_names, Name}
+use Rattle.compile_strings.proofs.Prelude.{no_event, own_from, reverse, reverse-append, same_name}
+use Rattle.std.specs.Prelude.{slice_index_or}
 use Rattle.engine_events.specs.declared.event.Kind.TheVariants.{Enter, Exit}
-use Rattle.engine_events.specs.declared.event.Name.{Name}
 use Rattle.engine_events.specs.declared.event.Name.TheVariants as n
-use Rattle.event_grammar.specs.References.{media_names}
-use Rattle.event_grammar.proofs.Runs.{no_event}
-use Rattle.event_references.proofs.Loops.{drop_next}
-use Rattle.compile_strings.specs.Targets.{own_from, has_own}
-use Rattle.compile_strings.specs.LabelEnd.{is_held, held, new_held, first_of, held_with, HoldsAt, IsFoundAt, IsHeld, held_at, first_held, AreHeld}
-use Rattle.compile_strings.specs.declared.label_end.Held.{Held}
+use Rattle.compile_strings.specs.LabelEnd.{is_held, held, new_held, first_of, held_with, held_at, first_held}
 use Rattle.compile_strings.specs.declared.label_end.Open.{Open}
 use Rattle.compile_strings.proofs.TargetLaw.{own_enter, own_exit, own_up, and_no}
 use Rattle.compile_strings.proofs.Passes.{nonzero}

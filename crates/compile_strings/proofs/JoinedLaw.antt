@@ -1,25 +1,19 @@
 -- Strings that were joined: what is joined later changes none of them.
 use Rattle.std.proofs.Common.{◌≡◌, ◌≤◌, ℕ, ◌-◌, Bool, true, ◌&&◌, if◌then◌else◌, List, [], ◌∷◌, ◌++◌, drop, take, length, map, string_bytes}
 use Rattle.std.proofs.Common.{Some, refl, sym, ap, ◌∙◌, append_assoc, arith}
-use Rattle.std.specs.Prelude.{nat_le, reverse}
-use Rattle.std.specs.Str.{IsUtf8, is_utf8}
+use Rattle.compile_strings.proofs.Prelude.{append-nil, content_codes, HaveRaws, HaveTargets, is_utf8, is_utf8-from_IsUtf8, IsTarget, IsUtf8, link_texts}
+use Rattle.compile_strings.proofs.Prelude.{LinkTexts, nowhere, reverse, reverse-append, Spelled, spelled, SpelledStrings, SpelledTarget, target_view, valid}
+use Rattle.compile_strings.proofs.Prelude.{valid_is, written}
+use Rattle.std.specs.Prelude.{nat_le}
 use Rattle.std.proofs.Math.Seq.{take-append_seam, drop-append_seam}
 use Rattle.std.proofs.lemmas.Bool.{le-leb}
-use Rattle.std.proofs.lemmas.List.{append-nil, length-append, map-append, reverse-append}
-use Rattle.std.proofs.lemmas.Str.{is_utf8-from_IsUtf8}
-use Rattle.definition_text.specs.Content.{content_codes}
-use Rattle.definition_inline.specs.Inline.{LinkTexts, link_texts}
+use Rattle.std.proofs.lemmas.List.{length-append, map-append}
 use Rattle.compile_written.proofs.Characters.{text_more}
-use Rattle.event_meaning.specs.Strings.{written}
 use Rattle.event_meaning.proofs.Written.{written_codes}
-use Rattle.compile_written.specs.Strings.{valid}
-use Rattle.compile_written.proofs.FormedTexts.{valid_is}
-use Rattle.compile_strings.specs.Spelled.{Spelled, spelled, nowhere, range_text, target_view, targets_view, raws_view}
-use Rattle.compile_strings.specs.Joined.{IsJoined, IsTarget, HaveRaws, HaveTargets}
+use Rattle.compile_strings.specs.Spelled.{range_text, targets_view, raws_view}
+use Rattle.compile_strings.specs.Joined.{IsJoined}
 use Rattle.compile_strings.specs.declared.spelled.Range.{Range}
-use Rattle.compile_strings.specs.declared.spelled.SpelledTarget.{SpelledTarget}
 use Rattle.compile_strings.specs.declared.spelled.SpelledTarget.TheVariants as targets
-use Rattle.compile_strings.specs.declared.spelled.SpelledStrings.{SpelledStrings}
 
 -- ---- a range
 

@@ -1,3 +1,4 @@
+mod Prelude
 pub mod ColumnsLaw
 pub mod RawLoops
 pub mod WholeLaw

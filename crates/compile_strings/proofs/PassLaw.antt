@@ -1,17 +1,9 @@
 -- Targets and raw texts, event by event.
 use Rattle.std.proofs.Common.{◌≡◌, ◌<◌, ℕ, ◌+◌, Bool, true, false, if◌then◌else◌, List, ◌∷◌, drop, length, is_some, Option, None, Some, refl, ap, ◌∙◌, get_or}
-use Rattle.engine_events.specs.Names.{is_listed}
-use Rattle.engine_events.specs.declared.event.Event.{Event}
-use Rattle.engine_events.specs.declared.event.Kind.{Kind}
-use Rattle.engine_events.specs.declared.event.Name.{Name}
+use Rattle.compile_strings.proofs.Prelude.{drop_next, Event, is_listed, Kind, LinkTexts, media_names, Name, Names, no_event, raw_after, raws_by, raws_next}
+use Rattle.compile_strings.proofs.Prelude.{sequence_of, Spelled, spelled_by, Target, targets_by, whole_by}
 use Rattle.engine_events.specs.declared.event.Kind.TheVariants.{Enter, Exit}
-use Rattle.definition_inline.specs.CharacterReference.{Names}
-use Rattle.definition_inline.specs.Inline.{Target, LinkTexts}
-use Rattle.event_grammar.specs.References.{media_names}
-use Rattle.event_grammar.proofs.Runs.{no_event}
-use Rattle.event_references.proofs.Loops.{drop_next}
-use Rattle.compile_strings.specs.Spelled.{Spelled, spelled_by, targets_next, targets_by, joined_before, first_raw, raws_next, raws_by}
-use Rattle.compile_strings.specs.RawTexts.{sequence_of, whole_by, raw_after}
+use Rattle.compile_strings.specs.Spelled.{targets_next, joined_before, first_raw}
 
 -- raw text that is one piece isn't joined
 pub whole_next : (bytes : List ℕ) (kind : Kind) (name sequence : Name) (events : List Event) (piece : List ℕ) (others : List (List ℕ))

@@ -1,10 +1,7 @@
 -- Events in an event that is passed over change nothing.
 use Rattle.std.proofs.Common.{◌≡◌, ℕ, ◌+◌, ◌-◌, ◌==◌, Bool, true, false, List, [], ◌∷◌, ◌++◌, refl, ap, ◌∙◌, arith}
-use Rattle.std.proofs.lemmas.Bool.{eqb-true}
-use Rattle.engine_events.specs.declared.event.Event.{Event}
+use Rattle.compile_strings.proofs.Prelude.{AreNodes, Around, Cons, eqb-true, Event, events_of, Nil, Nodes, split}
 use Rattle.engine_events.specs.declared.event.Kind.TheVariants.{Enter, Exit}
-use Rattle.event_grammar.specs.Trees.{Nodes, Around, Nil, Cons, events_of, AreNodes}
-use Rattle.event_references.proofs.TextLaw.{split}
 
 zero_by : (q : ℕ) (t : Bool) → ((q + 1) == 0) ≡ t → t ≡ false
 zero_by q true e = absurd (let l = eqb-true (q + 1) 0 e in omega arith)

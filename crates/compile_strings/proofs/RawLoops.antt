@@ -1,21 +1,11 @@
 -- Raw text, event by event.
 use Rattle.std.proofs.Common.{◌≡◌, ◌<◌, ◌≤◌, ℕ, zero, suc, ◌+◌, ◌-◌, ◌==◌, Bool, true, false, not, if◌then◌else◌, List, [], ◌∷◌, ◌++◌, refl, sym, ap, ◌∙◌, get_or}
 use Rattle.std.proofs.Common.{append_assoc, drop, length, None, Some}
-use Rattle.std.specs.Prelude.{replicate}
+use Rattle.compile_strings.proofs.Prelude.{append-nil, chunk_between, chunk_first, columns_after, drop_all, drop_next, eqb-true, Event, exit_spot, Name}
+use Rattle.compile_strings.proofs.Prelude.{no_event, raw_after, raw_next, raw_part_first, replicate, same_name, spaces, Spot, spot_of, take_rest, valid}
 use Rattle.std.proofs.Common.{◌&&◌, take, eq-eqb, arith}
-use Rattle.std.proofs.lemmas.Bool.{eqb-true}
-use Rattle.std.proofs.lemmas.List.{append-nil, drop_all, take_rest}
-use Rattle.event_grammar.specs.declared.spot.Spot.{Spot}
-use Rattle.event_grammar.specs.Checks.{spot_of}
-use Rattle.event_meaning.specs.Children.{columns_after}
 use Rattle.compile_written.specs.Child.{text_first}
-use Rattle.compile_written.specs.Strings.{valid}
-use Rattle.engine_events.specs.Names.{same_name}
-use Rattle.engine_events.specs.declared.event.Event.{Event}
-use Rattle.engine_events.specs.declared.event.Name.{Name}
-use Rattle.event_grammar.proofs.Runs.{no_event}
-use Rattle.event_references.proofs.Loops.{drop_next}
-use Rattle.compile_strings.specs.RawTexts.{spaces, raw_next, raw_walked, raw_part_first, raw_after, exit_spot, chunk_between, chunk_first}
+use Rattle.compile_strings.specs.RawTexts.{raw_walked}
 use Rattle.compile_strings.specs.declared.raw_text.RawPlace.{RawPlace}
 
 pub spaces_are : (count : ℕ) → replicate count 32 ≡ spaces count

@@ -2,38 +2,19 @@
 use Rattle.std.proofs.Common.{◌≡◌, ℕ, zero, suc, ◌+◌, ◌-◌, ◌==◌, Bool, true, false, ◌&&◌, not, if◌then◌else◌, List, [], ◌∷◌, ◌++◌, drop, Option, None, Some}
 use Rattle.std.proofs.Common.{refl, sym, ap, ◌∙◌, subst, ◌<◌, length, arith}
 use Rattle.std.specs.Prelude.{unwrap_or}
-use Rattle.std.specs.Option.{option_map, option_or}
-use Rattle.std.specs.Str.{is_utf8}
-use Rattle.std.proofs.lemmas.Str.{IsUtf8-nil, IsUtf8-append, IsUtf8-from_is_utf8, is_utf8-from_IsUtf8}
-use Rattle.engine_events.specs.Names.{same_name}
-use Rattle.engine_events.specs.declared.event.Event.{Event}
-use Rattle.engine_events.specs.declared.event.Kind.{Kind}
+use Rattle.compile_strings.proofs.Prelude.{bytes_between, content_codes, Definition, Event, first_match, found_target, Held, is_utf8, is_utf8-from_IsUtf8}
+use Rattle.compile_strings.proofs.Prelude.{IsFoundAt, IsHeld, IsTarget, IsUtf8-from_is_utf8, Kind, label_after, label_at, label_by, label_first, label_or_none}
+use Rattle.compile_strings.proofs.Prelude.{label_place, labels_of, leads_to, link_texts, linked_at, linked_by, LinkTexts, Name, Names, nowhere, option_map}
+use Rattle.compile_strings.proofs.Prelude.{option_or, own_from, parts_after, PlacesFit, Reference, Resource, same_name, Spelled, spelled, spelled_by, Spot}
+use Rattle.compile_strings.proofs.Prelude.{spot_of, string_first, Target, target_by, written}
+use Rattle.std.proofs.lemmas.Str.{IsUtf8-nil, IsUtf8-append}
 use Rattle.engine_events.specs.declared.event.Kind.TheVariants.{Enter, Exit}
-use Rattle.engine_events.specs.declared.event.Name.{Name}
 use Rattle.engine_events.specs.declared.event.Name.TheVariants as n
-use Rattle.definition_text.specs.Content.{content_codes}
-use Rattle.definition_inline.specs.CharacterReference.{Names}
-use Rattle.definition_inline.specs.Definition.{Definition}
-use Rattle.definition_inline.specs.Inline.{Target, Resource, Reference, LinkTexts, link_texts}
-use Rattle.definition_inline.specs.LabelMatch.{first_match}
-use Rattle.definition_inline.specs.Targets.{labels_of, linked_at, linked_by, leads_to}
-use Rattle.event_grammar.specs.declared.spot.Spot.{Spot}
-use Rattle.event_grammar.specs.Checks.{spot_of}
-use Rattle.event_grammar.specs.InGrammar.{PlacesFit}
-use Rattle.event_grammar.specs.Points.{is_spot, bytes_between}
-use Rattle.event_meaning.specs.Strings.{written}
-use Rattle.event_meaning.specs.Texts.{label_or_none}
+use Rattle.event_grammar.specs.Points.{is_spot}
 use Rattle.event_references.specs.Texts.{piece, text_next, text_after}
 use Rattle.event_references.specs.Views.{text_at}
 use Rattle.compile_written.proofs.PlaceTexts.{between_text, edges_reach}
-use Rattle.compile_strings.specs.Targets.{own_from, string_first, label_first, label_after}
-use Rattle.compile_strings.specs.Targets.{label_by, target_by}
-use Rattle.compile_strings.specs.Spelled.{Spelled, spelled, nowhere, spelled_by}
-use Rattle.compile_strings.specs.LabelEnd.{IsFoundAt, IsHeld, label_place}
-use Rattle.compile_written.specs.Strings.{parts_after}
-use Rattle.compile_strings.specs.Joined.{IsTarget, found_target, label_at}
 use Rattle.compile_strings.proofs.JoinedLaw.{defined_target, nowhere_target}
-use Rattle.compile_strings.specs.declared.label_end.Held.{Held}
 
 abbrev IsText : List ℕ → Type 0
 IsText text = is_utf8 text ≡ true

@@ -2,27 +2,22 @@
 use Rattle.std.proofs.Common.{◌≡◌, ℕ, ◌+◌, ◌-◌, ◌==◌, Bool, true, false, ◌&&◌, if◌then◌else◌, List, [], ◌∷◌, ◌++◌, drop, Option, None, Some}
 use Rattle.std.proofs.Common.{refl, sym, ap, ◌∙◌, append_assoc, subst}
 use Rattle.std.specs.Prelude.{is_some}
-use Rattle.std.specs.Option.{option_map, option_or}
-use Rattle.engine_events.specs.Names.{same_name, is_listed}
-use Rattle.engine_events.specs.declared.event.Event.{Event}
-use Rattle.engine_events.specs.declared.event.Kind.{Kind}
+use Rattle.compile_strings.proofs.Prelude.{AreNodes, Around, Cons, Event, events_of, has_own, is_listed, Kind, label_after, label_by, label_first}
+use Rattle.compile_strings.proofs.Prelude.{label_or_none, media_names, Name, Names, Nil, Nodes, option_map, option_or, own_from, Reference, Resource}
+use Rattle.compile_strings.proofs.Prelude.{same_name, split, string_first, target_by, written}
 use Rattle.engine_events.specs.declared.event.Kind.TheVariants.{Enter, Exit}
-use Rattle.engine_events.specs.declared.event.Name.{Name}
 use Rattle.engine_events.specs.declared.event.Name.TheVariants as n
-use Rattle.definition_inline.specs.CharacterReference.{Names}
-use Rattle.definition_inline.specs.Inline.{Resource, Reference}
-use Rattle.event_grammar.specs.References.{media_names, own_in, own, label_text, own_label}
-use Rattle.event_grammar.specs.Trees.{Node, Nodes, Around, Nil, Cons, node_events, events_of, IsNode, AreNodes}
+use Rattle.event_grammar.specs.References.{own_in, own, label_text, own_label}
+use Rattle.event_grammar.specs.Trees.{Node, node_events, IsNode}
 use Rattle.event_meaning.specs.Children.{inside_of}
-use Rattle.event_meaning.specs.Strings.{string_of, written}
-use Rattle.event_meaning.specs.Texts.{label_or_none, written_string, target_of, label_codes}
-use Rattle.event_references.proofs.TextLaw.{split, text_law}
+use Rattle.event_meaning.specs.Strings.{string_of}
+use Rattle.event_meaning.specs.Texts.{written_string, target_of, label_codes}
+use Rattle.event_references.proofs.TextLaw.{text_law}
 use Rattle.compile_written.specs.Texts.{IsTextNode, AreTexts}
 use Rattle.compile_written.specs.Within.{AreWithin, StandsFirst}
 use Rattle.compile_written.proofs.ChildLaw.{inside_law}
 use Rattle.compile_written.proofs.StringLaw.{string_law}
-use Rattle.compile_strings.specs.Targets.{own_next, own_from, has_own, string_first, label_first, label_after}
-use Rattle.compile_strings.specs.Targets.{label_by, target_by}
+use Rattle.compile_strings.specs.Targets.{own_next}
 use Rattle.compile_strings.proofs.Passes.{nonzero, less}
 
 module _ (name : Name) where

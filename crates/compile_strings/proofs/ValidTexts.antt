@@ -1,9 +1,6 @@
 -- Bytes as a text: all of them, or no text if they aren't UTF-8.
 use Rattle.std.proofs.Common.{◌≡◌, ℕ, Bool, true, false, if◌then◌else◌, List, [], refl, ap}
-use Rattle.std.specs.Str.{IsUtf8, is_utf8}
-use Rattle.std.proofs.lemmas.Str.{IsUtf8-from_is_utf8, is_utf8-from_IsUtf8}
-use Rattle.compile_written.specs.Strings.{valid}
-use Rattle.compile_written.proofs.FormedTexts.{valid_is}
+use Rattle.compile_strings.proofs.Prelude.{is_utf8, is_utf8-from_IsUtf8, IsUtf8, IsUtf8-from_is_utf8, valid, valid_is}
 
 pub valid_text : (piece : List ℕ) → IsUtf8 piece → valid piece ≡ piece
 valid_text piece u = valid_is piece (is_utf8-from_IsUtf8 piece u)

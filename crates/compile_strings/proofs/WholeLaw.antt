@@ -1,22 +1,14 @@
 -- Raw text that is one piece of the bytes is the text between the sequences.
 use Rattle.std.proofs.Common.{◌≡◌, ℕ, ◌-◌, ◌==◌, Bool, true, false, ◌&&◌, not, if◌then◌else◌, List, [], ◌∷◌, ◌++◌, Option, None, Some}
 use Rattle.std.proofs.Common.{refl, sym, ap, ◌∙◌, subst}
-use Rattle.std.proofs.lemmas.Bool.{and_parts, eqb-true}
-use Rattle.std.proofs.lemmas.List.{append-nil}
-use Rattle.engine_events.specs.Names.{same_name}
-use Rattle.engine_events.specs.declared.event.Event.{Event}
-use Rattle.engine_events.specs.declared.event.Kind.{Kind}
+use Rattle.compile_strings.proofs.Prelude.{append-nil, bytes_between, chunk_between, chunk_first, columns_after, eqb-true, Event, exit_spot, Kind, Name}
+use Rattle.compile_strings.proofs.Prelude.{raw_after, raw_next, raw_part_first, same_name, sequence_of, spaces, Spot, spot_of, valid, whole_by}
+use Rattle.std.proofs.lemmas.Bool.{and_parts}
 use Rattle.engine_events.specs.declared.event.Kind.TheVariants.{Enter, Exit}
-use Rattle.engine_events.specs.declared.event.Name.{Name}
 use Rattle.engine_events.specs.declared.event.Name.TheVariants as n
-use Rattle.event_grammar.specs.declared.spot.Spot.{Spot}
-use Rattle.event_grammar.specs.Checks.{spot_of}
-use Rattle.event_grammar.specs.Points.{bytes_between}
-use Rattle.event_meaning.specs.Children.{columns_after}
 use Rattle.compile_written.specs.Child.{text_to, to_next}
-use Rattle.compile_written.specs.Strings.{valid}
-use Rattle.compile_strings.specs.RawTexts.{sequence_of, is_chunk, is_exit, begins, spaces, spot_next, exit_spot, raw_next, raw_after, raw_part_first}
-use Rattle.compile_strings.specs.RawTexts.{chunk_between, chunk_first, piece_by, whole_by}
+use Rattle.compile_strings.specs.RawTexts.{is_chunk, is_exit, begins, spot_next}
+use Rattle.compile_strings.specs.RawTexts.{piece_by}
 
 -- ---- tests
 

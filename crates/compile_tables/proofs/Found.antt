@@ -1,18 +1,11 @@
 -- A child that was looked for among events, by the tree.
 use Rattle.std.proofs.Common.{◌≡◌, List, [], Option, None, Some, sym, ap, ◌∙◌, subst}
-use Rattle.std.specs.Option.{MatchOption}
-use Rattle.engine_events.specs.declared.event.Event.{Event}
-use Rattle.engine_events.specs.declared.event.Name.{Name}
-use Rattle.event_grammar.specs.InGrammar.{kids_of}
+use Rattle.compile_tables.proofs.Prelude.{after_child, Around, child, Event, events_of, first_none, inside_of, IsChildOf, kids_in, kids_of, MatchOption, Name}
+use Rattle.compile_tables.proofs.Prelude.{Nodes, Sibling}
 use Rattle.event_grammar.specs.Trees as tree
-use Rattle.event_grammar.specs.Trees.{Nodes, Around, events_of}
-use Rattle.compile_levels.specs.Children.{IsChildOf}
 use Rattle.compile_levels.specs.Siblings.{Reads}
 use Rattle.compile_levels.specs.declared.node.Node.{Node}
-use Rattle.compile_levels.specs.declared.node.Sibling.{Sibling}
-use Rattle.event_meaning.specs.Children.{child, kids_in, inside_of, after_child}
 use Rattle.compile_tables.specs.Found.{IsFound}
-use Rattle.compile_raw.proofs.Children.{first_none}
 
 pub reads_inside : (node : Node) (first : tree.Node) → Reads node first → node.inside.now ≡ events_of (kids_of first)
 reads_inside node (Around enter kids exit) h = h.3

@@ -2,31 +2,27 @@
 use Rattle.std.proofs.Common.{◌≡◌, ℕ, ◌≤◌, Bool, true, false, if◌then◌else◌, is_some, List, [], ◌∷◌}
 use Rattle.std.proofs.Common.{◌++◌, Option, None, Some, refl, sym, ap, ◌∙◌, subst, codes, drop, length}
 use Rattle.std.specs.Prelude.{map}
-use Rattle.std.specs.List.{flat_map}
-use Rattle.std.specs.Option.{MatchOption}
+use Rattle.compile_tables.proofs.Prelude.{after_child, after_pieces, AlignKind, before_child, body_pieces, cell_of, cell_or_none, cell_pieces, cells_in}
+use Rattle.compile_tables.proofs.Prelude.{cells_pieces, child, end_tag, endings_in, endings_pieces, first_none, flat_map, head_pieces, inline_counts}
+use Rattle.compile_tables.proofs.Prelude.{inline_pieces, Inlines, kids_of, LayoutState, LineEnding, MatchOption, Meaning, more_rows_pieces, Node, Nodes, Piece}
+use Rattle.compile_tables.proofs.Prelude.{row_of, row_pieces, Table, with_bytes, with_fresh, with_tag}
 use Rattle.std.proofs.lemmas.List.{append_assoc, drop_all}
 use Rattle.engine_events.specs.Names.{same_name}
 use Rattle.engine_events.specs.declared.event.Name.TheVariants as n
-use Rattle.markdown_options.specs.declared.align_kind.AlignKind.{AlignKind}
 use Rattle.markdown_options.specs.declared.configuration.CompileOptions.{CompileOptions}
-use Rattle.markdown_options.specs.declared.line_ending.LineEnding.{LineEnding}
 use Rattle.definition_inline.specs.CharacterReference.{Names}
-use Rattle.definition_inline.specs.Inline.{Inlines, Nil as NoInline}
-use Rattle.definition_page.specs.GfmTable.{Table, TableRow, align_attributes, cell_pieces, cells_pieces, row_pieces, endings_pieces, body_row_pieces}
-use Rattle.definition_page.specs.GfmTable.{head_pieces, body_pieces, table_pieces}
-use Rattle.definition_page.specs.InlinePieces.{Meaning, element, inline_counts, inline_pieces}
-use Rattle.definition_page.specs.Pieces.{Piece, Close, Fresh}
-use Rattle.definition_page.specs.Tags.{bare_tag, tag, start_tag, end_tag}
-use Rattle.event_grammar.specs.InGrammar.{node_name, kids_of}
-use Rattle.event_grammar.specs.Trees.{Node, Nodes, Nil, Cons}
-use Rattle.event_meaning.specs.Children.{child, children, after_child, before_child}
-use Rattle.event_meaning.specs.GfmTable.{cell_of, row_of, rows_of, endings_in, endings_before_row}
-use Rattle.html_bytes.specs.Layout.{LayoutState}
+use Rattle.definition_inline.specs.Inline.{Nil as NoInline}
+use Rattle.definition_page.specs.GfmTable.{TableRow, align_attributes, body_row_pieces}
+use Rattle.definition_page.specs.GfmTable.{table_pieces}
+use Rattle.definition_page.specs.InlinePieces.{element}
+use Rattle.definition_page.specs.Pieces.{Close, Fresh}
+use Rattle.definition_page.specs.Tags.{bare_tag, tag, start_tag}
+use Rattle.event_grammar.specs.InGrammar.{node_name}
+use Rattle.event_grammar.specs.Trees.{Nil, Cons}
+use Rattle.event_meaning.specs.Children.{children}
+use Rattle.event_meaning.specs.GfmTable.{rows_of, endings_before_row}
 use Rattle.html_bytes.proofs.SameText.{laid_both}
-use Rattle.html_leaves.specs.Prints.{with_bytes, with_fresh, with_tag}
-use Rattle.html_leaves.proofs.LeafLaid.{after_pieces}
-use Rattle.compile_tables.specs.GfmTable.{cells_in, cell_or_none, more_rows_pieces}
-use Rattle.compile_raw.proofs.Children.{first_child, first_some, first_none}
+use Rattle.compile_raw.proofs.Children.{first_child, first_some}
 
 -- pieces, a fresh line, and an end tag
 module _ (options : CompileOptions) (default : List ℕ) where

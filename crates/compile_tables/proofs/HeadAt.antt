@@ -2,15 +2,9 @@
 use Rattle.std.proofs.Common.{◌≡◌, ℕ, ◌+◌, ◌<◌, List, [], ◌∷◌, ◌++◌, Option, refl, sym, ap, ◌∙◌, subst, take, length, append_assoc, arith}
 use Rattle.std.proofs.lemmas.List.{length-append, length-take, length-drop, take-append-drop}
 use Rattle.std.specs.Option.{IfSome}
-use Rattle.engine_events.specs.declared.event.Event.{Event}
-use Rattle.engine_events.specs.declared.event.Name.{Name}
-use Rattle.event_check.specs.Loose.{IsAt}
+use Rattle.compile_tables.proofs.Prelude.{after_child, Around, before_child, Event, events_of, IsAt, IsChildOf, kids_of, Name, Node, Nodes, Sibling}
 use Rattle.event_check.specs.Loose as loose
-use Rattle.event_grammar.specs.InGrammar.{kids_of}
-use Rattle.event_grammar.specs.Trees.{Node, Nodes, Around, node_events, events_of, AreNodes, IsNode}
-use Rattle.compile_levels.specs.Children.{IsChildOf}
-use Rattle.compile_levels.specs.declared.node.Sibling.{Sibling}
-use Rattle.event_meaning.specs.Children.{before_child, after_child}
+use Rattle.event_grammar.specs.Trees.{node_events, AreNodes, IsNode}
 use Rattle.compile_raw.specs.Sound.{StandsAt}
 use Rattle.compile_raw.proofs.Children.{child_around, child_has}
 

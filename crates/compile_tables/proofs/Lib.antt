@@ -1,3 +1,4 @@
+mod Prelude
 pub mod Found
 pub mod HeadAt
 pub mod GfmTableLaid

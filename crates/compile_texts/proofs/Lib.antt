@@ -1,2 +1,3 @@
+mod Prelude
 pub mod TextKids
 pub mod TextLaid

@@ -2,16 +2,15 @@
 use Rattle.std.proofs.Common.{◌≡◌, ℕ, Bool, true, false, if◌then◌else◌, List, [], refl, sym, ap, ◌∙◌, subst}
 use Rattle.std.proofs.lemmas.Bool.{cond-false, cond-true}
 use Rattle.engine_events.specs.Names.{same_name, is_listed}
-use Rattle.engine_events.specs.declared.event.Event.{Event}
+use Rattle.compile_texts.proofs.Prelude.{AreNodes, Event, events_of, inlines_of, Names, Nodes}
 use Rattle.engine_events.specs.declared.event.Name.TheVariants as n
-use Rattle.definition_inline.specs.CharacterReference.{Names}
 use Rattle.definition_inline.specs.Inline.{Inlines}
 use Rattle.event_grammar.specs.Trees as tree
-use Rattle.event_grammar.specs.Trees.{Nodes, Around, Nil, Cons, AreNodes, events_of}
+use Rattle.event_grammar.specs.Trees.{Around, Nil, Cons}
 use Rattle.compile_levels.specs.Children.{IsFirstOf}
 use Rattle.compile_levels.specs.Siblings.{Reads}
 use Rattle.compile_levels.specs.declared.node.Node.{Node}
-use Rattle.event_meaning.specs.Texts.{text_names, inlines_of, text_within}
+use Rattle.event_meaning.specs.Texts.{text_names, text_within}
 use Rattle.compile_raw.specs.Sound.{AreSound}
 use Rattle.compile_texts.specs.Texts.{text_kids}
 use Rattle.compile_raw.proofs.Sound.{none_sound, first_sound, inner_sound}

@@ -3,13 +3,12 @@ use Rattle.std.proofs.Common.{◌≡◌, ℕ, List, sym, ap, ◌∙◌, slice_in
 use Rattle.std.specs.Prelude.{map}
 use Rattle.std.proofs.Math.ListN.{get_or-map}
 use mathlib.Core.Path.{fun_ext}
-use Rattle.definition_inline.specs.CharacterReference.{Names}
+use Rattle.compile_texts.proofs.Prelude.{linked_at, linked_by, Meaning, meaning_by, Names, place_target}
 use Rattle.definition_inline.specs.Definition.{Definition}
-use Rattle.definition_inline.specs.Targets.{linked_at, linked_by, no_definition}
-use Rattle.definition_page.specs.InlinePieces.{Meaning}
+use Rattle.definition_inline.specs.Targets.{no_definition}
 use Rattle.compile_written.specs.Definition.{leads}
-use Rattle.html_inline.specs.Opens.{nowhere, place_target}
-use Rattle.html_inline.specs.Prints.{Definitions, meaning_by}
+use Rattle.html_inline.specs.Opens.{nowhere}
+use Rattle.html_inline.specs.Prints.{Definitions}
 use Rattle.html_inline.specs.declared.printing.Printing.{Printing}
 use Rattle.inline_links.specs.View.{link_texts_view}
 use Rattle.inline_links.specs.declared.text.LinkTexts.{LinkTexts}

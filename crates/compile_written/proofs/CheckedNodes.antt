@@ -1,13 +1,11 @@
 -- A list in the grammar is that of nodes, whose bytes are texts.
 use Rattle.std.proofs.Common.{ℕ, List, Option, subst}
-use Rattle.engine_events.specs.declared.event.Event.{Event}
+use Rattle.compile_written.proofs.Prelude.{AreNodes, AreTexts, Event, IsNode, Node, Nodes, PlacesFit}
 use Rattle.event_check.specs.Matches.{NodeMatches, matches, KidsMatch, nothing, between, one, opt, no_opt, many, no_more, lead, no_lead, MatchesGrammar}
 use Rattle.event_grammar.specs.declared.slot.Form.{Form}
 use Rattle.event_grammar.specs.declared.slot.Slot.{Slot}
-use Rattle.event_grammar.specs.InGrammar.{Within, Before, PlacesFit}
+use Rattle.event_grammar.specs.InGrammar.{Within, Before}
 use Rattle.event_grammar.specs.Points.{spot}
-use Rattle.event_grammar.specs.Trees.{Node, Nodes, IsNode, AreNodes}
-use Rattle.compile_written.specs.Texts.{AreTexts}
 use Rattle.compile_written.proofs.PlaceTexts.{texts_law}
 
 module _ (names : List ℕ → Option (List ℕ)) (bytes : List ℕ) where

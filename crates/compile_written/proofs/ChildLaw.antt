@@ -1,21 +1,11 @@
 -- Children by events are those of the tree.
 use Rattle.std.proofs.Common.{◌≡◌, ℕ, ◌+◌, ◌-◌, ◌==◌, Bool, true, false, ◌&&◌, if◌then◌else◌, List, [], ◌∷◌, ◌++◌, drop, Option, None, Some, refl, sym, ap}
 use Rattle.std.proofs.Common.{◌∙◌, append_assoc, subst}
-use Rattle.std.proofs.lemmas.Bool.{cond-false}
-use Rattle.engine_events.specs.Names.{same_name}
-use Rattle.engine_events.specs.declared.event.Event.{Event}
-use Rattle.engine_events.specs.declared.event.Kind.{Kind}
+use Rattle.compile_written.proofs.Prelude.{AreNodes, AreWithin, Around, bytes_between, child, cond-false, Cons, Event, events_of, from_child, inside_of, IsEnd}
+use Rattle.compile_written.proofs.Prelude.{IsNode, kids_in, Kind, less, Name, Nil, Node, node_events, Nodes, nonzero, same_name, split, Spot, spot_of}
+use Rattle.compile_written.proofs.Prelude.{StandsFirst, text_first, text_in, text_or_none, text_to}
 use Rattle.engine_events.specs.declared.event.Kind.TheVariants.{Enter, Exit}
-use Rattle.engine_events.specs.declared.event.Name.{Name}
-use Rattle.event_grammar.specs.declared.spot.Spot.{Spot}
-use Rattle.event_grammar.specs.Checks.{spot_of}
-use Rattle.event_grammar.specs.Points.{bytes_between}
-use Rattle.event_grammar.specs.Trees.{Node, Nodes, Around, Nil, Cons, node_events, events_of, IsNode, AreNodes}
-use Rattle.event_meaning.specs.Children.{child, inside_of, kids_in, text_or_none, text_in}
-use Rattle.event_references.proofs.TextLaw.{split}
-use Rattle.event_check.proofs.LooseLaw.{nonzero, less}
-use Rattle.compile_written.specs.Child.{from_next, from_child, to_next, text_to, text_first}
-use Rattle.compile_written.specs.Within.{IsEnd, AreWithin, StandsFirst}
+use Rattle.compile_written.specs.Child.{from_next, to_next}
 
 -- ---- children
 

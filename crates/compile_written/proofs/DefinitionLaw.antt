@@ -1,33 +1,19 @@
 -- Definitions by events are those of the tree.
 use Rattle.std.proofs.Common.{◌≡◌, ℕ, ◌&&◌, Bool, true, false, if◌then◌else◌, List, [], ◌∷◌, ◌++◌, drop, Option, None, Some, refl, sym, ap, ap₂, ◌∙◌}
 use Rattle.std.proofs.Common.{append_assoc}
-use Rattle.std.specs.Prelude.{map}
-use Rattle.std.proofs.lemmas.List.{append-nil, map-append}
-use Rattle.std.proofs.lemmas.List.Concat.{flat_map-append}
-use Rattle.engine_events.specs.Names.{same_name}
-use Rattle.engine_events.specs.declared.event.Event.{Event}
-use Rattle.engine_events.specs.declared.event.Name.{Name}
+use Rattle.compile_written.proofs.Prelude.{append-nil, AreNodes, AreTexts, AreWithin, Around, child, Code, Cons, content_codes, Definition, definition_after}
+use Rattle.compile_written.proofs.Prelude.{definitions_in, destination_written, Event, events_of, flat_map-append, from_child, inside_of, is_enter, kids_in}
+use Rattle.compile_written.proofs.Prelude.{kids_of, label_string, map, map-append, Name, Names, Nil, Node, Nodes, parts_after, same_name, split, StandsFirst}
+use Rattle.compile_written.proofs.Prelude.{string_of, title_written, written, written_byte}
 use Rattle.engine_events.specs.declared.event.Name.TheVariants as n
-use Rattle.definition_text.specs.Columns.{Code}
-use Rattle.definition_text.specs.Content.{content_codes}
-use Rattle.definition_inline.specs.CharacterReference.{Names}
-use Rattle.definition_inline.specs.Definition.{Definition, definition}
-use Rattle.event_grammar.specs.InGrammar.{kids_of}
+use Rattle.definition_inline.specs.Definition.{definition}
 use Rattle.event_grammar.specs.References.{named}
-use Rattle.event_grammar.specs.Trees.{Node, Nodes, Around, Nil, Cons, events_of, AreNodes}
 use Rattle.event_meaning.specs.Blocks.{label_of}
-use Rattle.event_meaning.specs.Children.{child, inside_of, kids_in}
 use Rattle.event_meaning.specs.Spelled.{definition_of}
-use Rattle.event_meaning.specs.Strings.{string_of, written_byte, written}
-use Rattle.event_references.specs.Texts.{is_enter, text_of}
+use Rattle.event_references.specs.Texts.{text_of}
 use Rattle.event_references.specs.Views.{text_first}
-use Rattle.event_references.proofs.TextLaw.{split, text_law}
-use Rattle.compile_written.specs.Child.{from_child}
-use Rattle.compile_written.specs.Definition.{label_string, place_events}
-use Rattle.compile_written.specs.Definition.{destination_written, title_written, definition_after, definitions_in}
-use Rattle.compile_written.specs.Strings.{parts_after}
-use Rattle.compile_written.specs.Texts.{AreTexts}
-use Rattle.compile_written.specs.Within.{AreWithin, StandsFirst}
+use Rattle.event_references.proofs.TextLaw.{text_law}
+use Rattle.compile_written.specs.Definition.{place_events}
 use Rattle.compile_written.proofs.ChildLaw.{child_within, kids_within}
 use Rattle.compile_written.proofs.StringLaw.{string_law}
 

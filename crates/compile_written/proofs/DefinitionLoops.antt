@@ -1,14 +1,9 @@
 -- Definitions, event by event.
 use Rattle.std.proofs.Common.{◌≡◌, ◌<◌, ℕ, ◌+◌, Bool, true, false, ◌&&◌, if◌then◌else◌, List, [], ◌∷◌, ◌++◌, refl, sym, ap, ◌∙◌, get_or, append_assoc, drop, length}
-use Rattle.engine_events.specs.Names.{same_name}
-use Rattle.engine_events.specs.declared.event.Event.{Event}
+use Rattle.compile_written.proofs.Prelude.{Definition, definition_after, definitions_in, drop_next, Event, HasDefinitions, is_enter, Names, no_event}
+use Rattle.compile_written.proofs.Prelude.{same_name}
 use Rattle.engine_events.specs.declared.event.Name.TheVariants as n
-use Rattle.event_references.specs.Texts.{is_enter}
-use Rattle.definition_inline.specs.CharacterReference.{Names}
-use Rattle.definition_inline.specs.Definition.{Definition}
-use Rattle.event_grammar.proofs.Runs.{no_event}
-use Rattle.event_references.proofs.Loops.{drop_next}
-use Rattle.compile_written.specs.Definition.{HasDefinitions, has_definition, starts_definition, definition_after, definitions_in}
+use Rattle.compile_written.specs.Definition.{has_definition, starts_definition}
 use Rattle.compile_written.specs.declared.definition.Definitions.{Definitions}
 
 -- those before a place were read

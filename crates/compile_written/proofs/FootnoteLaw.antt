@@ -1,27 +1,17 @@
 -- The labels of footnote definitions by events are those of the blocks that the nodes spell.
 use Rattle.std.proofs.Common.{◌≡◌, ℕ, ◌+◌, ◌-◌, ◌==◌, Bool, true, false, if◌then◌else◌, List, [], ◌∷◌, ◌++◌, drop, Option, None, Some, refl, sym, ap, ◌∙◌}
 use Rattle.std.proofs.Common.{append_assoc}
-use Rattle.std.proofs.lemmas.List.{append-nil}
-use Rattle.engine_events.specs.Names.{same_name, is_listed}
-use Rattle.engine_events.specs.declared.event.Event.{Event}
-use Rattle.engine_events.specs.declared.event.Kind.{Kind}
+use Rattle.compile_written.proofs.Prelude.{append-nil, AreNodes, AreWithin, Around, child, Code, Cons, container_names, enter_content, enter_note, enter_open}
+use Rattle.compile_written.proofs.Prelude.{Event, events_of, first_held, from_child, has_begun, Held, is_listed, kids_in, Kind, label_codes, label_list, less}
+use Rattle.compile_written.proofs.Prelude.{Name, Names, Nil, Nodes, nonzero, note_next, Notes, notes, notes_after, only_if, same_name, split, text_of}
+use Rattle.compile_written.proofs.Prelude.{the_document}
 use Rattle.engine_events.specs.declared.event.Kind.TheVariants.{Enter, Exit}
-use Rattle.engine_events.specs.declared.event.Name.{Name}
 use Rattle.engine_events.specs.declared.event.Name.TheVariants as n
-use Rattle.definition_text.specs.Columns.{Code}
-use Rattle.definition_inline.specs.CharacterReference.{Names}
 use Rattle.definition_page.specs.Page as page
-use Rattle.event_grammar.specs.Trees.{Nodes, Around, Nil, Cons, events_of, AreNodes}
 use Rattle.event_meaning.specs.Blocks.{join, start_of, footnote_label, block_of, blocks_of, blocks_from}
-use Rattle.event_meaning.specs.Children.{child, kids_in, text_of}
 use Rattle.event_meaning.specs.Spelled.{block_footnotes, footnotes}
-use Rattle.event_references.proofs.TextLaw.{split}
-use Rattle.event_check.proofs.LooseLaw.{nonzero, less}
-use Rattle.compile_written.specs.Child.{from_child}
-use Rattle.compile_written.specs.GfmFootnoteDefinition.{container_names, start_name, label_string, label_codes, Held, held, the_document, only_if, has_begun}
-use Rattle.compile_written.specs.GfmFootnoteDefinition.{Notes, notes, enter_content, enter_open, enter_note, first_held, label_list, exit_note, note_next}
-use Rattle.compile_written.specs.GfmFootnoteDefinition.{notes_after}
-use Rattle.compile_written.specs.Within.{AreWithin}
+use Rattle.compile_written.specs.GfmFootnoteDefinition.{start_name, label_string, held}
+use Rattle.compile_written.specs.GfmFootnoteDefinition.{exit_note}
 use Rattle.compile_written.proofs.ChildLaw.{child_within, kids_within}
 use Rattle.compile_written.proofs.DefinitionLaw.{label_is}
 use Rattle.compile_written.proofs.FootnoteLoops.{content_same}

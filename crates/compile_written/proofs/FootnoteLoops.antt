@@ -1,16 +1,8 @@
 -- The labels of footnote definitions, event by event.
 use Rattle.std.proofs.Common.{◌≡◌, ◌<◌, ◌≤◌, ℕ, ◌+◌, ◌==◌, Bool, true, false, if◌then◌else◌, List, [], Option, refl, sym, ap, ◌∙◌, subst, get_or, drop, length}
 use Rattle.std.proofs.lemmas.List.{drop_all}
-use Rattle.definition_text.specs.Columns.{Code}
-use Rattle.engine_events.specs.Names.{is_listed}
-use Rattle.engine_events.specs.declared.event.Event.{Event}
-use Rattle.engine_events.specs.declared.event.Kind.{Kind}
-use Rattle.engine_events.specs.declared.event.Name.{Name}
-use Rattle.inline_labels.specs.Table.{HasLabels}
-use Rattle.event_grammar.proofs.Runs.{no_event}
-use Rattle.event_references.proofs.Loops.{drop_next}
-use Rattle.compile_written.specs.GfmFootnoteDefinition.{Notes, notes, the_document, label_at, note_next, notes_after, HasNotes}
-use Rattle.compile_written.specs.GfmFootnoteDefinition.{container_names, begun, has_begun, enter_content, enter_open, enter_note}
+use Rattle.compile_written.proofs.Prelude.{begun, Code, container_names, drop_next, enter_content, enter_note, enter_open, Event, has_begun, HasLabels}
+use Rattle.compile_written.proofs.Prelude.{HasNotes, is_listed, Kind, label_at, Name, no_event, note_next, Notes, notes, notes_after, the_document}
 use Rattle.compile_written.specs.declared.gfm_footnote_definition.Walk.{Walk}
 
 abbrev pub start_notes : Notes

@@ -1,14 +1,9 @@
 -- Texts that are told, and bytes that may be no texts.
 use Rattle.std.proofs.Common.{◌≡◌, ℕ, Bool, true, false, if◌then◌else◌, List, [], ◌∷◌, ◌++◌, Option, Some, sym, ap, ◌∙◌, refl}
-use Rattle.std.specs.Prelude.{unwrap_or}
+use Rattle.compile_written.proofs.Prelude.{append-nil, Form, formed, is_utf8, is_utf8-from_IsUtf8, IsUtf8, IsUtf8-from_is_utf8, Names, unwrap_or, valid}
+use Rattle.compile_written.proofs.Prelude.{written_byte}
 use Rattle.std.specs.Fmt.{digits}
-use Rattle.std.specs.Str.{IsUtf8, is_utf8}
-use Rattle.std.proofs.lemmas.List.{append-nil}
-use Rattle.std.proofs.lemmas.Str.{IsUtf8-from_is_utf8, is_utf8-from_IsUtf8}
-use Rattle.definition_inline.specs.CharacterReference.{Names}
-use Rattle.event_meaning.specs.Strings.{written_byte}
-use Rattle.compile_written.specs.Strings.{formed, valid, named_text}
-use Rattle.compile_written.specs.declared.string.Form.{Form}
+use Rattle.compile_written.specs.Strings.{named_text}
 use Rattle.compile_written.specs.declared.string.Form.TheVariants.{Plain, Written}
 
 -- ---- the bytes that are told

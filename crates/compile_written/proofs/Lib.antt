@@ -1,3 +1,4 @@
+mod Prelude
 pub mod ChildLaw
 pub mod StringLaw
 pub mod Characters

@@ -1,22 +1,14 @@
 -- Looseness by events, from the last on, is that of the tree.
 use Rattle.std.proofs.Common.{◌≡◌, ℕ, Bool, true, false, ◌&&◌, ◌||◌, if◌then◌else◌, List, [], ◌∷◌, ◌++◌, Option, None, Some, refl, sym, ap, ◌∙◌, append_assoc}
-use Rattle.std.proofs.lemmas.List.{append-nil}
-use Rattle.engine_events.specs.Names.{same_name}
-use Rattle.engine_events.specs.declared.event.Event.{Event}
-use Rattle.engine_events.specs.declared.event.Kind.{Kind}
+use Rattle.compile_written.proofs.Prelude.{append-nil, AreNodes, Around, before_enter, before_exit, Child, compared_in, compares, Cons, Event, events_of}
+use Rattle.compile_written.proofs.Prelude.{is_before, is_list, Kind, level, Level, more_lists, Name, new_level, Nil, Node, node_events, Nodes, pass_at}
+use Rattle.compile_written.proofs.Prelude.{pass_event, pass_next, pass_start, passed, PassView, same_name, Spot, spot_of}
 use Rattle.engine_events.specs.declared.event.Kind.TheVariants.{Enter, Exit}
-use Rattle.engine_events.specs.declared.event.Name.{Name}
 use Rattle.engine_events.specs.declared.event.Name.TheVariants as n
 use Rattle.event_check.specs.Loose.{is_far, are_apart, has_loose_item, is_loose_list}
-use Rattle.event_grammar.specs.declared.slot.Child.{Child}
 use Rattle.event_grammar.specs.declared.slot.Child.TheVariants.{Only, Block}
-use Rattle.event_grammar.specs.declared.spot.Spot.{Spot}
-use Rattle.event_grammar.specs.Checks.{spot_of}
 use Rattle.event_grammar.specs.Slots.{has}
-use Rattle.event_grammar.specs.Trees.{Node, Nodes, Around, Nil, Cons, node_events, events_of, AreNodes}
-use Rattle.compile_written.specs.List.{is_list, node_lists, loose_lists, compared_in, compares, level, new_level, is_before, before_exit, before_enter}
-use Rattle.compile_written.specs.List.{PassView, pass_at, more_lists, pass_next, pass_start, pass_event, passed}
-use Rattle.compile_written.specs.declared.list.Level.{Level}
+use Rattle.compile_written.specs.List.{node_lists, loose_lists}
 
 -- ---- either
 

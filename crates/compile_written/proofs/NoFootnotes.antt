@@ -1,15 +1,10 @@
 -- Without a footnote definition no label is found.
 use Rattle.std.proofs.Common.{◌≡◌, ℕ, ◌+◌, ◌-◌, ◌==◌, Bool, true, false, if◌then◌else◌, List, [], ◌∷◌, ◌++◌, Option, None, refl, ap, ◌∙◌, drop}
-use Rattle.std.proofs.lemmas.List.{append-nil}
-use Rattle.definition_text.specs.Columns.{Code}
-use Rattle.engine_events.specs.Names.{same_name, is_listed}
-use Rattle.engine_events.specs.declared.event.Event.{Event}
-use Rattle.engine_events.specs.declared.event.Kind.{Kind}
+use Rattle.compile_written.proofs.Prelude.{append-nil, Code, container_names, enter_content, enter_open, Event, first_held, has_begun, Held, is_listed, Kind}
+use Rattle.compile_written.proofs.Prelude.{label_codes, label_list, Name, note_next, Notes, notes, notes_after, only_if, same_name, the_document}
 use Rattle.engine_events.specs.declared.event.Kind.TheVariants.{Enter, Exit}
-use Rattle.engine_events.specs.declared.event.Name.{Name}
 use Rattle.engine_events.specs.declared.event.Name.TheVariants as n
-use Rattle.compile_written.specs.GfmFootnoteDefinition.{Held, Notes, notes, the_document, note_next, notes_after, has_definition, label_codes, label_list}
-use Rattle.compile_written.specs.GfmFootnoteDefinition.{container_names, has_begun, enter_content, enter_open, only_if, first_held}
+use Rattle.compile_written.specs.GfmFootnoteDefinition.{has_definition}
 
 abbrev AreUnlabelled : List Held → Type 0
 AreUnlabelled [] = Unit

@@ -1,8 +1,9 @@
 -- Characters by their number.
 use Rattle.std.proofs.Common.{◌≡◌, ℕ, zero, suc, ◌+◌, ◌-◌, ◌*◌, ◌<◌, ◌≤◌, Bool, true, false, ◌||◌, refl, sym, ap, ◌∙◌, arith, inl, inr}
-use Rattle.std.specs.Prelude.{min, ◌^◌, ◌%◌, ◌==◌, nat_le}
+use Rattle.compile_written.proofs.Prelude.{leb-true, nat_le}
+use Rattle.std.specs.Prelude.{min, ◌^◌, ◌%◌, ◌==◌}
 use Rattle.std.specs.Int.{is_in_range}
-use Rattle.std.proofs.lemmas.Bool.{cases_Bool, cond-true, le-leb, leb-true, leb-false}
+use Rattle.std.proofs.lemmas.Bool.{cases_Bool, cond-true, le-leb, leb-false}
 use Rattle.std.proofs.Math.Nat.{le-mul_of_pos_right, mul-zero}
 use Rattle.definition_inline.specs.CharacterReference.{is_replaced, character_of}
 

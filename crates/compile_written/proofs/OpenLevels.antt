@@ -1,19 +1,11 @@
 -- Levels of events that are neither lists nor items are all alike, so their number is enough.
 use Rattle.std.proofs.Common.{◌≡◌, ◌<◌, ◌≤◌, ℕ, zero, suc, ◌+◌, ◌-◌, Bool, true, false, ◌&&◌, ◌||◌, if◌then◌else◌, List, [], ◌∷◌, Option, None, Some}
 use Rattle.std.proofs.Common.{refl, sym, ap, ◌∙◌, subst, drop, length, get_or, is_some, arith}
-use Rattle.std.proofs.lemmas.List.{length-drop}
-use Rattle.engine_events.specs.declared.event.Event.{Event}
-use Rattle.engine_events.specs.declared.event.Kind.{Kind}
+use Rattle.compile_written.proofs.Prelude.{before_enter, before_exit, Child, compared_in, compares, drop_next, Event, is_before, is_list, Kind, length-drop}
+use Rattle.compile_written.proofs.Prelude.{level, Level, level_view, more_lists, Name, new_level, no_event, pass_at, pass_next, pass_start, passed, PassView}
+use Rattle.compile_written.proofs.Prelude.{Spot, spot_of}
 use Rattle.engine_events.specs.declared.event.Kind.TheVariants.{Enter, Exit}
-use Rattle.engine_events.specs.declared.event.Name.{Name}
-use Rattle.event_grammar.specs.declared.spot.Spot.{Spot}
-use Rattle.event_grammar.specs.Checks.{spot_of}
-use Rattle.event_grammar.specs.declared.slot.Child.{Child}
-use Rattle.event_grammar.proofs.Runs.{no_event}
-use Rattle.event_references.proofs.Loops.{drop_next}
-use Rattle.compile_written.specs.List.{before_enter, before_exit, compared_in, compares, first_level, is_before, is_list, level, level_view, levels_of, more_lists, new_level, nones}
-use Rattle.compile_written.specs.List.{PassView, pass_at, pass_next, pass_start, passed}
-use Rattle.compile_written.specs.declared.list.Level.{Level}
+use Rattle.compile_written.specs.List.{first_level, levels_of, nones}
 use Rattle.compile_written.specs.declared.list.OpenLevel.{OpenLevel}
 
 -- ---- levels that are all alike

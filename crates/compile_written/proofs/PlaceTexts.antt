@@ -1,20 +1,13 @@
 -- Between two places in order, between characters, stands a text.
 use Rattle.std.proofs.Common.{◌≡◌, ◌<◌, ◌≤◌, ℕ, ◌+◌, ◌-◌, ◌==◌, Bool, true, false, ◌&&◌, ◌||◌, if◌then◌else◌, List, [], ◌∷◌, ◌++◌, drop, take, length, get_or}
 use Rattle.std.proofs.Common.{drop-cons, lit<, add-one, refl, sym, ap, ◌∙◌, subst, arith}
-use Rattle.std.specs.Prelude.{nat_lt, nat_le, slice_index}
-use Rattle.std.specs.Str.{is_utf8}
-use Rattle.std.proofs.lemmas.List.{append-nil}
-use Rattle.std.proofs.lemmas.Bool.{and_parts, ltb-true, eqb-true, leb-true}
+use Rattle.compile_written.proofs.Prelude.{append-nil, AreTexts, Around, bytes_between, Cons, eqb-true, Event, events_of, is_utf8, leb-true, nat_le, Nil}
+use Rattle.compile_written.proofs.Prelude.{Nodes, PlacesFit, slice_index, split, Spot, spot_of}
+use Rattle.std.specs.Prelude.{nat_lt}
+use Rattle.std.proofs.lemmas.Bool.{and_parts, ltb-true}
 use Rattle.engine_events.specs.Columns.{tab_size}
-use Rattle.engine_events.specs.declared.event.Event.{Event}
-use Rattle.event_grammar.specs.declared.spot.Spot.{Spot}
-use Rattle.event_grammar.specs.Checks.{spot_of}
-use Rattle.event_grammar.specs.InGrammar.{PlacesFit}
-use Rattle.event_grammar.specs.Points.{edge, bytes_between, reaches, is_spot, is_column, column_at}
-use Rattle.event_grammar.specs.Trees.{Nodes, Around, Nil, Cons, events_of}
+use Rattle.event_grammar.specs.Points.{edge, reaches, is_spot, is_column, column_at}
 use Rattle.compile_written.proofs.Characters.{text_more, ascii_byte}
-use Rattle.event_references.proofs.TextLaw.{split}
-use Rattle.compile_written.specs.Texts.{AreTexts}
 
 module _ (bytes : List ℕ) where
   -- the bytes before the edge of a place are a text

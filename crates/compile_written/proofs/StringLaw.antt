@@ -1,27 +1,19 @@
 -- What a string spells by its events is what its nodes spell.
 use Rattle.std.proofs.Common.{◌≡◌, ℕ, ◌+◌, ◌-◌, ◌==◌, Bool, true, false, ◌||◌, if◌then◌else◌, List, [], ◌∷◌, ◌++◌, drop, Option, None, Some, refl, sym, ap}
 use Rattle.std.proofs.Common.{◌∙◌, append_assoc}
-use Rattle.std.specs.Prelude.{is_some, unwrap_or}
-use Rattle.std.specs.Str.{is_utf8}
-use Rattle.std.proofs.lemmas.Bool.{cond-false}
-use Rattle.std.proofs.lemmas.Str.{IsUtf8-nil, is_utf8-from_IsUtf8}
-use Rattle.engine_events.specs.Names.{same_name}
-use Rattle.engine_events.specs.declared.event.Event.{Event}
-use Rattle.engine_events.specs.declared.event.Kind.{Kind}
+use Rattle.compile_written.proofs.Prelude.{AreNodes, AreTexts, AreWithin, Around, child, cond-false, Cons, Event, events_of, from_child, is_utf8}
+use Rattle.compile_written.proofs.Prelude.{is_utf8-from_IsUtf8, IsEnd, kids_of, Kind, less, Name, Names, Nil, Node, node_events, Nodes, nonzero, number_of}
+use Rattle.compile_written.proofs.Prelude.{part_text, parts_after, parts_next, same_name, split, StandsFirst, string_of, text_first, text_in, text_of}
+use Rattle.compile_written.proofs.Prelude.{text_or_none, unwrap_or, valid}
+use Rattle.std.specs.Prelude.{is_some}
+use Rattle.std.proofs.lemmas.Str.{IsUtf8-nil}
 use Rattle.engine_events.specs.declared.event.Kind.TheVariants.{Enter, Exit}
-use Rattle.engine_events.specs.declared.event.Name.{Name}
 use Rattle.engine_events.specs.declared.event.Name.TheVariants as n
-use Rattle.definition_inline.specs.CharacterReference.{Names, number_of, numbered_text}
-use Rattle.event_grammar.specs.InGrammar.{node_name, kids_of}
-use Rattle.event_grammar.specs.Trees.{Node, Nodes, Around, Nil, Cons, node_events, events_of, AreNodes}
-use Rattle.event_meaning.specs.Children.{child, text_of, text_or_none, text_in}
-use Rattle.event_meaning.specs.Strings.{reference_text_of, string_part, string_of}
-use Rattle.event_references.proofs.TextLaw.{split}
-use Rattle.event_check.proofs.LooseLaw.{nonzero, less}
-use Rattle.compile_written.specs.Child.{from_child, text_first}
-use Rattle.compile_written.specs.Strings.{valid, is_some_event, value_text, reference_text, part_text, parts_next, parts_after}
-use Rattle.compile_written.specs.Texts.{IsTextNode, AreTexts}
-use Rattle.compile_written.specs.Within.{IsEnd, AreWithin, StandsFirst}
+use Rattle.definition_inline.specs.CharacterReference.{numbered_text}
+use Rattle.event_grammar.specs.InGrammar.{node_name}
+use Rattle.event_meaning.specs.Strings.{reference_text_of, string_part}
+use Rattle.compile_written.specs.Strings.{is_some_event, value_text, reference_text}
+use Rattle.compile_written.specs.Texts.{IsTextNode}
 use Rattle.compile_written.proofs.ChildLaw.{child_within, inside_law, text_is, text_in_is}
 pub use Rattle.compile_written.proofs.FormedTexts.{valid_is}
 

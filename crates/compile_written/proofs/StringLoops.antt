@@ -1,18 +1,9 @@
 -- The parts of a string, event by event.
 use Rattle.std.proofs.Common.{◌≡◌, ◌<◌, ℕ, ◌+◌, ◌-◌, ◌==◌, Bool, true, false, if◌then◌else◌, List, [], ◌∷◌, ◌++◌, refl, sym, ap, ◌∙◌, get_or, append_assoc}
 use Rattle.std.proofs.Common.{drop, length}
-use Rattle.std.proofs.lemmas.Bool.{eqb-true}
-use Rattle.std.proofs.lemmas.List.{append-nil}
-use Rattle.std.proofs.lemmas.List.Concat.{flat_map-append}
-use Rattle.engine_events.specs.declared.event.Event.{Event}
-use Rattle.engine_events.specs.declared.event.Kind.{Kind}
+use Rattle.compile_written.proofs.Prelude.{append-nil, drop_next, eqb-true, Event, flat_map-append, Form, formed, Kind, Names, no_event, part_text}
+use Rattle.compile_written.proofs.Prelude.{parts_after, parts_next, written_byte}
 use Rattle.engine_events.specs.declared.event.Kind.TheVariants.{Enter, Exit}
-use Rattle.definition_inline.specs.CharacterReference.{Names}
-use Rattle.event_grammar.proofs.Runs.{no_event}
-use Rattle.event_meaning.specs.Strings.{written_byte}
-use Rattle.event_references.proofs.Loops.{drop_next}
-use Rattle.compile_written.specs.Strings.{formed, part_text, parts_next, parts_after}
-use Rattle.compile_written.specs.declared.string.Form.{Form}
 use Rattle.compile_written.specs.declared.string.Form.TheVariants.{Plain, Written}
 
 formed_both : (form : Form) (xs ys : List ℕ) → formed form (xs ++ ys) ≡ formed form xs ++ formed form ys

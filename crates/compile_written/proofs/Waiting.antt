@@ -1,7 +1,7 @@
 -- One more byte of a text that is written.
 use Rattle.std.proofs.Common.{◌≡◌, ℕ, ◌+◌, ◌-◌, ◌<◌, ◌≤◌, List, [], ◌∷◌, ◌++◌, sym, ap, ◌∙◌, get_or, length, drop, take, arith, append_assoc}
-use Rattle.std.proofs.lemmas.List.{take_more, drop_more, append-nil, get_or-drop, length-drop}
-use Rattle.event_meaning.specs.Strings.{written_byte, written}
+use Rattle.compile_written.proofs.Prelude.{append-nil, length-drop, written, written_byte}
+use Rattle.std.proofs.lemmas.List.{take_more, drop_more, get_or-drop}
 
 -- what was appended, the bytes from `start` that wait, and what is left to write, at a place
 abbrev pub IsWrittenAt : List ℕ → List ℕ → List ℕ → ℕ → ℕ → Type 0

@@ -1,12 +1,8 @@
 -- The codes of written destinations and titles are their bytes.
 use Rattle.std.proofs.Common.{◌≡◌, ℕ, List, [], ◌++◌, sym, ap, ◌∙◌}
-use Rattle.std.proofs.lemmas.List.Concat.{flat_map-append}
-use Rattle.engine_events.specs.declared.event.Event.{Event}
-use Rattle.definition_text.specs.Content.{content_codes}
-use Rattle.definition_inline.specs.CharacterReference.{Names}
-use Rattle.event_meaning.specs.Strings.{written_byte, written}
-use Rattle.compile_written.specs.Definition.{literal_events, raw_events, title_events, destination_written, title_written}
-use Rattle.compile_written.specs.Strings.{parts_after}
+use Rattle.compile_written.proofs.Prelude.{content_codes, destination_written, Event, flat_map-append, Names, parts_after, title_written, written}
+use Rattle.compile_written.proofs.Prelude.{written_byte}
+use Rattle.compile_written.specs.Definition.{literal_events, raw_events, title_events}
 use Rattle.event_meaning.proofs.Written.{written_codes}
 
 both_codes : (a b : List ℕ) → content_codes (written a ++ written b) ≡ written a ++ written b

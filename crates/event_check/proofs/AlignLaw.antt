@@ -1,20 +1,15 @@
 -- Alignments by events are those of the tree.
 use Rattle.std.proofs.Common.{◌≡◌, ℕ, ◌+◌, ◌-◌, ◌==◌, Bool, true, false, if◌then◌else◌, List, [], ◌∷◌, ◌++◌, drop, refl, sym, ap, ◌∙◌, append_assoc}
 use Rattle.std.specs.Prelude.{map}
-use Rattle.std.proofs.lemmas.Bool.{cond-false}
-use Rattle.std.proofs.lemmas.List.{append-nil, map-append}
-use Rattle.engine_events.specs.Names.{same_name}
-use Rattle.engine_events.specs.declared.event.Event.{Event}
-use Rattle.engine_events.specs.declared.event.Kind.{Kind}
+use Rattle.event_check.proofs.Prelude.{aligns_after, append-nil, AreNodes, Around, cond-false, Cons, Event, events_of, IsAt, kids_of, Kind, marks, marks_after}
+use Rattle.event_check.proofs.Prelude.{Name, Nil, Node, Nodes, same_name}
+use Rattle.std.proofs.lemmas.List.{map-append}
 use Rattle.engine_events.specs.declared.event.Kind.TheVariants.{Exit}
-use Rattle.engine_events.specs.declared.event.Name.{Name}
 use Rattle.engine_events.specs.declared.event.Name.TheVariants as n
 use Rattle.markdown_options.specs.declared.align_kind.AlignKind.{AlignKind}
-use Rattle.event_grammar.specs.Trees.{Node, Nodes, Around, Nil, Cons, events_of, AreNodes}
 use Rattle.event_grammar.specs.References.{named}
 use Rattle.event_check.specs.declared.align.Marks.{Marks}
-use Rattle.event_check.specs.Align.{marks, mark, align_of, marks_in, value_align, table_align, marks_next, marks_after, aligns_next, aligns_after}
-use Rattle.event_check.specs.Loose.{IsAt, kids_of}
+use Rattle.event_check.specs.Align.{mark, align_of, marks_in, value_align, table_align, marks_next, aligns_next}
 use Rattle.event_check.proofs.Fits.{split}
 use Rattle.event_check.proofs.LooseLaw.{nonzero, less, inside}
 

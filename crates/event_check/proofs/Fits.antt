@@ -1,28 +1,17 @@
 -- The fold over events finds no fault exactly where their tree fits the grammar.
 use Rattle.std.proofs.Common.{◌≡◌, ℕ, ◌+◌, Bool, true, false, ◌&&◌, ◌||◌, if◌then◌else◌, ◌⊎◌, inl, inr, List, [], ◌∷◌, ◌++◌, Option, None, Some, refl, sym, ap, ◌∙◌, subst, arith, append_assoc}
-use Rattle.std.proofs.lemmas.Bool.{and_parts, or_parts, eqb-true}
+use Rattle.event_check.proofs.Prelude.{and_parts, Around, before, Before, Between, between, bytes_between, cell_names, cells_of, Check, check_at, Cons, end}
+use Rattle.event_check.proofs.Prelude.{entered, eqb-true, Event, events_of, exited, fact_at, fault_from, fits, Form, has, has_limit, is_barred, is_fact}
+use Rattle.event_check.proofs.Prelude.{is_limit, is_listed, KidsFit, Kind, limit_of, line_names, link_names, may_end, mdx_names, moved, Name, Nil, Node}
+use Rattle.event_check.proofs.Prelude.{node_name, NodeFits, Nodes, Open, opened, same_name, Slot, space_names, Spot, spot_of, stands_between, take_child}
+use Rattle.event_check.proofs.Prelude.{Taken, taken, takes, the_type, with_above, with_child, Within, within}
+use Rattle.std.proofs.lemmas.Bool.{or_parts}
 use denote.Enum.Bare.{same_true}
-use Rattle.engine_events.specs.contracts.event.Name.{the_type}
-use Rattle.engine_events.specs.Names.{same_name, is_listed}
-use Rattle.engine_events.specs.declared.event.Event.{Event}
-use Rattle.engine_events.specs.declared.event.Kind.{Kind}
 use Rattle.engine_events.specs.declared.event.Kind.TheVariants.{Enter, Exit}
-use Rattle.engine_events.specs.declared.event.Name.{Name}
 use Rattle.engine_events.specs.declared.event.Name.TheVariants as n
-use Rattle.event_grammar.specs.declared.slot.Between.{Between}
 use Rattle.event_grammar.specs.declared.slot.Between.TheVariants.{Nothing, Spaces, Lines}
-use Rattle.event_grammar.specs.declared.slot.Form.{Form}
-use Rattle.event_grammar.specs.declared.slot.Slot.{Slot}
 use Rattle.event_grammar.specs.declared.slot.Slot.TheVariants.{One, Opt, Lead, Many}
-use Rattle.event_grammar.specs.declared.spot.Spot.{Spot}
-use Rattle.event_grammar.specs.Grammar.{space_names, line_names, mdx_names, link_names, cell_names}
-use Rattle.event_grammar.specs.Slots.{Taken, has, taken, take_child, may_end}
-use Rattle.event_grammar.specs.Points.{bytes_between}
-use Rattle.event_grammar.specs.Facts.{is_fact}
-use Rattle.event_grammar.specs.Checks.{Open, Check, check_at, opened, with_child, with_above, limit_of, is_limit, has_limit, is_barred, moved, entered, exited, stands_between, spot_of, fact_at}
-use Rattle.event_grammar.specs.Trees.{Node, Nodes, Around, Nil, Cons, events_of}
-use Rattle.event_grammar.specs.Faults.{fault_from}
-use Rattle.event_grammar.specs.InGrammar.{Within, within, Before, before, node_name, kids_of, cells_of, NodeFits, fits, KidsFit, end, takes, between}
+use Rattle.event_grammar.specs.InGrammar.{kids_of}
 use Rattle.event_check.proofs.NodeKinds.{HasKinds, HaveKinds}
 use Rattle.event_check.proofs.Steps.{Taking, Passing, enters, exits, goes_on}
 

@@ -1,26 +1,15 @@
 -- Where a tree fits the grammar, the fold over its events finds no fault.
 use Rattle.std.proofs.Common.{◌≡◌, ℕ, ◌+◌, ◌==◌, Bool, true, false, ◌&&◌, ◌||◌, if◌then◌else◌, ◌⊎◌, inl, inr, List, ◌∷◌, ◌++◌, Option, None, Some, refl, sym, ap, ◌∙◌, subst, arith}
-use Rattle.std.proofs.lemmas.Bool.{eqb-true, eq-eqb}
+use Rattle.event_check.proofs.Prelude.{after, Around, before, Before, between, bytes_between, cell_names, cells_of, check_at, Cons, end, eqb-true, Event}
+use Rattle.event_check.proofs.Prelude.{events_of, fact_at, fault_from, fits, Form, has_limit, is_barred, is_fact, is_limit, is_listed, KidsFit, Kind, limit_of}
+use Rattle.event_check.proofs.Prelude.{link_names, may_end, may_exit, mdx_names, moved, Name, Nil, Node, node_name, NodeFits, Nodes, Open, opened, PlacesFit}
+use Rattle.event_check.proofs.Prelude.{row, same_name, Slot, Spot, spot_of, stands_between, take_child, Taken, takes, the_type, with_child, Within}
+use Rattle.std.proofs.lemmas.Bool.{eq-eqb}
 use denote.Enum.Bare.{true_same}
-use Rattle.engine_events.specs.contracts.event.Name.{the_type}
-use Rattle.engine_events.specs.Names.{same_name, is_listed}
-use Rattle.engine_events.specs.declared.event.Event.{Event}
-use Rattle.engine_events.specs.declared.event.Kind.{Kind}
 use Rattle.engine_events.specs.declared.event.Kind.TheVariants.{Enter, Exit}
-use Rattle.engine_events.specs.declared.event.Name.{Name}
 use Rattle.engine_events.specs.declared.event.Name.TheVariants as n
-use Rattle.event_grammar.specs.declared.slot.Form.{Form}
 use Rattle.event_grammar.specs.declared.slot.Form.TheVariants.{Plain}
-use Rattle.event_grammar.specs.declared.slot.Slot.{Slot}
-use Rattle.event_grammar.specs.declared.spot.Spot.{Spot}
-use Rattle.event_grammar.specs.Grammar.{row, mdx_names, link_names, cell_names}
-use Rattle.event_grammar.specs.Slots.{Taken, take_child, may_end}
-use Rattle.event_grammar.specs.Points.{bytes_between}
-use Rattle.event_grammar.specs.Facts.{is_fact}
-use Rattle.event_grammar.specs.Checks.{Open, check_at, opened, with_child, limit_of, is_limit, has_limit, is_barred, may_exit, moved, stands_between, spot_of, fact_at}
-use Rattle.event_grammar.specs.Trees.{Node, Nodes, Around, Nil, Cons, events_of}
-use Rattle.event_grammar.specs.Faults.{fault_from}
-use Rattle.event_grammar.specs.InGrammar.{Within, inside, Before, before, after, node_name, cells_of, CellsAgree, NodeFits, fits, KidsFit, end, takes, between, PlacesFit}
+use Rattle.event_grammar.specs.InGrammar.{inside, CellsAgree}
 use Rattle.event_check.proofs.Steps.{Taking, Passing, enters_back, exits_back, Stands, goes_back}
 use Rattle.event_check.proofs.Fits.{Fills, between_fills, split, later, within_of, before_of, exit_of, above_is, count_taken}
 

@@ -1,25 +1,18 @@
 -- A list of events has no fault exactly if it is in the grammar.
 use Rattle.std.proofs.Common.{◌≡◌, ℕ, ◌+◌, Bool, true, false, if◌then◌else◌, List, [], ◌∷◌, ◌++◌, Option, None, Some, refl, sym, ap, ◌∙◌, subst}
 use Rattle.std.specs.Prelude.{◌↔◌}
-use Rattle.std.proofs.lemmas.List.{append-nil}
-use Rattle.engine_events.specs.declared.event.Event.{Event}
-use Rattle.engine_events.specs.declared.event.Kind.{Kind}
+use Rattle.event_check.proofs.Prelude.{append-nil, AreNodes, before, Before, between, Check, check_at, document_row, end, Event, event_fault, EventFault}
+use Rattle.event_check.proofs.Prelude.{events_of, fault_from, fits, Form, IsInGrammar, KidsFit, Kind, may_exit, moved, Name, Node, NodeFits, Nodes, Open}
+use Rattle.event_check.proofs.Prelude.{PlacesFit, Slot, Spot, spot_of, takes, tree, with_above, Within, within}
 use Rattle.engine_events.specs.declared.event.Kind.TheVariants.{Enter, Exit}
-use Rattle.engine_events.specs.declared.event.Name.{Name}
 use Rattle.engine_events.specs.declared.event.Name.TheVariants as n
-use Rattle.event_grammar.specs.declared.fault.EventFault.{EventFault}
 use Rattle.event_grammar.specs.declared.fault.FaultKind.TheVariants as kinds
 use Rattle.event_grammar.specs.declared.slot.Between.TheVariants.{Lines}
-use Rattle.event_grammar.specs.declared.slot.Form.{Form}
-use Rattle.event_grammar.specs.declared.slot.Slot.{Slot}
-use Rattle.event_grammar.specs.declared.spot.Spot.{Spot}
-use Rattle.event_grammar.specs.Grammar.{document_row}
 use Rattle.event_grammar.specs.Points.{spot}
-use Rattle.event_grammar.specs.Checks.{Open, Check, check_at, with_above, at_start, the_document, moved, exited_to, may_exit, spot_of}
-use Rattle.event_grammar.specs.Trees.{Node, Nodes, events_of, tree, IsNode, AreNodes}
+use Rattle.event_grammar.specs.Checks.{at_start, the_document, exited_to}
+use Rattle.event_grammar.specs.Trees.{IsNode}
 use Rattle.event_grammar.specs.References.{first_lost}
-use Rattle.event_grammar.specs.Faults.{fault, fault_from, or_lost, lost_fault, event_fault}
-use Rattle.event_grammar.specs.InGrammar.{Within, within, Before, before, NodeFits, fits, KidsFit, end, takes, between, PlacesFit, IsInGrammar}
+use Rattle.event_grammar.specs.Faults.{fault, or_lost, lost_fault}
 use Rattle.event_grammar.proofs.TreeLaw.{tree_law}
 use Rattle.event_references.specs.Texts.{texts_of}
 use Rattle.event_references.specs.Lost.{new_media, lost_from}

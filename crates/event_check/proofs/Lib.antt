@@ -1,3 +1,4 @@
+mod Prelude
 pub mod NodeKinds
 pub mod Steps
 pub mod Fits

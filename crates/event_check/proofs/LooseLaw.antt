@@ -1,21 +1,13 @@
 -- Looseness by events is that of the tree.
 use Rattle.std.proofs.Common.{◌≡◌, ℕ, ◌+◌, ◌-◌, ◌==◌, Bool, true, false, ◌&&◌, ◌||◌, if◌then◌else◌, List, [], ◌∷◌, ◌++◌, length, drop, Option, None, Some, refl, sym, ap, ◌∙◌, append_assoc, arith}
-use Rattle.std.proofs.lemmas.Bool.{eqb-true, cond-false}
+use Rattle.event_check.proofs.Prelude.{apart_after, are_apart, AreNodes, Around, Child, cond-false, Cons, eqb-true, Event, events_of, has, has_loose_item}
+use Rattle.event_check.proofs.Prelude.{IsAt, item_after, kids_of, Kind, Name, Nil, Node, Nodes, same_name, Spot, spot_of}
 use Rattle.std.proofs.lemmas.List.{length-append}
 use Rattle.std.proofs.Math.Seq.{drop-append_seam}
-use Rattle.engine_events.specs.Names.{same_name}
-use Rattle.engine_events.specs.declared.event.Event.{Event}
-use Rattle.engine_events.specs.declared.event.Kind.{Kind}
 use Rattle.engine_events.specs.declared.event.Kind.TheVariants.{Enter, Exit}
-use Rattle.engine_events.specs.declared.event.Name.{Name}
 use Rattle.engine_events.specs.declared.event.Name.TheVariants as n
-use Rattle.event_grammar.specs.declared.slot.Child.{Child}
 use Rattle.event_grammar.specs.declared.slot.Child.TheVariants.{Block}
-use Rattle.event_grammar.specs.declared.spot.Spot.{Spot}
-use Rattle.event_grammar.specs.Slots.{has}
-use Rattle.event_grammar.specs.Checks.{spot_of}
-use Rattle.event_grammar.specs.Trees.{Node, Nodes, Around, Nil, Cons, events_of, AreNodes}
-use Rattle.event_check.specs.Loose.{is_far, are_apart, is_loose_item, has_loose_item, apart_next, apart_after, item_next, item_after, IsAt, kids_of}
+use Rattle.event_check.specs.Loose.{is_far, is_loose_item, apart_next, item_next}
 use Rattle.event_check.proofs.Fits.{split}
 
 zero_by : (q : ℕ) (t : Bool) → ((q + 1) == 0) ≡ t → t ≡ false

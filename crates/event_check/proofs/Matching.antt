@@ -1,28 +1,17 @@
 -- What fits the rows of the grammar place by place is what matches them as patterns.
 use Rattle.std.proofs.Common.{◌≡◌, ℕ, Bool, true, false, not, ◌&&◌, ◌||◌, if◌then◌else◌, List, [], ◌∷◌, drop, Option, None, Some, refl, sym, ap, ◌∙◌, subst}
-use Rattle.std.proofs.lemmas.Bool.{and_parts}
+use Rattle.event_check.proofs.Prelude.{after, and_parts, Before, Between, Child, Cons, document_row, Event, fits, Form, has, is_listed, IsInGrammar, KidsFit}
+use Rattle.event_check.proofs.Prelude.{line_names, MatchesGrammar, may_end, Name, Nil, Node, node_name, NodeFits, Nodes, row, same_name, Slot, space_names}
+use Rattle.event_check.proofs.Prelude.{stands_between, take_child, taken, Taken, the_type, Within}
 use denote.Enum.Bare.{same_true}
-use Rattle.engine_events.specs.contracts.event.Name.{the_type}
-use Rattle.engine_events.specs.Names.{same_name, is_listed}
-use Rattle.engine_events.specs.declared.event.Event.{Event}
-use Rattle.engine_events.specs.declared.event.Name.{Name}
 use Rattle.engine_events.specs.declared.event.Name.TheVariants as n
-use Rattle.event_grammar.specs.declared.slot.Between.{Between}
 use Rattle.event_grammar.specs.declared.slot.Between.TheVariants.{Nothing, Spaces, Lines}
-use Rattle.event_grammar.specs.declared.slot.Child.{Child}
-use Rattle.event_grammar.specs.declared.slot.Form.{Form}
 use Rattle.event_grammar.specs.declared.slot.Form.TheVariants.{Plain, Ordered, Closing, Opening, OfImage, OfCall}
-use Rattle.event_grammar.specs.declared.slot.Slot.{Slot}
 use Rattle.event_grammar.specs.declared.slot.Slot.TheVariants.{One, Opt, Lead, Many}
-use Rattle.event_grammar.specs.Grammar.{row, document_row, space_names, line_names}
-use Rattle.event_grammar.specs.Slots.{Taken, has, taken, take_child, may_end}
-use Rattle.event_grammar.specs.Checks.{stands_between}
-use Rattle.event_grammar.specs.Trees.{Node, Nodes, Nil, Cons}
-use Rattle.event_grammar.specs.InGrammar.{Within, Before, after, node_name, NodeFits, fits, KidsFit, IsInGrammar}
 use Rattle.event_grammar.specs.InGrammar as g
 use Rattle.event_grammar.proofs.EveryName.{of_each_form}
 use Rattle.event_grammar.proofs.RowLaw.{IsPlain, plain_from, rows_plain}
-use Rattle.event_check.specs.Matches.{NodeMatches, matches, KidsMatch, nothing, between, one, opt, no_opt, many, no_more, lead, no_lead, MatchesGrammar}
+use Rattle.event_check.specs.Matches.{NodeMatches, matches, KidsMatch, nothing, between, one, opt, no_opt, many, no_more, lead, no_lead}
 
 none_some : (A : Type 0) (t : Taken) → (let o : Option Taken = None in o ≡ Some t) → A
 none_some A t h = absurd (cc)

@@ -1,10 +1,9 @@
 -- The tree of events: its enters are enters, and its exits exits.
 use Rattle.std.proofs.Common.{◌≡◌, List, [], ◌∷◌, refl}
 use Rattle.std.specs.List.{fold}
-use Rattle.engine_events.specs.declared.event.Event.{Event}
-use Rattle.engine_events.specs.declared.event.Kind.{Kind}
+use Rattle.event_check.proofs.Prelude.{Around, Cons, Event, Kind, Nil, Node, Nodes, tree}
 use Rattle.engine_events.specs.declared.event.Kind.TheVariants.{Enter, Exit}
-use Rattle.event_grammar.specs.Trees.{Node, Nodes, Around, Nil, Cons, followed_by, Part, Growth, growth, grown, closed, tree}
+use Rattle.event_grammar.specs.Trees.{followed_by, Part, Growth, growth, grown, closed}
 
 abbrev mutual
   pub HasKinds : Node → Type 0

@@ -1,21 +1,15 @@
 -- One event: what it asks where it may stand.
 use Rattle.std.proofs.Common.{◌≡◌, ℕ, ◌+◌, Bool, true, false, ◌&&◌, if◌then◌else◌, ◌⊎◌, inl, inr, List, ◌∷◌, Option, None, Some, refl, sym, ap, ◌∙◌}
 use Rattle.std.specs.Prelude.{Result, Ok, Err}
-use Rattle.std.proofs.lemmas.Bool.{and_parts}
-use Rattle.engine_events.specs.Names.{is_listed}
-use Rattle.engine_events.specs.declared.event.Event.{Event}
-use Rattle.engine_events.specs.declared.event.Name.{Name}
-use Rattle.event_grammar.specs.declared.fault.EventFault.{EventFault}
+use Rattle.event_check.proofs.Prelude.{and_parts, Check, check_at, entered, Event, event_fault, EventFault, exited, fact_at, fault_from, Form, is_barred}
+use Rattle.event_check.proofs.Prelude.{is_listed, may_exit, mdx_names, moved, Name, Open, opened, Spot, spot_of, stands_between, take_child, Taken, with_above}
+use Rattle.event_check.proofs.Prelude.{with_child}
 use Rattle.event_grammar.specs.declared.fault.FaultKind.{FaultKind}
 use Rattle.event_grammar.specs.declared.fault.FaultKind.TheVariants as kinds
-use Rattle.event_grammar.specs.declared.slot.Form.{Form}
 use Rattle.event_grammar.specs.declared.slot.Form.TheVariants.{Plain}
-use Rattle.event_grammar.specs.declared.spot.Spot.{Spot}
-use Rattle.event_grammar.specs.Grammar.{mdx_names}
-use Rattle.event_grammar.specs.Slots.{Taken, take_child}
 use Rattle.event_grammar.specs.Points.{reaches, is_spot}
-use Rattle.event_grammar.specs.Checks.{Open, Check, check_at, opened, with_child, with_above, step, next_of, placed, is_place, moved, entered, entered_as, exited, may_exit, is_barred, stands_between, spot_of, fact_at}
-use Rattle.event_grammar.specs.Faults.{fault_from, fault_after, event_fault}
+use Rattle.event_grammar.specs.Checks.{step, next_of, placed, is_place, entered_as}
+use Rattle.event_grammar.specs.Faults.{fault_after}
 
 no : (A : Type 0) (c : Check) → (let o : Option Check = None in o ≡ Some c) → A
 no A c h = absurd (cc)

@@ -1,13 +1,7 @@
 -- Names of events that hold no other.
 use Rattle.std.proofs.Common.{◌≡◌, Bool, true, false, not, ◌&&◌, ◌||◌, List, [], ◌∷◌, refl}
-use Rattle.std.proofs.lemmas.Bool.{and_parts}
-use Rattle.engine_events.specs.Names.{same_name, is_listed}
-use Rattle.engine_events.specs.declared.event.Name.{Name}
+use Rattle.event_grammar.proofs.Prelude.{and_parts, cell_names, Form, is_listed, is_void, link_names, mdx_names, Name, row, same_name, Slot}
 use Rattle.engine_events.specs.declared.event.Name.TheVariants as n
-use Rattle.event_grammar.specs.declared.slot.Form.{Form}
-use Rattle.event_grammar.specs.Grammar.{row, mdx_names, link_names, cell_names}
-use Rattle.event_grammar.specs.Void.{is_void}
-use Rattle.event_grammar.specs.declared.slot.Slot.{Slot}
 use Rattle.event_grammar.proofs.EveryName.{in_forms, of_each, of_form}
 
 -- no row in any form, and no rule of its own

@@ -1,12 +1,9 @@
 -- Events without a row, which are held beside the innermost with one.
 use Rattle.std.proofs.Common.{◌≡◌, ◌∙◌, ℕ, ◌≤◌, Bool, true, false, if◌then◌else◌, List, ◌∷◌, Option, None, Some, refl, sym, ap}
-use Rattle.engine_events.specs.declared.event.Name.{Name}
+use Rattle.event_grammar.proofs.Prelude.{around_it, Check, check_at, entered, entered_as, innermost, is_barred, Leaf, Name, Open, Spot, stands_between}
+use Rattle.event_grammar.proofs.Prelude.{take_child, Taken, with_child}
 use Rattle.event_grammar.specs.declared.slot.Form.TheVariants.{Plain}
-use Rattle.event_grammar.specs.declared.spot.Spot.{Spot}
-use Rattle.event_grammar.specs.declared.check.Leaf.{Leaf}
-use Rattle.event_grammar.specs.Slots.{Taken, take_child}
-use Rattle.event_grammar.specs.Checks.{Open, Check, check_at, with_child, is_barred, entered, entered_as, stands_between}
-use Rattle.event_grammar.specs.CheckViews.{leaf_view, innermost, around_it, opened_after}
+use Rattle.event_grammar.specs.CheckViews.{leaf_view, opened_after}
 use Rattle.event_grammar.proofs.Counts.{Counts}
 
 if_no : (t : Bool) (x y : Option Check) → t ≡ false → (if t then x else y) ≡ y

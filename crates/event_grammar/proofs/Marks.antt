@@ -1,14 +1,10 @@
 -- Events that decide which labels need a definition.
 use Rattle.std.proofs.Common.{◌≡◌, ◌∙◌, ℕ, ◌+◌, Bool, true, false, ◌||◌, if◌then◌else◌, List, [], ◌∷◌, ◌++◌, refl, sym, ap, subst, append_assoc}
 use denote.Enum.Bare.{same_true}
-use Rattle.engine_events.specs.contracts.event.Name.{the_type}
-use Rattle.engine_events.specs.Names.{is_listed, same_name}
-use Rattle.engine_events.specs.declared.event.Event.{Event}
-use Rattle.engine_events.specs.declared.event.Name.{Name}
+use Rattle.event_grammar.proofs.Prelude.{Event, is_listed, is_void, marked_from, Name, same_name, the_type}
 use Rattle.engine_events.specs.declared.event.Name.TheVariants as n
-use Rattle.event_grammar.specs.Marked.{defines_label, is_marked, mark_of, marked_from, tells_label}
+use Rattle.event_grammar.specs.Marked.{defines_label, is_marked, mark_of, tells_label}
 use Rattle.event_grammar.specs.References.{media_names}
-use Rattle.event_grammar.specs.Void.{is_void}
 
 -- what is so of the marked names is so of each
 three : (a b c : Bool) (A : Type 0) → (a || (b || c)) ≡ true → (a ≡ true → A) → (b ≡ true → A) → (c ≡ true → A) → A

@@ -1,13 +1,7 @@
 -- What names have in common.
 use Rattle.std.proofs.Common.{◌≡◌, Bool, true, false, ◌||◌, ◌∷◌, [], refl, subst}
 use denote.Enum.Bare.{same_true}
-use Rattle.engine_events.specs.contracts.event.Name.{the_type}
-use Rattle.engine_events.specs.Names.{same_name, is_listed}
-use Rattle.engine_events.specs.declared.event.Name.{Name}
-use Rattle.event_grammar.specs.Grammar.{space_names}
-use Rattle.event_grammar.specs.Facts.{ending_names}
-use Rattle.event_grammar.specs.Void.{is_void}
-use Rattle.event_grammar.specs.Voids.{void_by, void_of, is_not, asks_others}
+use Rattle.event_grammar.proofs.Prelude.{asks_others, ending_names, is_listed, is_not, is_void, Name, same_name, space_names, the_type, void_by, void_of}
 
 -- ---- names of two in a list
 

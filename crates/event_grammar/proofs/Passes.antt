@@ -1,29 +1,19 @@
 -- Events that hold no other, passed by their enter and their exit at once.
 use Rattle.std.proofs.Common.{◌≡◌, ◌∙◌, arith, ℕ, Bool, true, false, not, ◌&&◌, ◌||◌, if◌then◌else◌, List, ◌∷◌, Option, None, Some, refl, sym, ap, subst}
-use Rattle.std.specs.Prelude.{Ok, Err}
+use Rattle.event_grammar.proofs.Prelude.{around_it, cell_names, Check, check_at, entered, entered_as, Err, Event, exited_to, Form, innermost, is_listed}
+use Rattle.event_grammar.proofs.Prelude.{is_spot, is_void, Kind, Known, Leaf, link_names, may_end, may_exit, mdx_names, moved, Name, next_of, Ok, Open, opened}
+use Rattle.event_grammar.proofs.Prelude.{Passes, placed, reaches, row, same_name, Slot, Spot, spot_of, stands_between, StandsAt, step, take_child, Taken}
+use Rattle.event_grammar.proofs.Prelude.{the_type, with_child}
 use denote.Enum.Bare.{same_true}
-use Rattle.engine_events.specs.contracts.event.Name.{the_type}
-use Rattle.engine_events.specs.Names.{same_name, is_listed}
-use Rattle.engine_events.specs.declared.event.Event.{Event}
-use Rattle.engine_events.specs.declared.event.Kind.{Kind}
 use Rattle.engine_events.specs.declared.event.Kind.TheVariants.{Enter, Exit}
-use Rattle.engine_events.specs.declared.event.Name.{Name}
 use Rattle.engine_events.specs.declared.event.Name.TheVariants as n
-use Rattle.event_grammar.specs.declared.check.Leaf.{Leaf}
 use Rattle.event_grammar.specs.declared.fault.FaultKind.TheVariants.{Mdx}
-use Rattle.event_grammar.specs.declared.slot.Form.{Form}
 use Rattle.event_grammar.specs.declared.slot.Form.TheVariants.{Plain}
-use Rattle.event_grammar.specs.declared.slot.Slot.{Slot}
-use Rattle.event_grammar.specs.declared.spot.Spot.{Spot}
-use Rattle.event_grammar.specs.Grammar.{row, mdx_names, link_names, cell_names}
-use Rattle.event_grammar.specs.Slots.{Taken, take_child, may_end}
-use Rattle.event_grammar.specs.Points.{reaches, is_spot, bytes_between}
+use Rattle.event_grammar.specs.Points.{bytes_between}
 use Rattle.event_grammar.specs.Facts.{is_fact}
-use Rattle.event_grammar.specs.Void.{is_void}
-use Rattle.event_grammar.specs.Checks.{Open, Check, check_at, opened, with_child, limit_of, has_limit, may_exit, is_limit, entered, entered_as, exited}
-use Rattle.event_grammar.specs.Checks.{exited_to, moved, stands_between, spot_of, step, next_of, placed, fact_at}
-use Rattle.event_grammar.specs.CheckViews.{innermost, around_it, is_enter, is_pair, Passes, StandsAt}
-use Rattle.event_grammar.specs.declared.place.Known.{Known}
+use Rattle.event_grammar.specs.Checks.{limit_of, has_limit, is_limit, exited}
+use Rattle.event_grammar.specs.Checks.{fact_at}
+use Rattle.event_grammar.specs.CheckViews.{is_enter, is_pair}
 use Rattle.event_grammar.proofs.PlaceLaws.{reaches_index}
 use Rattle.event_grammar.proofs.Alone.{IsAlone, alone}
 

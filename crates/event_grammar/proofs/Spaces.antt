@@ -1,29 +1,14 @@
 -- Spaces and line endings stand between the children of a row; they are none of them.
 use Rattle.std.proofs.Common.{◌≡◌, ◌∙◌, Bool, true, false, not, ◌&&◌, ◌||◌, if◌then◌else◌, List, [], ◌∷◌, Option, None, Some, refl, sym, ap, subst}
 use denote.Enum.Bare.{same_true}
-use Rattle.engine_events.specs.contracts.event.Name.{the_type}
-use Rattle.engine_events.specs.Names.{same_name, is_listed}
-use Rattle.engine_events.specs.declared.event.Kind.{Kind}
+use Rattle.event_grammar.proofs.Prelude.{around_it, asks_others, Check, check_at, Child, child_of, ending_names, entered_as, exited_to, Form, has, innermost}
+use Rattle.event_grammar.proofs.Prelude.{is_barred, is_listed, is_void, Kind, Leaf, may_exit, moved, Name, Open, opened, row, same_name, Slot, space_names}
+use Rattle.event_grammar.proofs.Prelude.{Spot, stands_between, take_child, taken, Taken, TakesNone, the_type, void_by, void_of, with_above, with_child}
 use Rattle.engine_events.specs.declared.event.Kind.TheVariants.{Enter, Exit}
-use Rattle.engine_events.specs.declared.event.Name.{Name}
 use Rattle.engine_events.specs.declared.event.Name.TheVariants as n
-use Rattle.event_grammar.specs.declared.check.Leaf.{Leaf}
-use Rattle.event_grammar.specs.declared.slot.Child.{Child}
-use Rattle.event_grammar.specs.declared.slot.Form.{Form}
 use Rattle.event_grammar.specs.declared.slot.Form.TheVariants.{Plain}
-use Rattle.event_grammar.specs.declared.slot.Slot.{Slot}
 use Rattle.event_grammar.specs.declared.slot.Slot.TheVariants.{One, Opt, Lead, Many}
-use Rattle.event_grammar.specs.declared.spot.Spot.{Spot}
-use Rattle.event_grammar.specs.Grammar.{row}
-use Rattle.event_grammar.specs.Slots.{Taken, has, taken, take_child}
-use Rattle.event_grammar.specs.SlotViews.{child_of}
-use Rattle.event_grammar.specs.Checks.{Open, Check, check_at, opened, with_child, with_above, is_barred, entered_as, exited_to, may_exit, moved, stands_between}
-use Rattle.event_grammar.specs.CheckViews.{innermost, around_it}
-use Rattle.event_grammar.specs.Spaces.{space_or_ending, takes_none, take_none, AllTakeNone, TakesNone, is_between}
-use Rattle.event_grammar.specs.Grammar.{space_names}
-use Rattle.event_grammar.specs.Facts.{ending_names}
-use Rattle.event_grammar.specs.Void.{is_void}
-use Rattle.event_grammar.specs.Voids.{void_by, void_of, asks_others}
+use Rattle.event_grammar.specs.Spaces.{space_or_ending, takes_none, take_none, AllTakeNone, is_between}
 use Rattle.event_grammar.specs.declared.names.Void.{Void}
 use Rattle.event_grammar.specs.declared.slot.Between.{Between}
 use Rattle.event_grammar.specs.declared.slot.Between.TheVariants.{Nothing, Spaces, Lines}

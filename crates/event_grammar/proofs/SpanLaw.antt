@@ -2,11 +2,10 @@
 use Rattle.std.proofs.Common.{◌≡◌, true, refl}
 use Rattle.std.specs.Prelude.{Some}
 use Rattle.definition_inline.specs.Inline.{SpanKind, Emphasis}
-use Rattle.event_grammar.specs.declared.slot.Form.{Form}
+use Rattle.event_grammar.proofs.Prelude.{Form, is_void, row}
 use Rattle.event_grammar.specs.declared.spans.SpanNames.{SpanNames}
-use Rattle.event_grammar.specs.Grammar.{row, enclosed, text_row}
+use Rattle.event_grammar.specs.Grammar.{enclosed, text_row}
 use Rattle.event_grammar.specs.Spans.{span_names, span_of}
-use Rattle.event_grammar.specs.Void.{is_void}
 
 -- names that hold one another as those of a span do
 pub record HoldOneAnother (names : SpanNames) : Type 0 where

@@ -1,8 +1,7 @@
 -- The void names are those without a row, less the five of MDX.
 use Rattle.std.proofs.Common.{◌≡◌, Bool, true, false, not, if◌then◌else◌, refl, sym}
-use Rattle.engine_events.specs.declared.event.Name.{Name}
-use Rattle.event_grammar.specs.Void.{is_void, void_names}
-use Rattle.engine_events.specs.Names.{is_listed}
+use Rattle.event_grammar.proofs.Prelude.{is_listed, is_void, Name}
+use Rattle.event_grammar.specs.Void.{void_names}
 use Rattle.event_grammar.proofs.EveryName.{of_each}
 
 same_tests : (a b : Bool) → (if a then b else not b) ≡ true → a ≡ b

@@ -1,3 +1,4 @@
+mod Prelude
 pub mod TextLaw
 pub mod LostLaw
 pub mod Loops

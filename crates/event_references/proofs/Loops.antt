@@ -1,27 +1,21 @@
 -- Events, one after another.
 use Rattle.std.proofs.Common.{◌≡◌, ◌<◌, ℕ, ◌+◌, Bool, true, false, ◌&&◌, ◌||◌, if◌then◌else◌, List, [], ◌∷◌, ◌++◌, Option, None, Some}
 use Rattle.std.proofs.Common.{refl, zero, suc, sym, ap, ◌∙◌, subst, get_or, drop-cons, add-one, append_assoc, drop, take, ◌-◌, length, OnOk, arith}
-use Rattle.std.specs.Prelude.{Result, Ok, map, reverse}
-use Rattle.std.proofs.lemmas.List.{map-append, length-append, length-map, reverse-append, take_rest, drop_all}
+use Rattle.event_references.proofs.Prelude.{around, Event, is_enter, is_listed, is_part, Kind, label_of, leads, length-append, lost_from, lost_next, map}
+use Rattle.event_references.proofs.Prelude.{map-append, Media, media_names, Name, new_media, no_event, noted, reverse, same_name, Spot, spot_of, text_after}
+use Rattle.event_references.proofs.Prelude.{text_at, text_of, texts_of}
+use Rattle.std.specs.Prelude.{Result, Ok}
+use Rattle.std.proofs.lemmas.List.{length-map, reverse-append, take_rest, drop_all}
 use Rattle.definition_text.specs.Content.{content_codes}
-use Rattle.engine_events.specs.Names.{same_name, is_listed}
-use Rattle.engine_events.specs.declared.event.Event.{Event}
-use Rattle.engine_events.specs.declared.event.Kind.{Kind}
 use Rattle.engine_events.specs.declared.event.Kind.TheVariants.{Enter, Exit}
-use Rattle.engine_events.specs.declared.event.Name.{Name}
 use denote.Enum.Bare.{same_true}
 use Rattle.engine_events.specs.contracts.event.Name.{the_type}
 use Rattle.inline_labels.specs.Table.{HasLabels, AddsLabel}
 use Rattle.inline_labels.specs.declared.table.LabelTable.{LabelTable}
-use Rattle.event_grammar.specs.declared.spot.Spot.{Spot}
-use Rattle.event_grammar.specs.Checks.{spot_of}
 use Rattle.event_grammar.specs.Marked.{defines_label, is_marked, marked_from}
-use Rattle.event_grammar.specs.References.{media_names, leads}
-use Rattle.event_grammar.proofs.Runs.{no_event}
-use Rattle.event_references.specs.Texts.{is_enter, text_after, text_of, texts_of}
-use Rattle.event_references.specs.Views.{text_first, text_at}
+use Rattle.event_references.specs.Views.{text_first}
 use Rattle.event_references.proofs.Parts.{noted_none}
-use Rattle.event_references.specs.Lost.{Media, new_media, noted, is_part, label_of, around, lost_from, lost_next, lost_exit}
+use Rattle.event_references.specs.Lost.{lost_exit}
 
 pub drop_next : (events : List Event) (i : ℕ) → i < length events → drop i events ≡ get_or events i no_event ∷ drop (i + 1) events
 drop_next events i l = let f : drop i events ≡ get_or events i no_event ∷ drop (i + 1) events = rw (add-one, drop-cons events i no_event l) in f

@@ -1,18 +1,14 @@
 -- What leads nowhere among events is what leads nowhere in their tree.
 use Rattle.std.proofs.Common.{◌≡◌, ℕ, ◌+◌, Bool, true, false, ◌||◌, if◌then◌else◌, List, [], ◌∷◌, ◌++◌, length, drop, Option, None, Some, refl, sym, ap, ◌∙◌, arith}
-use Rattle.std.specs.Prelude.{is_some, map}
-use Rattle.std.specs.Option.{option_map, option_or}
-use Rattle.std.proofs.lemmas.List.{append-nil, length-append}
-use Rattle.engine_events.specs.Names.{same_name, is_listed}
-use Rattle.engine_events.specs.declared.event.Event.{Event}
-use Rattle.engine_events.specs.declared.event.Kind.{Kind}
+use Rattle.event_references.proofs.Prelude.{append-nil, AreNodes, around, Around, Cons, Event, events_of, is_listed, Kind, label_of, label_text, leads}
+use Rattle.event_references.proofs.Prelude.{length-append, lost_from, lost_next, map, media, Media, media_names, Name, named, new_media, Nil, Node, Nodes}
+use Rattle.event_references.proofs.Prelude.{noted, only_if, option_or, same_name, text_of, texts_of}
+use Rattle.std.specs.Prelude.{is_some}
+use Rattle.std.specs.Option.{option_map}
 use Rattle.engine_events.specs.declared.event.Kind.TheVariants.{Enter, Exit}
-use Rattle.engine_events.specs.declared.event.Name.{Name}
 use Rattle.engine_events.specs.declared.event.Name.TheVariants as n
-use Rattle.event_grammar.specs.Trees.{Node, Nodes, Around, Nil, Cons, events_of, IsNode, AreNodes}
-use Rattle.event_grammar.specs.References.{media_names, leads, named, own, own_label, label_text, link_labels, footnote_labels, lost, lost_in, first_lost}
-use Rattle.event_references.specs.Texts.{text_of, texts_of}
-use Rattle.event_references.specs.Lost.{Media, media, new_media, noted, only_if, label_of, around, lost_from, lost_next}
+use Rattle.event_grammar.specs.Trees.{IsNode}
+use Rattle.event_grammar.specs.References.{own, own_label, link_labels, footnote_labels, lost, lost_in, first_lost}
 use Rattle.event_references.proofs.TextLaw.{split, text_law, texts_law}
 
 -- ---- options

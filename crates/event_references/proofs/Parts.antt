@@ -1,10 +1,7 @@
 -- Events that tell nothing of the label of what they are in.
 use Rattle.std.proofs.Common.{◌≡◌, ◌∙◌, ℕ, Bool, true, false, ◌||◌, List, Option, None, Some, refl, ap}
-use Rattle.std.specs.Option.{option_or}
-use Rattle.engine_events.specs.Names.{same_name}
-use Rattle.engine_events.specs.declared.event.Name.{Name}
+use Rattle.event_references.proofs.Prelude.{is_part, Media, media, Name, noted, only_if, option_or, same_name}
 use Rattle.engine_events.specs.declared.event.Name.TheVariants as n
-use Rattle.event_references.specs.Lost.{Media, media, noted, only_if, is_part}
 
 or_no : (b : Bool) → (b || false) ≡ b
 or_no true = refl

@@ -1,20 +1,13 @@
 -- The text of an event by those in it is the text of its node.
 use Rattle.std.proofs.Common.{◌≡◌, ℕ, ◌+◌, ◌-◌, ◌==◌, Bool, true, false, not, ◌&&◌, if◌then◌else◌, List, [], ◌∷◌, ◌++◌, refl, sym, ap, ◌∙◌, append_assoc, arith}
-use Rattle.std.specs.Prelude.{map}
+use Rattle.event_references.proofs.Prelude.{append-nil, AreNodes, Around, Cons, Event, events_of, is_enter, Kind, label_text, map, map-append, Name, named}
+use Rattle.event_references.proofs.Prelude.{Nil, Node, Nodes, same_name, Spot, spot_of, text_after, text_of, texts_of}
 use Rattle.std.proofs.lemmas.Bool.{eqb-true, cond-true, cond-false}
-use Rattle.std.proofs.lemmas.List.{append-nil, map-append}
-use Rattle.engine_events.specs.Names.{same_name}
-use Rattle.engine_events.specs.declared.event.Event.{Event}
-use Rattle.engine_events.specs.declared.event.Kind.{Kind}
 use Rattle.engine_events.specs.declared.event.Kind.TheVariants.{Enter, Exit}
-use Rattle.engine_events.specs.declared.event.Name.{Name}
 use Rattle.engine_events.specs.declared.event.Name.TheVariants as n
-use Rattle.event_grammar.specs.declared.spot.Spot.{Spot}
 use Rattle.event_grammar.specs.Points.{bytes_between}
-use Rattle.event_grammar.specs.Checks.{spot_of}
-use Rattle.event_grammar.specs.Trees.{Node, Nodes, Around, Nil, Cons, events_of, AreNodes}
-use Rattle.event_grammar.specs.References.{named, nodes_text, node_text, label_text}
-use Rattle.event_references.specs.Texts.{text_next, piece, text_after, text_of, is_enter, texts_of}
+use Rattle.event_grammar.specs.References.{nodes_text, node_text}
+use Rattle.event_references.specs.Texts.{text_next, piece}
 
 -- the events of a node and those after it, as its enter, its children, its exit and the others
 pub split : (kids others : Nodes) (exit : Event) (es : List Event)

@@ -1,12 +1,12 @@
 -- The text of a content with a check, and of one without.
 use Rattle.std.proofs.Common.{◌≡◌, ℕ, Bool, List, ◌∷◌, Option, None, Some, sym, ap, ◌∙◌, drop}
-use Rattle.definition_inline.specs.GfmTaskListItem.{check_at, check_size}
-use Rattle.definition_inline.specs.Scan.{inlines_from}
+use Rattle.html_contents.proofs.Prelude.{check_size, context_of, inlines_from, reading_of, structure_pieces}
+use Rattle.definition_inline.specs.GfmTaskListItem.{check_at}
 use Rattle.definition_text.specs.InlineCode.{InlineCode, codes_of}
 use Rattle.definition_page.specs.GfmTaskListItem.{check_tag}
-use Rattle.definition_page.specs.Read.{context_of, checked_text}
+use Rattle.definition_page.specs.Read.{checked_text}
 use Rattle.definition_page.specs.Tags.{void_tag}
-use Rattle.html_bytes.specs.Document.{Document, reading_of, structure_pieces}
+use Rattle.html_bytes.specs.Document.{Document}
 use Rattle.html_bytes.specs.Pieces.{Piece, Bytes}
 
 module _ (d : Document) (first : Bool) (content here : List InlineCode) (codes : List ℕ) (is : here ≡ content) (read : codes_of here ≡ codes) where

@@ -1,7 +1,7 @@
 -- The content of a paragraph's lines and of one line.
 use Rattle.std.proofs.Common.{◌≡◌, ℕ, Bool, List, [], ◌∷◌, None, map, ap, ◌∙◌}
 use Rattle.std.proofs.lemmas.List.{append-nil}
-use Rattle.std.proofs.lemmas.List.Concat.{flat_map-cons}
+use Rattle.html_contents.proofs.Prelude.{flat_map-cons}
 use Rattle.markdown_options.specs.declared.beside.Kind.{Kind}
 use Rattle.definition_text.specs.BlockLines.{BlockLine, block_line, own_lines}
 use Rattle.definition_text.specs.Columns.{code_byte}

@@ -1,3 +1,4 @@
+mod Prelude
 pub mod Places
 pub mod Contents
 pub mod Checks

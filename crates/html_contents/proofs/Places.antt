@@ -1,19 +1,19 @@
 -- Links lead where the definitions do, at each place, and so rows that lead by either are the same.
 use Rattle.std.proofs.Common.{◌≡◌, ℕ, List, [], ◌∷◌, ◌++◌, refl, sym, ap, ◌∙◌, map, slice_index_or}
-use Rattle.std.proofs.lemmas.List.Concat.{flat_map-cons}
+use Rattle.html_contents.proofs.Prelude.{flat_map-cons, linked_at, place_target, rows_view}
 use Rattle.std.proofs.Math.ListN.{get_or-map}
 use Rattle.definition_inline.specs.Inline as inline
 use Rattle.definition_inline.specs.Definition.{Definition}
-use Rattle.definition_inline.specs.Targets.{linked_at, no_definition}
+use Rattle.definition_inline.specs.Targets.{no_definition}
 use Rattle.inline_links.specs.declared.text.LinkTexts.{LinkTexts}
 use Rattle.inline_rows.specs.declared.row.LinkTarget.{LinkTarget}
 use Rattle.inline_rows.specs.declared.row.LinkTarget.TheVariants.{Resource, Definition as ByPlace}
 use Rattle.inline_rows.specs.declared.row.InlineRow.{InlineRow}
 use Rattle.inline_rows.specs.declared.row.InlineRow.TheVariants.{Text, Verbatim, Leaf, Spelled, EnterSpan, EnterLink, EnterImage, Call, Exit}
 use Rattle.inline_links.specs.View.{link_texts_view}
-use Rattle.inline_rows.specs.View.{target_texts, row_view, rows_view}
+use Rattle.inline_rows.specs.View.{target_texts, row_view}
 use Rattle.inline_rows.specs.InlineRows as rows
-use Rattle.html_inline.specs.Opens.{nowhere, place_target}
+use Rattle.html_inline.specs.Opens.{nowhere}
 
 abbrev leads_to_one : Definition → inline.LinkTexts
 leads_to_one d = inline.link_texts d.destination d.title

@@ -3,11 +3,10 @@ use Rattle.std.proofs.Common.{◌≡◌, ℕ, zero, suc, ◌+◌, ◌-◌, ◌<�
 use Rattle.std.proofs.Common.{slice_set, refl, sym, ap, ◌∙◌, arith}
 use Rattle.std.proofs.lemmas.Bool.{cases_lt, cond-true, cond-false, eqb-true, eq-eqb}
 use Rattle.std.proofs.lemmas.Bool.Decides.{eqb_tells}
-use Rattle.std.proofs.lemmas.List.{get_or_default, get_or-set_same, get_or-set_other}
+use Rattle.html_footnotes.proofs.Prelude.{AreNumbers, Call, get_or_default, latest_call, NoteCalls, number_of, once_more, with_one_more}
+use Rattle.std.proofs.lemmas.List.{get_or-set_same, get_or-set_other}
 use Rattle.std.proofs.Math.ListN.{get_or-eq_default}
-use Rattle.html_bytes.specs.Layout.{NoteCalls, once_more, latest_call}
-use Rattle.definition_page.specs.GfmLabelStartFootnote.{Call}
-use Rattle.html_footnotes.specs.Calls.{called_once, with_one_more, number_from, number_of, AreNumbers}
+use Rattle.html_footnotes.specs.Calls.{called_once, number_from}
 
 -- a number is none, or this one or a later one
 least : (place number : ℕ) (cs : List NoteCalls) → (number_from place number cs ≡ 0) ⊎ (number ≤ number_from place number cs)

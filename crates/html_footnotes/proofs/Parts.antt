@@ -1,6 +1,7 @@
 -- Parts that are printed one after another.
 use Rattle.std.proofs.Common.{◌≡◌, ℕ, List, ◌++◌, Ok, Err, ap, ◌∙◌, append_assoc}
-use Rattle.std.specs.Prelude.{OnOk, Result, if◌then◌else◌}
+use Rattle.html_footnotes.proofs.Prelude.{OnOk}
+use Rattle.std.specs.Prelude.{Result, if◌then◌else◌}
 use Rattle.std.specs.Result.{is_ok}
 
 -- what a print leaves, unless memory ran out

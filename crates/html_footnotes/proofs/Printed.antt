@@ -1,21 +1,16 @@
 -- The tags of footnotes and of their calls, as they are printed.
 use Rattle.std.proofs.Common.{◌≡◌, ℕ, zero, suc, leb, List, [], ◌∷◌, ◌++◌, true, false, if◌then◌else◌, Option, None, Some, String, ap, ◌∙◌}
 use Rattle.std.proofs.Common.{append_assoc, codes, string_bytes, take, drop}
-use Rattle.std.specs.List.{fold}
-use Rattle.std.proofs.lemmas.List.{append-nil}
-use Rattle.std.proofs.lemmas.List.Concat.{flat_map-append}
-use Rattle.std.proofs.lemmas.List.Sums.{fold-append}
-use Rattle.markdown_options.specs.declared.configuration.CompileOptions.{CompileOptions}
-use Rattle.definition_text.specs.Encode.{encode, plain}
+use Rattle.html_footnotes.proofs.Prelude.{append-nil, arrow, back_pieces, back_tag, backs_pieces, bare_tag, Call, call_id, Close, CompileOptions, count_pieces}
+use Rattle.html_footnotes.proofs.Prelude.{encode, flat_map-append, fold, fold-append, footnote_id, heading_pieces, pieces_html, plain, print, say_bytes}
+use Rattle.html_footnotes.proofs.Prelude.{section_heading_name, section_heading_tag, space_after, start_tag, text_or, with_backs}
 use Rattle.definition_text.proofs.Each.{each-append}
-use Rattle.definition_page.specs.Tags.{AsItIs, Number, start_tag, bare_tag}
-use Rattle.definition_page.specs.Pieces.{Close, Says, print}
+use Rattle.definition_page.specs.Tags.{AsItIs, Number}
+use Rattle.definition_page.specs.Pieces.{Says}
 use Rattle.definition_page.specs.InlinePieces.{element}
-use Rattle.definition_page.specs.GfmLabelStartFootnote.{Call, text_or, footnote_id, call_id, call_tag}
-use Rattle.definition_page.specs.GfmFootnoteDefinition.{arrow, count_pieces, back_tag, back_pieces, space_after, backs_pieces, item_tag}
-use Rattle.definition_page.specs.GfmFootnoteDefinition.{section_heading_name, section_heading_tag, heading_pieces, with_backs}
-use Rattle.html_bytes.specs.InlineHtml.{say_bytes}
-use Rattle.html_bytes.specs.Pieces.{piece_html, pieces_html}
+use Rattle.definition_page.specs.GfmLabelStartFootnote.{call_tag}
+use Rattle.definition_page.specs.GfmFootnoteDefinition.{item_tag}
+use Rattle.html_bytes.specs.Pieces.{piece_html}
 use Rattle.html_bytes.proofs.Printed.{IsInLine, AreInLine, added}
 
 -- ---- tags

@@ -1,13 +1,10 @@
 -- Rows of footnotes that are called, and what they show.
 use Rattle.std.proofs.Common.{◌≡◌, ℕ, ◌+◌, ◌<◌, List, length, map, get_or, slice_set, string_bytes, sym, ap, ◌∙◌, add-one, arith}
-use Rattle.std.proofs.lemmas.List.{get_or_default, get_or-map, map-set}
+use Rattle.html_footnotes.proofs.Prelude.{Call, called_view, CalledFootnote, get_or_default, latest_call, number_of, with_one_more}
+use Rattle.std.proofs.lemmas.List.{get_or-map, map-set}
 use Rattle.std.proofs.Math.ListN.{get_or-map as get_or-map_default}
 use Rattle.html_bytes.specs.Layout as layout
-use Rattle.html_bytes.specs.Layout.{latest_call}
-use Rattle.definition_page.specs.GfmLabelStartFootnote.{Call}
 use Rattle.html_footnotes.proofs.Numbers.{latest_found}
-use Rattle.html_footnotes.specs.declared.calls.CalledFootnote.{CalledFootnote}
-use Rattle.html_footnotes.specs.Calls.{called_view, number_of, with_one_more}
 
 -- one more call of a row is one more call of what it shows
 pub row_raised : {A : Type 0} (rows : List (CalledFootnote A)) (at : ℕ) (x y : CalledFootnote A) (count : ℕ) (d : layout.NoteCalls) → at < length rows

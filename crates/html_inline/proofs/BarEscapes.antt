@@ -1,13 +1,9 @@
 -- Code without the backslashes that escape bars, piece by piece.
 use Rattle.std.proofs.Common.{◌≡◌, ◌≢◌, ℕ, suc, ◌<◌, ◌≤◌, true, eqb, List, [], ◌∷◌, ◌++◌, refl, sym, ap, ◌∙◌, length, drop, take, get_or, append_assoc, arith}
 use Rattle.std.proofs.Common.{inl, inr}
-use Rattle.std.proofs.lemmas.Bool.{cases_Bool, cond-true, cond-false, and_parts, eqb-true}
-use Rattle.std.proofs.lemmas.List.{length-drop}
-use Rattle.std.proofs.lemmas.List.Concat.{flat_map-append}
-use Rattle.std.specs.Str.{IsCharBoundary}
-use Rattle.definition_text.specs.Encode.{encode, encoded_byte}
-use Rattle.definition_page.specs.GfmTable.{escapes_bar, cell_code}
-use Rattle.html_inline.specs.GfmTable.{bar_escape_at}
+use Rattle.html_inline.proofs.Prelude.{and_parts, bar_escape_at, cases_Bool, cell_code, cond-false, cond-true, encode, encoded_byte, eqb-true, flat_map-append}
+use Rattle.html_inline.proofs.Prelude.{IsCharBoundary, length-drop}
+use Rattle.definition_page.specs.GfmTable.{escapes_bar}
 
 is_backslash : (c : ℕ) (cs : List ℕ) → escapes_bar c cs ≡ true → c ≡ 92
 is_backslash c cs h = eqb-true c 92 (and_parts (eqb c 92) _ h).0

@@ -1,15 +1,13 @@
 -- Rows of inline structure in a cell.
 use Rattle.std.proofs.Common.{◌≡◌, Bool, true, false, List, [], ◌∷◌, ◌++◌, refl, ap, ◌∙◌}
-use Rattle.std.specs.Prelude.{map}
-use Rattle.std.specs.List.{fold}
+use Rattle.html_inline.proofs.Prelude.{Call, Cons, EnterLinked, EnterSpan, fold, in_cell, Inline, inline_rows, InlineLeaf, Inlines, Leaf, leaf_in, Leave}
+use Rattle.html_inline.proofs.Prelude.{Linked, LinkTexts, map, Meaning, Nil, Part, part_in_cell, part_rows, parts_in_cell, PrintState, row_printed_in, Span}
+use Rattle.html_inline.proofs.Prelude.{Target, with_row}
 use Rattle.std.proofs.lemmas.List.{map-append}
 use Rattle.definition_inline.specs.Inline as inline
-use Rattle.definition_inline.specs.Inline.{Target, LinkTexts, InlineLeaf, Inline, Leaf, Span, Linked, Call, Inlines, Nil, Cons}
-use Rattle.definition_page.specs.GfmTable.{leaf_in_cell, part_in_cell, in_cell}
-use Rattle.definition_page.specs.InlinePieces.{Meaning}
-use Rattle.inline_rows.specs.InlineRows.{InlineRow, Part, EnterSpan, EnterLinked, Leave, CallRow, part_rows, inline_rows}
-use Rattle.html_inline.specs.Printed.{PrintState, with_row}
-use Rattle.html_inline.specs.GfmTable.{parts_in_cell, leaf_in, row_in_cell, row_printed_in}
+use Rattle.definition_page.specs.GfmTable.{leaf_in_cell}
+use Rattle.inline_rows.specs.InlineRows.{InlineRow, CallRow}
+use Rattle.html_inline.specs.GfmTable.{row_in_cell}
 
 leaf_unshown : (part : InlineLeaf) → leaf_in false part ≡ part
 leaf_unshown (inline.Data b) = refl

@@ -1,21 +1,12 @@
 -- The calls among rows are those of the inline structure that the rows stand for.
 use Rattle.std.proofs.Common.{◌≡◌, ℕ, ◌+◌, ◌<◌, Bool, true, false, List, [], ◌∷◌, ◌++◌, refl, sym, ap, ◌∙◌, take, get_or, length}
-use Rattle.std.specs.Prelude.{map}
-use Rattle.std.specs.List.{fold}
-use Rattle.std.proofs.lemmas.List.{append-nil, take_more}
-use Rattle.std.proofs.lemmas.List.Concat.{flat_map-append}
-use Rattle.definition_inline.specs.Inline.{Target, LinkTexts, InlineLeaf, Data, Inline, Leaf, Span, Linked, Call, Inlines, Nil, Cons}
-use Rattle.definition_page.specs.GfmTable.{part_in_cell, in_cell}
-use Rattle.definition_page.specs.InlinePieces.{Meaning, part_counts, inline_counts}
-use Rattle.html_bytes.specs.Layout.{LayoutState}
-use Rattle.html_bytes.specs.Layout.{lay}
-use Rattle.html_bytes.specs.Pieces.{in_bytes}
-use Rattle.html_bytes.proofs.SameText.{laid_both}
-use Rattle.inline_rows.specs.InlineRows.{InlineRow, Part, EnterSpan, EnterLinked, Leave, part_rows, inline_rows}
+use Rattle.html_inline.proofs.Prelude.{append-nil, Call, Cons, Data, data_rows, EnterLinked, EnterSpan, flat_map-append, fold, in_bytes, in_cell, Inline}
+use Rattle.html_inline.proofs.Prelude.{inline_counts, inline_rows, InlineLeaf, Inlines, laid_both, lay, LayoutState, Leaf, Leave, Linked, LinkTexts, map}
+use Rattle.html_inline.proofs.Prelude.{Meaning, Nil, Part, part_counts, part_in_cell, part_rows, parts_in_cell, row_view, rows_counts, rows_view, Span}
+use Rattle.html_inline.proofs.Prelude.{take_more, Target}
+use Rattle.inline_rows.specs.InlineRows.{InlineRow}
 use Rattle.inline_rows.specs.declared.row.InlineRow as row
-use Rattle.inline_rows.specs.View.{data_rows, row_view, rows_view}
-use Rattle.html_inline.specs.Counts.{row_counts, rows_counts}
-use Rattle.html_inline.specs.GfmTable.{parts_in_cell}
+use Rattle.html_inline.specs.Counts.{row_counts}
 
 module _ (meaning : Meaning) where
   -- ---- the rows of inline structure

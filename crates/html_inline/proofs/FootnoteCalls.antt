@@ -1,11 +1,6 @@
 -- Calls of footnotes among rows.
 use Rattle.std.proofs.Common.{◌≡◌, ℕ, Bool, true, false, List, [], Option, None, Some, sym, ap, ◌∙◌}
-use Rattle.definition_inline.specs.LabelMatch.{first_match, normal_label}
-use Rattle.html_bytes.specs.Layout.{LayoutState}
-use Rattle.definition_page.specs.InlinePieces.{Meaning, call_at, count_at}
-use Rattle.html_bytes.specs.Layout.{lay}
-use Rattle.html_bytes.specs.Pieces.{CallOf, CountOf}
-use Rattle.html_inline.specs.Printed.{call_row, laid_out}
+use Rattle.html_inline.proofs.Prelude.{call_at, call_row, CallOf, count_at, CountOf, first_match, laid_out, lay, LayoutState, Meaning, normal_label}
 
 -- a label of no footnote lays nothing
 pub uncalled : (meaning : Meaning) (described : Bool) (label : List ℕ) (l : LayoutState) → first_match label meaning.footnotes ≡ None

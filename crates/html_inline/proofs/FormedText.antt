@@ -1,9 +1,9 @@
 -- Texts in their form.
 use Rattle.std.proofs.Common.{◌≡◌, ℕ, List, [], ◌∷◌, ◌++◌, refl, sym, ap, ◌∙◌, append_assoc}
-use Rattle.std.proofs.lemmas.List.Concat.{flat_map-append}
+use Rattle.html_inline.proofs.Prelude.{flat_map-append, form_bytes}
 use Rattle.html_inline.specs.declared.form.Form.{Form}
 use Rattle.html_inline.specs.declared.form.Form.TheVariants.{Bytes}
-use Rattle.html_inline.specs.Forms.{form_byte, form_bytes}
+use Rattle.html_inline.specs.Forms.{form_byte}
 
 pub formed_bytes : (text : List ℕ) → form_bytes Bytes text ≡ text
 formed_bytes [] = refl

@@ -1,25 +1,20 @@
 -- Raw HTML, line by line.
 use Rattle.std.proofs.Common.{◌≡◌, ◌||◌, ℕ, zero, suc, ◌+◌, ◌<◌, ◌≤◌, List, [], ◌∷◌, ◌++◌, Bool, true, false, cond, eqb, refl, sym, ap, ◌∙◌, get_or, length}
 use Rattle.std.proofs.Common.{drop, take, arith, inl, inr, append_assoc}
-use Rattle.std.specs.List.{flat_map, prefix_len}
-use Rattle.std.proofs.lemmas.Bool.{cases_Bool, cond-false, cond-true, eqb-true, ne_eqb, not_from_false, or_cases, true≢false}
-use Rattle.std.proofs.lemmas.List.{append-nil, length-drop}
-use Rattle.std.proofs.lemmas.List.Concat.{flat_map-append}
-use Rattle.markdown_options.specs.declared.configuration.CompileOptions.{CompileOptions}
-use Rattle.markdown_options.specs.declared.line_ending.LineEnding.{LineEnding}
+use Rattle.html_inline.proofs.Prelude.{append-nil, bare, begins_with_eol, cases_Bool, CompileOptions, cond-false, cond-true, content_codes, ends, eqb-true}
+use Rattle.html_inline.proofs.Prelude.{first_bytes, flat_map, flat_map-append, html_lines, HtmlLine, indent, is_eol, is_in_line, is_white, later_bytes}
+use Rattle.html_inline.proofs.Prelude.{length-drop, line_ending_code, LineEnding, ne_eqb, or_cases, prefix_len, PrintsEnding, raw_bytes, said_bytes, say_bytes}
+use Rattle.html_inline.proofs.Prelude.{true≢false}
+use Rattle.std.proofs.lemmas.Bool.{not_from_false}
 use Rattle.markdown_options.specs.declared.line_ending.LineEnding.TheVariants.{CarriageReturnLineFeed, CarriageReturn, LineFeed}
 use Rattle.markdown_options.specs.LineEndings.{ending_bytes}
-use Rattle.definition_text.specs.Columns.{bare, bytes_of, indent, is_byte, is_white}
-use Rattle.definition_text.specs.Content.{content_codes, is_eol, line_ending_code}
-use Rattle.html_bytes.specs.RawHtml.{raw_bytes}
-use Rattle.definition_page.specs.InlinePieces.{HtmlLine, html_text_line, in_first_line, html_lines, later_line_says, html_line_says, html_lines_say}
-use Rattle.html_bytes.specs.InlineHtml.{say_bytes}
-use Rattle.definition_inline.specs.Strings.{begins_with_eol, eol_bytes}
+use Rattle.definition_text.specs.Columns.{bytes_of, is_byte}
+use Rattle.definition_page.specs.InlinePieces.{html_text_line, in_first_line, later_line_says, html_line_says, html_lines_say}
+use Rattle.definition_inline.specs.Strings.{eol_bytes}
 use Rattle.definition_page.specs.GfmTagfilter.{filter_tags}
-use Rattle.definition_page.specs.Tags.{said_bytes, AsItIs, Words}
+use Rattle.definition_page.specs.Tags.{AsItIs, Words}
 use Rattle.inline_leaves.proofs.Endings.{ending_is_eol}
-use Rattle.html_inline.specs.CodeBytes.{is_in_line}
-use Rattle.html_inline.specs.HtmlBytes.{PrintsEnding, ends, goes_on, first_bytes, later_bytes}
+use Rattle.html_inline.specs.HtmlBytes.{goes_on}
 use Rattle.html_inline.proofs.InLine.{in_line_eol, line_codes, line_left}
 use Rattle.html_inline.proofs.KeptText.{AreBytes, bare_white}
 

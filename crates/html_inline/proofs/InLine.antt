@@ -1,20 +1,14 @@
 -- The bytes before a line ending.
 use Rattle.std.proofs.Common.{◌≡◌, ℕ, zero, suc, ◌+◌, ◌<◌, ◌≤◌, List, [], ◌∷◌, ◌++◌, Bool, true, false, not, ◌&&◌, ◌||◌, eqb, refl, sym, ap, ◌∙◌, get_or}
 use Rattle.std.proofs.Common.{length, drop, take, map, arith, inl, inr, subst}
-use Rattle.std.specs.List.{prefix_len}
-use Rattle.std.specs.Str.{IsCharBoundary}
-use Rattle.std.proofs.lemmas.Bool.{cases_Bool, cond-false, cond-true, eqb-true, eqb-false, ne_eqb, or_from, and_parts, and_cases, not-true, not-false}
-use Rattle.std.proofs.lemmas.Bool.{false≢true, cases_lt}
-use Rattle.std.proofs.lemmas.List.Sums.{prefix_len_stops, prefix_len-le-length}
-use Rattle.std.proofs.lemmas.Str.{IsCharBoundary-before_ascii, IsCharBoundary-end}
-use Rattle.markdown_options.specs.declared.line_ending.LineEnding.{LineEnding}
+use Rattle.html_inline.proofs.Prelude.{and_cases, and_parts, at_return, begins_with_eol, cases_Bool, cases_lt, cond-false, cond-true, content_codes, eqb-false}
+use Rattle.html_inline.proofs.Prelude.{eqb-true, is_eol, is_in_line, is_padded, IsCharBoundary, IsCharBoundary-before_ascii, IsCharBoundary-end}
+use Rattle.html_inline.proofs.Prelude.{line_ending_code, LineEnding, ne_eqb, not-false, not-true, or_from, plain_code, prefix_len, prefix_len-le-length}
+use Rattle.html_inline.proofs.Prelude.{prefix_len_stops, spaces_for_endings}
+use Rattle.std.proofs.lemmas.Bool.{false≢true}
 use Rattle.markdown_options.specs.declared.line_ending.LineEnding.TheVariants.{CarriageReturnLineFeed, CarriageReturn, LineFeed}
-use Rattle.definition_inline.specs.CodeText.{code_space, is_padded}
+use Rattle.definition_inline.specs.CodeText.{code_space}
 use Rattle.definition_text.specs.Columns.{is_tab_column}
-use Rattle.definition_text.specs.Content.{content_codes, is_eol, line_ending_code}
-use Rattle.definition_inline.specs.Strings.{begins_with_eol}
-use Rattle.inline_leaves.proofs.Codes.{at_return, plain_code}
-use Rattle.html_inline.specs.CodeBytes.{is_in_line, spaces_for_endings}
 use Rattle.html_inline.proofs.KeptText.{AreBytes}
 
 -- no ending, and no column of a tab

@@ -2,27 +2,25 @@
 use Rattle.std.proofs.Common.{◌≡◌, ℕ, zero, suc, ◌+◌, ◌-◌, ◌<◌, ◌≤◌, List, [], ◌∷◌, ◌++◌, Bool, true, false, cond, ◌||◌, ◌&&◌, eqb, leb, Option, None, Some}
 use Rattle.std.proofs.Common.{refl, sym, ap, ◌∙◌, get_or, length, drop, take, arith, inl, inr, subst}
 use Rattle.std.specs.Char.{is_ascii_punctuation}
-use Rattle.std.specs.Str.{IsCharBoundary, IsUtf8}
-use Rattle.std.specs.List.{flat_map, prefix_len}
-use Rattle.std.proofs.lemmas.Bool.{cases_Bool, cond-false, cond-true, cond_both, cases_lt, and_cases, leb-false, not-false, eqb-true, eqb-false, ne_eqb}
-use Rattle.std.proofs.lemmas.Bool.{or_cases, or_parts, or_from, and_left, and_right, not-true, true≢false}
-use Rattle.std.proofs.lemmas.List.{get_or-drop, length-drop}
-use Rattle.std.proofs.lemmas.List.Concat.{flat_map-append}
-use Rattle.std.proofs.lemmas.List.Sums.{prefix_len_passes, prefix_len_stops, prefix_len-le-length}
+use Rattle.html_inline.proofs.Prelude.{and_cases, at_return, bare, begins_with_eol, cases_Bool, cases_lt, cond-false, cond-true, content_codes, eqb-false}
+use Rattle.html_inline.proofs.Prelude.{eqb-true, flat_map, flat_map-append, indent, InlineLeaf, is_eol, is_ink, is_white, IsCharBoundary}
+use Rattle.html_inline.proofs.Prelude.{IsCharBoundary-before_ascii, IsCharBoundary-end, kept_size, leb-false, length-drop, ne_eqb, not-false, not-true}
+use Rattle.html_inline.proofs.Prelude.{or_cases, or_from, plain_code, prefix_len, prefix_len-le-length, prefix_len_stops, string_bytes, text_of, true≢false}
+use Rattle.std.specs.Str.{IsUtf8}
+use Rattle.std.proofs.lemmas.Bool.{cond_both}
+use Rattle.std.proofs.lemmas.Bool.{or_parts, and_left, and_right}
+use Rattle.std.proofs.lemmas.List.{get_or-drop}
+use Rattle.std.proofs.lemmas.List.Sums.{prefix_len_passes}
 use Rattle.std.proofs.lemmas.Option.{none-some}
-use Rattle.std.proofs.lemmas.Str.{IsCharBoundary-before_ascii, IsCharBoundary-end}
 use Rattle.markdown_options.specs.declared.configuration.Constructs.{Constructs}
-use Rattle.definition_text.specs.Columns.{is_white, indent, bare}
-use Rattle.definition_text.specs.Content.{content_codes, is_eol}
 use Rattle.definition_inline.specs.CharacterEscape.{escape_at}
 use Rattle.definition_inline.specs.CharacterReference.{reference_at, reference_of}
 use Rattle.definition_inline.specs.HardBreak.{line_end_at}
-use Rattle.definition_inline.specs.Inline.{InlineLeaf, Found, leaf, or_else}
-use Rattle.definition_inline.specs.Strings.{begins_with_eol, spaces_at, string_bytes, string_leaf_at, string_parts, string_text}
+use Rattle.definition_inline.specs.Inline.{Found, leaf, or_else}
+use Rattle.definition_inline.specs.Strings.{spaces_at, string_leaf_at, string_parts, string_text}
 use Rattle.definition_inline.proofs.Scanning.{string_step, string_byte}
 use Rattle.inline_leaves.specs.Leaves.{IsAfter, size_before}
-use Rattle.inline_leaves.proofs.Codes.{at_return, boundary_after_byte, plain_code, prefix_codes}
-use Rattle.html_inline.specs.Kept.{is_ink, kept_size, text_of}
+use Rattle.inline_leaves.proofs.Codes.{boundary_after_byte, prefix_codes}
 
 -- ---- steps
 

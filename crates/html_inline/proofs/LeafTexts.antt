@@ -1,17 +1,9 @@
 -- Bytes as leaves, and what these print.
 use Rattle.std.proofs.Common.{◌≡◌, Bool, true, false, ℕ, List, [], ◌∷◌, ◌++◌, refl, ap, ◌∙◌}
-use Rattle.std.specs.Prelude.{map}
-use Rattle.std.specs.List.{flat_map}
-use Rattle.std.proofs.lemmas.List.{append-nil}
-use Rattle.markdown_options.specs.declared.configuration.CompileOptions.{CompileOptions}
-use Rattle.definition_text.specs.Encode.{encode, encoded_byte}
-use Rattle.definition_inline.specs.Inline.{InlineLeaf, Data, Escape}
-use Rattle.definition_page.specs.Tags.{PrintedPart, said_bytes}
+use Rattle.html_inline.proofs.Prelude.{append-nil, CompileOptions, Data, encode, encoded_byte, Escape, flat_map, InlineLeaf, leaf_description, leaf_html}
+use Rattle.html_inline.proofs.Prelude.{leaf_in, leaves_bytes, map, PrintedPart, said_bytes, say_bytes}
 use Rattle.definition_page.specs.Pieces.{Says}
-use Rattle.html_bytes.specs.InlineHtml.{say_bytes, leaf_description, leaf_html}
 use Rattle.html_bytes.specs.Pieces.{piece_html}
-use Rattle.html_inline.specs.GfmTable.{leaf_in}
-use Rattle.html_inline.specs.Printed.{leaves_bytes}
 
 -- leaves of a byte each that print this byte
 bytes_shown : (cell : Bool) (shown : InlineLeaf → List ℕ) (leaf : ℕ → InlineLeaf) → ((b : ℕ) → shown (leaf_in cell (leaf b)) ≡ encode (b ∷ []) ++ [])

@@ -1,3 +1,4 @@
+mod Prelude
 pub mod FormedText
 pub mod HtmlLines
 pub mod InLine

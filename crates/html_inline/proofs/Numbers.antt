@@ -3,7 +3,8 @@ use Rattle.std.proofs.Common.{◌≡◌, ℕ, zero, suc, ◌+◌, ◌-◌, ◌*�
 use Rattle.std.specs.Prelude.{min, ◌^◌, ◌%◌, ◌==◌, nat_le}
 use Rattle.std.specs.Char.{encode_utf8}
 use Rattle.std.specs.Int.{is_in_range}
-use Rattle.std.proofs.lemmas.Bool.{cases_Bool, cond-true, le-leb, leb-true, leb-false}
+use Rattle.html_inline.proofs.Prelude.{cases_Bool, cond-true, leb-false}
+use Rattle.std.proofs.lemmas.Bool.{le-leb, leb-true}
 use Rattle.std.proofs.Math.Nat.{le-mul_of_pos_right, mul-zero}
 use Rattle.definition_inline.specs.CharacterReference.{is_replaced, character_of, numbered_text}
 

@@ -1,24 +1,13 @@
 -- What is open, and rows that are printed.
 use Rattle.std.proofs.Common.{◌≡◌, ℕ, Bool, true, false, List, [], ◌∷◌, ◌++◌, sym, ap, ◌∙◌, append_assoc, take, get_or, length, ◌+◌, ◌<◌}
-use Rattle.std.specs.Prelude.{map, reverse}
-use Rattle.std.specs.List.{fold}
-use Rattle.std.proofs.lemmas.Bool.{cond-true, cond-false}
-use Rattle.std.proofs.lemmas.List.{append-nil, reverse-append, take_more}
-use Rattle.std.proofs.lemmas.List.Concat.{flat_map-append}
-use Rattle.std.proofs.lemmas.List.Sums.{fold-append}
-use Rattle.definition_text.specs.Encode.{encode}
+use Rattle.html_inline.proofs.Prelude.{append-nil, cond-false, cond-true, Data, data_rows, encode, enter, flat_map-append, fold, fold-append, InlineLeaf}
+use Rattle.html_inline.proofs.Prelude.{InlineRow, is_described, LayoutState, leaf_in, leaves_bytes, map, Meaning, new_part, OpenElement, OpenPart, printed_at}
+use Rattle.html_inline.proofs.Prelude.{PrintState, reverse, row_printed_in, row_view, rows_view, take_more, with_more, with_text}
+use Rattle.std.proofs.lemmas.List.{reverse-append}
 use Rattle.definition_inline.specs.Inline as inline
-use Rattle.definition_inline.specs.Inline.{InlineLeaf, Data}
-use Rattle.definition_page.specs.InlinePieces.{Meaning}
-use Rattle.html_bytes.specs.Layout.{LayoutState}
-use Rattle.html_bytes.specs.Layout.{with_text}
 use Rattle.inline_rows.specs.InlineRows as rows_of
-use Rattle.inline_rows.specs.declared.row.InlineRow.{InlineRow}
-use Rattle.inline_rows.specs.View.{data_rows, row_view, rows_view}
-use Rattle.html_inline.specs.declared.stack.OpenPart.{OpenPart}
 use Rattle.html_inline.specs.declared.stack.OpenPart.TheVariants.{Silent}
-use Rattle.html_inline.specs.GfmTable.{leaf_in, row_printed_in}
-use Rattle.html_inline.specs.Printed.{OpenElement, new_part, PrintState, printed_at, is_described, leaf_bytes, leaves_bytes, enter, leave, with_more}
+use Rattle.html_inline.specs.Printed.{leaf_bytes, leave}
 use Rattle.html_inline.proofs.LeafTexts.{data_shown}
 
 -- one more stands on the stack

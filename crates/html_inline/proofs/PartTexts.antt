@@ -1,9 +1,6 @@
 -- The bytes of a string's parts.
 use Rattle.std.proofs.Common.{◌≡◌, ℕ, List, [], ◌∷◌, refl, ap}
-use Rattle.std.specs.Prelude.{map}
-use Rattle.std.specs.List.{flat_map}
-use Rattle.definition_inline.specs.Inline.{Data, Escape}
-use Rattle.definition_inline.specs.Strings.{string_bytes}
+use Rattle.html_inline.proofs.Prelude.{Data, Escape, flat_map, map, string_bytes}
 
 pub escape_texts : (text : List ℕ) → flat_map string_bytes (map Escape text) ≡ text
 escape_texts [] = refl

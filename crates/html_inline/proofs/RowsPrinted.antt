@@ -1,24 +1,17 @@
 -- Inline structure laid out row by row is its pieces, or what it says in a description and the calls there.
 use Rattle.std.proofs.Common.{◌≡◌, ℕ, Bool, true, false, cond, List, [], ◌∷◌, ◌++◌, Option, None, Some, refl, sym, ap, ◌∙◌, append_assoc}
-use Rattle.std.specs.List.{fold}
-use Rattle.std.proofs.lemmas.List.{append-nil}
-use Rattle.std.proofs.lemmas.List.Concat.{flat_map-append}
-use Rattle.std.proofs.lemmas.List.Sums.{fold-append}
-use Rattle.definition_inline.specs.LabelMatch.{first_match, normal_label}
-use Rattle.definition_inline.specs.Inline.{LinkTexts, Link, Image, InlineLeaf, Inline, Leaf, Span, Linked, Call, Inlines, Nil, Cons}
-use Rattle.definition_inline.specs.Targets.{leads_to}
-use Rattle.html_bytes.specs.Layout.{LayoutState}
-use Rattle.definition_page.specs.Tags.{said_bytes, Tag, bare_tag, start_tag, end_tag, void_tag}
-use Rattle.definition_page.specs.Pieces.{Piece, Close}
-use Rattle.definition_page.specs.InlinePieces.{Meaning, span_name, element, link_tag, image_tag, part_says, description, call_at, count_at}
-use Rattle.definition_page.specs.InlinePieces.{part_counts, inline_counts, part_pieces, inline_pieces}
-use Rattle.html_bytes.specs.InlineHtml.{say_bytes, leaf_description, leaf_html}
-use Rattle.html_bytes.specs.Layout.{lay, with_text}
-use Rattle.html_bytes.specs.Pieces.{in_bytes}
-use Rattle.html_bytes.proofs.SameText.{laid_both}
+use Rattle.html_inline.proofs.Prelude.{append-nil, Call, call_at, call_row, Cons, count_at, end_tag, enter, first_match, flat_map-append, fold, fold-append}
+use Rattle.html_inline.proofs.Prelude.{image_end, image_start, image_tag, in_bytes, Inline, inline_counts, inline_rows, InlineLeaf, Inlines, is_described}
+use Rattle.html_inline.proofs.Prelude.{laid_both, laid_out, lay, LayoutState, leads_to, Leaf, leaf_description, leaf_html, Leave, link_tag, Linked, LinkTexts}
+use Rattle.html_inline.proofs.Prelude.{Meaning, new_part, Nil, normal_label, OpenElement, part_counts, part_rows, Piece, printed_at, said_bytes, say_bytes}
+use Rattle.html_inline.proofs.Prelude.{Span, start_tag, void_tag, with_more, with_row, with_text}
+use Rattle.definition_inline.specs.Inline.{Link, Image}
+use Rattle.definition_page.specs.Tags.{Tag, bare_tag}
+use Rattle.definition_page.specs.Pieces.{Close}
+use Rattle.definition_page.specs.InlinePieces.{span_name, element, part_says, description}
+use Rattle.definition_page.specs.InlinePieces.{part_pieces, inline_pieces}
 use Rattle.html_bytes.proofs.WithoutCalls.{leaf_added}
-use Rattle.inline_rows.specs.InlineRows.{InlineRow, Leave, part_rows, inline_rows}
-use Rattle.html_inline.specs.Printed.{OpenElement, new_part, printed_at, is_described, image_start, image_end, with_more, call_row, laid_out, enter, with_row}
+use Rattle.inline_rows.specs.InlineRows.{InlineRow}
 use Rattle.html_inline.proofs.OpenStack.{no_more}
 use Rattle.html_inline.proofs.TagTexts as tag_texts
 

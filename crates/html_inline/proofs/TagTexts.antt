@@ -1,17 +1,12 @@
 -- The tags of links, images and check boxes, as they are printed.
 use Rattle.std.proofs.Common.{◌≡◌, Bool, true, false, cond, ℕ, List, [], ◌∷◌, ◌++◌, refl, ap, ◌∙◌, append_assoc, codes}
-use Rattle.std.specs.List.{flat_map}
-use Rattle.std.proofs.lemmas.List.{append-nil}
-use Rattle.std.proofs.lemmas.List.Concat.{flat_map-append}
-use Rattle.markdown_options.specs.declared.configuration.CompileOptions.{CompileOptions}
-use Rattle.definition_text.specs.Encode.{encode}
-use Rattle.definition_inline.specs.Inline.{LinkTexts}
-use Rattle.definition_page.specs.Tags.{PrintedPart, said_bytes, attribute_bytes, start_tag, void_tag}
-use Rattle.definition_page.specs.GfmTaskListItem.{check_tag, checkable_attributes, done_attributes}
+use Rattle.html_inline.proofs.Prelude.{append-nil, attribute_bytes, checkable_attributes, CompileOptions, done_attributes, encode, flat_map, flat_map-append}
+use Rattle.html_inline.proofs.Prelude.{image_end, image_start, image_tag, link_tag, LinkTexts, Meaning, PrintedPart, said_bytes, say_bytes, start_tag}
+use Rattle.html_inline.proofs.Prelude.{void_tag}
+use Rattle.definition_page.specs.GfmTaskListItem.{check_tag}
 use Rattle.definition_page.specs.Urls.{percent, sanitize, permits, sanitized_with}
-use Rattle.definition_page.specs.InlinePieces.{Meaning, permitted_url, url_of, link_url, image_url, title_attributes, link_tag, image_tag, address_tag}
-use Rattle.html_bytes.specs.InlineHtml.{say_bytes}
-use Rattle.html_inline.specs.Printed.{title_bytes, image_start, image_end}
+use Rattle.definition_page.specs.InlinePieces.{permitted_url, url_of, link_url, image_url, title_attributes, address_tag}
+use Rattle.html_inline.specs.Printed.{title_bytes}
 
 -- ---- URLs
 

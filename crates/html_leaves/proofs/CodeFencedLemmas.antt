@@ -1,22 +1,15 @@
 -- The content of fenced code.
 use Rattle.std.proofs.Common.{Option, Some, subst, ◌≡◌, ℕ, ◌-◌, ◌<◌, List, [], ◌∷◌, ◌++◌, Bool, true, false}
 use Rattle.std.proofs.Common.{codes, sym, refl, ap, ◌∙◌, length, get_or, arith, append_assoc}
-use Rattle.std.specs.Prelude.{map, if◌then◌else◌, ◌||◌}
-use Rattle.markdown_options.specs.declared.line_ending.LineEnding.{LineEnding}
-use Rattle.markdown_options.specs.LineEndings.{ending_bytes}
-use Rattle.definition_text.specs.Lines.{TextLine, ending_text, lines}
-use Rattle.definition_text.proofs.CodeBytes.{code_bytes}
-use Rattle.std.proofs.lemmas.List.Concat.{flat_map-append}
+use Rattle.html_leaves.proofs.Prelude.{BlockLine, code_byte, code_bytes, code_of, CompileOptions, encode, end_said, ending_bytes, ending_text, flat_map-append}
+use Rattle.html_leaves.proofs.Prelude.{last_ending, LayoutState, LineEnding, map, own_lines, with_bytes, with_fresh, with_text}
+use Rattle.std.specs.Prelude.{if◌then◌else◌, ◌||◌}
+use Rattle.definition_text.specs.Lines.{TextLine, lines}
 use Rattle.block_rows.proofs.TextLines.{front_bytes, later_bytes, line_bytes, text_back, text_of}
-use Rattle.definition_text.specs.Columns.{code_byte}
-use Rattle.definition_text.specs.Encode.{encode, encoded_byte}
-use Rattle.definition_text.specs.BlockLines.{BlockLine, own_lines, last_ending}
-use Rattle.html_bytes.specs.Layout.{LayoutState, with_text}
-use Rattle.markdown_options.specs.declared.configuration.CompileOptions.{CompileOptions}
-use Rattle.html_bytes.proofs.SameBlocks.{end_said}
+use Rattle.definition_text.specs.Encode.{encoded_byte}
 use Rattle.text_pieces.specs.Pieces.{whole_line, whole_lines}
-use Rattle.html_leaves.specs.CodeLines.{code_of, fenced_bytes}
-use Rattle.html_leaves.specs.Prints.{layout_after, with_bytes, with_fresh}
+use Rattle.html_leaves.specs.CodeLines.{fenced_bytes}
+use Rattle.html_leaves.specs.Prints.{layout_after}
 use Rattle.html_leaves.proofs.LeafLaid.{kept_lines_laid, cut_lines_laid}
 use Rattle.text_pieces.proofs.OwnLines.{with_last_ending}
 

@@ -1,9 +1,9 @@
 -- What is added to the innermost text that is open.
 use Rattle.std.proofs.Common.{◌≡◌, ℕ, List, ◌++◌, ap, cond}
-use Rattle.std.specs.Result.{OnOk, is_ok}
+use Rattle.html_leaves.proofs.Prelude.{LayoutState, OnOk, with_text}
+use Rattle.std.specs.Result.{is_ok}
 use Rattle.std.specs.declared.result.Result.{Result}
 use Rattle.std.specs.declared.result.Result.TheVariants.{Ok, Err}
-use Rattle.html_bytes.specs.Layout.{LayoutState, with_text}
 
 -- what becomes of the text becomes of what is laid out
 pub text_laid : {T E : Type 0} (r : Result T E) (l : LayoutState) (now target : List ℕ) → OnOk r (now ≡ target) → OnOk r (with_text l now ≡ with_text l target)

@@ -2,24 +2,17 @@
 use Rattle.std.proofs.Common.{◌≡◌, ℕ, List, [], ◌∷◌, ◌++◌, refl, sym, ap, ◌∙◌, codes, map}
 use Rattle.std.specs.List.{fold, flat_map}
 use Rattle.std.proofs.lemmas.List.{append-nil}
-use Rattle.std.proofs.lemmas.List.Concat.{flat_map-append}
-use Rattle.markdown_options.specs.declared.configuration.CompileOptions.{CompileOptions}
-use Rattle.definition_text.specs.BlockLines.{BlockLine}
-use Rattle.definition_text.specs.Columns.{code_byte, bytes_of}
-use Rattle.definition_text.specs.Encode.{encode}
-use Rattle.definition_text.specs.Lines.{ending_text}
+use Rattle.html_leaves.proofs.Prelude.{BlockLine, bytes_of, code_byte, code_of, CompileOptions, encode, end_said, ending_text, flat_map-append, html_of}
+use Rattle.html_leaves.proofs.Prelude.{LayoutState, raw_bytes, with_bytes, with_fresh, with_tag}
 use Rattle.definition_page.specs.BlockPieces.{says, code_line, html_line}
 use Rattle.definition_page.specs.InlinePieces.{element}
 use Rattle.definition_page.specs.Pieces as page
 use Rattle.definition_page.specs.Tags.{PrintedPart, said_bytes, Attribute, attribute_bytes, Tag, tag, bare_tag, start_tag, end_tag}
-use Rattle.html_bytes.specs.Layout.{LayoutState, lay}
+use Rattle.html_bytes.specs.Layout.{lay}
 use Rattle.html_bytes.specs.Pieces.{in_bytes}
-use Rattle.html_bytes.specs.RawHtml.{raw_bytes}
-use Rattle.html_bytes.proofs.SameBlocks.{end_said}
 use Rattle.html_bytes.proofs.SameLayout.{add_add, says_added}
 use Rattle.html_bytes.proofs.SameText.{laid_both, pieces_same}
-use Rattle.html_leaves.specs.CodeLines.{code_line_bytes, code_of, html_line_bytes, html_of}
-use Rattle.html_leaves.specs.Prints.{with_bytes, with_fresh, with_tag}
+use Rattle.html_leaves.specs.CodeLines.{code_line_bytes, html_line_bytes}
 
 -- ---- what lines say
 

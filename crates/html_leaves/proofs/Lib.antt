@@ -1,3 +1,4 @@
+mod Prelude
 pub mod Laid
 pub mod LeafLaid
 pub mod Owed

@@ -1,11 +1,9 @@
 -- Columns that are left of a tab, before the bytes of a line.
 use Rattle.std.proofs.Common.{◌≡◌, ℕ, ◌<◌, zero, suc, List, ◌∷◌, ◌++◌, true, false, refl, ap, get_or}
-use Rattle.std.specs.Prelude.{map, replicate}
+use Rattle.html_leaves.proofs.Prelude.{bytes_of, code_byte, code_bytes, encode, map, replicate}
 use Rattle.std.specs.List.{list_all}
-use Rattle.definition_text.specs.Columns.{code_byte, tab_column, is_byte, bytes_of}
-use Rattle.definition_text.specs.Encode.{encode}
+use Rattle.definition_text.specs.Columns.{tab_column, is_byte}
 use Rattle.text_pieces.proofs.Pieces.{only_bytes}
-use Rattle.definition_text.proofs.CodeBytes.{code_bytes}
 
 -- ---- in code they are spaces
 

@@ -1,26 +1,21 @@
 -- What the rows of blocks print, in each container and list.
 use Rattle.std.proofs.Common.{◌≡◌, ℕ, ◌≤◌, Bool, true, false, not, ◌==◌, List, [], ◌∷◌, ◌++◌, Option, refl, sym, ap, ◌∙◌, append_assoc, codes, None}
 use Rattle.std.proofs.Common.{Some}
-use Rattle.std.specs.List.{fold}
-use Rattle.std.proofs.lemmas.List.Sums.{fold-append}
+use Rattle.html_rows.proofs.Prelude.{Blank, Block, block_rows, Blocks, CanBePrinted, children_bytes, Cons, Definition, Document, Ending, Exit, fold}
+use Rattle.html_rows.proofs.Prelude.{fold-append, Footnote, group_items, Holds, IsPrintable, Items, LayoutState, Leaf, LeafBlock, Level, new_level, Nil, Place}
+use Rattle.html_rows.proofs.Prelude.{print_all, print_row, printer_at, PrinterView, Quote, rows_of, Single, spaced_leaf, with_text}
 use Rattle.markdown_options.specs.declared.container.Item.{Item as ItemOf}
-use Rattle.definition_block.specs.Container.{Quote, Item, Footnote}
-use Rattle.definition_block.specs.Tree.{LeafBlock, Definition, Block, Leaf, Holds, Items, Ending, Blank, Blocks, Nil, Cons}
-use Rattle.definition_block.specs.Lists.{after_endings, has_gap, is_loose, list_marker, put_before, group_items, grouped_block}
+use Rattle.definition_block.specs.Container.{Item}
+use Rattle.definition_block.specs.Lists.{after_endings, has_gap, is_loose, list_marker, put_before, grouped_block}
 use Rattle.html_bytes.specs.Pieces.{Piece, Bytes, Eol, Fresh, NoteStart, NoteEnd, print}
-use Rattle.html_bytes.specs.Layout.{LayoutState, lay as lay_piece, with_text}
-use Rattle.html_bytes.specs.Document.{Document}
+use Rattle.html_bytes.specs.Layout.{lay as lay_piece}
 use Rattle.definition_page.specs.Read.{in_container, in_item}
-use Rattle.html_bytes.specs.Html.{block_bytes, children_bytes, ends_tight, fresh_unless, number_tag, number_end}
-use Rattle.block_rows.specs.Rows.{Single, Exit, spaced_leaf, rows_of, block_rows}
-use Rattle.html_looseness.specs.declared.level.Level.{Level}
+use Rattle.html_bytes.specs.Html.{block_bytes, ends_tight, fresh_unless, number_tag, number_end}
 use Rattle.html_looseness.specs.declared.level.Holder.{Holder}
 use Rattle.html_looseness.specs.declared.level.Holder.TheVariants as holder
-use Rattle.html_looseness.specs.declared.loose.Place.{Place}
-use Rattle.html_looseness.specs.Printable.{IsPrintable, CanBePrinted}
 use Rattle.html_looseness.specs.Loose.{place_at}
-use Rattle.html_looseness.specs.Levels.{standing_of, is_list, level_of, new_level, after_block, after_footnote, level_after}
-use Rattle.html_rows.specs.Printing.{PrinterView, printer_at, in_list, start_item, exit_of, leave_list_if, print_row, print_all, more}
+use Rattle.html_looseness.specs.Levels.{standing_of, is_list, level_of, after_block, after_footnote, level_after}
+use Rattle.html_rows.specs.Printing.{in_list, start_item, exit_of, leave_list_if, more}
 use Rattle.html_looseness.proofs.Ahead.{ahead_of, before_item_is, list_ahead, after_list, on_list, off_list, no_marker}
 use Rattle.html_looseness.proofs.BlockPlaces.{places_in, places_within}
 use Rattle.html_looseness.proofs.ListPlaces.{next_marker, place_loose}

@@ -1,6 +1,6 @@
 -- Either of two.
 use Rattle.std.proofs.Common.{◌≡◌, Bool, true, false, refl}
-use Rattle.std.specs.Prelude.{if◌then◌else◌}
+use Rattle.html_rows.proofs.Prelude.{if◌then◌else◌}
 
 -- the first is taken only if the test passes
 pub choose_if : {X : Type 0} (P : X → Type 0) (b : Bool) (x y : X) → (b ≡ true → P x) → P y → P (if b then x else y)

@@ -1,32 +1,20 @@
 -- Fenced code, and what it takes from the lines.
 use Rattle.std.proofs.Common.{subst, ◌≡◌, ℕ, ◌-◌, ◌<◌, ◌≤◌, take, drop, List, [], ◌∷◌, ◌++◌, Bool, true, false}
 use Rattle.std.proofs.Common.{◌==◌, codes, sym, refl, ap, ◌∙◌, length, get_or, arith, append_assoc}
-use Rattle.std.specs.List.{list_all}
-use Rattle.std.proofs.lemmas.List.{append-nil, take-map, drop-map, take_rest}
-use Rattle.markdown_options.specs.declared.line_ending.LineEnding.{LineEnding}
-use Rattle.markdown_options.specs.LineEndings.{ending_bytes}
-use Rattle.text_pieces.specs.declared.piece.Piece.{Piece}
-use Rattle.text_pieces.specs.ParagraphLines.{HaveNoEnding}
-use Rattle.definition_text.specs.Columns.{bytes_of, is_byte}
+use Rattle.html_rows.proofs.Prelude.{append-nil, bare_tag, BlockLine, bytes_of, Document, element, ending_bytes, first_codes, HaveNoEnding, in_bytes, is_byte}
+use Rattle.html_rows.proofs.Prelude.{laid_both, layout_after, LayoutState, leaf_bytes, LineEnding, list_all, Piece, piece_line, piece_lines, reading_of, tag}
+use Rattle.html_rows.proofs.Prelude.{with_bytes, with_fresh, with_tag, with_text}
+use Rattle.std.proofs.lemmas.List.{take-map, drop-map, take_rest}
 use Rattle.definition_text.specs.Encode.{encode}
-use Rattle.definition_text.specs.BlockLines.{BlockLine}
 use Rattle.definition_block.specs.Tree.{FencedCode}
 use Rattle.definition_page.specs.BlockPieces.{info_attributes, fenced_pieces, fresh_unless}
-use Rattle.definition_page.specs.InlinePieces.{element}
 use Rattle.definition_page.specs.Pieces as page
-use Rattle.definition_page.specs.Tags.{tag, bare_tag}
-use Rattle.html_bytes.specs.Pieces.{in_bytes}
-use Rattle.html_bytes.specs.Layout.{LayoutState, with_text}
-use Rattle.html_bytes.specs.Document.{Document, reading_of, info_of}
+use Rattle.html_bytes.specs.Document.{info_of}
 use Rattle.definition_page.specs.Read.{Standing, code_lines, info_text}
 use Rattle.html_looseness.specs.Levels.{standing_at}
-use Rattle.html_bytes.specs.Html.{leaf_bytes}
-use Rattle.html_bytes.proofs.SameText.{laid_both}
-use Rattle.block_rows.specs.Rows.{first_codes}
-use Rattle.text_pieces.specs.Pieces.{piece_line, piece_lines, whole_lines}
+use Rattle.text_pieces.specs.Pieces.{whole_lines}
 use Rattle.text_pieces.proofs.Pieces.{no_piece}
 use Rattle.html_leaves.specs.CodeLines.{class_of, fenced_bytes}
-use Rattle.html_leaves.specs.Prints.{layout_after, with_bytes, with_fresh, with_tag}
 use Rattle.html_leaves.proofs.LeafLaid.{after_pieces, code_element_laid}
 use Rattle.html_leaves.proofs.Owed.{bytes_owed, none_owed}
 

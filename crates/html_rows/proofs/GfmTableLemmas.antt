@@ -2,44 +2,35 @@
 use Rattle.std.proofs.Common.{◌≡◌, ℕ, zero, suc, ◌≤◌, Bool, false, List, [], ◌∷◌, ◌++◌, Option, None, Some, refl, sym, ap, ◌∙◌, drop, length, get_or, arith}
 use Rattle.std.proofs.Common.{◌<◌, subst}
 use Rattle.std.specs.Prelude.{codes, map}
-use Rattle.std.specs.List.{fold, flat_map}
+use Rattle.html_rows.proofs.Prelude.{AlignKind, append-nil, AreClear, bare_tag, BlockLine, Document, document_meaning, element, fold, HaveNoEnding, in_bytes}
+use Rattle.html_rows.proofs.Prelude.{inline_pieces, is_blank, is_eol, Kind, laid_both, lay, LayoutState, leaf_bytes, LineEnding, on_page, own_lines}
+use Rattle.html_rows.proofs.Prelude.{piece_line, piece_lines, reading_of, tag, with_bytes, with_fresh, with_text}
+use Rattle.std.specs.List.{flat_map}
 use Rattle.std.specs.Option.{MatchOption}
-use Rattle.markdown_options.specs.declared.line_ending.LineEnding.{LineEnding}
 use Rattle.std.proofs.lemmas.Bool.{cond_both}
-use Rattle.std.proofs.lemmas.List.{append-nil, drop_all}
-use Rattle.definition_text.specs.BlockLines.{BlockLine, own_lines, last_ending}
-use Rattle.definition_text.specs.Columns.{is_blank}
-use Rattle.definition_text.specs.Content.{is_eol, may_escape}
+use Rattle.std.proofs.lemmas.List.{drop_all}
+use Rattle.definition_text.specs.BlockLines.{last_ending}
+use Rattle.definition_text.specs.Content.{may_escape}
 use Rattle.definition_text.specs.Lines.{ending_text}
-use Rattle.markdown_options.specs.declared.beside.Kind.{Kind}
 use Rattle.markdown_options.specs.declared.beside.Kind.TheVariants.{Punctuation}
-use Rattle.markdown_options.specs.declared.align_kind.AlignKind.{AlignKind}
 use Rattle.definition_block.specs.GfmTable.{Cell, in_first_cell, is_bar, parts, without_blank_first, without_blank_last, line_cells}
 use Rattle.definition_block.specs.Tree.{Table}
-use Rattle.text_pieces.specs.ParagraphLines.{HaveNoEnding}
 use Rattle.text_pieces.specs.declared.piece.Piece.{Piece as LinePiece}
-use Rattle.text_pieces.specs.Pieces.{piece_line, piece_lines}
 use Rattle.definition_inline.specs.Inline.{Inlines, Nil}
 use Rattle.definition_page.specs.GfmTable.{line_aligns, align_attributes, cell_pieces, cells_pieces, row_pieces, endings_pieces, body_row_pieces}
 use Rattle.definition_page.specs.GfmTable.{head_pieces, body_pieces}
-use Rattle.definition_page.specs.InlinePieces.{element, inline_counts, inline_pieces}
+use Rattle.definition_page.specs.InlinePieces.{inline_counts}
 use Rattle.definition_page.specs.Pieces as page
-use Rattle.definition_page.specs.Read.{on_page, read_cell, ending_list, read_row}
-use Rattle.definition_page.specs.Tags.{bare_tag, tag, start_tag, end_tag}
-use Rattle.html_bytes.specs.Document.{Document, reading_of, document_meaning, structure_pieces, cell_counts}
+use Rattle.definition_page.specs.Read.{read_cell, ending_list, read_row}
+use Rattle.definition_page.specs.Tags.{start_tag, end_tag}
+use Rattle.html_bytes.specs.Document.{structure_pieces, cell_counts}
 use Rattle.block_cells.specs.declared.gfm_table.Cell.{Cell as CellOf}
 use Rattle.block_cells.specs.GfmTable.{cell_view}
-use Rattle.html_bytes.specs.Html.{leaf_bytes}
-use Rattle.html_bytes.specs.Pieces.{Piece, in_bytes}
+use Rattle.html_bytes.specs.Pieces.{Piece}
 use Rattle.html_bytes.proofs.SameBlocks.{end_said}
-use Rattle.html_bytes.proofs.SameText.{laid_both}
-use Rattle.html_bytes.specs.Layout.{lay, with_text}
-use Rattle.html_bytes.specs.Layout.{LayoutState}
-use Rattle.html_leaves.specs.Prints.{with_bytes, with_fresh}
 use Rattle.html_leaves.specs.GfmTable.{cell_bytes}
 use Rattle.html_rows.specs.GfmTable.{next_cell_bytes, cells_bytes, counts_bytes, row_bytes, rows_bytes, head_bytes, body_bytes}
 use Rattle.html_rows.specs.GfmTable.{IsClearIf, CellsAreClear}
-use Rattle.html_looseness.specs.Printable.{AreClear}
 
 -- ---- cells without a line ending
 

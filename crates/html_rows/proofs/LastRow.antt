@@ -1,11 +1,7 @@
 -- Whether the last row is the ending of a blank line.
 use Rattle.std.proofs.Common.{◌≡◌, ℕ, ◌+◌, List, Bool, false, sym, ap, ◌∙◌, arith, get_or, length, take}
 use Rattle.std.proofs.lemmas.List.{take_all}
-use Rattle.std.proofs.lemmas.List.Sums.{fold_push}
-use Rattle.block_rows.specs.declared.row.Row.{Row}
-use Rattle.definition_text.specs.BlockLines.{BlockLine}
-use Rattle.block_rows.specs.Rows.{RowsValue, BlockRow, row_value, rows_value}
-use Rattle.html_rows.specs.Printing.{is_blank_row, ends_blank_rows}
+use Rattle.html_rows.proofs.Prelude.{BlockLine, BlockRow, ends_blank_rows, fold_push, is_blank_row, Row, row_value, rows_value, RowsValue}
 use Rattle.block_rows.proofs.RowSteps.{shown_more}
 
 -- the last row alone says it

@@ -1,3 +1,4 @@
+mod Prelude
 pub mod ParagraphLaid
 pub mod Lines
 pub mod GfmTableLemmas

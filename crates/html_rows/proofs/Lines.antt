@@ -1,11 +1,6 @@
 -- The lines of a block.
 use Rattle.std.proofs.Common.{◌≡◌, ◌≤◌, arith, take, length, get_or, List, [], ◌∷◌, refl, ap, suc}
-use Rattle.text_pieces.specs.declared.piece.Piece.{Piece}
-use Rattle.text_pieces.specs.ParagraphLines.{AreLines}
-use Rattle.block_rows.specs.Rows.{first_codes}
-use Rattle.text_pieces.specs.Pieces.{piece_line, piece_lines}
-use Rattle.definition_text.specs.BlockLines.{BlockLine, own_lines}
-use Rattle.html_looseness.specs.Printable.{AreHeadingLines, AreClear}
+use Rattle.html_rows.proofs.Prelude.{AreClear, AreHeadingLines, AreLines, BlockLine, first_codes, own_lines, Piece, piece_line, piece_lines}
 
 -- the first line
 pub first_codes_of : (pieces : List Piece) (d : Piece) → 1 ≤ length pieces → first_codes (piece_lines pieces) ≡ (piece_line (get_or pieces 0 d)).codes

@@ -1,23 +1,17 @@
 -- Items that start have markers, and footnote definitions labels.
 use Rattle.std.proofs.Common.{◌≡◌, ℕ, ◌+◌, ◌≤◌, lit≤, inl, inr, List, [], ◌∷◌, Option, None, Some, Bool, true, false, not, ◌&&◌, ◌||◌, ◌==◌, leb, sym, subst}
 use Rattle.std.proofs.Common.{take, drop}
-use Rattle.std.specs.Option.{IfSome}
-use Rattle.std.specs.List.{prefix_len}
+use Rattle.html_rows.proofs.Prelude.{bare, Constructs, ContainerLine, ContainerStart, IfSome, indent, IsPrintableContainer, prefix_len, Rest, small_indent}
+use Rattle.html_rows.proofs.Prelude.{starts}
 use Rattle.std.proofs.lemmas.Bool.{or_cases, eqb-true}
-use Rattle.markdown_options.specs.declared.configuration.Constructs.{Constructs}
-use Rattle.definition_text.specs.Columns.{Rest, bare, indent}
-use Rattle.definition_text.specs.Indents.{small_indent}
 use Rattle.definition_block.specs.ThematicBreak.{is_break}
-use Rattle.definition_block.specs.ContainerLine.{ContainerLine}
-use Rattle.definition_block.specs.ContainerStart.{ContainerStart}
 use Rattle.definition_block.specs.BlockQuote.{after_byte, quote_prefix}
 use Rattle.definition_block.specs.ListItem.{Marker, marker_of, is_digit, number_of, bullet, after_number, marker, is_item, item, item_after, item_start}
 use Rattle.definition_text.specs.Content.{Part, closed_by}
 use Rattle.definition_inline.specs.Label.{label_end}
 use Rattle.definition_block.specs.GfmFootnoteDefinition.{is_footnote_label, label_before, with_colon, after_open, after_bracket, footnote_mark, footnote_of}
 use Rattle.definition_block.specs.GfmFootnoteDefinition.{footnote_start}
-use Rattle.definition_block.specs.Containers.{quote_or, footnote_or, starts}
-use Rattle.html_looseness.specs.Printable.{IsPrintableContainer}
+use Rattle.definition_block.specs.Containers.{quote_or, footnote_or}
 use Rattle.html_rows.proofs.Choose.{choose_if, choose}
 
 record MarkerFits (o : Option Marker) : Type 0 where

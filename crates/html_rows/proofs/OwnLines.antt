@@ -1,8 +1,6 @@
 -- The lines of a paragraph and of a heading without the ending of the last one.
 use Rattle.std.proofs.Common.{List, [], ◌∷◌}
-use Rattle.text_pieces.specs.ParagraphLines.{AreLines}
-use Rattle.definition_text.specs.BlockLines.{BlockLine, own_lines}
-use Rattle.html_looseness.specs.Printable.{AreHeadingLines}
+use Rattle.html_rows.proofs.Prelude.{AreHeadingLines, AreLines, BlockLine, own_lines}
 
 pub without_ending : (ls : List BlockLine) → AreLines ls → AreLines (own_lines ls)
 without_ending [] h = tt

@@ -1,19 +1,12 @@
 -- Paragraphs and headings, laid out step by step.
 use Rattle.std.proofs.Common.{◌≡◌, ℕ, ◌+◌, Bool, false, List, ◌∷◌, ◌++◌, sym, ap, ◌∙◌, codes}
-use Rattle.std.specs.List.{fold}
-use Rattle.markdown_options.specs.declared.line_ending.LineEnding.{LineEnding}
-use Rattle.markdown_options.specs.LineEndings.{ending_bytes}
-use Rattle.definition_text.specs.BlockLines.{BlockLine}
-use Rattle.definition_block.specs.Tree.{Paragraph, Heading}
+use Rattle.html_rows.proofs.Prelude.{bare_tag, BlockLine, Document, document_meaning, ending_bytes, fold, Heading, inline_pieces, lay, layout_after}
+use Rattle.html_rows.proofs.Prelude.{LayoutState, leaf_bytes, LineEnding, on_page, reading_of, with_bytes, with_fresh, with_tag}
+use Rattle.definition_block.specs.Tree.{Paragraph}
 use Rattle.definition_page.specs.BlockPieces.{heading_name}
-use Rattle.definition_page.specs.InlinePieces.{inline_pieces}
-use Rattle.definition_page.specs.Read.{on_page, read_text, read_paragraph}
-use Rattle.definition_page.specs.Tags.{bare_tag}
-use Rattle.html_bytes.specs.Document.{Document, reading_of, document_meaning, text_of, paragraph_of}
-use Rattle.html_bytes.specs.Html.{leaf_bytes}
-use Rattle.html_bytes.specs.Layout.{LayoutState, lay}
+use Rattle.definition_page.specs.Read.{read_text, read_paragraph}
+use Rattle.html_bytes.specs.Document.{text_of, paragraph_of}
 use Rattle.html_looseness.specs.Levels.{standing_first}
-use Rattle.html_leaves.specs.Prints.{layout_after, with_bytes, with_fresh, with_tag}
 use Rattle.html_leaves.proofs.LeafLaid.{element_laid}
 
 -- a paragraph between its tags

@@ -1,29 +1,23 @@
 -- The blocks of a text can be printed: paragraphs have lines of the text, the ranks of headings are from 1 to 6, infos are bytes, and items have markers.
 use Rattle.std.proofs.Common.{◌≡◌, ℕ, zero, suc, ◌-◌, ◌<◌, ◌≤◌, get_or, lit≤, List, [], ◌∷◌, ◌++◌, Option, None, Some, Bool, true, false, ◌&&◌, ◌||◌, ◌==◌, not}
 use Rattle.std.proofs.Common.{leb, refl, sym, subst, ap, take, drop, length, arith}
-use Rattle.std.specs.Prelude.{if◌then◌else◌}
-use Rattle.std.specs.Option.{IfSome}
-use Rattle.std.specs.List.{list_all, prefix_len, suffix_len, position_or_len}
+use Rattle.html_rows.proofs.Prelude.{AlignKind, AreClear, AreLines, ArePrintable, bare, Blank, Block, BlockLine, Blocks, bytes_of, CanBePrinted, Cons}
+use Rattle.html_rows.proofs.Prelude.{Constructs, Container, ContainerLine, ContainerStart, Ending, HaveNoEnding, Heading, IfSome, if◌then◌else◌, indent}
+use Rattle.html_rows.proofs.Prelude.{is_blank, is_byte, is_eol, IsPrintable, IsPrintableContainer, Kind, Leaf, LineEnding, list_all, Nil, own_lines}
+use Rattle.html_rows.proofs.Prelude.{prefix_len, Quote, Rest, Row, rows_of, rows_value, RowsValue, small_indent, starts, value_with}
+use Rattle.std.specs.List.{suffix_len, position_or_len}
 use Rattle.std.proofs.lemmas.List.{length-append, length-drop}
 use Rattle.std.proofs.lemmas.Bool.{and_parts, and_from, leb-true}
-use Rattle.markdown_options.specs.declared.configuration.Constructs.{Constructs}
 use Rattle.markdown_options.specs.declared.beside.Beside.{Beside}
-use Rattle.markdown_options.specs.declared.beside.Kind.{Kind}
 use Rattle.markdown_options.specs.declared.beside.Kind.TheVariants.{Whitespace}
-use Rattle.definition_block.specs.Container.{Container, Quote}
 use Rattle.definition_text.specs.Lines.{TextLine, lines}
-use Rattle.definition_text.specs.Content.{is_eol}
-use Rattle.definition_text.specs.Columns.{Rest, whole, bare, bytes_of, indent, is_byte, is_white, is_blank, trim}
+use Rattle.definition_text.specs.Columns.{whole, is_white, trim}
 use Rattle.definition_text.specs.Runs.{run, after_run, is_run}
-use Rattle.definition_block.specs.ContainerLine.{ContainerLine}
-use Rattle.definition_block.specs.ContainerStart.{ContainerStart}
-use Rattle.definition_block.specs.Containers.{continues, starts}
+use Rattle.definition_block.specs.Containers.{continues}
 use Rattle.definition_block.specs.CodeFenced.{Fence, first_word, fence_of, fence_start, is_fence_end}
 use Rattle.definition_block.specs.MathFlow.{math_info, math_start}
 use Rattle.definition_block.specs.Frontmatter.{is_metadata_fence, after_metadata_fence, after_frontmatter}
-use Rattle.definition_text.specs.Indents.{small_indent}
 use Rattle.definition_block.specs.CodeIndented.{starts_code_indented}
-use Rattle.markdown_options.specs.declared.align_kind.AlignKind.{AlignKind}
 use Rattle.definition_block.specs.GfmTable.{delimiter_row, is_head}
 use Rattle.definition_block.specs.HeadingAtx.{Atx, atx_of, begins_apart, ends_apart, without_run, without_closing, heading_atx}
 use Rattle.definition_block.specs.HeadingSetext.{underline_of, underline}
@@ -31,14 +25,11 @@ use Rattle.definition_block.specs.HtmlFlow.{html_start, html_ends_here, ends_bef
 use Rattle.definition_text.specs.Content.{content_of}
 use Rattle.definition_inline.specs.Definition.{Definition as LinkDefinition, definition_at}
 use Rattle.definition_block.specs.Definitions.{DefinitionCut, cut_into, cut_after, cut_most, definition_cut, definition_lines, lines_before}
-use Rattle.text_pieces.specs.ParagraphLines.{HaveNoEnding, AreLines}
 use Rattle.block_rows.proofs.OpenLines.{AreTextLines, AreLinesTo, LineClear, StartedClear, clear-take, clear-drop, clear-filter, clear_codes, clear_block}
 use Rattle.block_rows.proofs.OpenLines.{clear_bare, clear_start, clear_continue, lines_of_text, are_lines, open_step}
-use Rattle.markdown_options.specs.declared.line_ending.LineEnding.{LineEnding}
 use Rattle.markdown_options.specs.declared.line_ending.LineEnding.TheVariants.{LineFeed}
-use Rattle.definition_text.specs.BlockLines.{BlockLine, own_lines}
-use Rattle.definition_block.specs.Tree.{leaf_text, open_text, beside_in, beside_line, in_container, Heading, Html, Block, Leaf, Ending, Blank}
-use Rattle.definition_block.specs.Tree.{Blocks, Nil, Cons, join, one, block_and_ending, OpenLeaf, Text}
+use Rattle.definition_block.specs.Tree.{leaf_text, open_text, beside_in, beside_line, in_container, Html}
+use Rattle.definition_block.specs.Tree.{join, one, block_and_ending, OpenLeaf, Text}
 use Rattle.definition_block.specs.Tree.{Indented, Fenced, OpenHtml, OpenTable, Opening, At, Inside, Tree, tree, nothing, empty_tree, paragraph_of, close_leaf}
 use Rattle.definition_block.specs.Tree.{close, blanks, is_ending, all_endings, front, trailing, without_last, last_of, container_block, has_text, has_table}
 use Rattle.definition_block.specs.Tree.{is_some_line}
@@ -49,9 +40,7 @@ use Rattle.definition_text.proofs.Each.{WhereSome}
 use Rattle.definition_block.proofs.LeafLines.{where_leaf_line, where_unwrapped}
 use Rattle.definition_block.specs.Tree.{began_blank}
 use Rattle.definition_block.specs.Tree.{goes_on, grow, step, steps, blocks_at_end, children_after, blocks}
-use Rattle.block_rows.specs.Rows.{RowsValue, rows_value, value_with, rows_of}
-use Rattle.block_rows.specs.declared.row.Row.{Row}
-use Rattle.html_looseness.specs.Printable.{IsPrintableContainer, AreClear, IsTable, IsPrintable, ArePrintable, CanBePrinted}
+use Rattle.html_looseness.specs.Printable.{IsTable}
 use Rattle.html_rows.proofs.Choose.{choose_if, choose}
 use Rattle.html_rows.proofs.Lines.{own_length}
 use Rattle.html_rows.proofs.OwnLines.{without_ending, heading_lines}

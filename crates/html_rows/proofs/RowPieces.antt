@@ -2,15 +2,9 @@
 use Rattle.std.proofs.Common.{◌≡◌, ◌≤◌, ◌∙◌, List, ap, length, subst, sym}
 use Rattle.std.specs.Result.{OnOk}
 use Rattle.std.specs.declared.result.Result.{Result}
-use Rattle.block_rows.specs.Rows.{row_size, row_value}
-use Rattle.text_pieces.specs.Pieces.{piece_lines}
-use Rattle.text_pieces.specs.declared.piece.Piece.{Piece}
-use Rattle.block_rows.specs.declared.row.Row.{Row}
-use Rattle.html_bytes.specs.Document.{Document}
+use Rattle.html_rows.proofs.Prelude.{Document, IsPrintableRow, Level, Piece, piece_lines, Row, row_size, row_value}
 use Rattle.html_bytes.specs.Pieces as laid
 use Rattle.html_looseness.specs.Levels.{row_pieces}
-use Rattle.html_looseness.specs.Printable.{IsPrintableRow}
-use Rattle.html_looseness.specs.declared.level.Level.{Level}
 use Rattle.html_leaves.specs.Prints.{LaysOut}
 use Rattle.html_leaves.specs.declared.page.Page.{Page}
 

@@ -1,17 +1,12 @@
 -- One more row.
 use Rattle.std.proofs.Common.{◌≡◌, ℕ, ◌+◌, ◌<◌, List, [], ◌∷◌, ◌++◌, ap, sym, ◌∙◌, subst, take, drop, get_or, length}
-use Rattle.std.specs.List.{fold, All}
+use Rattle.html_rows.proofs.Prelude.{All, All-head, ArePrintable, BlockLine, BlockRow, Document, fold, fold-append, fold_push, IsPrintableRow, print_all}
+use Rattle.html_rows.proofs.Prelude.{print_row, PrinterView, Row, row_size, row_value, rows_value, RowsValue, value_with}
 use Rattle.std.proofs.lemmas.List.{append_assoc, drop_more, take-append-drop}
-use Rattle.std.proofs.lemmas.List.Elements.{All-drop, All-head, All-take}
+use Rattle.std.proofs.lemmas.List.Elements.{All-drop, All-take}
 use Rattle.std.proofs.Math.Seq.{drop-append_seam, take-append_seam}
-use Rattle.std.proofs.lemmas.List.Sums.{fold_push, fold-append}
-use Rattle.block_rows.specs.declared.row.Row.{Row}
-use Rattle.html_bytes.specs.Document.{Document}
-use Rattle.definition_text.specs.BlockLines.{BlockLine}
-use Rattle.block_rows.specs.Rows.{BlockRow, RowsValue, rows_value, value_with, show_row, row_value, row_size}
+use Rattle.block_rows.specs.Rows.{show_row}
 use Rattle.html_looseness.proofs.ShownRows.{shown_after}
-use Rattle.html_looseness.specs.Printable.{IsPrintableRow, ArePrintable}
-use Rattle.html_rows.specs.Printing.{PrinterView, print_row, print_all}
 
 -- a row is printed after those before it
 pub printed_more : (d : Document) (default : List ℕ) (p : PrinterView) (rows : List BlockRow) (row : BlockRow)

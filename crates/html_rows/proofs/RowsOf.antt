@@ -1,23 +1,18 @@
 -- The rows of blocks print what the blocks print.
 use Rattle.std.proofs.Common.{◌≡◌, ℕ, Bool, false, List, [], ◌∷◌, ◌++◌, refl, sym, ap, ◌∙◌}
-use Rattle.std.specs.List.{fold, All}
-use Rattle.std.proofs.lemmas.List.Sums.{fold-append}
-use Rattle.std.proofs.lemmas.List.Elements.{All-nil, All-cons, All-head, All-tail}
-use Rattle.definition_block.specs.Container.{Container, Footnote}
-use Rattle.definition_block.specs.Tree.{LeafBlock, Definition, Block, Leaf, Holds, Items, Ending, Blank, Blocks, Nil, Cons}
-use Rattle.definition_block.specs.Lists.{group_items}
-use Rattle.html_bytes.specs.Layout.{LayoutState, with_footnotes, lay, nothing_laid, page_layout}
-use Rattle.html_bytes.specs.Document.{Document}
+use Rattle.html_rows.proofs.Prelude.{All, All-head, ArePrintable, Blank, Block, block_rows, BlockRow, Blocks, CanBePrinted, children_bytes, Cons, Container}
+use Rattle.html_rows.proofs.Prelude.{Definition, Document, Ending, ends_blank_rows, Exit, fold, fold-append, Footnote, group_items, Holds, is_blank_row}
+use Rattle.html_rows.proofs.Prelude.{IsPrintable, IsPrintableContainer, IsPrintableRow, Items, lay, LayoutState, Leaf, LeafBlock, new_level, Nil, on_page}
+use Rattle.html_rows.proofs.Prelude.{Place, print_all, printer_at, PrinterView, rows_of, Single, spaced_leaf}
+use Rattle.std.proofs.lemmas.List.Elements.{All-nil, All-cons, All-tail}
+use Rattle.html_bytes.specs.Layout.{with_footnotes, nothing_laid, page_layout}
 use Rattle.definition_page.specs.Read.{ends_blank, is_blank_ending}
-use Rattle.definition_page.specs.Read.{on_page}
-use Rattle.html_bytes.specs.Html.{children_bytes, last_piece, document_bytes}
-use Rattle.block_rows.specs.Rows.{BlockRow, Single, Exit, start_row, rows_of, block_rows, spaced_leaf}
+use Rattle.html_bytes.specs.Html.{last_piece, document_bytes}
+use Rattle.block_rows.specs.Rows.{start_row}
 use Rattle.html_looseness.specs.declared.level.Holder.TheVariants as holder
-use Rattle.html_looseness.specs.declared.loose.Place.{Place}
-use Rattle.html_looseness.specs.Printable.{IsPrintableLeaf, IsPrintable, IsPrintableContainer, IsPrintableRow, ArePrintable, CanBePrinted}
+use Rattle.html_looseness.specs.Printable.{IsPrintableLeaf}
 use Rattle.html_looseness.specs.Loose.{PassView}
-use Rattle.html_looseness.specs.Levels.{new_level}
-use Rattle.html_rows.specs.Printing.{PrinterView, printer_at, print_all, is_blank_row, ends_blank_rows, rows_html}
+use Rattle.html_rows.specs.Printing.{rows_html}
 use Rattle.html_looseness.proofs.BlockPlaces.{blocks_passed}
 use Rattle.html_rows.proofs.Children.{blocks_printed}
 

@@ -1,7 +1,8 @@
 -- An `@` among bytes.
 use Rattle.std.proofs.Common.{◌≡◌, ℕ, suc, ◌+◌, List, [], ◌∷◌, Bool, not, ◌||◌, eqb, ltb, cond, refl, sym, ap, ◌∙◌, length, arith, inl, inr}
-use Rattle.std.specs.List.{list_any, position_or_len}
-use Rattle.std.proofs.lemmas.Bool.{cases_Bool, cases_lt, lt-ltb, le-ltb}
+use Rattle.inline_addresses.proofs.Prelude.{cases_Bool, list_any}
+use Rattle.std.specs.List.{position_or_len}
+use Rattle.std.proofs.lemmas.Bool.{cases_lt, lt-ltb, le-ltb}
 
 -- an `@`, which is both of a pair
 abbrev is_at : ℕ → Bool

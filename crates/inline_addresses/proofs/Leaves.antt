@@ -1,20 +1,17 @@
 -- A leaf is a byte of text, which makes a run longer, or it ends a run.
 use Rattle.std.proofs.Common.{◌≡◌, ℕ, suc, true, false, Bool, List, [], ◌∷◌, ◌++◌, Option, None, Some, refl, ap, ap₂, ◌∙◌, map}
-use Rattle.std.specs.List.{flat_map}
+use Rattle.inline_addresses.proofs.Prelude.{append-nil, Cons, Data, data_rows, Each, flat_map, InlineLeaf, Inlines, Leaf, leaf_or_byte, leaf_without, Literal}
+use Rattle.inline_addresses.proofs.Prelude.{literal_text, Part, part_text, parts_of, row_linked, run_linked, with_literals}
 use Rattle.std.proofs.lemmas.Bool.{true≢false}
-use Rattle.std.proofs.lemmas.List.{append-nil}
-use Rattle.definition_text.proofs.Each.{Each, each_map}
-use Rattle.definition_inline.specs.GfmAutolinkLiteral.{addresses_before, leaf_without, with_literals}
+use Rattle.definition_text.proofs.Each.{each_map}
+use Rattle.definition_inline.specs.GfmAutolinkLiteral.{addresses_before}
 use Rattle.definition_inline.proofs.GfmAutolinkLiteral.{any_without}
-use Rattle.definition_inline.specs.Inline.{InlineLeaf, Data, Escape, Character, Code, Math, Autolink, Literal, Html, EscapedBreak, TrailingBreak, LineEnd, TaskCheck}
-use Rattle.definition_inline.specs.Inline.{Leaf, Inlines, Cons}
-use Rattle.inline_leaves.specs.Leaves.{parts_of}
+use Rattle.definition_inline.specs.Inline.{Escape, Character, Code, Math, Autolink, Html, EscapedBreak, TrailingBreak, LineEnd, TaskCheck}
 use Rattle.inline_leaves.specs.declared.leaf.LeafPart.{LeafPart}
 use Rattle.inline_leaves.specs.declared.leaf.LeafPart.TheVariants as part
-use Rattle.inline_rows.specs.InlineRows.{InlineRow, Part}
-use Rattle.inline_rows.specs.View.{data_rows}
+use Rattle.inline_rows.specs.InlineRows.{InlineRow}
 use Rattle.inline_rows.specs.declared.row.InlineRow.TheVariants as row
-use Rattle.inline_addresses.specs.Addresses.{leaf_or_byte, literal_text, no_bytes, part_text, row_linked, run_linked}
+use Rattle.inline_addresses.specs.Addresses.{no_bytes}
 
 -- ---- of the definition
 

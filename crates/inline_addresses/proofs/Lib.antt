@@ -1,3 +1,4 @@
+mod Prelude
 mod Leaves
 mod Rows
 mod Unlinked

@@ -1,11 +1,11 @@
 -- Rows with literals stand for inline structure with literals.
 use Rattle.std.proofs.Common.{◌≡◌, ℕ, zero, suc, List, [], ◌∷◌, ◌++◌, refl, sym, ap, ◌∙◌, map, append_assoc}
-use Rattle.std.proofs.lemmas.List.{append-nil}
-use Rattle.definition_inline.specs.GfmAutolinkLiteral.{leaf_without, with_addresses, parts_before, without_literals, with_literals}
-use Rattle.definition_inline.specs.Inline.{Target, LinkTexts, InlineLeaf, Data, Link, Image, Inline, Leaf, Span, Linked, Call, Inlines, Nil, Cons}
-use Rattle.inline_rows.specs.InlineRows.{InlineRow, Part, EnterSpan, EnterLinked, Leave, CallRow, part_rows, inline_rows}
-use Rattle.inline_rows.specs.View.{data_rows}
-use Rattle.inline_addresses.specs.Addresses.{depth_after, leaf_or_byte, run_linked, linked_rows}
+use Rattle.inline_addresses.proofs.Prelude.{append-nil, Cons, Data, data_rows, inline_rows, InlineLeaf, Inlines, Leaf, leaf_or_byte, leaf_without, linked_rows}
+use Rattle.inline_addresses.proofs.Prelude.{LinkTexts, Part, run_linked, Target, with_addresses, with_literals}
+use Rattle.definition_inline.specs.GfmAutolinkLiteral.{parts_before, without_literals}
+use Rattle.definition_inline.specs.Inline.{Link, Image, Inline, Span, Linked, Call, Nil}
+use Rattle.inline_rows.specs.InlineRows.{InlineRow, EnterSpan, EnterLinked, Leave, CallRow, part_rows}
+use Rattle.inline_addresses.specs.Addresses.{depth_after}
 use Rattle.inline_addresses.proofs.Leaves.{each_leaf}
 
 -- ---- runs

@@ -1,19 +1,14 @@
 -- Rows in which nothing is linked.
 use Rattle.std.proofs.Common.{◌≡◌, ℕ, zero, suc, Bool, true, false, ◌||◌, eqb, List, [], ◌∷◌, ◌++◌, Option, None, Some, refl, sym, ap, ◌∙◌, map, append_assoc}
 use Rattle.std.proofs.Common.{◌⊎◌, inl, inr, cond}
-use Rattle.std.specs.List.{flat_map, list_any}
-use Rattle.std.proofs.lemmas.Bool.{cases_Bool, cond-false, cond-true}
-use Rattle.std.proofs.lemmas.List.{append-nil, map-append}
-use Rattle.definition_inline.specs.GfmAutolinkLiteral.{parts_from, with_literals}
-use Rattle.definition_inline.specs.Inline.{Target, LinkTexts, InlineLeaf, Inlines, Data}
-use Rattle.inline_leaves.specs.Leaves.{parts_of}
-use Rattle.inline_rows.specs.InlineRows.{Part, inline_rows}
-use Rattle.inline_rows.specs.View.{data_rows, row_view, rows_view}
-use Rattle.inline_rows.specs.declared.row.InlineRow.{InlineRow}
+use Rattle.inline_addresses.proofs.Prelude.{append-nil, cases_Bool, Data, data_rows, flat_map, has_at_sign, inline_rows, InlineLeaf, InlineRow, Inlines}
+use Rattle.inline_addresses.proofs.Prelude.{linked_rows, LinkTexts, list_any, literal_text, map-append, Part, part_text, parts_of, row_depth, row_linked}
+use Rattle.inline_addresses.proofs.Prelude.{row_text, row_view, rows_may_link, rows_view, run_linked, Target, with_literals}
+use Rattle.std.proofs.lemmas.Bool.{cond-false, cond-true}
+use Rattle.definition_inline.specs.GfmAutolinkLiteral.{parts_from}
 use Rattle.inline_rows.specs.declared.row.InlineRow.TheVariants as row
-use Rattle.inline_addresses.specs.Addresses.{has_at_sign, has_link, literal_text, part_text, row_depth, row_linked, row_may_link, row_text}
-use Rattle.inline_addresses.specs.Addresses.{begins_link, rows_may_link}
-use Rattle.inline_addresses.specs.Addresses.{run_linked, linked_rows}
+use Rattle.inline_addresses.specs.Addresses.{has_link, row_may_link}
+use Rattle.inline_addresses.specs.Addresses.{begins_link}
 use Rattle.inline_addresses.proofs.Leaves.{part_is, text_or, AreText, Bytes, Others}
 use Rattle.inline_addresses.proofs.Rows.{rows_linked}
 use Rattle.inline_addresses.proofs.Walks.{after, outside_rows, row_after, row_in_link}

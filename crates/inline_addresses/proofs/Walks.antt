@@ -1,26 +1,18 @@
 -- A walk over rows, row by row.
 use Rattle.std.proofs.Common.{◌≡◌, ◌+◌, ◌<◌, ◌≤◌, ℕ, zero, suc, List, [], ◌∷◌, ◌++◌, Option, None, Some, ◌-◌, refl, sym, ap, ap₂, ◌∙◌, map, take, drop}
 use Rattle.std.proofs.Common.{length, append_assoc, get_or, add-one, drop-cons, arith, subst}
-use Rattle.std.specs.List.{flat_map}
-use Rattle.std.specs.Str.{IsCharBoundary, IsUtf8}
-use Rattle.std.proofs.lemmas.List.{append-nil, drop-take, length-append, length-drop, map-append, take-append-drop, take-take}
+use Rattle.inline_addresses.proofs.Prelude.{append-nil, data_rows, Each, flat_map, found_parts, InlineLeaf, InlineRow, IsCharBoundary-after_ascii, IsFound}
+use Rattle.inline_addresses.proofs.Prelude.{IsNext, IsUtf8, kind_view, length-drop, linked_rows, LinkTexts, literal_text, map-append, Part, part_text}
+use Rattle.inline_addresses.proofs.Prelude.{parts_of, row_depth, row_linked, row_text, row_view, rows_text, rows_view, run_linked, text_or_end, with_addresses}
+use Rattle.std.specs.Str.{IsCharBoundary}
+use Rattle.std.proofs.lemmas.List.{drop-take, length-append, take-append-drop, take-take}
 use Rattle.std.proofs.Math.Seq.{drop-append_seam, take-append_seam}
-use Rattle.std.proofs.lemmas.Str.{IsCharBoundary-after_ascii}
 use Rattle.std.proofs.lemmas.Grind.{flat_map-append}
-use Rattle.definition_text.proofs.Each.{Each}
-use Rattle.definition_inline.specs.GfmAutolinkLiteral.{with_addresses}
 use Rattle.definition_inline.specs.Inline as inline
-use Rattle.definition_inline.specs.Inline.{LinkTexts, InlineLeaf}
-use Rattle.inline_leaves.specs.Leaves.{kind_view, parts_of}
 use Rattle.inline_rows.specs.InlineRows as rows
-use Rattle.inline_rows.specs.InlineRows.{Part}
-use Rattle.inline_rows.specs.View.{data_rows, row_view, rows_view}
-use Rattle.inline_rows.specs.declared.row.InlineRow.{InlineRow}
 use Rattle.inline_rows.specs.declared.row.InlineRow.TheVariants as row
 use Rattle.inline_rows.specs.declared.row.SpelledLeaf.TheVariants as spelled
-use Rattle.inline_literals.specs.Addresses.{found_parts, IsFound}
 use Rattle.inline_literals.specs.declared.address.FoundAddress.{FoundAddress}
-use Rattle.inline_addresses.specs.Addresses.{literal_text, part_text, row_depth, row_linked, row_text, rows_text, run_linked, linked_rows, text_or_end, IsNext}
 use Rattle.inline_addresses.proofs.Leaves.{all_kept, part_in_link, part_is, text_or, AreText, Bytes, EndsRun, Others}
 use Rattle.inline_addresses.proofs.Rows.{no_run}
 

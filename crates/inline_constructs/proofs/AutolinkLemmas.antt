@@ -1,25 +1,20 @@
 -- Autolinks in codes and in bytes.
 use Rattle.std.proofs.Common.{◌≡◌, ℕ, ◌+◌, ◌-◌, ◌≤◌, List, [], ◌∷◌, Bool, true, false, cond, ◌&&◌, eqb, leb, Option, None, Some, refl, sym, ap, ◌∙◌, get_or}
 use Rattle.std.proofs.Common.{length, drop, take, arith, inl, inr}
-use Rattle.std.specs.Prelude.{codes}
-use Rattle.std.specs.List.{prefix_len, take_while}
-use Rattle.std.specs.Option.{option_map}
-use Rattle.std.proofs.lemmas.Bool.{cases_Bool, cond-false, cond-true, eqb-true, eqb-false, and_left, and_right, and_from, cases_lt, le-leb}
-use Rattle.std.proofs.lemmas.List.{drop-drop, length-drop, length-take-le, get_or-drop}
-use Rattle.std.proofs.lemmas.List.Sums.{prefix_len-le-length}
-use Rattle.markdown_options.specs.declared.configuration.Constructs.{Constructs}
-use Rattle.definition_text.specs.Content.{text_before, content_codes}
-use Rattle.definition_text.specs.Bytes.{after_all, begins_with, begins_with_letter}
-use Rattle.definition_inline.specs.Inline.{leaf, Autolink}
-use Rattle.definition_inline.specs.Autolink.{is_scheme_byte, is_uri_byte, begins_with_scheme, after_uri, uri_end, is_email_byte, is_domain_byte, is_domain}
-use Rattle.definition_inline.specs.Autolink.{domain_end, email_end, closed_autolink, autolink_after, autolink_at}
-use Rattle.inline_constructs.specs.Leaves.{IsAddress, is_of}
-use Rattle.inline_leaves.specs.Leaves.{IsEnd, IsPlain, size_before}
+use Rattle.inline_constructs.proofs.Prelude.{after_codes, and_from, and_left, and_right, at_return, Autolink, autolink_after, autolink_at, begins_with}
+use Rattle.inline_constructs.proofs.Prelude.{begins_with_letter, begun, cases_Bool, closed_autolink, codes, cond-false, cond-true, Constructs, content_codes}
+use Rattle.inline_constructs.proofs.Prelude.{domain_end, drop-drop, email_end, end_after, eqb-false, eqb-true, get_or-drop, is_of, is_uri_byte, IsAddress}
+use Rattle.inline_constructs.proofs.Prelude.{IsEnd, IsPlain, leaf, length-drop, option_map, plain_code, plain_join, plain_size, plain_take, prefix_codes}
+use Rattle.inline_constructs.proofs.Prelude.{prefix_len, prefix_len-le-length, prefix_plain, size_before, size_plain}
+use Rattle.std.specs.List.{take_while}
+use Rattle.std.proofs.lemmas.Bool.{cases_lt, le-leb}
+use Rattle.std.proofs.lemmas.List.{length-take-le}
+use Rattle.definition_text.specs.Content.{text_before}
+use Rattle.definition_text.specs.Bytes.{after_all}
+use Rattle.definition_inline.specs.Autolink.{is_scheme_byte, begins_with_scheme, after_uri, uri_end, is_email_byte, is_domain_byte, is_domain}
 use Rattle.inline_constructs.specs.declared.byte_class.ByteClass.{ByteClass}
 use Rattle.inline_constructs.specs.declared.byte_class.ByteClass.TheVariants.{Scheme, Uri, Email, Domain}
-use Rattle.inline_leaves.proofs.Codes.{at_return, plain_code, plain_take, plain_size, size_plain, prefix_codes, prefix_plain, after_codes, while_codes}
-use Rattle.inline_leaves.proofs.Codes.{end_after, plain_join}
-use Rattle.inline_leaves.proofs.Fronts.{begun}
+use Rattle.inline_leaves.proofs.Codes.{while_codes}
 
 -- no class has CR
 class_return : (class : ByteClass) → is_of class 13 ≡ false

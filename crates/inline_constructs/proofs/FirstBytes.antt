@@ -1,22 +1,18 @@
 -- Which constructs begin with a byte.
 use Rattle.std.proofs.Common.{◌≡◌, ◌⊎◌, ℕ, ◌<◌, List, [], ◌∷◌, false, not, ◌||◌, eqb, Option, None, Some, refl, sym, ap, ◌∙◌, get_or, length, arith, inl, inr}
 use Rattle.std.specs.Prelude.{nat_le}
-use Rattle.std.proofs.lemmas.Bool.{cases_Bool, cond-false, cond-true, eqb-true, eqb-false, ne_eqb, and_left, and_right, or_from}
-use Rattle.markdown_options.specs.declared.configuration.Constructs.{Constructs}
+use Rattle.inline_constructs.proofs.Prelude.{and_left, and_right, at_return, autolink_at, cases_Bool, cond-false, cond-true, Constructs, content_codes}
+use Rattle.inline_constructs.proofs.Prelude.{eqb-false, eqb-true, escaped_break_at, html_text_at, is_eol, may_open_math, ne_eqb, or_else, or_from, plain_code}
+use Rattle.inline_constructs.proofs.Prelude.{run}
 use Rattle.markdown_options.specs.declared.configuration.ParseOptions.{ParseOptions}
-use Rattle.definition_inline.specs.Autolink.{autolink_at}
 use Rattle.definition_inline.specs.CharacterEscape.{escape_at}
 use Rattle.definition_inline.specs.CharacterReference.{reference_at, reference_form, reference_of}
 use Rattle.definition_inline.specs.CodeText.{code_text_at}
-use Rattle.definition_inline.specs.MathText.{may_open_math, math_text_at}
+use Rattle.definition_inline.specs.MathText.{math_text_at}
 use Rattle.definition_text.specs.Columns.{is_white, indent}
-use Rattle.definition_text.specs.Content.{content_codes, is_eol}
-use Rattle.definition_inline.specs.HardBreak.{escaped_break_at, line_end_at, line_spaces_at}
-use Rattle.definition_inline.specs.HtmlText.{html_text_at}
-use Rattle.definition_inline.specs.Inline.{Found, or_else}
-use Rattle.definition_text.specs.Runs.{run}
+use Rattle.definition_inline.specs.HardBreak.{line_end_at, line_spaces_at}
+use Rattle.definition_inline.specs.Inline.{Found}
 use Rattle.inline_leaves.specs.Scanned.{leaf_in}
-use Rattle.inline_leaves.proofs.Codes.{at_return, plain_code}
 
 -- what is the same for all codes that the first may be
 skip : {A : Type 0} (f : List ℕ → A) (y : A) (P : ℕ → Type 0) → P 13 → P 257 → f [] ≡ y → ((c : ℕ) (cs : List ℕ) → P c → f (c ∷ cs) ≡ y)

@@ -1,29 +1,24 @@
 -- Raw HTML in codes and in bytes.
 use Rattle.std.proofs.Common.{◌≡◌, ℕ, zero, suc, ◌+◌, ◌-◌, ◌<◌, ◌≤◌, List, [], ◌∷◌, Bool, true, false, not, cond, ◌&&◌, ◌||◌, eqb, Option, None, Some, refl}
 use Rattle.std.proofs.Common.{sym, ap, ◌∙◌, get_or, length, drop, take, map, arith, inl, inr}
-use Rattle.std.specs.Prelude.{codes}
-use Rattle.std.specs.List.{list_all}
-use Rattle.std.specs.Option.{option_map, option_or}
-use Rattle.std.proofs.lemmas.Bool.{cases_Bool, cond-false, cond-true, eqb-true, eqb-false, ne_eqb, and_parts, and_left, or_from, and_from, and_right}
-use Rattle.std.proofs.lemmas.Bool.{true≢false, false≢true, not-true}
-use Rattle.std.proofs.lemmas.List.{drop-drop, drop_more, length-drop, length-append, length-map, get_or-drop, get_or_append_left, take_at}
-use Rattle.markdown_options.specs.declared.configuration.Constructs.{Constructs}
-use Rattle.definition_text.specs.Content.{content_codes, is_eol}
+use Rattle.inline_constructs.proofs.Prelude.{after_text, and_from, and_left, and_right, at_return, begins_with, begins_with_letter, begun, cases_Bool, cdata}
+use Rattle.inline_constructs.proofs.Prelude.{codes, comment_rest, cond-false, cond-true, Constructs, content_codes, drop-drop, end_after, eqb-false, eqb-true}
+use Rattle.inline_constructs.proofs.Prelude.{false≢true, get_or-drop, Html, html_after, html_text_at, is_end, is_eol, IsClosed, IsEnd, leaf, length-append}
+use Rattle.inline_constructs.proofs.Prelude.{length-drop, list_all, ne_eqb, next, option_map, option_or, or_from, plain_code, size_before, tag_after, take_at}
+use Rattle.inline_constructs.proofs.Prelude.{true≢false}
+use Rattle.std.proofs.lemmas.Bool.{and_parts}
+use Rattle.std.proofs.lemmas.Bool.{not-true}
+use Rattle.std.proofs.lemmas.List.{drop_more, length-map, get_or_append_left}
 use Rattle.definition_text.specs.Columns.{code_byte}
-use Rattle.definition_text.specs.Bytes.{begins_with, begins_with_letter, is_letter}
-use Rattle.definition_inline.specs.Inline.{leaf, Html}
+use Rattle.definition_text.specs.Bytes.{is_letter}
 use Rattle.definition_inline.specs.HtmlTags.{is_tag_space, is_tag_name_byte, begins_attribute, is_attribute_byte, is_unquoted, open_tag, closing_tag, open_rest}
 use Rattle.definition_inline.specs.HtmlTags.{closing_rest}
-use Rattle.definition_inline.specs.HtmlText.{html_byte, after_text, comment, comment_rest, instruction, declaration, cdata, marked_html, html_end, html_leaf}
-use Rattle.definition_inline.specs.HtmlText.{html_text_at}
+use Rattle.definition_inline.specs.HtmlText.{html_byte, comment, instruction, declaration, marked_html, html_end, html_leaf}
 use Rattle.inline_tags.specs.Places.{Place, NameStart, Name, Space, Attribute, AttributeSpace, Equals, Unquoted, DoubleQuoted, SingleQuoted, Quoted, Slash}
-use Rattle.inline_tags.specs.Places.{ClosingStart, ClosingName, ClosingSpace, End, Nowhere, next, at_end, after_part, after_attribute, after_closing_name}
+use Rattle.inline_tags.specs.Places.{ClosingStart, ClosingName, ClosingSpace, End, Nowhere, at_end, after_part, after_attribute, after_closing_name}
 use Rattle.inline_tags.specs.Places.{tag_rest, rest_after}
 use Rattle.inline_tags.proofs.Grammar.{open_reads, closing_reads}
-use Rattle.inline_leaves.specs.Leaves.{IsEnd, size_before}
-use Rattle.inline_constructs.specs.HtmlText.{html_bytes, ending_as_feed, is_end, tag_after, open_after, closing_after, html_after, IsClosed, ClosesText}
-use Rattle.inline_leaves.proofs.Codes.{at_return, plain_code, end_after}
-use Rattle.inline_leaves.proofs.Fronts.{begun}
+use Rattle.inline_constructs.specs.HtmlText.{html_bytes, ending_as_feed, open_after, closing_after, ClosesText}
 
 -- bytes, each below 256
 abbrev pub AreBytes : List ℕ → Type 0

@@ -1,3 +1,4 @@
+mod Prelude
 pub mod AutolinkLemmas
 pub mod RawTextLemmas
 pub mod FirstBytes

@@ -1,14 +1,9 @@
 -- The last run of each size.
 use Rattle.std.proofs.Common.{◌≡◌, ℕ, zero, suc, ◌+◌, ◌-◌, ◌<◌, ◌≤◌, List, [], ◌∷◌, ◌++◌, set, true, false, cond, eqb, nat_lt, refl, sym, ap, ◌∙◌, get_or}
 use Rattle.std.proofs.Common.{length, drop, take, arith, inl, inr}
-use Rattle.std.proofs.lemmas.Bool.{cases_Bool, cases_order, cond-false, cond-true, ne_eqb, eq-eqb, lt-ltb, le-ltb, ltb-true, ltb-false}
-use Rattle.std.proofs.lemmas.List.Sums.{prefix_len-le-length}
-use Rattle.std.specs.List.{prefix_len}
-use Rattle.definition_text.specs.Runs.{run}
-use Rattle.definition_inline.specs.CodeText.{run_of}
-use Rattle.inline_constructs.specs.RawRuns.{last_end}
-use Rattle.inline_constructs.specs.Leaves.{IsRun}
-use Rattle.inline_constructs.specs.declared.raw_runs.LastRun.{LastRun}
+use Rattle.inline_constructs.proofs.Prelude.{cases_Bool, cond-false, cond-true, eq-eqb, IsRun, last_end, LastRun, ltb-false, ltb-true, ne_eqb, prefix_len}
+use Rattle.inline_constructs.proofs.Prelude.{prefix_len-le-length, run, run_of}
+use Rattle.std.proofs.lemmas.Bool.{cases_order, lt-ltb, le-ltb}
 use Rattle.inline_constructs.proofs.RawTextLemmas.{past_here, run_there}
 
 -- ---- a list of runs

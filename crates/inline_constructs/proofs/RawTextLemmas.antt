@@ -1,24 +1,20 @@
 -- Raw text in codes and in bytes.
 use Rattle.std.proofs.Common.{◌≡◌, ℕ, zero, suc, ◌+◌, ◌-◌, ◌<◌, ◌≤◌, List, [], ◌∷◌, Bool, true, false, not, cond, ◌&&◌, eqb, None, Some, refl, sym, ap, ◌∙◌}
 use Rattle.std.proofs.Common.{get_or, length, drop, take, map, arith, inl, inr}
-use Rattle.std.proofs.lemmas.Bool.{true≢false, cases_Bool, cond-false, cond-true, eqb-true, ne_eqb, eqb-false, eq-eqb, and_left, and_right, and_from}
-use Rattle.std.proofs.lemmas.List.{drop-drop, length-drop, get_or-drop, take_at, length-append}
-use Rattle.std.proofs.lemmas.List.Sums.{prefix_len_passes, prefix_len-le-length}
-use Rattle.std.specs.Option.{option_map}
+use Rattle.inline_constructs.proofs.Prelude.{after_codes, and_from, and_left, and_right, cases_Bool, cond-false, cond-true, content_codes, Data, drop-drop}
+use Rattle.inline_constructs.proofs.Prelude.{end_after, eq-eqb, eqb-false, eqb-true, get_or-drop, IsEnd, IsRun, leaf, length-append, length-drop, marker_byte}
+use Rattle.inline_constructs.proofs.Prelude.{ne_eqb, option_map, plain_code, plain_size, plain_take, prefix_codes, prefix_len-le-length, prefix_plain, raw_at}
+use Rattle.inline_constructs.proofs.Prelude.{raw_part, run, run_of, size_before, size_plain, take_at, true≢false}
+use Rattle.std.proofs.lemmas.List.Sums.{prefix_len_passes}
 use Rattle.std.specs.Str.{IsCharBoundary}
 use Rattle.text_lines.proofs.Ascii.{boundary_before}
-use Rattle.definition_text.specs.Content.{content_codes, part, up_to}
-use Rattle.definition_text.specs.Runs.{run, after_run}
-use Rattle.definition_inline.specs.Inline.{leaf, Data}
-use Rattle.definition_inline.specs.CodeText.{run_of, raw_part, raw_leaf, raw_at}
+use Rattle.definition_text.specs.Content.{part, up_to}
+use Rattle.definition_text.specs.Runs.{after_run}
+use Rattle.definition_inline.specs.CodeText.{raw_leaf}
 use Rattle.inline_links.specs.Codes.{IsCut}
 use Rattle.inline_links.proofs.Cuts.{cut_at}
-use Rattle.inline_constructs.specs.Leaves.{IsRun}
-use Rattle.inline_leaves.specs.Leaves.{IsEnd, size_before}
-use Rattle.inline_constructs.specs.RawRuns.{marker_byte}
 use Rattle.inline_constructs.specs.declared.raw_runs.RawMarker.{RawMarker}
 use Rattle.inline_constructs.specs.declared.raw_runs.RawMarker.TheVariants.{Backtick, Dollar}
-use Rattle.inline_leaves.proofs.Codes.{plain_code, prefix_codes, after_codes, prefix_plain, plain_size, plain_take, size_plain, end_after}
 
 -- ---- the search for a run
 

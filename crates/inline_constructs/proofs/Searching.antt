@@ -1,19 +1,10 @@
 -- Searches that find nothing.
 use Rattle.std.proofs.Common.{◌≡◌, ℕ, zero, suc, ◌+◌, ◌-◌, ◌≤◌, List, [], ◌∷◌, true, false, cond, None, Some, refl, sym, ap, ◌∙◌, length, drop, arith, inl, inr}
-use Rattle.std.specs.Prelude.{codes}
-use Rattle.std.specs.Option.{option_or}
-use Rattle.std.proofs.lemmas.Bool.{cases_Bool, cond-false, cond-true, false≢true}
-use Rattle.std.proofs.lemmas.List.{drop-drop, length-append}
+use Rattle.inline_constructs.proofs.Prelude.{after_text, begins_with, begins_with_letter, begun, cases_Bool, cdata, codes, comment_rest, cond-false, cond-true}
+use Rattle.inline_constructs.proofs.Prelude.{Constructs, content_codes, drop-drop, false≢true, html_after, html_text_at, IsRest, length-append, option_or}
 use Rattle.std.proofs.lemmas.Option.{none-some}
-use Rattle.markdown_options.specs.declared.configuration.Constructs.{Constructs}
-use Rattle.definition_text.specs.Content.{content_codes}
-use Rattle.definition_text.specs.Bytes.{begins_with, begins_with_letter}
-use Rattle.definition_inline.specs.HtmlText.{after_text, comment_rest, cdata, html_text_at}
-use Rattle.inline_links.specs.Codes.{IsRest}
-use Rattle.inline_constructs.specs.HtmlText.{html_after}
 use Rattle.inline_constructs.specs.Searched.{Lacks}
 use Rattle.inline_leaves.proofs.Codes.{rest_of_rest}
-use Rattle.inline_leaves.proofs.Fronts.{begun}
 use Rattle.inline_constructs.proofs.HtmlTextLemmas.{AreBytes, html_off, html_other, html_none}
 
 -- what stands nowhere stands nowhere later

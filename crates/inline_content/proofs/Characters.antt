@@ -2,13 +2,10 @@
 use Rattle.std.proofs.Common.{◌≡◌, ℕ, zero, suc, ◌+◌, ◌-◌, ◌*◌, ◌/◌, ◌%◌, ◌<◌, ◌≤◌, Bool, true, false, cond, eqb, ltb, leb, List, [], ◌∷◌, ◌++◌, inl, inr, refl}
 use Rattle.std.proofs.Common.{sym, ap, ◌∙◌, arith, ◌||◌, length, get_or}
 use Rattle.std.specs.Char.{encode_utf8}
-use Rattle.std.proofs.lemmas.Bool.{cases_lt, cond-true, cond-false, lt-ltb, le-ltb, le-leb, and_left, and_from, and_right, lt-leb, ne_eqb, or_from}
-use Rattle.markdown_options.specs.declared.beside.Kind.{Kind}
-use Rattle.definition_text.specs.Lines.{ends_line}
-use Rattle.definition_text.specs.Content.{is_eol}
-use Rattle.definition_text.specs.InlineCode.{first_character, first_kind, is_continuation, character_kind}
-use Rattle.inline_content.specs.declared.mark.Mark.{Mark}
-use Rattle.inline_content.specs.View.{width, line_rest, kind_before, kind_between}
+use Rattle.inline_content.proofs.Prelude.{and_right, cases_lt, character_kind, cond-false, cond-true, ends_line, first_kind, is_eol, Kind, kind_before}
+use Rattle.inline_content.proofs.Prelude.{kind_between, le-ltb, line_rest, lt-ltb, Mark, ne_eqb, or_from, width}
+use Rattle.std.proofs.lemmas.Bool.{le-leb, and_left, and_from, lt-leb}
+use Rattle.definition_text.specs.InlineCode.{first_character, is_continuation}
 
 -- ---- bytes above 127
 

@@ -1,31 +1,22 @@
 -- The content of lines, line by line.
 use Rattle.std.proofs.Common.{◌≡◌, ℕ, ◌+◌, ◌<◌, Bool, true, false, eqb, List, [], ◌∷◌, ◌++◌, Option, None, Some, refl, sym, ap, ◌∙◌, get_or, length}
 use Rattle.std.proofs.Common.{append_assoc, subst, arith, inl, inr, ◌||◌}
-use Rattle.std.specs.Prelude.{map, replicate}
-use Rattle.std.specs.List.{flat_map}
-use Rattle.std.proofs.lemmas.Bool.{cases_Bool, cond-true, cond-false, or_parts, eq-eqb, ne_eqb, true≢false}
-use Rattle.std.proofs.lemmas.List.{append-nil, length-append, map-append}
-use Rattle.markdown_options.specs.declared.line_ending.LineEnding.{LineEnding}
+use Rattle.inline_content.proofs.Prelude.{append-nil, BlockLine, cases_Bool, code_byte, codes_with_marks, cond-false, cond-true, content_codes, content_text}
+use Rattle.inline_content.proofs.Prelude.{ending_bytes, ending_text, eq-eqb, first_kind, flat_map, HaveNoEnding, inline_code, inline_content, InlineCode}
+use Rattle.inline_content.proofs.Prelude.{is_eol, Kind, kind_after, kind_at, kind_before, length-append, line_rest, line_text, LineEnding, map, Mark, mark_of}
+use Rattle.inline_content.proofs.Prelude.{marks_of, ne_eqb, or_parts, own_lines, Piece, piece_lines, previous_after, true≢false, view_from, width}
+use Rattle.std.specs.Prelude.{replicate}
+use Rattle.std.proofs.lemmas.List.{map-append}
 use Rattle.markdown_options.specs.declared.line_ending.LineEnding.TheVariants.{CarriageReturnLineFeed, CarriageReturn, LineFeed}
-use Rattle.markdown_options.specs.LineEndings.{ending_bytes}
-use Rattle.markdown_options.specs.declared.beside.Kind.{Kind}
 use Rattle.markdown_options.specs.declared.beside.Kind.TheVariants.{Whitespace, Punctuation, Other}
-use Rattle.definition_text.specs.Lines.{ending_text}
-use Rattle.definition_text.specs.Columns.{code_byte}
-use Rattle.definition_text.specs.BlockLines.{BlockLine, own_lines}
-use Rattle.definition_text.specs.Content.{is_eol, line_ending_code, ending_code, content_codes, content_of, content_text, line_text}
-use Rattle.text_pieces.specs.declared.piece.Piece.{Piece}
-use Rattle.text_pieces.specs.ParagraphLines.{HaveNoEnding, AreLines}
-use Rattle.text_pieces.specs.Pieces.{piece_lines}
+use Rattle.definition_text.specs.Content.{line_ending_code, ending_code, content_of}
+use Rattle.text_pieces.specs.ParagraphLines.{AreLines}
 use Rattle.definition_text.proofs.CodeBytes.{owed_bytes}
-use Rattle.definition_text.specs.InlineCode.{InlineCode, with_kinds, inline_content, inline_code, first_kind, next_kind}
+use Rattle.definition_text.specs.InlineCode.{with_kinds, next_kind}
 use Rattle.definition_text.proofs.ContentBytes.{codes_in_line}
 use Rattle.inline_links.proofs.Cuts.{first_code}
 use Rattle.text_pieces.proofs.InLine.{in_line}
-use Rattle.inline_content.specs.declared.mark.Mark.{Mark}
-use Rattle.inline_content.specs.Marks.{kind_at}
-use Rattle.inline_content.specs.View.{width, line_rest, kind_after, kind_before, previous_after, view_from, codes_with_marks}
-use Rattle.inline_content.specs.Lines.{mark_of, marks_of, AreContentLines}
+use Rattle.inline_content.specs.Lines.{AreContentLines}
 
 -- lines without an ending in them; all but the last have one, and no CR stands before an LF
 abbrev pub AreApart : List BlockLine → Type 0

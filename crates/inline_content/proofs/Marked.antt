@@ -1,10 +1,9 @@
 -- Marks in order, and the one at a place.
 use Rattle.std.proofs.Common.{◌≡◌, ℕ, zero, suc, ◌<◌, true, false, eqb, ltb, List, [], ◌∷◌, refl, sym, ◌∙◌, get_or, length, arith, inl, inr}
-use Rattle.std.proofs.lemmas.Bool.{cases_lt, cond-true, cond-false, ne_eqb, eq-eqb, ltb-true, ltb-false, lt-ltb}
-use Rattle.std.specs.List.Sorted.{IsNonDecreasingBy, IsPartitionedBy, IsPartitionPoint}
+use Rattle.inline_content.proofs.Prelude.{cases_lt, cond-false, cond-true, eq-eqb, IsNonDecreasingBy, kind_at, lt-ltb, ltb-true, Mark, mark_place, ne_eqb}
+use Rattle.std.proofs.lemmas.Bool.{ltb-false}
+use Rattle.std.specs.List.Sorted.{IsPartitionedBy, IsPartitionPoint}
 use Rattle.markdown_options.specs.declared.beside.Kind.TheVariants.{Whitespace}
-use Rattle.inline_content.specs.declared.mark.Mark.{Mark}
-use Rattle.inline_content.specs.Marks.{kind_at, mark_place}
 
 -- marks in order are parted by any place
 pub parted : (marks : List Mark) (place : ℕ) → IsNonDecreasingBy mark_place marks → IsPartitionedBy (λ m. ltb m.place place) marks

@@ -2,18 +2,13 @@
 use Rattle.std.proofs.Common.{◌≡◌, ℕ, zero, suc, ◌+◌, ◌<◌, ◌≤◌, Bool, true, false, eqb, List, [], ◌∷◌, ◌++◌, inl, inr, refl, sym, ap, ◌∙◌, get_or, length, take}
 use Rattle.std.proofs.Common.{drop, subst, arith, ◌⊎◌}
 use Rattle.std.specs.Char.{encode_utf8}
-use Rattle.std.proofs.lemmas.Bool.{cases_Bool, cases_eq, cond-true, cond-false, eqb-true, ne_eqb, or_cases, true≢false}
-use Rattle.std.proofs.lemmas.List.{append-nil, take_at, drop_at, get_or_at, length-append, drop-drop}
-use Rattle.markdown_options.specs.declared.beside.Kind.{Kind}
+use Rattle.inline_content.proofs.Prelude.{append-nil, cases_Bool, character_kind, cond-false, cond-true, content_codes, drop_at, ends_line, eqb-true}
+use Rattle.inline_content.proofs.Prelude.{first_kind, is_eol, Kind, kind_at, kind_between, length-append, line_rest, Mark, ne_eqb, or_cases, true≢false, width}
+use Rattle.std.proofs.lemmas.Bool.{cases_eq}
+use Rattle.std.proofs.lemmas.List.{take_at, get_or_at, drop-drop}
 use Rattle.markdown_options.specs.declared.beside.Kind.TheVariants.{Whitespace}
-use Rattle.definition_text.specs.Lines.{ends_line}
-use Rattle.definition_text.specs.Content.{is_eol, content_codes}
-use Rattle.definition_text.specs.InlineCode.{first_kind, character_kind}
 use Rattle.inline_links.specs.Codes.{IsCut}
 use Rattle.inline_links.proofs.Cuts.{cut_at, two_bytes}
-use Rattle.inline_content.specs.declared.mark.Mark.{Mark}
-use Rattle.inline_content.specs.Marks.{kind_at}
-use Rattle.inline_content.specs.View.{width, line_rest, kind_between}
 use Rattle.inline_content.proofs.Views.{widths, widths_append, between_append, between_ending}
 use Rattle.inline_content.proofs.Characters.{spelled, between_character, kind_ahead}
 

@@ -1,10 +1,8 @@
 -- The code before a place in its line.
 use Rattle.std.proofs.Common.{◌≡◌, ℕ, zero, suc, ◌-◌, ◌<◌, ◌≤◌, ◌||◌, false, List, [], ◌∷◌, ◌++◌, Option, None, Some, eqb, refl, sym, ap, ◌∙◌, get_or, length}
 use Rattle.std.proofs.Common.{take, arith, subst, inl, inr, ◌⊎◌}
-use Rattle.std.proofs.lemmas.Bool.{cond-true, cond-false, ne_eqb, or_from}
+use Rattle.inline_content.proofs.Prelude.{cond-false, cond-true, content_codes, is_eol, ne_eqb, or_from, previous_after, previous_from}
 use Rattle.std.proofs.Math.Seq.{take-suc}
-use Rattle.definition_text.specs.Content.{is_eol, content_codes}
-use Rattle.inline_content.specs.View.{previous_after, previous_from}
 use Rattle.inline_content.proofs.Places.{EndsLine, codes_append, ends_with_return, ends_with_feed}
 
 previous_append : (q : Option ℕ) (front : List ℕ) (c : ℕ) → previous_from q (front ++ c ∷ []) ≡ previous_after c

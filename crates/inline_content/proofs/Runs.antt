@@ -1,22 +1,18 @@
 -- The run that a rest of a content begins with.
 use Rattle.std.proofs.Common.{◌≡◌, ℕ, zero, suc, ◌+◌, ◌-◌, ◌<◌, ◌≤◌, Bool, true, false, cond, eqb, ◌==◌, ◌||◌, ◌&&◌, ◌⊎◌, List, [], ◌∷◌, ◌++◌, Option, None}
 use Rattle.std.proofs.Common.{Some, inl, inr, refl, sym, ap, ◌∙◌, get_or, length, take, drop, subst, arith}
-use Rattle.std.specs.List.{prefix_len}
-use Rattle.std.proofs.lemmas.Bool.{true≢false, cases_Bool, cond-true, cond-false, eqb-true, ne_eqb, eq-eqb, or_cases, or_parts, and_parts, and_right, or_from}
-use Rattle.std.proofs.lemmas.List.{take-append-drop, drop-map, drop_at, drop_all, length-append}
+use Rattle.inline_content.proofs.Prelude.{and_parts, and_right, cases_Bool, codes_of, codes_with_marks, cond-false, cond-true, content_codes, drop_all}
+use Rattle.inline_content.proofs.Prelude.{drop_at, eq-eqb, eqb-true, first_kind, inline_code, InlineCode, is_eol, is_marker, IsUtf8, Kind, kind_after, kind_at}
+use Rattle.inline_content.proofs.Prelude.{kind_between, length-append, line_rest, Mark, ne_eqb, or_cases, or_from, or_parts, prefix_len, previous_from}
+use Rattle.inline_content.proofs.Prelude.{run_between, take-append-drop, true≢false, view_from}
+use Rattle.std.proofs.lemmas.List.{drop-map}
 use Rattle.std.proofs.lemmas.List.Sums.{prefix_len_passes, prefix_len-le-length}
-use Rattle.std.specs.Str.{IsUtf8, IsCharBoundary}
+use Rattle.std.specs.Str.{IsCharBoundary}
 use Rattle.std.proofs.lemmas.Str.{IsCharBoundary-after_ascii}
 use Rattle.markdown_options.specs.declared.configuration.ParseOptions.{ParseOptions}
-use Rattle.markdown_options.specs.declared.beside.Kind.{Kind}
-use Rattle.definition_text.specs.Content.{is_eol, content_codes}
-use Rattle.definition_text.specs.InlineCode.{InlineCode, codes_of, first_kind, inline_code}
-use Rattle.definition_inline.specs.Attention.{is_marker, run_between, run_size, run_at}
+use Rattle.definition_inline.specs.Attention.{run_size, run_at}
 use Rattle.definition_inline.proofs.Markers.{of_marker}
 use Rattle.inline_links.specs.Codes.{IsRest}
-use Rattle.inline_content.specs.declared.mark.Mark.{Mark}
-use Rattle.inline_content.specs.Marks.{kind_at}
-use Rattle.inline_content.specs.View.{line_rest, kind_after, kind_between, previous_from, view_from, codes_with_marks}
 use Rattle.inline_content.proofs.Views.{widths, codes_from, after_at, view_is}
 use Rattle.inline_content.proofs.Places.{codes_append, split_codes}
 

@@ -1,8 +1,7 @@
 -- The bytes of a text are below 256.
 use Rattle.std.proofs.Common.{◌≡◌, ℕ, zero, suc, ◌<◌, true, ltb, leb, ◌&&◌, List, [], ◌∷◌, ◌++◌, inl, inr, sym, ◌∙◌, get_or, subst, arith}
 use Rattle.std.specs.Char.{encode_utf8}
-use Rattle.std.specs.Str.{IsUtf8}
-use Rattle.std.proofs.lemmas.Bool.{cases_Bool, cases_lt, cond-true, cond-false, lt-ltb, le-ltb, ltb-true, and_parts}
+use Rattle.inline_content.proofs.Prelude.{and_parts, cases_Bool, cases_lt, cond-false, cond-true, IsUtf8, le-ltb, lt-ltb, ltb-true}
 use Rattle.std.proofs.Math.Utf8.{encodes, scalar, scalars}
 
 abbrev AreBytes : List ℕ → Type 0

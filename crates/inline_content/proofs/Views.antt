@@ -1,15 +1,9 @@
 -- The codes of a content, cut between two of them, and what stands beside them.
 use Rattle.std.proofs.Common.{◌≡◌, ℕ, zero, suc, ◌+◌, ◌-◌, ◌<◌, Bool, true, List, [], ◌∷◌, ◌++◌, Option, None, refl, ap, ◌∙◌, get_or, length, drop}
 use Rattle.std.proofs.Common.{append_assoc, arith}
-use Rattle.std.proofs.lemmas.Bool.{cond-true}
-use Rattle.std.proofs.lemmas.List.{length-append}
-use Rattle.markdown_options.specs.declared.beside.Kind.{Kind}
-use Rattle.definition_text.specs.Content.{is_eol, content_codes}
-use Rattle.definition_text.specs.InlineCode.{InlineCode, codes_of}
-use Rattle.inline_content.specs.declared.mark.Mark.{Mark}
+use Rattle.inline_content.proofs.Prelude.{codes_of, codes_with_marks, cond-true, content_codes, InlineCode, is_eol, Kind, kind_after, kind_at, kind_before}
+use Rattle.inline_content.proofs.Prelude.{kind_between, length-append, line_rest, Mark, previous_after, previous_from, view_from, width}
 use Rattle.inline_content.specs.declared.content.Content.{Content}
-use Rattle.inline_content.specs.Marks.{kind_at}
-use Rattle.inline_content.specs.View.{width, line_rest, kind_after, kind_before, kind_between, previous_after, previous_from, view_from, codes_with_marks}
 use Rattle.inline_content.specs.View.{content_view}
 
 -- how many bytes codes are

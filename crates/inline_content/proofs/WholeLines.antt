@@ -1,22 +1,13 @@
 -- The lines of a text, which stand right after another.
 use Rattle.std.proofs.Common.{◌≡◌, ◌≢◌, ℕ, suc, ◌+◌, ◌-◌, ◌≤◌, ◌<◌, Bool, false, eqb, List, [], ◌∷◌, ◌++◌, Option, Some, refl, sym, ap, ◌∙◌}
 use Rattle.std.proofs.Common.{length, take, drop, get_or, subst, arith, inl, inr}
-use Rattle.std.specs.Prelude.{map}
-use Rattle.std.proofs.lemmas.Bool.{cases_Bool, cond-true, cond-false, cond_both, eqb-true, ne_eqb, eq-eqb, or_from}
-use Rattle.std.proofs.lemmas.List.{append-nil, drop_all, take-append-drop}
-use Rattle.markdown_options.specs.declared.line_ending.LineEnding.{LineEnding}
+use Rattle.inline_content.proofs.Prelude.{append-nil, cases_Bool, code_byte, codes_with_marks, cond-false, cond-true, content_text, drop_all, ending_bytes}
+use Rattle.inline_content.proofs.Prelude.{ending_text, eq-eqb, eqb-true, HaveNoEnding, inline_content, is_eol, Kind, line_text, LineEnding, map, ne_eqb}
+use Rattle.inline_content.proofs.Prelude.{or_from, own_lines, take-append-drop, without_last}
+use Rattle.std.proofs.lemmas.Bool.{cond_both}
 use Rattle.markdown_options.specs.declared.line_ending.LineEnding.TheVariants.{CarriageReturnLineFeed, CarriageReturn, LineFeed}
-use Rattle.markdown_options.specs.LineEndings.{ending_bytes}
-use Rattle.markdown_options.specs.declared.beside.Kind.{Kind}
-use Rattle.definition_text.specs.Lines.{TextLine, text_line, in_first_line, after_return, lines, ending_text}
-use Rattle.definition_text.specs.Columns.{code_byte}
-use Rattle.definition_text.specs.BlockLines.{own_lines}
-use Rattle.definition_text.specs.Content.{is_eol, content_text, line_text}
-use Rattle.text_pieces.specs.ParagraphLines.{HaveNoEnding}
-use Rattle.definition_text.specs.InlineCode.{inline_content}
+use Rattle.definition_text.specs.Lines.{TextLine, text_line, in_first_line, after_return, lines}
 use Rattle.text_pieces.specs.Pieces.{whole_line, whole_lines}
-use Rattle.inline_content.specs.Endings.{without_last}
-use Rattle.inline_content.specs.View.{codes_with_marks}
 use Rattle.inline_content.proofs.Lined.{AreApart, Agree, content_is, head_clear}
 
 -- ---- the lines of a text are apart

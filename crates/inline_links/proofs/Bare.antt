@@ -1,14 +1,11 @@
 -- How a destination without `<` ends.
 use Rattle.std.proofs.Common.{◌≡◌, ℕ, zero, suc, ◌+◌, ◌-◌, ◌<◌, ◌≤◌, List, [], ◌∷◌, Bool, true, false, not, ◌||◌, ◌&&◌, Option, None, Some, refl, sym, ap, ◌∙◌}
 use Rattle.std.proofs.Common.{length, take, drop, get_or, arith, eqb, inl, inr, subst}
-use Rattle.std.specs.List.{prefix_len}
-use Rattle.std.proofs.lemmas.Bool.{cases_Bool, cond_both, cond-false, cond-true, eq-eqb, le-ltb, or_parts, true≢false}
-use Rattle.definition_text.specs.Content.{Part, content_codes, is_space, may_escape}
-use Rattle.definition_inline.specs.Destination.{is_control, open_after, is_too_deep, ends_bare, bare_end, if_any, unless_empty}
-use Rattle.inline_links.specs.Bare.{is_plain}
-use Rattle.std.proofs.lemmas.List.{drop-drop, get_or-drop}
+use Rattle.inline_links.proofs.Prelude.{bare_end, cases_Bool, cond-false, cond-true, content_codes, drop-drop, ends_bare, eq-eqb, get_or-drop, if_any}
+use Rattle.inline_links.proofs.Prelude.{is_control, is_plain, is_space, is_too_deep, IsCut, may_escape, open_after, or_parts, Part, prefix_len, true≢false}
+use Rattle.inline_links.proofs.Prelude.{unless_empty}
+use Rattle.std.proofs.lemmas.Bool.{cond_both, le-ltb}
 use Rattle.std.proofs.lemmas.List.Sums.{prefix_len_passes}
-use Rattle.inline_links.specs.Codes.{IsCut}
 use Rattle.inline_links.proofs.Runs.{one_more, after_none, after_some}
 use Rattle.inline_links.proofs.Cuts.{codes_some, first_code, cut_at}
 

@@ -1,10 +1,8 @@
 -- The codes of a content, cut between two of them.
 use Rattle.std.proofs.Common.{◌≡◌, ℕ, zero, suc, ◌+◌, ◌<◌, List, [], ◌∷◌, ◌++◌, cond, eqb, refl, sym, ap, ◌∙◌, get_or, length, drop, take, arith, inl, inr}
 use Rattle.std.proofs.Common.{subst}
-use Rattle.std.proofs.lemmas.Bool.{cases_Bool, cond-false, cond-true, eqb-true, ne_eqb}
-use Rattle.std.proofs.lemmas.List.{append-nil, drop_more, get_or-drop}
-use Rattle.definition_text.specs.Content.{content_codes}
-use Rattle.inline_links.specs.Codes.{IsCut}
+use Rattle.inline_links.proofs.Prelude.{cases_Bool, cond-false, cond-true, content_codes, eqb-true, get_or-drop, IsCut, ne_eqb}
+use Rattle.std.proofs.lemmas.List.{append-nil, drop_more}
 
 -- what the codes of `a ∷ b ∷ ..` are, given those of `b ∷ ..`
 codes_with : (a b : ℕ) (codes : List ℕ) → List ℕ

@@ -1,17 +1,9 @@
 -- The destination and the title of a definition of a text are texts.
 use Rattle.std.proofs.Common.{◌≡◌, ℕ, List, [], ◌∷◌, eqb, Option, None, Some, refl, sym, ap, ◌∙◌, inl, inr, subst}
-use Rattle.std.specs.Option.{IfSome}
-use Rattle.std.proofs.lemmas.Bool.{cases_Bool, cond-false, cond-true, eqb-true}
-use Rattle.std.proofs.lemmas.Option.{none-some}
-use Rattle.definition_text.specs.Content.{Part}
-use Rattle.definition_inline.specs.Space.{after_spaces, after_white, begins_with_space}
-use Rattle.definition_inline.specs.Label.{label_at}
-use Rattle.definition_inline.specs.Destination.{destination_at}
-use Rattle.definition_inline.specs.Title.{title_at}
+use Rattle.inline_links.proofs.Prelude.{after_spaces, after_white, begins_with_space, cases_Bool, cond-false, cond-true, definition_at, destination_at}
+use Rattle.inline_links.proofs.Prelude.{eqb-true, IfSome, IsText, label_at, none-some, Part, title_at}
 use Rattle.definition_inline.specs.Definition.{Definition, definition, next_line, definition_with_title}
-use Rattle.definition_inline.specs.Definition.{definition_at}
 use Rattle.definition_inline.proofs.PartSteps.{definition_before, with_title, or_definition_without_title, with_destination, with_colon, with_label}
-use Rattle.inline_links.specs.Texts.{IsText}
 use Rattle.inline_links.proofs.Splits.{from_some, is_ascii_code}
 use Rattle.inline_links.proofs.Texts.{around, destination_text, label_text, spaces_text, title_text, white_text}
 

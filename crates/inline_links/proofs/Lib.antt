@@ -1,3 +1,4 @@
+mod Prelude
 pub mod Bare
 pub mod Cuts
 pub mod DefinitionTexts

@@ -1,10 +1,7 @@
 -- The place in the bytes of a content of what follows its first codes.
 use Rattle.std.proofs.Common.{◌≡◌, ℕ, zero, suc, ◌-◌, ◌≤◌, List, [], ◌∷◌, ◌++◌, eqb, refl, sym, ap, ap₂, ◌∙◌, get_or, length, drop, take, arith, inl, inr}
-use Rattle.std.proofs.lemmas.Bool.{cases_Bool, cond-false, cond-true, eqb-true, eqb-false, ne_eqb}
-use Rattle.std.proofs.lemmas.List.{length-append}
-use Rattle.definition_text.specs.Content.{content_codes}
-use Rattle.inline_links.specs.Codes.{IsShorterRest}
-use Rattle.inline_links.specs.Texts.{IsLater}
+use Rattle.inline_links.proofs.Prelude.{cases_Bool, cond-false, cond-true, content_codes, eqb-true, IsLater, IsShorterRest, length-append, ne_eqb}
+use Rattle.std.proofs.lemmas.Bool.{eqb-false}
 use Rattle.inline_links.proofs.Cuts.{first_code}
 
 -- one more byte in front makes no fewer codes

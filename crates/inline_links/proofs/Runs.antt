@@ -1,6 +1,6 @@
 -- Whether what stands after a run is escaped: only after an empty one.
 use Rattle.std.proofs.Common.{◌≡◌, ℕ, suc, ◌+◌, Bool, true, false, ◌&&◌, refl, ap, ◌∙◌, arith, eqb}
-use Rattle.std.proofs.lemmas.Bool.{ne_eqb}
+use Rattle.inline_links.proofs.Prelude.{ne_eqb}
 
 pub one_more : (n : ℕ) → 1 + n ≡ suc n
 one_more n = omega arith

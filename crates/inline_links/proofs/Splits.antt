@@ -2,15 +2,14 @@
 use Rattle.std.proofs.Common.{◌≡◌, ℕ, ◌-◌, List, [], ◌∷◌, ◌++◌, Bool, true, false, cond, ◌&&◌, ◌||◌, eqb, nat_le, ◌⊎◌, Option, None, Some, refl, sym, ap, ◌∙◌}
 use Rattle.std.proofs.Common.{length, drop, arith, inl, inr, nat_lt}
 use Rattle.std.specs.Option.{unwrap_or}
-use Rattle.std.proofs.lemmas.Bool.{cases_Bool, cond-false, cond-true, eqb-true, or_cases, and_parts, lt-ltb, leb-true}
-use Rattle.std.proofs.lemmas.List.{take_at, length-append}
-use Rattle.std.proofs.lemmas.Option.{none-some, cond_some}
-use Rattle.definition_text.specs.Columns.{is_white}
-use Rattle.definition_text.specs.Content.{Part, is_eol, is_space, may_escape, at_line_start, text_before, closed_by, up_to}
-use Rattle.definition_inline.specs.Label.{ends_label, label_end, is_label, if_label, label_at}
-use Rattle.definition_inline.specs.Destination.{ends_angle, angle_end, is_control, open_after, is_too_deep, ends_bare, bare_end, unless_empty, if_any}
-use Rattle.definition_inline.specs.Destination.{destination_at}
-use Rattle.definition_inline.specs.Title.{ends_title, ends_blank_line, title_end, title_close, title_until, title_at}
+use Rattle.inline_links.proofs.Prelude.{angle_end, at_line_start, bare_end, cases_Bool, cond-false, cond-true, cond_some, destination_at, ends_bare}
+use Rattle.inline_links.proofs.Prelude.{ends_label, eqb-true, if_any, is_control, is_eol, is_space, is_too_deep, is_white, label_at, label_end, length-append}
+use Rattle.inline_links.proofs.Prelude.{may_escape, none-some, open_after, or_cases, Part, take_at, title_at, title_end, unless_empty, up_to}
+use Rattle.std.proofs.lemmas.Bool.{and_parts, lt-ltb, leb-true}
+use Rattle.definition_text.specs.Content.{text_before, closed_by}
+use Rattle.definition_inline.specs.Label.{is_label, if_label}
+use Rattle.definition_inline.specs.Destination.{ends_angle}
+use Rattle.definition_inline.specs.Title.{ends_title, ends_blank_line, title_close, title_until}
 
 pub from_some : {A : Type 0} (x y : A) → Some x ≡ Some y → x ≡ y
 from_some x y e = ap (λ o. unwrap_or o x) e

@@ -1,25 +1,21 @@
 -- What is read of a text is a text.
 use Rattle.std.proofs.Common.{◌≡◌, ℕ, ◌+◌, ◌<◌, suc, List, [], ◌∷◌, ◌++◌, true, false, ◌&&◌, ◌||◌, eqb, Option, None, Some, refl, sym, ap, ◌∙◌, get_or, length}
 use Rattle.std.proofs.Common.{drop, arith, inl, inr, subst, zero, append_assoc, append-nil, nat_lt, flat_map, rules}
-use Rattle.std.specs.List.{prefix_len}
-use Rattle.std.specs.Option.{IfSome}
+use Rattle.inline_links.proofs.Prelude.{after_spaces, after_white, begins_with_space, cases_Bool, cond-false, cond-true, cond_some, content_codes}
+use Rattle.inline_links.proofs.Prelude.{destination_at, eqb-true, IfSome, is_eol, is_white, IsText, label_at, length-append, ne_eqb, none-some, or_cases, Part}
+use Rattle.inline_links.proofs.Prelude.{prefix_len, resource_at, take_at, title_at}
 use Rattle.std.specs.Str.{IsUtf8}
-use Rattle.std.proofs.lemmas.Bool.{cases_Bool, cond-false, cond-true, eqb-true, ne_eqb, or_cases, false≢true, ltb-true}
-use Rattle.std.proofs.lemmas.List.{take_at, drop_at, get_or_at, length-append}
-use Rattle.std.proofs.lemmas.Option.{none-some, cond_some}
+use Rattle.std.proofs.lemmas.Bool.{false≢true, ltb-true}
+use Rattle.std.proofs.lemmas.List.{drop_at, get_or_at}
 use Rattle.std.proofs.lemmas.Str.{IsUtf8-append, IsUtf8-take, IsUtf8-drop, IsUtf8-nil, IsUtf8-from_ascii, IsCharBoundary-before_ascii}
 use Rattle.std.proofs.lemmas.Str.{IsCharBoundary-after_ascii}
-use Rattle.definition_text.specs.Columns.{is_white, code_byte}
-use Rattle.definition_text.specs.Content.{Part, content_codes, is_eol}
-use Rattle.definition_inline.specs.Space.{after_spaces, after_ending, after_white, begins_with_space}
-use Rattle.definition_inline.specs.Label.{label_at}
-use Rattle.definition_inline.specs.Destination.{destination_at}
-use Rattle.definition_inline.specs.Title.{title_at}
-use Rattle.definition_inline.specs.Resource.{LinkResource, resource_at, resource_inside, resource_end}
+use Rattle.definition_text.specs.Columns.{code_byte}
+use Rattle.definition_inline.specs.Space.{after_ending}
+use Rattle.definition_inline.specs.Resource.{LinkResource, resource_inside, resource_end}
 use Rattle.definition_inline.specs.Resource.{after_destination}
 use Rattle.definition_inline.specs.Resource.{opens_title}
 use Rattle.definition_inline.proofs.PartSteps.{resource_with_title, resource_with_destination}
-use Rattle.inline_links.specs.Texts.{IsText, code_text}
+use Rattle.inline_links.specs.Texts.{code_text}
 use Rattle.inline_links.proofs.Splits.{is_ascii_code, begins_ascii, white_ascii, eol_ascii, label_whole, title_whole, destination_whole}
 
 -- ---- the bytes of codes

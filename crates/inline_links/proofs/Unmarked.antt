@@ -1,13 +1,8 @@
 -- What reads the codes of a label's text, past bytes that mark nothing.
 use Rattle.std.proofs.Common.{◌≡◌, ℕ, suc, ◌+◌, ◌-◌, ◌≤◌, List, [], ◌∷◌, Bool, true, false, not, ◌||◌, ◌&&◌, refl, sym, ap, ◌∙◌, length, drop, arith, eqb, inl}
 use Rattle.std.proofs.Common.{inr}
-use Rattle.std.specs.List.{prefix_len}
-use Rattle.std.proofs.lemmas.Bool.{cases_Bool, cond-false, cond-true, eq-eqb, eqb-true, ne_eqb, or_parts, true≢false}
-use Rattle.std.proofs.lemmas.List.{drop-drop}
-use Rattle.definition_text.specs.Content.{content_codes, at_line_start, may_escape}
-use Rattle.definition_inline.specs.Label.{ends_label, label_end, label_size}
-use Rattle.definition_inline.specs.LabelEnd.{has_no_bracket}
-use Rattle.inline_links.specs.Unmarked.{is_unmarked}
+use Rattle.inline_links.proofs.Prelude.{at_line_start, cases_Bool, cond-false, cond-true, content_codes, drop-drop, ends_label, eq-eqb, eqb-true}
+use Rattle.inline_links.proofs.Prelude.{has_no_bracket, is_unmarked, label_end, label_size, may_escape, ne_eqb, or_parts, prefix_len, true≢false}
 use Rattle.inline_links.proofs.Runs.{one_more, after_none, after_some}
 use Rattle.inline_links.proofs.Cuts.{first_code}
 

@@ -1,56 +1,41 @@
 -- What follows what is read: one step at a place.
 use Rattle.std.proofs.Common.{◌≡◌, ℕ, zero, suc, ◌+◌, ◌-◌, ◌<◌, ◌≤◌, Bool, true, false, ◌&&◌, ◌||◌, inl, inr, eqb, List, [], ◌∷◌, map, refl, sym, ap, ap₂, ◌∙◌}
 use Rattle.std.proofs.Common.{length, arith, subst, take, drop, get_or, Option, None, Some}
-use Rattle.std.specs.List.{prefix_len}
-use Rattle.std.specs.Str.{IsUtf8}
-use Rattle.std.proofs.lemmas.Str.{IsCharBoundary-after_ascii}
+use Rattle.inline_parser.proofs.Prelude.{codes_of, cond-true, Constructs, Content, content_codes, context_by, Delimiters, drop-codes_of, ended_here, eqb-true}
+use Rattle.inline_parser.proofs.Prelude.{formed_in, formed_size, InlineCode, InlineLeaf, IsAfter, IsAfterEnd, IsCharBoundary-after_ascii, IsFormed, IsPlace}
+use Rattle.inline_parser.proofs.Prelude.{IsUtf8, label_start_at, LabelForm, LabelStart, leaf, leaf_here, leaf_in, leaf_items, length-map, ParseOptions}
+use Rattle.inline_parser.proofs.Prelude.{plain_code, prefix_len, read_tokens, run_at, run_view, size_before, start_bytes, start_more, start_view, Targets}
+use Rattle.inline_parser.proofs.Prelude.{text_items, unformed_in, view_at, with_open_label}
 use Rattle.std.specs.Prelude.{IfSome}
 use Rattle.std.specs.Result.{OnOk}
 use Rattle.std.specs.declared.result.Result.{Result}
 use Rattle.std.specs.declared.result.Result.TheVariants.{Ok, Err}
-use Rattle.std.proofs.lemmas.Bool.{eqb-true, eqb-false, cases_Bool, cond-true, or_parts}
-use Rattle.std.proofs.lemmas.List.{length-drop, length-map, get_or-take}
+use Rattle.std.proofs.lemmas.Bool.{eqb-false, cases_Bool, or_parts}
+use Rattle.std.proofs.lemmas.List.{length-drop, get_or-take}
 use Rattle.std.proofs.lemmas.List.Sums.{prefix_len_passes, prefix_len-le-length}
-use Rattle.markdown_options.specs.declared.configuration.Constructs.{Constructs}
-use Rattle.markdown_options.specs.declared.configuration.ParseOptions.{ParseOptions}
-use Rattle.definition_text.specs.Content.{content_codes}
-use Rattle.definition_text.specs.InlineCode.{InlineCode, codes_of}
-use Rattle.definition_inline.specs.Inline.{InlineLeaf, leaf, or_else}
+use Rattle.definition_inline.specs.Inline.{or_else}
 use Rattle.definition_inline.specs.GfmAutolinkLiteral.{literal_at}
 use Rattle.definition_inline.proofs.GfmAutolinkLiteral.{literals_off}
-use Rattle.definition_inline.proofs.Scanning.{drop-codes_of}
-use Rattle.definition_inline.specs.Attention.{run_at}
-use Rattle.definition_inline.specs.Spans.{Delimiters}
-use Rattle.definition_inline.specs.LabelEnd.{LinkTail, formed_size}
+use Rattle.definition_inline.specs.LabelEnd.{LinkTail}
 use Rattle.definition_inline.specs.LabelEnd as ends
-use Rattle.definition_inline.specs.Targets.{Targets}
 use Rattle.definition_inline.specs.Scan as scan
-use Rattle.definition_inline.specs.Scan.{label_start_at, start_bytes, start_more, read_tokens, leaf_here}
-use Rattle.inline_runs.specs.View.{run_view}
 use Rattle.inline_runs.specs.declared.run.Run.{Run}
-use Rattle.inline_content.specs.declared.content.Content.{Content}
-use Rattle.inline_content.specs.View.{view_at}
 use Rattle.inline_content.specs.Fronts.{StartsRun}
 use Rattle.inline_content.proofs.Runs.{marker_at, marker_ascii}
-use Rattle.inline_leaves.specs.Leaves.{leaf_items, size_before, text_items, IsAfter}
 use Rattle.inline_leaves.specs.Leaves.{IsEnd as IsByteEnd}
-use Rattle.inline_leaves.specs.Scanned.{leaf_in, without_labels}
-use Rattle.inline_leaves.proofs.Codes.{end_after, plain_code, plain_take, plain_drop, size_plain, cut_plain, is_after}
+use Rattle.inline_leaves.specs.Scanned.{without_labels}
+use Rattle.inline_leaves.proofs.Codes.{end_after, plain_take, plain_drop, size_plain, cut_plain, is_after}
 use Rattle.definition_inline.specs.Mark.{is_equals}
 use Rattle.inline_literals.specs.Literals.{may_begin}
 use Rattle.inline_literals.proofs.Found.{none_first}
 use Rattle.inline_label_ends.specs.declared.forms.LabelEnd.{LabelEnd}
-use Rattle.inline_label_ends.specs.declared.gfm_label_start_footnote.LabelForm.{LabelForm}
 use Rattle.inline_label_ends.specs.declared.gfm_label_start_footnote.LabelForm.TheVariants.{Leads, Calls}
-use Rattle.inline_label_ends.specs.Ends.{IsAfterEnd, IsAfterFormed, IsEnd, IsFormed}
+use Rattle.inline_label_ends.specs.Ends.{IsAfterFormed, IsEnd}
 use Rattle.inline_label_ends.proofs.Rests.{after_same}
-use Rattle.inline_reading.specs.declared.label.LabelStart.{LabelStart}
 use Rattle.inline_reading.specs.declared.label.LabelStart.TheVariants as start
 use Rattle.inline_text.specs.Plain.{begins_more, is_text_at}
-use Rattle.inline_parser.specs.Scanned.{context_by, IsPlace, IsRunFront, IsSingle}
-use Rattle.inline_reading.specs.Shows.{ended_here}
+use Rattle.inline_parser.specs.Scanned.{IsRunFront, IsSingle}
 use Rattle.inline_reading.specs.LabelStarts.{StartsLabel}
-use Rattle.inline_reading.specs.Shows.{start_view, with_open_label, unformed_in, formed_in}
 use Rattle.inline_parser.proofs.Views.{IsNext, after_next, next_place, codes_left, view_next}
 use Rattle.inline_parser.proofs.Goes as goes
 use Rattle.inline_text.proofs.Texts as texts

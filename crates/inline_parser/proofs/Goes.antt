@@ -1,20 +1,16 @@
 -- One step of the scan, by what comes first.
 use Rattle.std.proofs.Common.{◌≡◌, ℕ, ◌+◌, ◌-◌, ◌<◌, Bool, true, false, ◌&&◌, eqb, List, [], ◌∷◌, map, refl, sym, ap, ◌∙◌, length, arith, drop, Option, None}
 use Rattle.std.proofs.Common.{Some, get_or}
-use Rattle.std.proofs.lemmas.Bool.{cond-true, true≢false}
-use Rattle.definition_text.specs.InlineCode.{InlineCode, codes_of}
-use Rattle.definition_inline.specs.Inline.{InlineLeaf, Leaf, Found}
-use Rattle.definition_inline.specs.Attention.{Run, run_at}
-use Rattle.definition_inline.specs.Spans.{Item, Delimiters}
-use Rattle.definition_inline.specs.LabelEnd.{LinkOrCall, formed_size}
-use Rattle.definition_inline.specs.Scan.{InlineContext, leaf_here, leaf_tokens, LabelStart, label_start_at, start_more, text, Text, OpenLabel, Reading, reading, read_tokens}
+use Rattle.inline_parser.proofs.Prelude.{codes_of, cond-true, Delimiters, ended_here, formed_in, formed_size, InlineCode, InlineContext, InlineLeaf, Item}
+use Rattle.inline_parser.proofs.Prelude.{label_start_at, Leaf, leaf_here, leaf_items, LinkOrCall, read_tokens, run_at, start_more, text_items, true≢false}
+use Rattle.inline_parser.proofs.Prelude.{unformed_in}
+use Rattle.definition_inline.specs.Inline.{Found}
+use Rattle.definition_inline.specs.Attention.{Run}
+use Rattle.definition_inline.specs.Scan.{leaf_tokens, LabelStart, text, Text, OpenLabel, Reading, reading}
 use Rattle.definition_inline.specs.Scan.{label_end_step, ended_step, and_then, scan}
 use Rattle.definition_inline.proofs.Scanning.{scan_skipped, scan_step, step_leaf, step_run, step_start, step_last}
 use Rattle.definition_inline.proofs.InlineSizes.{here_fits}
-use Rattle.inline_leaves.specs.Leaves.{leaf_items, text_items}
-use Rattle.inline_reading.specs.Shows.{unformed_in, formed_in}
 use Rattle.inline_text.proofs.Texts.{other_step}
-use Rattle.inline_reading.specs.Shows.{ended_here}
 
 is_there : {A : Type 0} → Option A → Bool
 is_there None = false

@@ -1,3 +1,4 @@
+mod Prelude
 pub mod Goes
 pub mod Views
 pub mod Follow

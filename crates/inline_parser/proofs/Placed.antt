@@ -1,10 +1,6 @@
 -- The place of a scan after what comes next.
 use Rattle.std.proofs.Common.{◌≡◌, ℕ, ◌-◌, List, sym, ap, length, arith, get_or, drop}
-use Rattle.std.specs.List.{All}
-use Rattle.inline_links.specs.Codes.{IsRest}
-use Rattle.inline_leaves.specs.Leaves.{IsAfter}
-use Rattle.inline_reading.specs.declared.label.OpenLabel.{OpenLabel}
-use Rattle.inline_parser.specs.Scanned.{IsPlace}
+use Rattle.inline_parser.proofs.Prelude.{All, IsAfter, IsPlace, IsRest, OpenLabel}
 use Rattle.inline_parser.proofs.Views.{rest_of_rest, next_place, after_next}
 
 -- a rest is one of itself

@@ -3,25 +3,16 @@ use Rattle.std.proofs.Common.{◌≡◌, ℕ, ◌+◌, ◌-◌, ◌<◌, ◌≤�
 use Rattle.std.proofs.Common.{◌∙◌, get_or, length, drop, take, map, eqb, leb, subst, arith}
 use Rattle.std.specs.Borrow.{Bor}
 use Rattle.std.specs.List.{list_all, take_while}
-use Rattle.std.proofs.lemmas.Bool.{and_from, and_parts, and_right, cases_lt, cond-false, cond-true, eqb-true, le-leb, or_cases, true≢false}
-use Rattle.std.proofs.lemmas.List.{append-nil, drop_all, get_or-drop}
-use Rattle.markdown_options.specs.declared.configuration.Constructs.{Constructs}
-use Rattle.markdown_options.specs.declared.configuration.ParseOptions.{ParseOptions}
-use Rattle.definition_text.specs.Columns.{bare, indent, is_blank, is_white}
-use Rattle.definition_text.specs.Content.{content_codes}
+use Rattle.inline_parser.proofs.Prelude.{and_parts, append-nil, cond-false, cond-true, Constructs, Content, content_codes, context_by, eqb-true, inline_rows}
+use Rattle.inline_parser.proofs.Prelude.{InlineContext, is_white, IsAfter, IsPlace, Item, leaf, Leaf, leaf_in, ParseOptions, plain_code, read_tokens}
+use Rattle.inline_parser.proofs.Prelude.{size_before, spans_from, Targets, text_items, true≢false, view_at, whole_text, with_spans}
+use Rattle.std.proofs.lemmas.Bool.{and_from, and_right, cases_lt, le-leb, or_cases}
+use Rattle.std.proofs.lemmas.List.{drop_all, get_or-drop}
+use Rattle.definition_text.specs.Columns.{bare, indent, is_blank}
 use Rattle.definition_inline.specs.HardBreak.{ends_here, ends_inner_line, line_spaces_at}
-use Rattle.definition_inline.specs.Inline.{Target, LinkTexts, link_texts, Leaf, Data, leaf}
+use Rattle.definition_inline.specs.Inline.{Target, LinkTexts, link_texts, Data}
 use Rattle.definition_inline.specs.Scan as scan
-use Rattle.definition_inline.specs.Scan.{InlineContext, read_tokens, spans_from, whole_text}
-use Rattle.definition_inline.specs.Spans.{Item, with_spans}
-use Rattle.definition_inline.specs.Targets.{Targets}
-use Rattle.inline_content.specs.declared.content.Content.{Content}
-use Rattle.inline_content.specs.View.{view_at}
-use Rattle.inline_leaves.specs.Leaves.{size_before, text_items, IsAfter}
-use Rattle.inline_leaves.specs.Scanned.{leaf_in}
-use Rattle.inline_leaves.proofs.Codes.{plain_code}
 use Rattle.inline_constructs.proofs.FirstBytes.{by_white}
-use Rattle.inline_rows.specs.InlineRows.{inline_rows}
 use Rattle.inline_rows.specs.View.{data_rows}
 use Rattle.inline_rows.specs.declared.row.InlineRow.TheVariants.{Text}
 use Rattle.inline_rows.specs.Container.{Parts}
@@ -29,7 +20,6 @@ use Rattle.inline_rows.proofs.Container as container
 use Rattle.inline_rows.proofs.Runs.{all_told, none_told}
 use Rattle.inline_text.specs.declared.plain.Front.{Front}
 use Rattle.inline_text.specs.Fronts.{IsTextOf}
-use Rattle.inline_parser.specs.Scanned.{IsPlace, context_by}
 use Rattle.inline_parser.proofs.Follow as follow
 use Rattle.inline_parser.proofs.Placed.{place_after}
 use Rattle.inline_parser.proofs.Whole as whole

@@ -1,16 +1,9 @@
 -- What is left of a content, as the definition has it.
 use Rattle.std.proofs.Common.{◌≡◌, ℕ, ◌+◌, ◌-◌, ◌<◌, ◌≤◌, Bool, List, [], ◌∷◌, refl, sym, ap, ◌∙◌, length, arith, drop}
 use Rattle.std.proofs.lemmas.List.{drop-drop}
-use Rattle.definition_text.specs.Content.{content_codes}
-use Rattle.definition_text.specs.InlineCode.{InlineCode, codes_of}
-use Rattle.definition_inline.proofs.Scanning.{drop-codes_of}
-use Rattle.inline_links.specs.Codes.{IsRest}
+use Rattle.inline_parser.proofs.Prelude.{codes_of, codes_of_view, Content, content_codes, content_view, drop-codes_of, InlineCode, IsAfter, IsPlace, IsRest}
+use Rattle.inline_parser.proofs.Prelude.{size_before, view_at}
 use Rattle.inline_links.proofs.Cuts.{codes_some}
-use Rattle.inline_content.specs.declared.content.Content.{Content}
-use Rattle.inline_content.specs.View.{content_view, view_at}
-use Rattle.inline_content.proofs.Views.{codes_of_view}
-use Rattle.inline_leaves.specs.Leaves.{size_before, IsAfter}
-use Rattle.inline_parser.specs.Scanned.{IsPlace}
 
 -- a rest of a rest
 pub rest_of_rest : (content rest after : List ℕ) → IsRest content rest → IsRest rest after → IsRest content after

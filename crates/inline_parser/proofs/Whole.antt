@@ -1,14 +1,7 @@
 -- The start and the end of a content.
 use Rattle.std.proofs.Common.{◌≡◌, ℕ, zero, suc, ◌+◌, ◌-◌, ◌≤◌, Bool, cond, List, [], ◌∷◌, refl, sym, ap, ◌∙◌, length, arith, drop}
-use Rattle.std.specs.List.{prefix_len}
-use Rattle.std.proofs.lemmas.List.{length-map}
-use Rattle.definition_text.specs.Columns.{is_white}
-use Rattle.definition_text.specs.Content.{content_codes}
-use Rattle.definition_text.specs.InlineCode.{InlineCode, codes_of}
-use Rattle.inline_content.specs.declared.content.Content.{Content}
-use Rattle.inline_content.specs.View.{content_view, view_at}
-use Rattle.inline_content.proofs.Views.{codes_of_view}
-use Rattle.inline_leaves.specs.Leaves.{size_before}
+use Rattle.inline_parser.proofs.Prelude.{codes_of, codes_of_view, Content, content_codes, content_view, InlineCode, is_white, length-map, prefix_len}
+use Rattle.inline_parser.proofs.Prelude.{size_before, view_at}
 
 white_codes : (view : List InlineCode) → prefix_len (λ (c : InlineCode). is_white c.code) view ≡ prefix_len is_white (codes_of view)
 white_codes [] = refl

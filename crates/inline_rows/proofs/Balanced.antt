@@ -1,12 +1,11 @@
 -- Where no end of a span comes too early and none is missing, rows stand for the rows of the inline structure.
 use Rattle.std.proofs.Common.{◌≡◌, ℕ, suc, ◌+◌, ◌-◌, ◌<◌, List, [], ◌∷◌, ◌++◌, sym, ap, ◌∙◌, length, arith, subst, append_assoc}
 use Rattle.std.specs.List.{fold}
-use Rattle.std.proofs.lemmas.List.{append-nil, nil_from_length}
-use Rattle.definition_inline.specs.Inline.{Target, LinkTexts, Inline, Span, Inlines, Nil, Cons, followed_by}
+use Rattle.inline_rows.proofs.Prelude.{append-nil, Closes, Holds, Inline, inline_rows, LinkTexts, Opens, part_rows, SpanRow, Target, told_rows}
+use Rattle.std.proofs.lemmas.List.{nil_from_length}
+use Rattle.definition_inline.specs.Inline.{Span, Inlines, Nil, Cons, followed_by}
 use Rattle.inline_rows.specs.InlineRows as rows
-use Rattle.inline_rows.specs.InlineRows.{part_rows, inline_rows}
-use Rattle.definition_inline.specs.SpanRows.{SpanRow, Holds, Opens, Closes, OpenSpan, nest, nest_row, nest_spans}
-use Rattle.inline_rows.specs.Told.{told_rows}
+use Rattle.definition_inline.specs.SpanRows.{OpenSpan, nest, nest_row, nest_spans}
 
 -- from so many open spans rows lead to so many, and none of them ends a span where none is open
 abbrev pub Nests : ℕ → List SpanRow → ℕ → Type 0

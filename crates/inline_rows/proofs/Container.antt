@@ -1,18 +1,13 @@
 -- Containers: how rows are added, and what they hold.
 use Rattle.std.proofs.Common.{◌≡◌, ℕ, zero, suc, ◌+◌, ◌<◌, ◌≤◌, List, [], ◌∷◌, ◌++◌, map, refl, sym, ap, ◌∙◌, length, arith, subst, append_assoc}
-use Rattle.std.specs.Prelude.{slice_index, slice_index_or}
-use Rattle.std.specs.List.{flat_map}
-use Rattle.std.proofs.lemmas.List.{append-nil, length-append, length-map, length-replicate}
-use Rattle.definition_inline.specs.Inline.{Target, InlineLeaf, Inline}
+use Rattle.inline_rows.proofs.Prelude.{append-nil, AreBytes, Bytes, Delimiters, flat_map, Inline, InlineRow, IsContainer, Item, length-append, length-map}
+use Rattle.inline_rows.proofs.Prelude.{length-replicate, NoRows, part_rows, Parts, row_view, rows_view, Run, run_view, runs_of, runs_view, slice_index, Target}
+use Rattle.inline_rows.proofs.Prelude.{text_of, Token}
+use Rattle.std.specs.Prelude.{slice_index_or}
+use Rattle.definition_inline.specs.Inline.{InlineLeaf}
 use Rattle.definition_inline.specs.Inline as inline
 use Rattle.inline_rows.specs.InlineRows as rows
-use Rattle.inline_rows.specs.InlineRows.{part_rows}
-use Rattle.definition_inline.specs.Spans.{Token, Item, Delimiters, runs_of}
-use Rattle.inline_runs.specs.View.{run_view, runs_view}
-use Rattle.inline_runs.specs.declared.run.Run.{Run}
-use Rattle.inline_rows.specs.View.{row_view, rows_view}
-use Rattle.inline_rows.specs.declared.row.InlineRow.{InlineRow}
-use Rattle.inline_rows.specs.Container.{text_of, AreBytes, IsContainer, NoRows, Parts, Bytes, AreWithin}
+use Rattle.inline_rows.specs.Container.{AreWithin}
 
 -- ---- one row
 

@@ -1,22 +1,16 @@
 -- The rows of a container close as many spans as they open, and none too early.
 use Rattle.std.proofs.Common.{inl, inr, ◌≡◌, ℕ, zero, suc, ◌+◌, ◌-◌, ◌<◌, List, [], ◌∷◌, ◌++◌, false, map, refl, sym, ap, ◌∙◌, length, reverse, replicate}
 use Rattle.std.proofs.Common.{arith, subst}
-use Rattle.std.specs.Prelude.{◌==◌}
-use Rattle.std.specs.List.{filter}
+use Rattle.inline_rows.proofs.Prelude.{bytes_taken, Closes, Data, Delimiters, filter, Holds, Inline, inline_rows, Item, Leaf, length-append, length-reverse}
+use Rattle.inline_rows.proofs.Prelude.{LinkTexts, Opens, Pair, pairs, rows_from, run_rows, runs_of, span_of, SpanRow, Target, Token, told_rows, ◌==◌}
 use Rattle.std.proofs.lemmas.Grind.{common_steps}
 use Rattle.std.proofs.lemmas.Bool.{cond-false}
-use Rattle.std.proofs.lemmas.List.{length-append, length-reverse}
 use Rattle.definition_inline.specs.Attention.{Run}
-use Rattle.definition_inline.specs.Inline.{Target, LinkTexts, Inline, Leaf, Data}
-use Rattle.inline_rows.specs.InlineRows.{inline_rows}
-use Rattle.definition_inline.specs.Pairing.{Pair, pairs}
-use Rattle.definition_inline.specs.Spans.{Token, Item, Delimiters, span_of, runs_of, with_spans}
-use Rattle.definition_inline.specs.SpanRows.{SpanRow, Holds, Opens, Closes, bytes_taken, run_rows, rows_from}
+use Rattle.definition_inline.specs.Spans.{with_spans}
 use Rattle.definition_inline.proofs.PairsNested.{AreNested, closes_at, is_around, is_open, none_open, opens_at, pairs_nested}
 use Rattle.definition_inline.proofs.PairsNested.{closing as closed_first, opening as opened_first}
 use Rattle.definition_inline.proofs.PairsTaken.{AreOrdered, pairs_ordered}
 use Rattle.definition_inline.proofs.SpanRows.{spans_by_rows}
-use Rattle.inline_rows.specs.Told.{told_rows}
 use Rattle.inline_rows.proofs.Balanced.{Nests, nested_rows}
 
 -- ---- how many are open

@@ -1,3 +1,4 @@
+mod Prelude
 pub mod Balanced
 pub mod Container
 pub mod Depth

@@ -1,21 +1,14 @@
 -- A run has enough rows for what it becomes.
 use Rattle.std.proofs.Common.{◌≡◌, ℕ, ◌+◌, ◌-◌, ◌<◌, ◌≤◌, List, [], ◌∷◌, ◌++◌, Bool, true, false, map, refl, sym, ap, ◌∙◌, length, get_or, reverse, replicate}
 use Rattle.std.proofs.Common.{arith, subst}
-use Rattle.std.specs.Prelude.{◌==◌}
-use Rattle.std.specs.List.{filter}
-use Rattle.std.proofs.lemmas.List.{length-append, length-map, length-replicate, length-reverse, reverse-append, get_or-map}
+use Rattle.inline_rows.proofs.Prelude.{bytes_by, bytes_taken, Closes, Data, filter, Holds, Leaf, length-append, length-map, length-replicate, length-reverse}
+use Rattle.inline_rows.proofs.Prelude.{Opens, pair_view, pairs, rows_needed, rows_of, Run, run_rows, run_view, runs_view, RunSpans, span_of, SpanRow, ◌==◌}
+use Rattle.std.proofs.lemmas.List.{reverse-append, get_or-map}
 use Rattle.std.proofs.lemmas.List.Sums.{sum_by_push, sum_by-cons}
 use Rattle.definition_inline.specs.Attention.{Run as RunOf}
-use Rattle.definition_inline.specs.Inline.{Leaf, Data}
-use Rattle.definition_inline.specs.Pairing.{Pair as PairOf, pairs}
-use Rattle.definition_inline.specs.Spans.{span_of}
-use Rattle.definition_inline.specs.SpanRows.{SpanRow, Holds, Opens, Closes, bytes_taken, run_rows}
-use Rattle.inline_runs.specs.View.{run_view, runs_view, pairs_view, pair_view, bytes_by}
-use Rattle.inline_runs.specs.Paired.{rows_of}
+use Rattle.definition_inline.specs.Pairing.{Pair as PairOf}
+use Rattle.inline_runs.specs.View.{pairs_view}
 use Rattle.inline_runs.specs.declared.pair.Pair.{Pair}
-use Rattle.inline_runs.specs.declared.run.Run.{Run}
-use Rattle.inline_runs.specs.declared.spans.RunSpans.{RunSpans}
-use Rattle.inline_rows.specs.Told.{rows_needed}
 use Rattle.definition_inline.proofs.PairsTaken.{bytes_fit}
 
 some_bytes : (double : Bool) → 1 ≤ bytes_by double

@@ -1,22 +1,11 @@
 -- The runs of a container told apart one by one.
 use Rattle.std.proofs.Common.{◌≡◌, ℕ, ◌+◌, ◌<◌, ◌≤◌, List, [], ◌∷◌, ◌++◌, map, refl, sym, ap, ap₂, ◌∙◌, length, get_or, take, drop, arith, subst, append_assoc}
-use Rattle.std.specs.Prelude.{slice_index}
-use Rattle.std.specs.List.{flat_map}
-use Rattle.std.proofs.lemmas.List.{append-nil, length-append, take_at, drop_at, drop_all, drop_more}
-use Rattle.std.proofs.lemmas.List.Concat.{flat_map-append}
+use Rattle.inline_rows.proofs.Prelude.{append-nil, AreBytes, Bytes, drop_all, drop_at, drop_more, flat_map, flat_map-append, Inline, InlineRow, IsContainer}
+use Rattle.inline_rows.proofs.Prelude.{Item, length-append, LinkTexts, NoRows, Pair, pairs, part_rows, Parts, row_view, rows_from, rows_view, Run, run_rows}
+use Rattle.inline_rows.proofs.Prelude.{run_view, runs_of, runs_view, slice_index, span_row_rows, take_at, Target, Token, told_rows}
 use borrow.Rule.Slice.PartMut.{put_mid}
-use Rattle.definition_inline.specs.Inline.{Target, LinkTexts, Inline}
 use Rattle.inline_rows.specs.InlineRows as rows
-use Rattle.inline_rows.specs.InlineRows.{part_rows}
-use Rattle.definition_inline.specs.Pairing.{Pair, pairs}
-use Rattle.definition_inline.specs.Spans.{Token, Item, runs_of}
-use Rattle.definition_inline.specs.SpanRows.{run_rows, rows_from}
-use Rattle.inline_runs.specs.View.{run_view, runs_view}
-use Rattle.inline_runs.specs.declared.run.Run.{Run}
-use Rattle.inline_rows.specs.View.{row_view, rows_view}
-use Rattle.inline_rows.specs.declared.row.InlineRow.{InlineRow}
-use Rattle.inline_rows.specs.Container.{AreBytes, IsContainer, NoRows, Parts, Bytes, AreTold}
-use Rattle.inline_rows.specs.Told.{span_row_rows, told_rows}
+use Rattle.inline_rows.specs.Container.{AreTold}
 use Rattle.inline_rows.proofs.Container.{bytes_count, runs_are}
 use Rattle.inline_rows.proofs.Depth.{emphasized_rows}
 use Rattle.inline_rows.proofs.Writes.{over_part}

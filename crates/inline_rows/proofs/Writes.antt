@@ -1,28 +1,21 @@
 -- Rows that are written over others.
 use Rattle.std.proofs.Common.{◌≡◌, ℕ, zero, suc, ◌+◌, ◌-◌, ◌<◌, ◌≤◌, List, [], ◌∷◌, ◌++◌, Bool, true, false, cond, map, refl, sym, ap, ap₂, ◌∙◌, length, get_or}
 use Rattle.std.proofs.Common.{set, take, drop, replicate, arith, append_assoc}
-use Rattle.std.specs.Prelude.{◌==◌}
-use Rattle.std.proofs.lemmas.List.{append-nil, length-map, length-append, length-drop, length-take-le, take_more, map-append, set-append_right, drop_more}
-use Rattle.std.proofs.lemmas.List.{take_at, drop_at, drop_all, take-append-drop, take-map, drop-map, take-replicate, drop-replicate}
-use Rattle.std.proofs.lemmas.List.Concat.{flat_map-append}
+use Rattle.inline_rows.proofs.Prelude.{append-nil, AreBytes, bytes_by, Closes, drop_all, drop_at, drop_more, flat_map-append, Holds, InlineRow, length-append}
+use Rattle.inline_rows.proofs.Prelude.{length-drop, length-map, length-take-le, LinkTexts, Opens, pair_view, row_view, rows_needed, rows_of, rows_view}
+use Rattle.inline_rows.proofs.Prelude.{RunSpans, span_of, span_row_rows, start_row, take_at, Target, text_of, told_rows, ◌==◌}
+use Rattle.std.proofs.lemmas.List.{take_more, map-append, set-append_right}
+use Rattle.std.proofs.lemmas.List.{take-append-drop, take-map, drop-map, take-replicate, drop-replicate}
 use borrow.Rule.Slice.PartMut.{put_mid}
 use Rattle.definition_inline.specs.Inline as inline
-use Rattle.definition_inline.specs.Inline.{Target, LinkTexts}
 use Rattle.inline_rows.specs.InlineRows as rows
 use Rattle.definition_inline.specs.GfmStrikethrough.{is_tilde}
 use Rattle.definition_inline.specs.Mark.{is_equals}
-use Rattle.definition_inline.specs.Spans.{span_of}
-use Rattle.definition_inline.specs.SpanRows.{Holds, Opens, Closes}
 use Rattle.definition_inline.proofs.DefinitionParts.{cons_nil}
-use Rattle.inline_runs.specs.View.{bytes_by, pair_view, span_by, span_view}
-use Rattle.inline_runs.specs.Paired.{rows_of}
+use Rattle.inline_runs.specs.View.{span_by, span_view}
 use Rattle.inline_runs.specs.declared.pair.Pair.{Pair}
-use Rattle.inline_runs.specs.declared.spans.RunSpans.{RunSpans}
-use Rattle.inline_rows.specs.View.{row_view, rows_view, data_rows}
-use Rattle.inline_rows.specs.declared.row.InlineRow.{InlineRow}
+use Rattle.inline_rows.specs.View.{data_rows}
 use Rattle.inline_rows.specs.declared.row.InlineRow.TheVariants.{Text, Verbatim, Leaf, Spelled, EnterSpan, EnterLink, EnterImage, Call, Exit}
-use Rattle.inline_rows.specs.Container.{text_of, AreBytes}
-use Rattle.inline_rows.specs.Told.{start_row, span_row_rows, told_rows, rows_needed}
 
 -- one more of the rows that are made of a list
 pub one_more : {X Y : Type 0} (f : X → Y) (xs : List X) (old rows : List Y) (i : ℕ) (d : X) → length old ≡ length xs → i < length xs

@@ -1,10 +1,8 @@
 -- What a run closes, pair by pair.
 use Rattle.std.proofs.Common.{inl, inr, ◌≡◌, ℕ, zero, suc, ◌-◌, ◌<◌, ◌≤◌, true, false, refl, sym, ap, ◌∙◌, arith}
-use Rattle.std.specs.Prelude.{◌==◌}
-use Rattle.std.proofs.lemmas.Bool.{cases_lt, eq-eqb, ne_eqb}
-use Rattle.definition_inline.specs.Pairing.{OpenRun, taken_by, without}
-use Rattle.definition_inline.proofs.PairBytes.{takes_some, takes_left}
-use Rattle.inline_runs.specs.FoundPairs.{Pairing, with_opener, with_pair, up_to_nearest, nearest, pair_or_open, close, next_run}
+use Rattle.inline_runs.proofs.Prelude.{cases_lt, close, eq-eqb, ne_eqb, nearest, next_run, OpenRun, Pairing, taken_by, takes_left, takes_some, up_to_nearest}
+use Rattle.inline_runs.proofs.Prelude.{with_pair, without, ◌==◌}
+use Rattle.inline_runs.specs.FoundPairs.{with_opener, pair_or_open}
 use Rattle.inline_runs.proofs.NearestOpener.{nearest_eligible}
 
 -- something is left of a run that closes something

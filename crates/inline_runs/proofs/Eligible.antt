@@ -1,17 +1,14 @@
 -- What an opener has to know of a closer.
 use Rattle.std.proofs.Common.{◌≡◌, ℕ, ◌+◌, ◌-◌, ◌%◌, ◌<◌, ◌≤◌, List, Bool, true, false, cond, not, ◌&&◌, ◌||◌, map, refl, sym, ap, ◌∙◌, length, get_or, arith}
 use Rattle.std.proofs.Common.{subst}
-use Rattle.std.specs.Prelude.{◌==◌, nat_le}
-use Rattle.std.proofs.lemmas.Bool.{and_left, and_right, and_from, eqb-true}
-use Rattle.std.proofs.lemmas.List.{get_or-map, length-map}
-use Rattle.definition_inline.specs.Attention.{Run as RunOf, is_whole, are_fitting}
-use Rattle.definition_inline.specs.Pairing.{OpenRun as PlacedOf, is_eligible, is_ruled_out_by_three}
-use Rattle.inline_runs.specs.FoundPairs.{up_to_nearest}
+use Rattle.inline_runs.proofs.Prelude.{eqb-true, fits, FitsAt, get_or-map, is_eligible, length-map, Opener, opener_view, PlacedOf, run_view, RunOf}
+use Rattle.inline_runs.proofs.Prelude.{up_to_nearest, Want, ◌==◌}
+use Rattle.std.specs.Prelude.{nat_le}
+use Rattle.std.proofs.lemmas.Bool.{and_left, and_right, and_from}
+use Rattle.definition_inline.specs.Attention.{is_whole, are_fitting}
+use Rattle.definition_inline.specs.Pairing.{is_ruled_out_by_three}
 use Rattle.inline_runs.proofs.NearestOpener.{up_to_nearest_is}
-use Rattle.inline_runs.specs.View.{run_view}
-use Rattle.inline_runs.specs.declared.openers.Opener.{Opener}
-use Rattle.inline_runs.specs.declared.openers.Want.{Want}
-use Rattle.inline_runs.specs.Floors.{opener_view, whole_size, want_of, can_close, fits, FitsAt, is_ruled_out}
+use Rattle.inline_runs.specs.Floors.{whole_size, want_of, can_close, is_ruled_out}
 
 rest_of_sum : (a b : ℕ) → (a + b) % 3 ≡ (a + b % 3) % 3
 rest_of_sum a b = omega arith

@@ -1,14 +1,11 @@
 -- Searches for the nearest opener, and floors.
 use Rattle.std.proofs.Common.{inl, inr, ◌≡◌, Bool, ℕ, ◌-◌, ◌<◌, ◌≤◌, List, [], ◌∷◌, ◌++◌, take, false, refl, sym, ap, ◌∙◌, length, get_or, arith, subst}
-use Rattle.std.proofs.lemmas.Bool.{cases_lt}
-use Rattle.std.proofs.lemmas.List.{get_or_default, get_or-take, get_or_append_left, get_or-append_right, length-append, length-take}
-use Rattle.std.proofs.lemmas.List.Elements.{All-push, All-take, All-weaker}
-use Rattle.std.specs.List.{All}
-use Rattle.inline_runs.specs.View.{run_view}
-use Rattle.inline_runs.specs.declared.openers.Opener.{Opener}
-use Rattle.inline_runs.specs.declared.openers.Want.{Want}
+use Rattle.inline_runs.proofs.Prelude.{All, All-push, All-weaker, AreOpenersAt, cases_lt, fits, FitsAt, get_or-take, get_or_append_left, get_or_default}
+use Rattle.inline_runs.proofs.Prelude.{IsFloorOf, length-append, Opener, run_view, Want}
+use Rattle.std.proofs.lemmas.List.{get_or-append_right, length-take}
+use Rattle.std.proofs.lemmas.List.Elements.{All-take}
 use Rattle.inline_runs.specs.declared.openers.Openers.{Openers}
-use Rattle.inline_runs.specs.Floors.{fits, FitsAt, IsFloor, IsFloorOf, AreOpenersAt}
+use Rattle.inline_runs.specs.Floors.{IsFloor}
 
 -- whether an opener fits, whatever it is read by
 pub fits_at : (openers : List Opener) (w : Want) (n : ℕ) (e : Opener) {whether : Bool} → n < length openers

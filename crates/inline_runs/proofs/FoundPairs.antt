@@ -1,15 +1,12 @@
 -- The pairs that are found are the definition's.
 use Rattle.std.proofs.Common.{inl, inr, ◌≡◌, ℕ, zero, suc, ◌-◌, ◌<◌, ◌≤◌, List, [], ◌∷◌, ◌++◌, not, refl, sym, ap, ◌∙◌, reverse, arith, append_assoc}
-use Rattle.std.specs.List.{fold}
-use Rattle.std.proofs.lemmas.Bool.{cases_lt}
-use Rattle.std.proofs.lemmas.List.{append-nil}
-use Rattle.std.proofs.lemmas.List.Sums.{suffix_len-le-length}
+use Rattle.inline_runs.proofs.Prelude.{append-nil, cases_lt, close, fold, is_eligible, nearest, next_run, OpenRun, pairing, Pairing, pairs, placed_from}
+use Rattle.inline_runs.proofs.Prelude.{suffix_len-le-length, taken_by, takes_left, takes_some, up_to_nearest, with_pair, without}
 use Rattle.definition_inline.specs.Attention.{Run}
-use Rattle.definition_inline.specs.Pairing.{Pair, OpenRun, is_eligible, taken_by, without, pair_of, pairs_after, steps, placed_from, pairs}
+use Rattle.definition_inline.specs.Pairing.{Pair, pair_of, pairs_after, steps}
 use Rattle.definition_inline.proofs.NearestOpener.{NoneFrom, IsNearest}
-use Rattle.definition_inline.proofs.PairBytes.{takes_some, takes_left}
 use Rattle.definition_inline.proofs.RunPairs.{opens_next, closes_next, steps_next}
-use Rattle.inline_runs.specs.FoundPairs.{Pairing, pairing, up_to_nearest, nearest, with_pair, close, next_run, found_pairs}
+use Rattle.inline_runs.specs.FoundPairs.{found_pairs}
 use Rattle.inline_runs.proofs.NearestOpener.{nearest_eligible, none_after}
 use Rattle.inline_runs.proofs.ClosingRuns.{some_left, stops, goes_on}
 

@@ -1,3 +1,4 @@
+mod Prelude
 pub mod ClosingRuns
 pub mod Eligible
 pub mod Floors

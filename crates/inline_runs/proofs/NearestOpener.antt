@@ -3,9 +3,8 @@ use Rattle.std.proofs.Common.{◌≡◌, ℕ, ◌-◌, ◌<◌, ◌≤◌, List,
 use Rattle.std.specs.List.{suffix_len}
 use Rattle.std.proofs.lemmas.Bool.{not-false, not-true}
 use Rattle.std.proofs.lemmas.List.{get_or-reverse, length-reverse}
-use Rattle.std.proofs.lemmas.List.Sums.{suffix_len_is, suffix_len-le-length, prefix_len_stops, prefix_len_passes}
-use Rattle.definition_inline.specs.Pairing.{OpenRun, is_eligible}
-use Rattle.inline_runs.specs.FoundPairs.{up_to_nearest, nearest}
+use Rattle.inline_runs.proofs.Prelude.{is_eligible, nearest, OpenRun, suffix_len-le-length, up_to_nearest}
+use Rattle.std.proofs.lemmas.List.Sums.{suffix_len_is, prefix_len_stops, prefix_len_passes}
 
 -- a place from which on no opener is eligible, and right before which one is
 pub up_to_nearest_is : (openers : List OpenRun) (c : OpenRun) (n : ℕ) → n ≤ length openers

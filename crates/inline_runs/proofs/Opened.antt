@@ -1,10 +1,7 @@
 -- The pairs that a run opens, the last first.
 use Rattle.std.proofs.Common.{◌≡◌, ℕ, ◌+◌, ◌-◌, ◌<◌, ◌≤◌, List, [], ◌∷◌, ◌++◌, refl, sym, ap, ◌∙◌, length, get_or, take, reverse, arith, subst, append_assoc}
-use Rattle.std.specs.Prelude.{◌==◌}
-use Rattle.std.proofs.lemmas.Bool.{eq-eqb}
-use Rattle.std.proofs.lemmas.List.{append-nil, get_or-take, take_more, take-take, length-take-le, reverse-append}
-use Rattle.inline_runs.specs.declared.pair.Pair.{Pair}
-use Rattle.inline_runs.specs.Threads.{opened_by, IsLast, AreLinked}
+use Rattle.inline_runs.proofs.Prelude.{append-nil, AreLinked, eq-eqb, get_or-take, IsLast, opened_by, Pair, reverse-append, ◌==◌}
+use Rattle.std.proofs.lemmas.List.{take_more, take-take, length-take-le}
 use Rattle.inline_runs.proofs.Threads.{filter_same}
 
 -- what was opened so far, and what the pairs up to the last of so many will add, are all

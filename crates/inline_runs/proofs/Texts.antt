@@ -1,15 +1,10 @@
 -- How many bytes of a run are text.
 use Rattle.std.proofs.Common.{inl, inr, ◌≡◌, ℕ, ◌+◌, ◌-◌, List, [], ◌∷◌, ◌++◌, refl, sym, ap, ◌∙◌, length, take, drop, reverse, arith, subst}
-use Rattle.std.specs.Prelude.{slice_index, slice_range}
-use Rattle.std.proofs.lemmas.Bool.{cases_lt}
-use Rattle.std.proofs.lemmas.List.{length-append, get_or_append_left, get_or_push, reverse-append, drop_at, take_rest}
-use Rattle.std.proofs.lemmas.List.Sums.{sum_by_push, sum_by-cons}
-use Rattle.std.proofs.lemmas.Grind.{common_steps}
-use Rattle.inline_runs.specs.declared.pair.Pair.{Pair}
-use Rattle.inline_runs.specs.declared.spans.RunLayout.{RunLayout}
-use Rattle.inline_runs.specs.declared.pairs.Ends.{Ends}
-use Rattle.inline_runs.specs.Threads.{closed_by, opened_by, IsEnds}
-use Rattle.inline_runs.specs.Laid.{pair_bytes, bytes, text_at, AreTexts, IsLaid, AreLaid}
+use Rattle.inline_runs.proofs.Prelude.{AreLaid, AreTexts, bytes, cases_lt, closed_by, common_steps, Ends, get_or_append_left, get_or_push, IsEnds, IsLaid}
+use Rattle.inline_runs.proofs.Prelude.{length-append, opened_by, Pair, pair_bytes, reverse-append, RunLayout, slice_index, slice_range, sum_by-cons, take_rest}
+use Rattle.inline_runs.proofs.Prelude.{text_at}
+use Rattle.std.proofs.lemmas.List.{drop_at}
+use Rattle.std.proofs.lemmas.List.Sums.{sum_by_push}
 
 bytes-reverse : (ps : List Pair) → bytes (reverse ps) ≡ bytes ps
 bytes-reverse [] = refl

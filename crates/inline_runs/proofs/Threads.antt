@@ -1,15 +1,14 @@
 -- One more pair, and one more run that was read.
 use Rattle.std.proofs.Common.{inl, inr, ◌≡◌, ◌≢◌, ℕ, ◌+◌, ◌-◌, ◌<◌, ◌≤◌, List, [], ◌∷◌, ◌++◌, Bool, true, false, refl, sym, ap, ◌∙◌, length, get_or, set, take}
 use Rattle.std.proofs.Common.{drop, arith, subst}
-use Rattle.std.specs.List.{All, filter}
-use Rattle.std.specs.Prelude.{◌==◌, slice_range}
-use Rattle.std.proofs.lemmas.Bool.{cases_lt, cases_Bool, cond-true, cond-false, eqb-true, eqb-false, eq-eqb, ne_eqb}
-use Rattle.std.proofs.lemmas.List.{length-append, length-set, length-drop, append-nil, get_or_append_left, get_or_push, get_or-set_same, get_or-set_other}
-use Rattle.std.proofs.lemmas.List.{take-append-le, drop-append-le, take_all, take_rest, drop_all}
-use Rattle.std.proofs.lemmas.List.Elements.{All-push, All-weaker, All-head, All-tail, filter-append}
-use Rattle.inline_runs.specs.declared.pair.Pair.{Pair}
-use Rattle.inline_runs.specs.declared.pairs.Ends.{Ends}
-use Rattle.inline_runs.specs.Threads.{closed_by, opened_by, IsLast, AreLinked, IsEnds, IsRead, AreThreaded}
+use Rattle.inline_runs.proofs.Prelude.{All, All-push, All-weaker, append-nil, AreLinked, AreThreaded, cases_Bool, cases_lt, closed_by, cond-false, cond-true}
+use Rattle.inline_runs.proofs.Prelude.{Ends, eq-eqb, eqb-true, filter, get_or_append_left, get_or_push, IsEnds, IsLast, length-append, ne_eqb, opened_by, Pair}
+use Rattle.inline_runs.proofs.Prelude.{slice_range, take_rest, ◌==◌}
+use Rattle.std.proofs.lemmas.Bool.{eqb-false}
+use Rattle.std.proofs.lemmas.List.{length-set, length-drop, get_or-set_same, get_or-set_other}
+use Rattle.std.proofs.lemmas.List.{take-append-le, drop-append-le, take_all, drop_all}
+use Rattle.std.proofs.lemmas.List.Elements.{All-head, All-tail, filter-append}
+use Rattle.inline_runs.specs.Threads.{IsRead}
 
 filter_none : (f : Pair → Bool) (ps : List Pair) → All (λ p. f p ≡ false) ps → filter f ps ≡ []
 filter_none f [] none = refl

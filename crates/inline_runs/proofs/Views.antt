@@ -1,24 +1,14 @@
 -- Pairs as the definition has them: filtered, turned round and as rows.
 use Rattle.std.proofs.Common.{inl, inr, ◌≡◌, ℕ, ◌+◌, ◌-◌, ◌<◌, List, [], ◌∷◌, ◌++◌, Bool, map, refl, sym, ap, ap₂, ◌∙◌, length, get_or, reverse, replicate}
 use Rattle.std.proofs.Common.{arith}
-use Rattle.std.specs.List.{filter}
-use Rattle.std.specs.Prelude.{◌==◌, slice_range, slice_index}
-use Rattle.std.proofs.lemmas.Bool.{cases_Bool, cond-true, cond-false}
-use Rattle.std.proofs.lemmas.List.{reverse-append, map-append, get_or-map, length-map}
-use Rattle.std.proofs.lemmas.List.Sums.{sum_by-cons}
-use Rattle.definition_inline.specs.Attention.{Run as RunOf}
-use Rattle.definition_inline.specs.Pairing.{Pair as PairOf, pairs}
+use Rattle.inline_runs.proofs.Prelude.{bytes, cases_Bool, closed_by, cond-false, cond-true, Ends, filter, get_or-map, IsEnds, IsLaid, length-map, opened_by}
+use Rattle.inline_runs.proofs.Prelude.{Pair, pair_bytes, PairOf, pairs, pairs_view, reverse-append, Run, run_sizes, run_view, RunLayout, RunOf, runs_view}
+use Rattle.inline_runs.proofs.Prelude.{slice_index, slice_range, sum_by-cons, text_at, ◌==◌}
+use Rattle.std.proofs.lemmas.List.{map-append}
 use Rattle.definition_inline.specs.Inline.{Leaf, Data}
 use Rattle.definition_inline.specs.Spans.{span_of}
 use Rattle.definition_inline.specs.SpanRows.{Holds, Opens, Closes, bytes_taken, run_rows}
-use Rattle.inline_runs.specs.View.{pair_view, pairs_view, run_view, runs_view}
-use Rattle.inline_runs.specs.Threads.{closed_by, opened_by, IsEnds}
-use Rattle.inline_runs.specs.Laid.{pair_bytes, bytes, IsLaid, text_at}
-use Rattle.inline_runs.specs.Paired.{run_sizes}
-use Rattle.inline_runs.specs.declared.pair.Pair.{Pair}
-use Rattle.inline_runs.specs.declared.pairs.Ends.{Ends}
-use Rattle.inline_runs.specs.declared.run.Run.{Run}
-use Rattle.inline_runs.specs.declared.spans.RunLayout.{RunLayout}
+use Rattle.inline_runs.specs.View.{pair_view}
 
 filter_view : (f : PairOf → Bool) (ps : List Pair) → filter f (pairs_view ps) ≡ pairs_view (filter (λ (p : Pair). f (pair_view p)) ps)
 filter_view f [] = refl

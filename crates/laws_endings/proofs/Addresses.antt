@@ -1,13 +1,10 @@
 -- Literals in inline structure with another ending in place of each LF: none holds an ending.
 use Rattle.std.proofs.Common.{◌≡◌, ℕ, zero, suc, List, [], ◌∷◌, ◌++◌, eqb, None, Some, Option, refl, sym, ap, ◌∙◌, map}
-use Rattle.std.proofs.lemmas.Bool.{cond_both}
-use Rattle.markdown_options.specs.declared.line_ending.LineEnding.{LineEnding}
-use Rattle.markdown_options.specs.declared.configuration.Constructs.{Constructs}
-use Rattle.definition_inline.specs.Inline.{InlineLeaf, Data, Literal, Link, Image, Inline, Leaf, Span, Linked, Call, Inlines, Nil, Cons}
+use Rattle.laws_endings.proofs.Prelude.{Call, cond_both, Cons, Constructs, Data, Image, Inline, inline_with, InlineLeaf, Inlines, inlines_with, Leaf}
+use Rattle.laws_endings.proofs.Prelude.{leaf_with, LineEnding, Link, Linked, linked_literals, Literal, Nil, Span, target_with}
 use Rattle.definition_inline.specs.GfmAutolinkLiteral.{Address, address_or_text, address_at, parts_from, with_addresses, parts_before, leaf_without}
-use Rattle.definition_inline.specs.GfmAutolinkLiteral.{without_literals, part_without, addresses_before, with_literals, part_with, linked_literals}
+use Rattle.definition_inline.specs.GfmAutolinkLiteral.{without_literals, part_without, addresses_before, with_literals, part_with}
 use Rattle.definition_inline.specs.GfmAutolinkLiteral.{without_last}
-use Rattle.laws_endings.specs.Inlines.{target_with, leaf_with, inline_with, inlines_with}
 use Rattle.laws_endings.proofs.Codes.{cond-under}
 use Rattle.laws_endings.proofs.Leaves.{data_kept}
 

@@ -1,19 +1,12 @@
 -- Literals in contents that are alike.
 use Rattle.std.proofs.Common.{◌≡◌, ℕ, zero, suc, ◌+◌, ◌-◌, ◌<◌, Bool, true, false, cond, not, ◌||◌, ◌&&◌, eqb, List, [], ◌∷◌, ◌++◌, Option, None, Some, inl}
 use Rattle.std.proofs.Common.{inr, refl, sym, ap, ap₂, ◌∙◌, arith, drop, take, length, get_or, slice_index_or}
-use Rattle.std.specs.Prelude.{codes, nat_lt}
-use Rattle.std.specs.Char.{to_ascii_lowercase}
-use Rattle.std.proofs.lemmas.Bool.{cases_Bool, cond_both, and_parts, or_left, eqb-true, ltb-false, true≢false}
-use Rattle.markdown_options.specs.declared.configuration.Constructs.{Constructs}
-use Rattle.markdown_options.specs.declared.beside.Kind.{Kind}
-use Rattle.definition_text.specs.InlineCode.{InlineCode, codes_of, is_continuation}
-use Rattle.definition_inline.specs.Attention.{is_other}
-use Rattle.definition_inline.specs.Inline.{Www, Protocol, Literal, Found, leaf}
-use Rattle.definition_inline.specs.GfmAutolinkLiteral.{is_among, may_precede_www, may_precede_protocol, begins_caselessly, LiteralStart, literal_start}
-use Rattle.definition_inline.specs.GfmAutolinkLiteral.{or_start, www_start, protocol_start, literal_start_at, is_control_or_ending, begins_name, literal_name}
-use Rattle.definition_inline.specs.GfmAutolinkLiteral.{domain}
-use Rattle.definition_inline.specs.GfmAutolinkLiteral.{has_low_line, named_literal, literal_after, literal_at}
-use Rattle.laws_endings.specs.Kinds.{counts_after, goes_on, IsAlike, AreAlike}
+use Rattle.laws_endings.proofs.Prelude.{and_parts, AreAlike, begins_caselessly, begins_name, cases_Bool, codes, codes_of, cond_both, Constructs, counts_after}
+use Rattle.laws_endings.proofs.Prelude.{domain, eqb-true, Found, goes_on, has_low_line, InlineCode, is_among, is_continuation, is_control_or_ending, is_other}
+use Rattle.laws_endings.proofs.Prelude.{IsAlike, Kind, leaf, Literal, literal_after, literal_at, literal_name, literal_start, literal_start_at, LiteralStart}
+use Rattle.laws_endings.proofs.Prelude.{may_precede_protocol, may_precede_www, named_literal, nat_lt, or_left, or_start, Protocol, protocol_start}
+use Rattle.laws_endings.proofs.Prelude.{to_ascii_lowercase, true≢false, Www, www_start}
+use Rattle.std.proofs.lemmas.Bool.{ltb-false}
 
 pub alike_codes : (one other : List InlineCode) → AreAlike one other → codes_of one ≡ codes_of other
 alike_codes [] [] h = refl

@@ -1,27 +1,18 @@
 -- The blocks of a text of whole characters without CR and `&`: their lines are made of its codes, and end in LF.
 use Rattle.std.proofs.Common.{◌≡◌, ℕ, suc, zero, ◌+◌, Bool, true, false, cond, eqb, ◌&&◌, not, leb, List, [], ◌∷◌, ◌++◌, Option, None, Some, take, drop, map}
 use Rattle.std.proofs.Common.{refl, sym, ap, ◌∙◌, subst, arith}
-use Rattle.std.specs.List.{list_all, prefix_len}
-use Rattle.std.proofs.lemmas.Bool.{cond_both, cond-true, and_parts, both_ways, not-true}
-use Rattle.markdown_options.specs.declared.line_ending.LineEnding.{LineEnding}
+use Rattle.laws_endings.proofs.Prelude.{after_run, and_parts, Atx, atx, atx_of, AtxGood, bare, begins_apart, Beside, Block, block_codes, BlockGood, BlockLine}
+use Rattle.laws_endings.proofs.Prelude.{Blocks, blocks, blocks_good, BlocksGood, both_ways, bytes_of, code_byte, cond-true, cond_both, Constructs, content_of}
+use Rattle.laws_endings.proofs.Prelude.{ending_code, ends_apart, Fence, fence_start, heading_atx, indent, is_byte, is_eol, is_tab_column, is_white, Kind}
+use Rattle.laws_endings.proofs.Prelude.{LeafBlock, LeafBlockGood, line_codes, LineEnding, lines, list_all, math_start, not-true, own_lines, prefix_len}
+use Rattle.laws_endings.proofs.Prelude.{Property, Reads, Rest, rest_line, run, small_indent, TextLine, TextLineGood, trim, underline, without_closing}
+use Rattle.laws_endings.proofs.Prelude.{without_run}
 use Rattle.markdown_options.specs.declared.line_ending.LineEnding.TheVariants.{CarriageReturnLineFeed, CarriageReturn, LineFeed}
-use Rattle.markdown_options.specs.declared.configuration.Constructs.{Constructs}
-use Rattle.markdown_options.specs.declared.beside.Beside.{Beside}
-use Rattle.markdown_options.specs.declared.beside.Kind.{Kind}
-use Rattle.definition_text.specs.BlockLines.{BlockLine, own_lines}
-use Rattle.definition_text.specs.Columns.{Rest, is_tab_column, is_byte, bytes_of, code_byte, block_codes, is_white, indent, bare, trim}
-use Rattle.definition_text.specs.Content.{is_eol, ending_code, line_codes, content_of}
-use Rattle.definition_text.specs.Indents.{small_indent}
-use Rattle.definition_text.specs.Lines.{TextLine, lines}
-use Rattle.definition_text.specs.Runs.{run, after_run}
-use Rattle.definition_block.specs.CodeFenced.{Fence, first_word, fence_by, fence_of, fence_start}
-use Rattle.definition_block.specs.MathFlow.{math_info, math_fence_of, math_start}
-use Rattle.definition_block.specs.HeadingAtx.{Atx, atx, begins_apart, ends_apart, without_run, without_closing, atx_of, heading_atx}
-use Rattle.definition_block.specs.HeadingSetext.{underline}
-use Rattle.definition_block.specs.Tree.{LeafBlock, Block, Blocks, rest_line, blocks}
+use Rattle.definition_block.specs.CodeFenced.{first_word, fence_by, fence_of}
+use Rattle.definition_block.specs.MathFlow.{math_info, math_fence_of}
 use Rattle.laws_endings.proofs.Rests.{starts-fine, continues-fine}
-use Rattle.definition_block.proofs.BlockReads.{Property, LeafBlockGood, BlockGood, BlocksGood, TextLineGood, AtxGood, FenceGood, Reads}
-use Rattle.definition_block.proofs.BlockReads.{own_good, blocks_good}
+use Rattle.definition_block.proofs.BlockReads.{FenceGood}
+use Rattle.definition_block.proofs.BlockReads.{own_good}
 use Rattle.laws_endings.proofs.Each.{Each, each-append, each-take, each-drop, each_filter, WhereSome, where_passed}
 use Rattle.laws_endings.proofs.Characters.{IsWhole, AreWhole}
 use Rattle.laws_endings.proofs.Fits.{Single, Plain, TitleFits, definition_fits}

@@ -1,19 +1,12 @@
 -- The blocks of a text with another ending in place of each LF.
 use Rattle.std.proofs.Common.{◌≡◌, ℕ, List, [], ◌∷◌, None, Some, Option, cond, ◌&&◌, refl, ap, ◌∙◌, map}
-use Rattle.std.specs.Prelude.{IfSome}
-use Rattle.std.specs.Option.{option_map}
-use Rattle.std.proofs.lemmas.Bool.{cond_both}
-use Rattle.markdown_options.specs.declared.line_ending.LineEnding.{LineEnding}
-use Rattle.markdown_options.specs.declared.configuration.Constructs.{Constructs}
-use Rattle.markdown_options.specs.declared.beside.Kind.{Kind}
+use Rattle.laws_endings.proofs.Prelude.{blocks_with, close, cond_both, Constructs, grow, IfSome, join, Kind, LineEnding, lines, option_map, text_line_with}
+use Rattle.laws_endings.proofs.Prelude.{TextLine, Tree, tree, whole}
 use Rattle.markdown_options.specs.declared.beside.Kind.TheVariants.{Whitespace}
-use Rattle.definition_text.specs.Lines.{TextLine, lines}
-use Rattle.definition_text.specs.Columns.{whole}
 use Rattle.definition_block.specs.Frontmatter.{is_metadata_fence, after_metadata_fence, after_frontmatter}
-use Rattle.definition_block.specs.Tree.{join, Tree, tree, empty_tree, close, grow, beside_line, step, steps, blocks_at_end, children, children_after}
+use Rattle.definition_block.specs.Tree.{empty_tree, beside_line, step, steps, blocks_at_end, children, children_after}
 use Rattle.definition_page.proofs.LineReads.{LinesGood, MayBegin, lines_good}
 use Rattle.laws_endings.proofs.Each.{Each}
-use Rattle.laws_endings.specs.Endings.{text_line_with, blocks_with}
 use Rattle.laws_endings.specs.Laws.{BlocksLaw}
 use Rattle.laws_endings.proofs.Lines.{ending_lines_law}
 use Rattle.laws_endings.proofs.Codes.{cond-under}

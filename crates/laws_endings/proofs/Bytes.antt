@@ -1,23 +1,17 @@
 -- Printed bytes with another line ending in place of each LF.
 use Rattle.std.proofs.Common.{◌≡◌, ℕ, zero, suc, ◌+◌, ◌-◌, ◌/◌, ◌%◌, Bool, true, false, cond, not, eqb, ltb, ◌||◌, ◌&&◌, List, [], ◌∷◌, ◌++◌, Option, None}
 use Rattle.std.proofs.Common.{Some, refl, sym, ap, ◌∙◌, arith, decimal, append-nil, flat_map}
-use Rattle.std.specs.Prelude.{codes}
+use Rattle.laws_endings.proofs.Prelude.{and_parts, both_ways, byte_with, code_with, codes, CompileOptions, cond-false, cond_both, encode, ending_bytes}
+use Rattle.laws_endings.proofs.Prelude.{eqb-true, false_from_ne_true, filter_if, flat_map-append, is_fresh, line_ending_code, LineEnding, list_all, ne_eqb}
+use Rattle.laws_endings.proofs.Prelude.{not-true, percent, plain, with_ending}
 use Rattle.std.specs.Fmt.{digit_glyph, digits, digits_onto}
-use Rattle.std.specs.List.{list_all}
-use Rattle.std.proofs.lemmas.Grind.{flat_map-append}
-use Rattle.std.proofs.lemmas.Bool.{and_parts, cond_both, cond-false, both_ways, false_from_ne_true, eqb-true, ne_eqb, not-true}
-use Rattle.markdown_options.specs.declared.line_ending.LineEnding.{LineEnding}
 use Rattle.markdown_options.specs.declared.line_ending.LineEnding.TheVariants.{CarriageReturnLineFeed, CarriageReturn, LineFeed}
-use Rattle.markdown_options.specs.declared.configuration.CompileOptions.{CompileOptions}
-use Rattle.markdown_options.specs.LineEndings.{ending_bytes}
-use Rattle.definition_text.specs.Content.{line_ending_code}
-use Rattle.definition_text.specs.Encode.{replacement_character, plain_byte, plain, encoded_byte, encode}
+use Rattle.definition_text.specs.Encode.{replacement_character, plain_byte, encoded_byte}
 use Rattle.definition_inline.specs.Strings.{eol_bytes}
-use Rattle.definition_page.specs.GfmTagfilter.{is_filtered, filter_tags, filter_if}
-use Rattle.definition_page.specs.Urls.{is_kept, escape, percent_byte, percent}
-use Rattle.definition_page.specs.Pieces.{ends_a_line, is_fresh}
+use Rattle.definition_page.specs.GfmTagfilter.{is_filtered, filter_tags}
+use Rattle.definition_page.specs.Urls.{is_kept, escape, percent_byte}
+use Rattle.definition_page.specs.Pieces.{ends_a_line}
 use Rattle.definition_page.proofs.LastByte.{last_from, last_is}
-use Rattle.laws_endings.specs.Endings.{byte_with, with_ending, code_with}
 use Rattle.laws_endings.proofs.Each.{Each, each-append}
 
 abbrev pub IsNoFeed : ℕ → Type 0

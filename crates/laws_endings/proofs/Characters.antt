@@ -4,9 +4,9 @@ use Rattle.std.proofs.Common.{refl, sym, ap, ◌∙◌, subst, arith, IsUtf8, dr
 use Rattle.std.specs.Char.{encode_utf8, IsScalar}
 use Rattle.std.specs.Str.{encode_utf8_all, all_scalars}
 use lib.Utf8.{scalar_cases}
-use Rattle.std.proofs.lemmas.Bool.{cases_lt, cond-true, cond-false, lt-ltb, le-ltb, le-leb, and_left, and_from, and_right, lt-leb, ne_eqb, and_parts, both_ways}
-use Rattle.definition_text.specs.InlineCode.{is_continuation}
-use Rattle.laws_endings.specs.Kinds.{counts_after}
+use Rattle.laws_endings.proofs.Prelude.{and_from, and_left, and_parts, and_right, both_ways, cond-false, cond-true, counts_after, is_continuation, lt-ltb}
+use Rattle.laws_endings.proofs.Prelude.{ne_eqb}
+use Rattle.std.proofs.lemmas.Bool.{cases_lt, le-ltb, le-leb, lt-leb}
 use Rattle.laws_endings.proofs.Each.{Each}
 
 -- how many bytes of a character follow its first

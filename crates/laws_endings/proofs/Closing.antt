@@ -1,14 +1,13 @@
 -- What is closed, with another ending in place of each LF.
 use Rattle.std.proofs.Common.{◌≡◌, List, [], ◌∷◌, false, cond, ◌&&◌, refl, ap, ◌∙◌}
-use Rattle.markdown_options.specs.declared.line_ending.LineEnding.{LineEnding}
-use Rattle.markdown_options.specs.declared.configuration.Constructs.{Constructs}
-use Rattle.definition_block.specs.Container.{Container, Quote, Item, Footnote}
-use Rattle.definition_block.specs.Definitions.{DefinitionCut, definition_cut}
-use Rattle.definition_block.specs.Tree.{BlockLine, last_ending, own_lines, LeafBlock, Paragraph, IndentedCode, FencedCode, Html, Table}
-use Rattle.definition_block.specs.Tree.{Block, Leaf, Holds, Ending, Blank, Blocks, Nil, Cons, join, one, block_and_ending}
-use Rattle.definition_block.specs.Tree.{OpenLeaf, Text, Indented, Fenced, OpenHtml, OpenTable, Opening, At, Inside, blanks, paragraph_of, with_paragraph}
-use Rattle.definition_block.specs.Tree.{close_leaf, is_ending, all_endings, front, trailing, without_last, last_of, container_block, close}
-use Rattle.laws_endings.specs.Endings.{if_ending_with, lines_with, leaf_block_with, block_with, blocks_with}
+use Rattle.laws_endings.proofs.Prelude.{At, Blank, Block, block_and_ending, block_with, Blocks, blocks_with, close, Constructs, Container, definition_cut}
+use Rattle.laws_endings.proofs.Prelude.{DefinitionCut, Ending, Fenced, FencedCode, Footnote, Holds, if_ending_with, Indented, Inside, is_ending, Item, join}
+use Rattle.laws_endings.proofs.Prelude.{leaf_block_with, LeafBlock, LineEnding, lines_with, one, OpenHtml, Opening, OpenLeaf, OpenTable, paragraph_of, Quote}
+use Rattle.laws_endings.proofs.Prelude.{Text}
+use Rattle.definition_block.specs.Tree.{BlockLine, last_ending, own_lines, Paragraph, IndentedCode, Html, Table}
+use Rattle.definition_block.specs.Tree.{Leaf, Nil, Cons}
+use Rattle.definition_block.specs.Tree.{blanks, with_paragraph}
+use Rattle.definition_block.specs.Tree.{close_leaf, all_endings, front, trailing, without_last, last_of, container_block}
 use Rattle.laws_endings.proofs.Codes.{cond-under}
 use Rattle.laws_endings.proofs.Cuts.{last_ending_or-with, last_ending-with, own_lines-with, cut_with, join-with, cut-with}
 use Rattle.laws_endings.proofs.Openings.{leaf_with, opening_with}

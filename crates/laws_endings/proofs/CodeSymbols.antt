@@ -1,31 +1,21 @@
 -- Each code of the contents of a text of bytes is that of one symbol.
 use Rattle.std.proofs.Common.{◌≡◌, ◌<◌, ℕ, ◌+◌, true, false, cond, eqb, ltb, leb, ◌&&◌, ◌||◌, not, List, [], ◌∷◌, ◌++◌, Option, None, Some, take, drop}
 use Rattle.std.proofs.Common.{refl, sym, ap, ◌∙◌, subst, ⊎_elim, append_assoc, replicate}
-use Rattle.std.specs.List.{All, prefix_len}
-use Rattle.std.proofs.lemmas.Bool.{cond_both, cond-false, and_parts, and_from, or_cases, or_from, or_right, or_parts, both_ways, eqb-true, lt-ltb, not-true}
-use Rattle.std.proofs.lemmas.Bool.{not_from_false, false_from_ne_true}
-use Rattle.std.proofs.lemmas.List.Elements.{All-head, All-tail}
-use Rattle.markdown_options.specs.declared.line_ending.LineEnding.{LineEnding}
+use Rattle.laws_endings.proofs.Prelude.{after_return, after_run, All, All-tail, and_from, and_parts, atx, atx_of, AtxGood, bare, begins_apart, Blank, Block}
+use Rattle.laws_endings.proofs.Prelude.{block_codes, BlockGood, BlockLine, Blocks, blocks, blocks_good, BlocksGood, both_ways, bytes_of, codes_from}
+use Rattle.laws_endings.proofs.Prelude.{columns_after_tab, cond-false, cond_both, Constructs, content_of, definition_at, Ending, ending_code, ends_apart}
+use Rattle.laws_endings.proofs.Prelude.{ends_line, eqb-true, false_from_ne_true, fence_start, FencedCode, heading_atx, Holds, in_first_line, indent, is_byte}
+use Rattle.laws_endings.proofs.Prelude.{is_tab_column, is_white, Items, LeafBlock, LeafBlockGood, LineEnding, lines, lt-ltb, math_start, not-true}
+use Rattle.laws_endings.proofs.Prelude.{not_from_false, or_cases, or_from, or_parts, or_right, prefix_len, Property, Reads, Rest, run, small_indent}
+use Rattle.laws_endings.proofs.Prelude.{tab_column, text_line, TextLine, TextLineGood, trim, underline, without_closing, without_run}
+use Rattle.std.proofs.lemmas.List.Elements.{All-head}
 use Rattle.markdown_options.specs.declared.line_ending.LineEnding.TheVariants.{CarriageReturnLineFeed, CarriageReturn, LineFeed}
-use Rattle.markdown_options.specs.declared.configuration.Constructs.{Constructs}
-use Rattle.definition_text.specs.BlockLines.{BlockLine}
-use Rattle.definition_text.specs.Columns.{Code, Rest, codes_from, columns_after_tab, tab_column, is_tab_column, is_byte, is_white, bytes_of, block_codes}
-use Rattle.definition_text.specs.Columns.{indent, bare, trim}
-use Rattle.definition_text.specs.Content.{ending_code, content_of}
-use Rattle.definition_text.specs.Indents.{small_indent}
+use Rattle.definition_text.specs.Columns.{Code}
 use Rattle.definition_text.specs.Codes.{Symbol, Byte, Column, Eol, is_of_content, code_of}
-use Rattle.definition_text.specs.Lines.{TextLine, text_line, in_first_line, after_return, ends_line, lines}
-use Rattle.definition_text.specs.Runs.{run, after_run}
-use Rattle.definition_inline.specs.Definition.{definition_at}
-use Rattle.definition_block.specs.CodeFenced.{fence_start}
-use Rattle.definition_block.specs.MathFlow.{math_start}
-use Rattle.definition_block.specs.HeadingAtx.{atx, begins_apart, ends_apart, without_run, without_closing, atx_of, heading_atx}
-use Rattle.definition_block.specs.HeadingSetext.{underline}
-use Rattle.definition_block.specs.Tree.{LeafBlock, FencedCode, Block, Leaf, Holds, Items}
-use Rattle.definition_block.specs.Tree.{Ending, Blank, Blocks, Nil, Cons, blocks}
+use Rattle.definition_block.specs.Tree.{Leaf}
+use Rattle.definition_block.specs.Tree.{Nil, Cons}
 use Rattle.laws_endings.proofs.Rests.{starts-fine, continues-fine}
 use Rattle.definition_text.proofs.Each.{Each, each-append, each-take, each-drop, each_filter, each_same, WhereSome}
-use Rattle.definition_block.proofs.BlockReads.{Property, LeafBlockGood, BlockGood, BlocksGood, TextLineGood, AtxGood, Reads, blocks_good}
 use Rattle.laws_endings.specs.Symbols.{IsCode, AreCodes, leaf_lines, block_lines, all_lines, CodesLaw, ApartLaw}
 
 -- ---- no two symbols have the same code

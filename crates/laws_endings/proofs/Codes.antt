@@ -1,14 +1,9 @@
 -- Codes with that of another ending in place of each of LF: tests that treat all endings alike answer the same.
 use Rattle.std.proofs.Common.{◌≡◌, ℕ, ◌+◌, ◌-◌, List, [], ◌∷◌, None, Some, Option, Bool, true, false, cond, ◌||◌, eqb, refl, sym, ap, ◌∙◌, length, drop, take}
-use Rattle.std.specs.List.{prefix_len, list_any}
-use Rattle.std.specs.Option.{option_map}
-use Rattle.std.proofs.lemmas.Bool.{eqb-true}
-use Rattle.std.proofs.lemmas.List.{drop-map, take-map, length-map}
-use Rattle.markdown_options.specs.declared.line_ending.LineEnding.{LineEnding}
+use Rattle.laws_endings.proofs.Prelude.{after_all, closed_by, code_with, codes_with, drop-map, eqb-true, length-map, line_ending_code, LineEnding, option_map}
+use Rattle.laws_endings.proofs.Prelude.{Part, part, prefix_len, take-map, text_before, up_to}
+use Rattle.std.specs.List.{list_any}
 use Rattle.markdown_options.specs.declared.line_ending.LineEnding.TheVariants.{CarriageReturnLineFeed, CarriageReturn, LineFeed}
-use Rattle.definition_text.specs.Bytes.{after_all}
-use Rattle.definition_text.specs.Content.{line_ending_code, Part, part, text_before, up_to, closed_by}
-use Rattle.laws_endings.specs.Endings.{code_with, codes_with}
 
 -- a choice of two values under a function
 pub cond-under : {A B : Type 0} {x y : B} {a b : A} (f : A → B) (test : Bool) → x ≡ f a → y ≡ f b → cond test x y ≡ f (cond test a b)

@@ -1,38 +1,19 @@
 -- The inline structure of a content with another ending in place of each LF.
 use Rattle.std.proofs.Common.{◌≡◌, ℕ, zero, suc, ◌+◌, ◌-◌, List, [], ◌∷◌, ◌++◌, None, Some, Option, Bool, true, false, cond, not, ◌&&◌, ◌||◌, eqb, refl, sym}
 use Rattle.std.proofs.Common.{ap, ◌∙◌, drop, map}
-use Rattle.std.specs.Prelude.{is_some, codes, slice_index_or}
-use Rattle.std.specs.List.{fold, prefix_len}
-use Rattle.std.proofs.Math.ListN.{get_or-map}
-use Rattle.std.proofs.lemmas.Bool.{true≢false, both_ways, eqb-true, eq-eqb, false_from_ne_true}
-use Rattle.std.proofs.lemmas.List.{drop-map, map-append}
-use Rattle.markdown_options.specs.declared.line_ending.LineEnding.{LineEnding}
-use Rattle.markdown_options.specs.declared.configuration.Constructs.{Constructs}
-use Rattle.markdown_options.specs.declared.configuration.ParseOptions.{ParseOptions}
-use Rattle.definition_text.specs.Bytes.{begins_with}
-use Rattle.definition_text.specs.Columns.{is_white}
-use Rattle.definition_text.specs.Content.{is_eol, text_before}
-use Rattle.definition_text.specs.InlineCode.{InlineCode, codes_of}
-use Rattle.definition_inline.specs.Inline.{InlineLeaf, Leaf, Data, Found, or_else}
-use Rattle.definition_inline.specs.CharacterEscape.{escape_at}
-use Rattle.definition_inline.specs.CharacterReference.{reference_at}
-use Rattle.definition_inline.specs.CodeText.{code_text_at}
-use Rattle.definition_inline.specs.MathText.{math_text_at}
-use Rattle.definition_inline.specs.Autolink.{autolink_at}
-use Rattle.definition_inline.specs.HtmlText.{html_text_at}
-use Rattle.definition_inline.specs.HardBreak.{escaped_break_at, line_end_at, line_spaces_at}
-use Rattle.definition_inline.specs.GfmAutolinkLiteral.{literal_at, linked_literals}
-use Rattle.definition_inline.specs.LabelEnd.{LinkOrCall, Leads, Calls}
-use Rattle.definition_inline.specs.GfmLabelStartFootnote.{called_label, call_or_link}
-use Rattle.definition_inline.specs.Attention.{Run, is_marker, run_between, run_size, run_at}
-use Rattle.definition_inline.specs.Spans.{Token, Item, Delimiters, with_spans}
-use Rattle.definition_inline.specs.Scan.{InlineContext, leaf_at, leaf_here, LabelStart, LinkStart, ImageStart, starts_image, starts_link, label_start_at}
-use Rattle.definition_inline.specs.Scan.{start_more, leaf_tokens, start_tokens, may_form, label_part, formed_part, formed_at, makes_link, Text, text, OpenLabel}
-use Rattle.definition_inline.specs.Scan.{Reading, reading, read_tokens, with_plain_start, with_link_or_call, Step, Next, data_step, ended_step, ended_by}
-use Rattle.definition_inline.specs.Scan.{label_end_step, last_step, label_step, run_step, leaf_step, step, and_then, scan, whole_text, inlines, inlines_from}
-use Rattle.definition_inline.specs.Scan.{without_indent}
-use Rattle.laws_endings.specs.Endings.{code_with, codes_with}
-use Rattle.laws_endings.specs.Inlines.{inline_code_with, content_with, target_with, leaf_with, inline_with, inlines_with}
+use Rattle.laws_endings.proofs.Prelude.{and_then, autolink_at, begins_with, both_ways, call_or_link, called_label, Calls, code_text_at, code_with, codes}
+use Rattle.laws_endings.proofs.Prelude.{codes_of, codes_with, Constructs, content_with, Data, Delimiters, drop-map, eq-eqb, eqb-true, escape_at}
+use Rattle.laws_endings.proofs.Prelude.{escaped_break_at, false_from_ne_true, fold, formed_at, Found, get_or-map, html_text_at, ImageStart, inline_code_with}
+use Rattle.laws_endings.proofs.Prelude.{inline_with, InlineCode, InlineContext, InlineLeaf, inlines, inlines_from, inlines_with, is_eol, is_marker, is_some}
+use Rattle.laws_endings.proofs.Prelude.{is_white, LabelStart, Leads, Leaf, leaf_at, leaf_here, leaf_step, leaf_with, line_end_at, line_spaces_at, LineEnding}
+use Rattle.laws_endings.proofs.Prelude.{linked_literals, LinkOrCall, LinkStart, literal_at, map-append, math_text_at, Next, or_else, ParseOptions, prefix_len}
+use Rattle.laws_endings.proofs.Prelude.{reading, Reading, reference_at, Run, run_at, run_between, run_size, scan, slice_index_or, Step, step, target_with}
+use Rattle.laws_endings.proofs.Prelude.{text, text_before, Token, true≢false, whole_text, with_spans, without_indent}
+use Rattle.definition_inline.specs.Spans.{Item}
+use Rattle.definition_inline.specs.Scan.{starts_image, starts_link, label_start_at}
+use Rattle.definition_inline.specs.Scan.{start_more, leaf_tokens, start_tokens, may_form, label_part, formed_part, makes_link, Text, OpenLabel}
+use Rattle.definition_inline.specs.Scan.{read_tokens, with_plain_start, with_link_or_call, data_step, ended_step, ended_by}
+use Rattle.definition_inline.specs.Scan.{label_end_step, last_step, label_step, run_step}
 use Rattle.laws_endings.specs.Laws.{InlinesLaw}
 use Rattle.laws_endings.proofs.Codes.{cond-under, same_code, before-with}
 use Rattle.laws_endings.proofs.Leaves.{if_found, or_else-with, same_byte, leaf_at-with}

@@ -1,17 +1,12 @@
 -- The definitions at the front of a paragraph with another ending in place of each LF.
 use Rattle.std.proofs.Common.{◌≡◌, ℕ, suc, zero, ◌+◌, ◌-◌, List, [], ◌∷◌, ◌++◌, None, Some, Option, cond, refl, sym, ap, ◌∙◌, length, drop, take}
-use Rattle.std.specs.List.{fold}
-use Rattle.std.specs.Option.{option_map}
-use Rattle.std.proofs.lemmas.List.{drop-map, take-map, length-map, map-append}
-use Rattle.markdown_options.specs.declared.line_ending.LineEnding.{LineEnding}
-use Rattle.markdown_options.specs.declared.configuration.Constructs.{Constructs}
+use Rattle.laws_endings.proofs.Prelude.{block_with, BlockLine, blocks_with, code_with, codes_with, Constructs, content_of, definition_at, definition_cut}
+use Rattle.laws_endings.proofs.Prelude.{definition_with, DefinitionCut, drop-map, ending_code, fold, if_ending_with, is_eol, length-map, line_codes, line_with}
+use Rattle.laws_endings.proofs.Prelude.{LineEnding, lines_with, LinkDefinition, map-append, option_map, own_lines, take-map}
 use Rattle.markdown_options.specs.declared.line_ending.LineEnding.TheVariants.{CarriageReturnLineFeed, CarriageReturn, LineFeed}
-use Rattle.definition_text.specs.BlockLines.{BlockLine, last_ending_or, last_ending, own_lines}
-use Rattle.definition_text.specs.Content.{is_eol, ending_code, line_codes, content_of}
-use Rattle.definition_inline.specs.Definition.{Definition as LinkDefinition, definition_at}
+use Rattle.definition_text.specs.BlockLines.{last_ending_or, last_ending}
 use Rattle.definition_block.specs.Blocks.{Leaf, Definition, Ending, Blocks, Nil, Cons, join}
-use Rattle.definition_block.specs.Definitions.{DefinitionCut, cut_into, line_count, lines_before, definition_lines, cut_after, cut_most, definition_cut}
-use Rattle.laws_endings.specs.Endings.{code_with, codes_with, if_ending_with, line_with, lines_with, definition_with, block_with, blocks_with}
+use Rattle.definition_block.specs.Definitions.{cut_into, line_count, lines_before, definition_lines, cut_after, cut_most}
 use Rattle.laws_endings.proofs.Codes.{cond-under, same_code}
 use Rattle.laws_endings.proofs.Definitions.{definition_at-with}
 

@@ -1,16 +1,10 @@
 -- Link reference definitions of codes with another ending in place of each LF.
 use Rattle.std.proofs.Common.{◌≡◌, ℕ, List, [], ◌∷◌, None, Some, Option, cond, eqb, refl, ap, ◌∙◌}
-use Rattle.std.specs.Option.{option_map}
-use Rattle.markdown_options.specs.declared.line_ending.LineEnding.{LineEnding}
-use Rattle.definition_text.specs.Content.{is_eol, Part}
-use Rattle.definition_inline.specs.Space.{after_spaces, after_white, begins_with_space}
-use Rattle.definition_inline.specs.Label.{label_at}
-use Rattle.definition_inline.specs.Destination.{destination_at}
-use Rattle.definition_inline.specs.Title.{title_at}
-use Rattle.definition_inline.specs.Definition.{Definition, next_line_after, next_line, definition_with_title}
-use Rattle.definition_inline.specs.Definition.{definition_without_title, definition_at}
-use Rattle.definition_inline.proofs.PartSteps.{definition_before, with_title, or_definition_without_title, with_destination, with_colon, with_label}
-use Rattle.laws_endings.specs.Endings.{codes_with, definition_with}
+use Rattle.laws_endings.proofs.Prelude.{after_spaces, after_white, begins_with_space, codes_with, Definition, definition_at, definition_before}
+use Rattle.laws_endings.proofs.Prelude.{definition_with, definition_with_title, destination_at, is_eol, label_at, LineEnding, next_line, option_map}
+use Rattle.laws_endings.proofs.Prelude.{or_definition_without_title, Part, title_at, with_colon, with_destination, with_label, with_title}
+use Rattle.definition_inline.specs.Definition.{next_line_after}
+use Rattle.definition_inline.specs.Definition.{definition_without_title}
 use Rattle.laws_endings.proofs.Codes.{cond-under, same_code, part_with}
 use Rattle.laws_endings.proofs.Labels.{after_spaces-with, after_white-with, begins_with_space-with, label_at-with, destination_at-with, title_at-with}
 

@@ -1,18 +1,14 @@
 -- Codes that stand for themselves in a page, and the texts that are cut out of them.
 use Rattle.std.proofs.Common.{◌≡◌, ℕ, suc, ◌+◌, ◌-◌, Bool, true, false, cond, eqb, ◌||◌, List, [], ◌∷◌, ◌++◌, Option, None, Some, refl, sym, ap, ◌∙◌, subst}
 use Rattle.std.proofs.Common.{arith, map, length, take, drop, append_assoc, take-append-drop, length-append, take_at}
-use Rattle.std.specs.List.{prefix_len}
-use Rattle.std.proofs.lemmas.Bool.{cond_both, both_ways, false_from_ne_true, eqb-true, and_parts, or_parts, or_from}
-use Rattle.definition_text.specs.Columns.{is_tab_column, code_byte}
-use Rattle.definition_text.specs.Bytes.{begins_with, after_all}
-use Rattle.definition_text.specs.Content.{is_eol, Part, text_before, up_to, closed_by, may_escape, at_line_start}
-use Rattle.definition_inline.specs.Definition.{Definition, definition_at, next_line, definition_with_title}
-use Rattle.definition_inline.specs.Space.{after_spaces, after_ending, after_white, begins_with_space}
-use Rattle.definition_inline.specs.Label.{ends_label, label_end, is_label, if_label, label_at}
-use Rattle.definition_inline.specs.Destination.{ends_angle, angle_end, open_after, is_too_deep, ends_bare, bare_end, unless_empty, if_any, destination_at}
-use Rattle.definition_inline.specs.Title.{ends_title, ends_blank_line, title_end, title_close, title_until, title_at}
-use Rattle.definition_inline.specs.CodeText.{code_space, is_padded, code_text}
-use Rattle.definition_inline.proofs.PartSteps.{definition_before, with_title, or_definition_without_title, with_destination, with_colon, with_label}
+use Rattle.laws_endings.proofs.Prelude.{after_all, after_ending, after_spaces, after_white, and_parts, angle_end, at_line_start, bare_end, begins_with}
+use Rattle.laws_endings.proofs.Prelude.{begins_with_space, both_ways, closed_by, code_byte, code_space, cond_both, Definition, definition_at}
+use Rattle.laws_endings.proofs.Prelude.{definition_before, definition_with_title, destination_at, ends_angle, ends_bare, ends_blank_line, ends_label, eqb-true}
+use Rattle.laws_endings.proofs.Prelude.{false_from_ne_true, if_any, if_label, is_eol, is_label, is_tab_column, is_too_deep, label_at, label_end, may_escape}
+use Rattle.laws_endings.proofs.Prelude.{next_line, open_after, or_definition_without_title, or_from, or_parts, Part, prefix_len, text_before, title_at}
+use Rattle.laws_endings.proofs.Prelude.{title_close, title_end, title_until, unless_empty, up_to, with_colon, with_destination, with_label, with_title}
+use Rattle.definition_inline.specs.Title.{ends_title}
+use Rattle.definition_inline.specs.CodeText.{is_padded, code_text}
 use Rattle.laws_endings.proofs.Each.{Each, each-append, each-take, each-drop, WhereSome}
 
 -- a code that begins no character reference and isn't that of CR LF

@@ -1,24 +1,16 @@
 -- The footnotes at a page's end, with another line ending in place of each LF.
 use Rattle.std.proofs.Common.{◌≡◌, ℕ, zero, suc, ◌-◌, Bool, true, false, cond, List, [], ◌∷◌, ◌++◌, Option, None, Some, String, string_bytes, refl, sym, ap}
 use Rattle.std.proofs.Common.{◌∙◌, map, take, drop, arith, length, subst, inl, inr}
-use Rattle.std.specs.Prelude.{codes, nat_le, slice_index_or}
-use Rattle.std.proofs.Math.ListN.{get_or-map}
-use Rattle.std.proofs.lemmas.Bool.{cond_both}
-use Rattle.markdown_options.specs.declared.line_ending.LineEnding.{LineEnding}
-use Rattle.markdown_options.specs.declared.configuration.CompileOptions.{CompileOptions}
-use Rattle.definition_text.specs.Encode.{encode, plain}
-use Rattle.definition_page.specs.Tags.{Words, AsItIs, Number, Attribute, attribute, bare_tag}
-use Rattle.definition_page.specs.Pieces.{Piece, Open, Close, Says, Fresh}
-use Rattle.definition_page.specs.InlinePieces.{element}
-use Rattle.definition_page.specs.GfmLabelStartFootnote.{text_or, footnote_id, call_id, leads_to_id}
-use Rattle.definition_page.specs.GfmFootnoteDefinition.{Footnote, back_tag, arrow, count_pieces, back_pieces, space_after, backs_pieces, ended_size, with_backs}
+use Rattle.laws_endings.proofs.Prelude.{AsItIs, attribute, Attribute, bare_tag, call_id, called_footnotes, Close, codes, CompileOptions, cond_both, element}
+use Rattle.laws_endings.proofs.Prelude.{encode, ended_size, first_calls, footnote_id, Fresh, get_or-map, HasNoFeed, HaveNoFeeds, leads_to_id, LineEnding}
+use Rattle.laws_endings.proofs.Prelude.{NamedCall, nat_le, Number, Open, Piece, plain, Says, section_pieces, slice_index_or, text_or, times, with_ending}
+use Rattle.laws_endings.proofs.Prelude.{Words}
+use Rattle.definition_page.specs.GfmFootnoteDefinition.{Footnote, back_tag, arrow, count_pieces, back_pieces, space_after, backs_pieces, with_backs}
 use Rattle.definition_page.specs.GfmFootnoteDefinition.{content_pieces, item_tag, footnote_pieces, footnotes_pieces, section_heading_name, section_heading_tag}
 use Rattle.definition_page.specs.GfmFootnoteDefinition.{heading_pieces}
-use Rattle.definition_page.specs.GfmFootnoteDefinition.{section_tag, section_pieces}
-use Rattle.definition_page.specs.Layout.{NamedCall, first_calls, times, footnote_of, called_footnotes}
-use Rattle.laws_endings.specs.Endings.{with_ending}
+use Rattle.definition_page.specs.GfmFootnoteDefinition.{section_tag}
+use Rattle.definition_page.specs.Layout.{footnote_of}
 use Rattle.laws_endings.proofs.Each.{Each}
-use Rattle.laws_endings.specs.PageLaws.{HasNoFeed, HaveNoFeeds}
 use Rattle.laws_endings.proofs.Bytes.{IsNoFeed, given_no_feed, kept, plain-with}
 use Rattle.laws_endings.proofs.Saids.{SaidWith, then-with, says_one, words-kept}
 use Rattle.laws_endings.proofs.Pieces.{BytesWith, AttributesWith, attribute-with, MayCall, PiecesWith, no_pieces, append-with, more-with, said-with}

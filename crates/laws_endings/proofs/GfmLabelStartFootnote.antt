@@ -1,19 +1,12 @@
 -- Calls of footnotes, with another line ending in place of each LF: none is in them.
 use Rattle.std.proofs.Common.{ℕ, suc, List, [], ◌∷◌, Option, None, Some, String, string_bytes, refl, sym, arith, inr, All, decimal, subst, append-nil}
-use Rattle.std.specs.Prelude.{codes, ◌≢◌, nat_le}
-use Rattle.std.proofs.lemmas.Bool.{cond_both, ne_eqb}
-use Rattle.std.proofs.lemmas.List.Elements.{All-tail}
-use Rattle.markdown_options.specs.declared.line_ending.LineEnding.{LineEnding}
-use Rattle.markdown_options.specs.declared.configuration.CompileOptions.{CompileOptions}
-use Rattle.definition_page.specs.Urls.{percent}
-use Rattle.definition_page.specs.Tags.{PrintedPart, Words, Number, Attribute, attribute, attribute_bytes}
-use Rattle.definition_page.specs.Pieces.{Says, CallOf, CountOf}
-use Rattle.definition_page.specs.InlinePieces.{element}
-use Rattle.definition_page.specs.GfmLabelStartFootnote.{Call, text_or, id_prefix, footnote_id, count_says, call_id, leads_to_id, call_tag, call_pieces}
-use Rattle.definition_page.specs.Layout.{times, call_of}
-use Rattle.definition_page.proofs.PlainLayout.{ArePlain}
+use Rattle.laws_endings.proofs.Prelude.{All-tail, ArePlain, attribute, Attribute, attribute_bytes, call_id, codes, CompileOptions, cond_both, element}
+use Rattle.laws_endings.proofs.Prelude.{footnote_id, HasNoFeed, HaveNoFeeds, leads_to_id, LineEnding, nat_le, ne_eqb, Number, percent, PrintedPart, Says}
+use Rattle.laws_endings.proofs.Prelude.{text_or, times, Words, ◌≢◌}
+use Rattle.definition_page.specs.Pieces.{CallOf, CountOf}
+use Rattle.definition_page.specs.GfmLabelStartFootnote.{Call, id_prefix, count_says, call_tag, call_pieces}
+use Rattle.definition_page.specs.Layout.{call_of}
 use Rattle.laws_endings.proofs.Each.{Each}
-use Rattle.laws_endings.specs.PageLaws.{HasNoFeed, HaveNoFeeds}
 use Rattle.laws_endings.proofs.Bytes.{IsNoFeed, given_no_feed, decimal_no_feed, percent_no_feed, kept}
 use Rattle.laws_endings.proofs.Saids.{SaidWith, SaidsWith, says_more, says_one, words-kept}
 use Rattle.laws_endings.proofs.Pieces.{BytesWith, AttributesWith, attribute-with, more_attributes, PiecesWith, said-with, element-with}

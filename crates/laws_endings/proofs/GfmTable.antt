@@ -1,14 +1,9 @@
 -- The cells of a line with another ending in place of each LF (GFM 4.10).
 use Rattle.std.proofs.Common.{◌≡◌, ℕ, Bool, false, cond, ◌&&◌, ◌==◌, List, [], ◌∷◌, refl, ap, ◌∙◌, map, length}
-use Rattle.std.proofs.lemmas.List.{length-map}
-use Rattle.markdown_options.specs.declared.line_ending.LineEnding.{LineEnding}
-use Rattle.definition_text.specs.BlockLines.{BlockLine}
-use Rattle.definition_text.specs.Columns.{is_blank, is_white}
-use Rattle.definition_text.specs.Content.{may_escape}
-use Rattle.markdown_options.specs.declared.beside.Kind.{Kind}
+use Rattle.laws_endings.proofs.Prelude.{BlockLine, Cell, cells, code_with, codes_with, in_first_cell, is_bar, is_blank, is_head, is_white, Kind, length-map}
+use Rattle.laws_endings.proofs.Prelude.{line_cells, LineEnding, lines_with, may_escape, parts, without_blank_first, without_blank_last}
 use Rattle.markdown_options.specs.declared.beside.Kind.TheVariants.{Punctuation}
-use Rattle.definition_block.specs.GfmTable.{Cell, cell, in_first_cell, is_bar, parts, without_blank_first, without_blank_last, cells, line_cells, is_head}
-use Rattle.laws_endings.specs.Endings.{code_with, codes_with, lines_with}
+use Rattle.definition_block.specs.GfmTable.{cell}
 use Rattle.laws_endings.proofs.Codes.{cond-under, same_code}
 
 module _ (e : LineEnding) where

@@ -1,11 +1,7 @@
 -- Checks of task list items, with another ending in place of each LF.
 use Rattle.std.proofs.Common.{◌≡◌, ℕ, Bool, true, false, cond, ◌&&◌, ◌||◌, eqb, not, List, [], ◌∷◌, None, Some, refl, ap, ◌∙◌}
-use Rattle.std.specs.List.{list_all}
-use Rattle.markdown_options.specs.declared.line_ending.LineEnding.{LineEnding}
-use Rattle.markdown_options.specs.declared.configuration.Constructs.{Constructs}
-use Rattle.definition_text.specs.Content.{is_space}
-use Rattle.definition_inline.specs.GfmTaskListItem.{is_done, is_apart, check_of, check_at}
-use Rattle.laws_endings.specs.Endings.{code_with, codes_with}
+use Rattle.laws_endings.proofs.Prelude.{check_at, code_with, codes_with, Constructs, is_space, LineEnding, list_all}
+use Rattle.definition_inline.specs.GfmTaskListItem.{is_done, is_apart, check_of}
 use Rattle.laws_endings.proofs.Codes.{same_code}
 
 module _ (e : LineEnding) where

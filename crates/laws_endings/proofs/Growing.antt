@@ -1,38 +1,23 @@
 -- One more line, with another ending in place of each LF.
 use Rattle.std.proofs.Common.{◌≡◌, ℕ, zero, suc, List, [], ◌∷◌, ◌++◌, None, Some, Option, Bool, true, false, cond, not, ◌&&◌, ◌||◌, ◌-◌, refl, sym, ap, ◌∙◌}
 use Rattle.std.proofs.Common.{length, take, drop}
-use Rattle.std.specs.Prelude.{unwrap_or}
+use Rattle.laws_endings.proofs.Prelude.{AlignKind, At, Atx, Beside, Blank, block_and_ending, Blocks, blocks_with, close, Constructs, Container, ContainerLine}
+use Rattle.laws_endings.proofs.Prelude.{ContainerStart, continues, definition_cut, DefinitionCut, drop-map, Fence, fence_start, Fenced, grow, heading_atx}
+use Rattle.laws_endings.proofs.Prelude.{if_ending_with, Indented, Inside, is_blank, is_break, is_head, join, length-map, line_with, LineEnding, lines_with}
+use Rattle.laws_endings.proofs.Prelude.{map-append, math_start, one, OpenHtml, Opening, OpenLeaf, OpenTable, option_map, outdent, paragraph_of, Rest}
+use Rattle.laws_endings.proofs.Prelude.{rest_line, starts, take-map, Text, tree, Tree, underline, unwrap_or}
 use Rattle.std.specs.Bool.{then_some}
-use Rattle.std.specs.Option.{option_or, option_map, option_and_then}
-use Rattle.std.proofs.lemmas.List.{map-append, take-map, drop-map, length-map}
-use Rattle.markdown_options.specs.declared.line_ending.LineEnding.{LineEnding}
-use Rattle.markdown_options.specs.declared.configuration.Constructs.{Constructs}
-use Rattle.markdown_options.specs.declared.beside.Beside.{Beside}
-use Rattle.definition_block.specs.Container.{Container}
-use Rattle.definition_text.specs.Columns.{Rest, is_blank}
-use Rattle.definition_text.specs.Indents.{outdent}
-use Rattle.definition_block.specs.ContainerLine.{ContainerLine}
-use Rattle.definition_block.specs.ContainerStart.{ContainerStart}
-use Rattle.definition_block.specs.Containers.{continues, starts}
+use Rattle.std.specs.Option.{option_or, option_and_then}
 use Rattle.definition_block.specs.CodeIndented.{starts_code_indented}
-use Rattle.definition_block.specs.CodeFenced.{Fence, fence_start, is_fence_end, fence_line}
-use Rattle.definition_block.specs.MathFlow.{math_start}
+use Rattle.definition_block.specs.CodeFenced.{is_fence_end, fence_line}
 use Rattle.definition_block.specs.HtmlFlow.{html_start, html_ends_here, ends_before_blank}
-use Rattle.definition_block.specs.HeadingAtx.{Atx, heading_atx}
-use Rattle.definition_block.specs.HeadingSetext.{underline}
-use Rattle.definition_block.specs.ThematicBreak.{is_break}
-use Rattle.markdown_options.specs.declared.align_kind.AlignKind.{AlignKind}
-use Rattle.definition_block.specs.GfmTable.{delimiter_row, is_head}
-use Rattle.definition_block.specs.Definitions.{DefinitionCut, definition_cut}
-use Rattle.definition_block.specs.Tree.{BlockLine, block_line, spaced_line, own_lines, Heading, Html, Leaf, Blank, Blocks, Nil, Cons, join}
-use Rattle.definition_block.specs.Tree.{one, block_and_ending}
-use Rattle.definition_block.specs.Tree.{OpenLeaf, Text, Indented, Fenced, OpenHtml, OpenTable, Opening, At, Inside, Tree, tree, nothing, close, leaf_text}
-use Rattle.definition_block.specs.Tree.{open_text, is_some_line, has_text, has_table, table_of, tabled, makes_table, paragraph_of, leaf_with_line, with_line}
-use Rattle.definition_block.specs.Tree.{rest_line}
+use Rattle.definition_block.specs.GfmTable.{delimiter_row}
+use Rattle.definition_block.specs.Tree.{BlockLine, block_line, spaced_line, own_lines, Heading, Html, Leaf, Nil, Cons}
+use Rattle.definition_block.specs.Tree.{nothing, leaf_text}
+use Rattle.definition_block.specs.Tree.{open_text, is_some_line, has_text, has_table, table_of, tabled, makes_table, leaf_with_line, with_line}
 use Rattle.definition_block.specs.Tree.{indented_takes, fenced_takes, html_with, takes, after, text_line_of, text_here, heading_of, underlined, turns}
 use Rattle.definition_block.specs.Tree.{indented_tree, fence_tree, html_tree, atx_tree, break_tree, anew, first_of, leaf_starts, leaf_line}
-use Rattle.definition_block.specs.Tree.{beside_in, start, new, in_container, is_nothing, is_one_blank, began_blank, goes_on, grow}
-use Rattle.laws_endings.specs.Endings.{if_ending_with, line_with, lines_with, blocks_with}
+use Rattle.definition_block.specs.Tree.{beside_in, start, new, in_container, is_nothing, is_one_blank, began_blank, goes_on}
 use Rattle.laws_endings.proofs.Codes.{cond-under}
 use Rattle.laws_endings.proofs.Cuts.{own_lines-with, join-with, cut_with, cut-with}
 use Rattle.laws_endings.proofs.Rests.{Kept, outdented-kept, block_codes-kept, KeptLine, KeptStarted, starts-kept, continues-kept, KeptAtx, heading_atx-kept}

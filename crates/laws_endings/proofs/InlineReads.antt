@@ -1,41 +1,19 @@
 -- The inline structure of a content of codes that stand for themselves: its parts are such codes, and no character reference is among them.
 use Rattle.std.proofs.Common.{◌≡◌, ℕ, suc, zero, Bool, true, false, cond, eqb, ◌&&◌, ◌==◌, List, [], ◌∷◌, map, Option, None, Some, take, drop, refl}
 use Rattle.std.proofs.Common.{sym, subst}
-use Rattle.std.specs.Prelude.{codes}
-use Rattle.std.specs.Char.{is_ascii_punctuation}
-use Rattle.std.specs.List.{prefix_len}
-use Rattle.std.specs.Option.{option_map}
-use Rattle.std.proofs.lemmas.Bool.{cond_both, cond-false, and_parts}
-use Rattle.markdown_options.specs.declared.configuration.Constructs.{Constructs}
-use Rattle.definition_text.specs.Columns.{is_white}
-use Rattle.definition_text.specs.Bytes.{begins_with, after_all}
-use Rattle.definition_text.specs.Content.{Part, text_before, up_to, is_eol}
-use Rattle.definition_text.specs.Runs.{run, after_run}
-use Rattle.definition_text.specs.InlineCode.{InlineCode, codes_of}
-use Rattle.definition_inline.specs.Inline.{InlineLeaf, Data, Found, leaf, or_else}
-use Rattle.definition_inline.specs.CharacterEscape.{escape_at}
-use Rattle.definition_inline.specs.CharacterReference.{reference_form, reference_after, reference_of, reference_at}
-use Rattle.definition_inline.specs.CodeText.{run_of, raw_part, raw_leaf, raw_at, code_text_at}
-use Rattle.definition_inline.specs.MathText.{may_open_math, math_text_at}
-use Rattle.definition_inline.specs.Autolink.{is_scheme_byte, is_uri_byte, begins_with_scheme, after_uri, uri_end, is_email_byte, is_domain_byte, domain_end}
-use Rattle.definition_inline.specs.Autolink.{email_end, closed_autolink, autolink_after, autolink_at}
-use Rattle.definition_inline.specs.HtmlText.{html_byte, html_end, html_leaf, html_text_at}
-use Rattle.definition_inline.specs.HardBreak.{line_end_at, escaped_break_at, is_trailing_break, line_spaces_at}
-use Rattle.definition_inline.specs.Space.{after_white, begins_with_space}
-use Rattle.definition_inline.specs.Resource.{LinkResource, resource_end, opens_title, resource_inside}
-use Rattle.definition_inline.specs.Resource.{resource_at}
-use Rattle.definition_inline.specs.Label.{label_at}
-use Rattle.definition_inline.specs.Destination.{destination_at}
-use Rattle.definition_inline.specs.Title.{title_at}
-use Rattle.definition_inline.specs.LabelEnd.{LinkTail, by_text, by_label, by_resource, label_end_at, LinkOrCall, Leads, link_or_image}
-use Rattle.definition_inline.specs.GfmLabelStartFootnote.{called_label, call_or_link}
-use Rattle.definition_inline.specs.Attention.{Run, is_marker, run_at}
-use Rattle.definition_inline.specs.GfmAutolinkLiteral.{LiteralStart, literal_start_at, literal_name, literal_after, literal_at}
-use Rattle.definition_inline.specs.Scan.{InlineContext, leaf_at, leaf_here, LabelStart, LinkStart, ImageStart, formed_at, text, inlines, spans_from}
-use Rattle.definition_inline.specs.Scan.{inlines_from, without_indent}
+use Rattle.laws_endings.proofs.Prelude.{after_all, after_run, after_uri, after_white, and_parts, autolink_after, autolink_at, begins_with, begins_with_scheme}
+use Rattle.laws_endings.proofs.Prelude.{begins_with_space, by_label, by_resource, by_text, call_or_link, called_label, closed_autolink, code_text_at, codes}
+use Rattle.laws_endings.proofs.Prelude.{codes_of, cond-false, cond_both, Constructs, Data, destination_at, domain_end, email_end, escape_at, escaped_break_at}
+use Rattle.laws_endings.proofs.Prelude.{formed_at, Found, html_byte, html_end, html_leaf, html_text_at, ImageStart, InlineCode, InlineContext, InlineLeaf}
+use Rattle.laws_endings.proofs.Prelude.{inlines, inlines_from, is_ascii_punctuation, is_domain_byte, is_email_byte, is_eol, is_marker, is_scheme_byte}
+use Rattle.laws_endings.proofs.Prelude.{is_trailing_break, is_uri_byte, is_white, label_at, label_end_at, LabelStart, Leads, leaf, leaf_at, leaf_here}
+use Rattle.laws_endings.proofs.Prelude.{line_end_at, line_spaces_at, link_or_image, LinkOrCall, LinkResource, LinkStart, LinkTail, literal_after, literal_at}
+use Rattle.laws_endings.proofs.Prelude.{literal_name, literal_start_at, LiteralStart, math_text_at, may_mark, may_open_math, opens_title, option_map, or_else}
+use Rattle.laws_endings.proofs.Prelude.{Part, prefix_len, raw_at, raw_leaf, raw_part, reference_after, reference_at, reference_form, reference_of, resource_at}
+use Rattle.laws_endings.proofs.Prelude.{resource_end, resource_inside, resource_with_destination, resource_with_title, run, Run, run_at, run_of, text}
+use Rattle.laws_endings.proofs.Prelude.{text_before, title_at, up_to, uri_end, without_indent}
+use Rattle.definition_inline.specs.Scan.{spans_from}
 use Rattle.laws_endings.proofs.Contents.{no_ending_here}
-use Rattle.laws_endings.specs.Kinds.{may_mark}
-use Rattle.definition_inline.proofs.PartSteps.{resource_with_title, resource_with_destination}
 use Rattle.definition_inline.proofs.InlineReads.{LeafGood, BeginsGood, either_begins, Nests, FormedGood, Reads, spans_good}
 use Rattle.definition_inline.proofs.LiteralsKept.{Carries, literals_good, linked_good}
 use Rattle.laws_endings.proofs.Each.{Each, each-append, each-take, each-drop, each_map, WhereSome, where_passed}

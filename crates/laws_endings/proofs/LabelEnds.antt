@@ -1,27 +1,12 @@
 -- What a `]` forms, in a content with another ending in place of each LF.
 use Rattle.std.proofs.Common.{◌≡◌, ℕ, ◌-◌, List, [], ◌∷◌, None, Some, Option, Bool, true, false, cond, not, ◌&&◌, ◌||◌, eqb, refl, ap, ◌∙◌, length}
-use Rattle.std.specs.Prelude.{codes}
-use Rattle.std.specs.Option.{option_map}
-use Rattle.std.specs.Str.{bytes_eq}
-use Rattle.std.proofs.lemmas.List.{length-map}
-use Rattle.markdown_options.specs.declared.line_ending.LineEnding.{LineEnding}
-use Rattle.markdown_options.specs.declared.configuration.Constructs.{Constructs}
-use Rattle.definition_text.specs.Bytes.{begins_with}
-use Rattle.definition_text.specs.Content.{Part, may_escape}
-use Rattle.definition_inline.specs.Inline.{Resource, Reference}
-use Rattle.definition_inline.specs.Space.{after_white, begins_with_space}
-use Rattle.definition_inline.specs.Label.{ends_label, is_label, label_at}
-use Rattle.definition_inline.specs.Destination.{destination_at}
-use Rattle.definition_inline.specs.Title.{title_at}
-use Rattle.definition_inline.specs.Resource.{LinkResource, resource_end, opens_title, after_destination}
-use Rattle.definition_inline.specs.Resource.{resource_inside}
-use Rattle.definition_inline.specs.Resource.{resource_at}
-use Rattle.definition_inline.specs.LabelEnd.{LinkTail, link_tail, has_no_bracket, is_label_text, by_text, by_label, by_resource, label_end_at, LinkOrCall}
-use Rattle.definition_inline.specs.LabelEnd.{Leads, Calls, link_or_image}
-use Rattle.definition_inline.specs.GfmLabelStartFootnote.{called_label, call_or_link}
-use Rattle.definition_inline.proofs.PartSteps.{resource_with_title, resource_with_destination}
-use Rattle.laws_endings.specs.Endings.{code_with, codes_with}
-use Rattle.laws_endings.specs.Inlines.{target_with}
+use Rattle.laws_endings.proofs.Prelude.{after_white, begins_with, begins_with_space, by_label, by_resource, by_text, bytes_eq, call_or_link, called_label}
+use Rattle.laws_endings.proofs.Prelude.{Calls, code_with, codes, codes_with, Constructs, destination_at, ends_label, is_label, label_at, label_end_at, Leads}
+use Rattle.laws_endings.proofs.Prelude.{length-map, LineEnding, link_or_image, LinkOrCall, LinkResource, LinkTail, may_escape, opens_title, option_map, Part}
+use Rattle.laws_endings.proofs.Prelude.{Reference, Resource, resource_at, resource_end, resource_inside, resource_with_destination, resource_with_title}
+use Rattle.laws_endings.proofs.Prelude.{target_with, title_at}
+use Rattle.definition_inline.specs.Resource.{after_destination}
+use Rattle.definition_inline.specs.LabelEnd.{link_tail, has_no_bracket, is_label_text}
 use Rattle.laws_endings.proofs.Codes.{cond-under, same_code, part_with}
 use Rattle.laws_endings.proofs.Labels.{after_white-with, begins_with_space-with, is_label-with, label_at-with, destination_at-with, title_at-with}
 

@@ -1,16 +1,10 @@
 -- Labels, destinations and titles of codes with another ending in place of each LF.
 use Rattle.std.proofs.Common.{◌≡◌, ℕ, ◌+◌, List, [], ◌∷◌, None, Some, Option, Bool, true, false, cond, not, ◌||◌, ◌&&◌, ⊎_elim, eqb, refl, sym, ap, ◌∙◌}
-use Rattle.std.specs.Prelude.{nat_le}
-use Rattle.std.specs.Option.{option_map}
-use Rattle.std.proofs.lemmas.Bool.{cond_both, eqb-true, or_cases}
-use Rattle.markdown_options.specs.declared.line_ending.LineEnding.{LineEnding}
-use Rattle.definition_text.specs.Columns.{is_white}
-use Rattle.definition_text.specs.Content.{is_eol, is_space, Part, may_escape, at_line_start, up_to, closed_by}
-use Rattle.definition_inline.specs.Space.{after_spaces, after_ending, after_white, begins_with_space}
-use Rattle.definition_inline.specs.Label.{ends_label, label_end, has_text, label_size, is_label, if_label, label_at}
-use Rattle.definition_inline.specs.Destination.{ends_angle, angle_end, open_after, is_too_deep, ends_bare, bare_end, unless_empty, if_any, destination_at}
-use Rattle.definition_inline.specs.Title.{ends_blank_line, title_end, title_close, title_until, title_at}
-use Rattle.laws_endings.specs.Endings.{code_with, codes_with}
+use Rattle.laws_endings.proofs.Prelude.{after_ending, after_spaces, after_white, angle_end, at_line_start, bare_end, begins_with_space, closed_by, code_with}
+use Rattle.laws_endings.proofs.Prelude.{codes_with, cond_both, destination_at, ends_angle, ends_bare, ends_blank_line, ends_label, eqb-true, if_any, if_label}
+use Rattle.laws_endings.proofs.Prelude.{is_eol, is_label, is_space, is_too_deep, is_white, label_at, label_end, LineEnding, may_escape, nat_le, open_after}
+use Rattle.laws_endings.proofs.Prelude.{option_map, or_cases, Part, title_at, title_close, title_end, title_until, unless_empty, up_to}
+use Rattle.definition_inline.specs.Label.{has_text, label_size}
 use Rattle.laws_endings.proofs.Codes.{cond-under, same_code, after_all-with, list_any-with, part_with, up_to-with, closed_by-with}
 
 -- an ending's code is no quote

@@ -1,34 +1,23 @@
 -- Constructs that hold no other, in a content with another ending in place of each LF.
 use Rattle.std.proofs.Common.{◌≡◌, ℕ, suc, ◌+◌, ◌-◌, List, [], ◌∷◌, None, Some, Option, Bool, true, false, cond, not, ◌&&◌, ◌||◌, eqb, refl, sym, ap, ◌∙◌}
 use Rattle.std.proofs.Common.{length, drop, take, map, arith}
-use Rattle.std.specs.Prelude.{nat_le, codes}
-use Rattle.std.specs.Char.{is_ascii_digit, is_ascii_hexdigit, is_ascii_alphanumeric, is_ascii_punctuation}
-use Rattle.std.specs.List.{prefix_len, list_all, take_while}
-use Rattle.std.specs.Option.{option_map}
-use Rattle.std.specs.Str.{bytes_eq}
-use Rattle.std.proofs.lemmas.Bool.{cond-false, both_ways, and_parts, eqb-true}
-use Rattle.std.proofs.lemmas.List.{take-map, drop-map, length-map}
-use Rattle.markdown_options.specs.declared.line_ending.LineEnding.{LineEnding}
-use Rattle.markdown_options.specs.declared.configuration.Constructs.{Constructs}
-use Rattle.markdown_options.specs.declared.configuration.ParseOptions.{ParseOptions}
-use Rattle.definition_text.specs.Columns.{is_white, indent, bare}
-use Rattle.definition_text.specs.Bytes.{begins_with, begins_with_letter, is_letter, after_all}
-use Rattle.definition_text.specs.Content.{line_ending_code, is_eol, Part, part, text_before, up_to}
-use Rattle.definition_text.specs.Runs.{run, after_run}
-use Rattle.definition_inline.specs.Inline.{InlineLeaf, Data, Escape, Code, Math, Autolink, Html, TrailingBreak, Found, leaf, or_else}
-use Rattle.definition_inline.specs.CharacterEscape.{escape_at}
+use Rattle.laws_endings.proofs.Prelude.{after_all, after_run, after_uri, and_parts, Autolink, autolink_after, autolink_at, bare, begins_with}
+use Rattle.laws_endings.proofs.Prelude.{begins_with_scheme, both_ways, bytes_eq, closed_autolink, Code, code_space, code_text_at, code_with, codes, codes_with}
+use Rattle.laws_endings.proofs.Prelude.{cond-false, Constructs, Data, domain_end, drop-map, email_end, eqb-true, Escape, escape_at, escaped_break_at, Found}
+use Rattle.laws_endings.proofs.Prelude.{Html, html_byte, html_end, html_leaf, html_text_at, indent, InlineContext, InlineLeaf, is_ascii_punctuation}
+use Rattle.laws_endings.proofs.Prelude.{is_domain_byte, is_email_byte, is_eol, is_scheme_byte, is_trailing_break, is_uri_byte, is_white, leaf, leaf_at}
+use Rattle.laws_endings.proofs.Prelude.{leaf_with, length-map, line_end_at, line_ending_code, line_spaces_at, LineEnding, list_all, Math, math_text_at}
+use Rattle.laws_endings.proofs.Prelude.{may_open_math, nat_le, option_map, or_else, ParseOptions, part, Part, prefix_len, raw_at, raw_leaf, raw_part}
+use Rattle.laws_endings.proofs.Prelude.{reference_after, reference_at, reference_form, reference_of, run, run_of, take-map, text_before, TrailingBreak, up_to}
+use Rattle.laws_endings.proofs.Prelude.{uri_end}
+use Rattle.std.specs.Char.{is_ascii_digit, is_ascii_hexdigit, is_ascii_alphanumeric}
+use Rattle.std.specs.List.{take_while}
+use Rattle.definition_text.specs.Bytes.{begins_with_letter, is_letter}
 use Rattle.definition_inline.specs.CharacterReference.{CharacterReference, character_reference, before_semicolon, part_to_semicolon, reference_by_number}
-use Rattle.definition_inline.specs.CharacterReference.{reference_by_name, number_reference, reference_after, reference_form, reference_text, reference_leaf}
-use Rattle.definition_inline.specs.CharacterReference.{reference_of, reference_at}
-use Rattle.definition_inline.specs.CodeText.{run_of, code_space, without_padding, raw_part, raw_leaf, raw_at, code_text_at}
-use Rattle.definition_inline.specs.MathText.{may_open_math, math_text_at}
-use Rattle.definition_inline.specs.Autolink.{is_scheme_byte, is_uri_byte, begins_with_scheme, after_uri, uri_end, is_email_byte, is_domain_byte, is_domain}
-use Rattle.definition_inline.specs.Autolink.{domain_end, email_end, closed_autolink, autolink_after, autolink_at}
-use Rattle.definition_inline.specs.HtmlText.{html_byte, html_end, html_leaf, html_text_at}
-use Rattle.definition_inline.specs.HardBreak.{ends_inner_line, ends_here, line_end_at, escaped_break_at, is_trailing_break, line_spaces_at}
-use Rattle.definition_inline.specs.Scan.{InlineContext, leaf_at}
-use Rattle.laws_endings.specs.Endings.{code_with, codes_with}
-use Rattle.laws_endings.specs.Inlines.{leaf_with}
+use Rattle.definition_inline.specs.CharacterReference.{reference_by_name, number_reference, reference_text, reference_leaf}
+use Rattle.definition_inline.specs.CodeText.{without_padding}
+use Rattle.definition_inline.specs.Autolink.{is_domain}
+use Rattle.definition_inline.specs.HardBreak.{ends_inner_line, ends_here}
 use Rattle.laws_endings.proofs.Codes.{cond-under, same_code, prefix_len-with, after_all-with, part_with, before-with, up_to-with}
 
 one-more : (n : ℕ) → 1 + n ≡ suc n

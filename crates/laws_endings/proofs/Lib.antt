@@ -1,3 +1,4 @@
+mod Prelude
 pub mod Lines
 mod Codes
 mod Labels

@@ -1,14 +1,9 @@
 -- The lines of a text with another ending in place of each LF.
 use Rattle.std.proofs.Common.{◌≡◌, ℕ, List, [], ◌∷◌, ◌++◌, Some, Bool, true, false, cond, eqb, refl, sym, ap, ◌∙◌, drop, arith}
-use Rattle.std.specs.Prelude.{◌≢◌, map}
-use Rattle.std.specs.List.{All}
-use Rattle.std.proofs.lemmas.Bool.{cond-false, ne_eqb}
-use Rattle.std.proofs.lemmas.List.Elements.{All-tail}
-use Rattle.markdown_options.specs.declared.line_ending.LineEnding.{LineEnding}
+use Rattle.laws_endings.proofs.Prelude.{after_return, All, All-tail, cond-false, ending_bytes, in_first_line, LineEnding, lines, ne_eqb, text_line}
+use Rattle.laws_endings.proofs.Prelude.{text_line_with, TextLine, with_ending, ◌≢◌}
+use Rattle.std.specs.Prelude.{map}
 use Rattle.markdown_options.specs.declared.line_ending.LineEnding.TheVariants.{CarriageReturnLineFeed, CarriageReturn, LineFeed}
-use Rattle.markdown_options.specs.LineEndings.{ending_bytes}
-use Rattle.definition_text.specs.Lines.{TextLine, text_line, in_first_line, after_return, lines}
-use Rattle.laws_endings.specs.Endings.{with_ending, text_line_with}
 use Rattle.laws_endings.specs.Laws.{EndingLinesLaw}
 
 -- no byte is CR

@@ -1,17 +1,11 @@
 -- The text of a literal has no ending.
 use Rattle.std.proofs.Common.{◌≡◌, ℕ, zero, suc, true, false, not, ◌||◌, ◌&&◌, eqb, List, [], ◌∷◌, Option, None, Some, inl, inr, refl, sym, ap, ◌∙◌, subst}
 use Rattle.std.proofs.Common.{take, length}
-use Rattle.std.specs.Prelude.{codes, reverse}
-use Rattle.std.specs.Char.{to_ascii_lowercase}
-use Rattle.std.specs.List.{list_all}
-use Rattle.std.proofs.lemmas.Bool.{cond_both, and_parts, or_parts, or_cases, eqb-true, eq-eqb, not-true, false_from_ne_true, both_ways, true≢false}
-use Rattle.std.proofs.lemmas.List.{reverse-append}
-use Rattle.definition_text.specs.Columns.{is_white}
-use Rattle.definition_text.specs.Content.{is_eol, is_space}
-use Rattle.definition_inline.specs.Inline.{Www, Protocol}
-use Rattle.definition_inline.specs.GfmAutolinkLiteral.{may_precede_www, may_precede_protocol, begins_caselessly, LiteralStart, literal_start, or_start}
-use Rattle.definition_inline.specs.GfmAutolinkLiteral.{www_start, protocol_start, literal_start_at, follows_label, ends_literal, literal_run, is_cut, cut_more}
-use Rattle.definition_inline.specs.GfmAutolinkLiteral.{without_tail, literal_name}
+use Rattle.laws_endings.proofs.Prelude.{and_parts, begins_caselessly, both_ways, codes, cond_both, cut_more, ends_literal, eq-eqb, eqb-true}
+use Rattle.laws_endings.proofs.Prelude.{false_from_ne_true, follows_label, is_cut, is_eol, is_space, is_white, list_all, literal_name, literal_run}
+use Rattle.laws_endings.proofs.Prelude.{literal_start, literal_start_at, LiteralStart, may_precede_protocol, may_precede_www, not-true, or_cases, or_parts}
+use Rattle.laws_endings.proofs.Prelude.{or_start, Protocol, protocol_start, reverse, reverse-append, to_ascii_lowercase, true≢false, without_tail, Www}
+use Rattle.laws_endings.proofs.Prelude.{www_start}
 use Rattle.laws_endings.proofs.Literals.{is_apart}
 use Rattle.laws_endings.proofs.Each.{Each, each-append}
 use Rattle.laws_endings.proofs.Fits.{Single, Plain}

@@ -1,29 +1,17 @@
 -- Literals in a content with another ending in place of each LF: none holds an ending.
 use Rattle.std.proofs.Common.{◌≡◌, ℕ, zero, suc, ◌+◌, ◌-◌, List, [], ◌∷◌, ◌++◌, None, Some, Option, Bool, true, false, cond, not, ◌&&◌, ◌||◌, eqb, refl, sym}
 use Rattle.std.proofs.Common.{ap, ◌∙◌, length, drop, take}
-use Rattle.std.specs.Prelude.{nat_le, nat_lt, codes, reverse, slice_index_or}
-use Rattle.std.specs.Char.{to_ascii_lowercase}
-use Rattle.std.specs.List.{prefix_len, list_all, filter}
-use Rattle.std.specs.Option.{option_map}
-use Rattle.std.proofs.Math.ListN.{get_or-map}
-use Rattle.std.proofs.lemmas.Bool.{and_parts, or_parts, cond_both, eqb-true, eq-eqb, both_ways, false_from_ne_true, not-true}
-use Rattle.std.proofs.lemmas.List.{drop-map, take-map, length-map, map-append, reverse-append}
-use Rattle.markdown_options.specs.declared.line_ending.LineEnding.{LineEnding}
-use Rattle.markdown_options.specs.declared.configuration.Constructs.{Constructs}
-use Rattle.markdown_options.specs.declared.beside.Kind.{Kind}
-use Rattle.definition_text.specs.Bytes.{is_letter_or_digit, begins_with}
-use Rattle.definition_text.specs.Columns.{is_white}
-use Rattle.definition_text.specs.Content.{is_eol, is_space}
-use Rattle.definition_text.specs.InlineCode.{InlineCode, codes_of, is_continuation}
-use Rattle.definition_inline.specs.Attention.{is_other}
-use Rattle.definition_inline.specs.Inline.{Www, Protocol, Literal, Found, leaf}
-use Rattle.definition_inline.specs.GfmAutolinkLiteral.{is_among, may_precede_www, may_precede_protocol, begins_caselessly, LiteralStart, literal_start}
-use Rattle.definition_inline.specs.GfmAutolinkLiteral.{or_start, www_start, protocol_start, literal_start_at, is_control_or_ending, begins_name, follows_label}
-use Rattle.definition_inline.specs.GfmAutolinkLiteral.{ends_literal}
-use Rattle.definition_inline.specs.GfmAutolinkLiteral.{literal_run, is_trailing, count_of, has_more_closed, is_cut, name_size, cut_more, without_tail}
-use Rattle.definition_inline.specs.GfmAutolinkLiteral.{literal_name, domain, low_line_in, has_low_line, named_literal, literal_after, literal_at}
-use Rattle.laws_endings.specs.Endings.{code_with, codes_with}
-use Rattle.laws_endings.specs.Inlines.{inline_code_with, content_with}
+use Rattle.laws_endings.proofs.Prelude.{and_parts, begins_caselessly, begins_name, begins_with, both_ways, code_with, codes, codes_of, codes_with, cond_both}
+use Rattle.laws_endings.proofs.Prelude.{Constructs, content_with, cut_more, domain, drop-map, ends_literal, eq-eqb, eqb-true, false_from_ne_true, filter}
+use Rattle.laws_endings.proofs.Prelude.{follows_label, Found, get_or-map, has_low_line, inline_code_with, InlineCode, is_among, is_continuation}
+use Rattle.laws_endings.proofs.Prelude.{is_control_or_ending, is_cut, is_eol, is_other, is_space, is_white, Kind, leaf, length-map, LineEnding, list_all}
+use Rattle.laws_endings.proofs.Prelude.{Literal, literal_after, literal_at, literal_name, literal_run, literal_start, literal_start_at, LiteralStart}
+use Rattle.laws_endings.proofs.Prelude.{map-append, may_precede_protocol, may_precede_www, named_literal, nat_le, nat_lt, not-true, option_map, or_parts}
+use Rattle.laws_endings.proofs.Prelude.{or_start, prefix_len, Protocol, protocol_start, reverse, reverse-append, slice_index_or, take-map, to_ascii_lowercase}
+use Rattle.laws_endings.proofs.Prelude.{without_tail, Www, www_start}
+use Rattle.definition_text.specs.Bytes.{is_letter_or_digit}
+use Rattle.definition_inline.specs.GfmAutolinkLiteral.{is_trailing, count_of, has_more_closed, name_size}
+use Rattle.definition_inline.specs.GfmAutolinkLiteral.{low_line_in}
 use Rattle.laws_endings.proofs.Codes.{cond-under, same_code, prefix_len-with}
 use Rattle.laws_endings.proofs.Leaves.{if_found, begins-byte, same_byte}
 

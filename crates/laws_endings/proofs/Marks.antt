@@ -1,12 +1,9 @@
 -- The byte order mark of a text with another line ending in place of each LF.
 use Rattle.std.proofs.Common.{◌≡◌, ℕ, Bool, true, false, cond, eqb, ◌&&◌, List, [], ◌∷◌, ◌++◌, refl, sym, ap, ◌∙◌, drop}
-use Rattle.std.proofs.lemmas.Bool.{and_left, and_right, and_parts, true≢false, eqb-true}
-use Rattle.markdown_options.specs.declared.line_ending.LineEnding.{LineEnding}
+use Rattle.laws_endings.proofs.Prelude.{and_left, and_parts, and_right, ending_bytes, eqb-true, has_mark, kind_before_text, LineEnding, true≢false}
+use Rattle.laws_endings.proofs.Prelude.{with_ending, without_mark}
 use Rattle.markdown_options.specs.declared.line_ending.LineEnding.TheVariants.{CarriageReturnLineFeed, CarriageReturn, LineFeed}
-use Rattle.markdown_options.specs.LineEndings.{ending_bytes}
 use Rattle.markdown_options.specs.declared.beside.Kind.TheVariants.{Whitespace, Other}
-use Rattle.definition_text.specs.Lines.{has_mark, without_mark, kind_before_text}
-use Rattle.laws_endings.specs.Endings.{with_ending}
 use Rattle.laws_endings.proofs.Neighbours.{no_feed}
 use Rattle.laws_endings.proofs.Bytes.{byte-kept}
 

@@ -1,21 +1,15 @@
 -- Labels and definitions with another ending in place of each LF.
 use Rattle.std.proofs.Common.{◌≡◌, ℕ, List, [], ◌∷◌, ◌++◌, None, Some, Option, Bool, true, false, cond, eqb, refl, sym, ap, ◌∙◌, map}
-use Rattle.std.specs.List.{filter, join_by, slice_split, onto_first}
-use Rattle.std.specs.Option.{option_map}
-use Rattle.std.proofs.lemmas.Bool.{eqb-true, false_from_ne_true, both_ways}
-use Rattle.std.proofs.lemmas.List.{map-append}
-use Rattle.markdown_options.specs.declared.line_ending.LineEnding.{LineEnding}
+use Rattle.laws_endings.proofs.Prelude.{block_definitions, block_footnotes, block_with, blocks, blocks_with, both_ways, code_byte, code_with, codes_with}
+use Rattle.laws_endings.proofs.Prelude.{definition_with, definitions, document_definitions, eqb-true, false_from_ne_true, filter, footnotes, is_space}
+use Rattle.laws_endings.proofs.Prelude.{is_tab_column, leaf_block_with, leaf_definitions, line_ending_code, LineEnding, LinkDefinition, map-append}
+use Rattle.laws_endings.proofs.Prelude.{normal_label, option_map, place_of, with_spaces}
+use Rattle.std.specs.List.{join_by, slice_split, onto_first}
 use Rattle.markdown_options.specs.declared.line_ending.LineEnding.TheVariants.{CarriageReturnLineFeed, CarriageReturn, LineFeed}
-use Rattle.definition_text.specs.Columns.{is_tab_column, code_byte}
-use Rattle.definition_text.specs.Content.{line_ending_code, is_space}
-use Rattle.definition_inline.specs.Definition.{Definition as LinkDefinition, definition}
-use Rattle.definition_inline.specs.LabelMatch.{is_word, fold_word, normal_label, place_of}
+use Rattle.definition_inline.specs.Definition.{definition}
+use Rattle.definition_inline.specs.LabelMatch.{is_word, fold_word}
 use Rattle.definition_block.specs.Blocks.{LeafBlock, Definition, Block, Leaf, Holds, Items, Blocks, Nil, Cons}
-use Rattle.definition_block.specs.Definitions.{leaf_definitions, block_definitions, definitions, container_footnotes, block_footnotes, footnotes}
-use Rattle.definition_block.specs.Tree.{blocks}
-use Rattle.definition_block.specs.Definitions.{with_spaces}
-use Rattle.definition_block.specs.Definitions.{document_definitions}
-use Rattle.laws_endings.specs.Endings.{code_with, codes_with, definition_with, leaf_block_with, block_with, blocks_with}
+use Rattle.definition_block.specs.Definitions.{container_footnotes}
 use Rattle.laws_endings.specs.Laws.{LabelsLaw, DefinitionsLaw, FootnotesLaw}
 use Rattle.laws_endings.proofs.Codes.{same_code}
 use Rattle.laws_endings.proofs.Leaves.{same_byte}

@@ -1,30 +1,17 @@
 -- What stands beside the codes of a line with another ending: the same wherever a run may stand.
 use Rattle.std.proofs.Common.{◌≡◌, ℕ, zero, suc, ◌+◌, ◌-◌, ◌*◌, ◌<◌, Bool, true, false, cond, eqb, ltb, ◌||◌, List, [], ◌∷◌, Option, None, Some, ⊎_elim}
 use Rattle.std.proofs.Common.{refl, sym, ap, ap₂, ◌∙◌, subst, arith, drop, slice_index, slice_index_or}
-use Rattle.std.specs.Option.{option_map}
-use Rattle.std.specs.List.{prefix_len}
-use Rattle.std.proofs.lemmas.Bool.{cond-true, cond-false, both_ways, false_from_ne_true, eqb-true, eq-eqb, or_left, cases_Bool}
-use Rattle.std.proofs.lemmas.Bool.{true≢false}
-use Rattle.markdown_options.specs.declared.line_ending.LineEnding.{LineEnding}
-use Rattle.markdown_options.specs.declared.configuration.ParseOptions.{ParseOptions}
-use Rattle.markdown_options.specs.declared.beside.Kind.{Kind}
+use Rattle.laws_endings.proofs.Prelude.{and_then, AreAlike, both_ways, cases_Bool, code_with, codes_of, codes_with, cond-false, cond-true, content_with}
+use Rattle.laws_endings.proofs.Prelude.{counts_after, eq-eqb, eqb-true, false_from_ne_true, goes_on, inline_code_with, InlineCode, InlineContext, inlines}
+use Rattle.laws_endings.proofs.Prelude.{inlines_from, is_continuation, is_eol, is_marker, is_white, IsAlike, Kind, leaf_at, leaf_here, leaf_step, LineEnding}
+use Rattle.laws_endings.proofs.Prelude.{linked_literals, may_mark, Next, option_map, or_else, or_left, ParseOptions, prefix_len, reading, Reading, Run, run_at}
+use Rattle.laws_endings.proofs.Prelude.{run_between, run_size, scan, Step, step, text, true≢false, whole_text, with_kinds, with_spans, without_indent}
 use Rattle.markdown_options.specs.declared.beside.Kind.TheVariants.{Whitespace}
-use Rattle.definition_text.specs.Columns.{is_white}
-use Rattle.definition_text.specs.Content.{is_eol}
-use Rattle.definition_text.specs.InlineCode.{InlineCode, inline_code, codes_of, first_character, is_continuation, character_kind, first_kind, next_kind}
-use Rattle.definition_text.specs.InlineCode.{with_kinds}
-use Rattle.definition_inline.specs.Attention.{Run, is_marker, run_between, run_size, run_at}
-use Rattle.definition_inline.specs.Inline.{or_else}
-use Rattle.definition_inline.specs.GfmAutolinkLiteral.{linked_literals}
-use Rattle.definition_inline.specs.Scan.{InlineContext, leaf_at, leaf_here, text, Reading, reading, Step, Next, leaf_step, step, and_then, scan, whole_text}
-use Rattle.definition_inline.specs.Scan.{inlines, inlines_from, without_indent}
-use Rattle.definition_inline.specs.Spans.{with_spans}
-use Rattle.laws_endings.specs.Endings.{code_with, codes_with}
-use Rattle.laws_endings.specs.Inlines.{inline_code_with, content_with}
+use Rattle.definition_text.specs.InlineCode.{inline_code, first_character, character_kind, first_kind, next_kind}
 use Rattle.definition_inline.proofs.Markers.{of_marker}
 use Rattle.laws_endings.proofs.Codes.{same_code}
 use Rattle.laws_endings.proofs.Leaves.{same_byte}
-use Rattle.laws_endings.specs.Kinds.{may_mark, counts_after, goes_on, IsAlike, AreAlike, KindsLaw}
+use Rattle.laws_endings.specs.Kinds.{KindsLaw}
 use Rattle.laws_endings.proofs.Each.{Each}
 use Rattle.laws_endings.proofs.AlikeLiterals.{alike_codes, alike_drop, alike_at, same_of, alike_literal}
 use Rattle.laws_endings.proofs.Characters.{need, Begins, continues_one, IsWhole, AreWhole}

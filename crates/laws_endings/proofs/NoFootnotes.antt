@@ -1,11 +1,7 @@
 -- Where footnotes can't be defined, a text defines none.
 use Rattle.std.proofs.Common.{◌≡◌, ℕ, false, List, [], ◌++◌, refl, ap, ◌∙◌, true≢false}
-use Rattle.std.proofs.lemmas.Bool.{or_parts}
-use Rattle.markdown_options.specs.declared.configuration.Constructs.{Constructs}
-use Rattle.markdown_options.specs.declared.beside.Kind.{Kind}
-use Rattle.definition_block.specs.Container.{Footnote}
-use Rattle.definition_block.specs.Definitions.{block_footnotes, footnotes}
-use Rattle.definition_block.specs.Tree.{Block, Holds, Items, Blocks, Nil, Cons, blocks}
+use Rattle.laws_endings.proofs.Prelude.{Block, block_footnotes, blocks, Blocks, Constructs, Footnote, footnotes, Holds, Items, Kind, or_parts}
+use Rattle.definition_block.specs.Tree.{Nil, Cons}
 use Rattle.laws_block.specs.Occurs.{block_has, has, is_footnote_definition}
 use Rattle.laws_block.proofs.Occurs.{no_footnote_definitions}
 

@@ -1,8 +1,6 @@
 -- What is open after some lines, with another line ending in place of each LF.
-use Rattle.markdown_options.specs.declared.line_ending.LineEnding.{LineEnding}
-use Rattle.markdown_options.specs.declared.beside.Beside.{Beside}
-use Rattle.definition_block.specs.Tree.{OpenLeaf, Text, Indented, Fenced, OpenHtml, OpenTable, Opening, At, Inside, Tree, tree}
-use Rattle.laws_endings.specs.Endings.{if_ending_with, lines_with, blocks_with}
+use Rattle.laws_endings.proofs.Prelude.{At, Beside, blocks_with, Fenced, if_ending_with, Indented, Inside, LineEnding, lines_with, OpenHtml, Opening, OpenLeaf}
+use Rattle.laws_endings.proofs.Prelude.{OpenTable, Text, Tree, tree}
 
 -- an open leaf
 abbrev pub leaf_with : LineEnding → OpenLeaf → OpenLeaf

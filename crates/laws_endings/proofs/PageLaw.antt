@@ -1,47 +1,32 @@
 -- With an ending in place of each LF, a text prints its page with that ending.
 use Rattle.std.proofs.Common.{◌≡◌, ℕ, zero, suc, ◌<◌, Bool, true, false, cond, eqb, ◌||◌, not, List, [], ◌∷◌, ◌++◌, Option, None, Some, refl, sym, ap, ◌∙◌}
 use Rattle.std.proofs.Common.{arith, map, drop, length, slice_index_or, All, inl, inr, ◌⊎◌, reverse}
-use Rattle.std.specs.Prelude.{◌≢◌, is_some, unwrap_or}
-use Rattle.std.specs.List.{fold}
-use Rattle.std.specs.Option.{option_map}
-use Rattle.std.proofs.Math.ListN.{get_or-map}
-use Rattle.std.proofs.lemmas.Bool.{cond_both, ne_eqb, eqb-true, eq-eqb, or_left, or_right, true≢false, and_parts}
-use Rattle.std.proofs.lemmas.List.Elements.{All-tail, All-drop}
-use Rattle.std.proofs.lemmas.List.Sums.{fold-append}
-use Rattle.markdown_options.specs.declared.line_ending.LineEnding.{LineEnding}
+use Rattle.laws_endings.proofs.Prelude.{after_return, All-tail, and_parts, block_definitions, blocks_with, called_footnotes, children_pieces, code_byte}
+use Rattle.laws_endings.proofs.Prelude.{codes_with, CompileOptions, cond_both, Definition, definition_with, definitions, document_definitions, ending_bytes}
+use Rattle.laws_endings.proofs.Prelude.{ends_blank, eq-eqb, eqb-true, first_calls, first_match, first_of, fold, fold-append, footnotes, fresh_unless}
+use Rattle.laws_endings.proofs.Prelude.{get_or-map, group_items, has_mark, HaveNoFeeds, if_ending_with, in_first_line, is_some, Kind, kind_before_text, layout}
+use Rattle.laws_endings.proofs.Prelude.{leaf_definitions, LineEnding, lines, link_texts, Meaning, named_calls, ne_eqb, normal_label, option_map, or_left}
+use Rattle.laws_endings.proofs.Prelude.{or_right, Piece, place_of, print, read_blocks, section_pieces, text_line, text_line_with, TextLine, true≢false}
+use Rattle.laws_endings.proofs.Prelude.{unwrap_or, with_calls, with_ending, with_spaces, without_mark, ◌≢◌}
+use Rattle.std.proofs.lemmas.List.Elements.{All-drop}
 use Rattle.markdown_options.specs.declared.line_ending.LineEnding.TheVariants.{LineFeed}
-use Rattle.markdown_options.specs.declared.configuration.CompileOptions.{CompileOptions}
 use Rattle.markdown_options.specs.declared.configuration.Options.{Options}
-use Rattle.markdown_options.specs.LineEndings.{ending_bytes}
-use Rattle.markdown_options.specs.declared.beside.Kind.{Kind}
-use Rattle.definition_text.specs.Columns.{code_byte}
-use Rattle.definition_text.specs.Lines.{TextLine, text_line, in_first_line, after_return, lines, first_of, first_line, has_mark, without_mark, kind_before_text}
-use Rattle.definition_inline.specs.Inline.{link_texts}
-use Rattle.definition_inline.specs.Definition.{Definition}
-use Rattle.definition_inline.specs.LabelMatch.{normal_label, place_of, first_match}
+use Rattle.definition_text.specs.Lines.{first_line}
 use Rattle.definition_block.specs.Tree as tree
-use Rattle.definition_block.specs.Definitions.{leaf_definitions, block_definitions, definitions, footnotes}
-use Rattle.definition_block.specs.Lists.{group_items}
 use Rattle.definition_page.specs.TextTables.{TextTables}
-use Rattle.definition_block.specs.Definitions.{with_spaces}
 use Rattle.definition_inline.specs.Targets.{labels_of, no_definition, linked_at, linked_by, is_label_of, targets}
-use Rattle.definition_block.specs.Definitions.{document_definitions}
 use Rattle.definition_inline.specs.Targets.{is_footnote_of}
 use Rattle.definition_page.specs.Page.{Page}
-use Rattle.definition_page.specs.Pieces.{Piece, print}
-use Rattle.definition_page.specs.GfmFootnoteDefinition.{section_pieces}
-use Rattle.definition_page.specs.Layout.{named_calls, first_calls, with_calls, content, contents, layout, called_footnotes, page_layout}
+use Rattle.definition_page.specs.Layout.{content, contents, page_layout}
 use Rattle.definition_page.proofs.Cuts.{outside_is, insides_are}
-use Rattle.definition_page.specs.InlinePieces.{Meaning}
-use Rattle.definition_page.specs.BlockPieces.{at_top, fresh_unless, children_pieces}
+use Rattle.definition_page.specs.BlockPieces.{at_top}
 use Rattle.definition_page.specs.DocumentPieces.{pieces, default_ending}
-use Rattle.definition_page.specs.Read.{Reading, on_page, read_blocks, ends_blank, page_with, read_after}
-use Rattle.laws_endings.specs.Endings.{with_ending, if_ending_with, text_line_with, codes_with, definition_with, blocks_with}
+use Rattle.definition_page.specs.Read.{Reading, on_page, page_with, read_after}
 use Rattle.laws_endings.specs.Laws.{HasNoReturn}
 use Rattle.laws_endings.proofs.Lines.{ending_lines_law, lines_after-byte}
 use Rattle.laws_endings.proofs.Blocks.{blocks_law}
 use Rattle.laws_endings.proofs.Matching.{normal_label-with, normal_labels-with, labels_law, definitions_law, footnotes_law}
-use Rattle.laws_endings.specs.PageLaws.{HaveNoFeeds, FootnotesHoldNoFeed, EndingPageLaw}
+use Rattle.laws_endings.specs.PageLaws.{FootnotesHoldNoFeed, EndingPageLaw}
 use Rattle.laws_endings.proofs.Each.{Each, each-append, each-drop, each_map, WhereSome}
 use Rattle.laws_endings.proofs.Characters.{AreWhole, whole-drop, IsTextByte, utf8_spelled}
 use Rattle.laws_endings.proofs.Fits.{Single, Plain, TitleFits, space_plain, space_single}

@@ -1,37 +1,27 @@
 -- The page of the blocks of a text with another line ending in place of each LF.
 use Rattle.std.proofs.Common.{◌≡◌, ℕ, zero, suc, Bool, false, true≢false, cond, eqb, not, ◌||◌, ◌&&◌, leb, List, [], ◌∷◌, ◌++◌, Option, None, Some, refl, sym}
 use Rattle.std.proofs.Common.{ap, ◌∙◌, subst, map, drop}
-use Rattle.std.specs.Prelude.{unwrap_or}
-use Rattle.std.proofs.lemmas.Bool.{cond_both}
-use Rattle.std.proofs.lemmas.List.{drop-map, map-append}
-use Rattle.std.specs.List.{prefix_len}
-use Rattle.definition_text.specs.Columns.{is_white}
-use Rattle.markdown_options.specs.declared.line_ending.LineEnding.{LineEnding}
+use Rattle.laws_endings.proofs.Prelude.{AreAlike, block_with, BlockLine, blocks_with, Cell, cells, check_at, code_byte, codes_of, codes_with, cond_both, Cons}
+use Rattle.laws_endings.proofs.Prelude.{content_with, delimiter_line, drop-map, ending_code, ending_list, ending_with, ends_blank, group_items, head_line}
+use Rattle.laws_endings.proofs.Prelude.{if_ending_with, in_cell, inline_code_with, InlineCode, InlineContext, Inlines, inlines, inlines_from, inlines_with}
+use Rattle.laws_endings.proofs.Prelude.{is_ending, is_white, join, Kind, Leaf, leaf_block_with, line_cells, line_codes, line_with, LineEnding, lines_with}
+use Rattle.laws_endings.proofs.Prelude.{map-append, one, own_lines, prefix_len, read_blocks, string_text, Table, TableRow, TaskCheck, unwrap_or, with_ending}
+use Rattle.laws_endings.proofs.Prelude.{with_kinds, without_indent}
 use Rattle.markdown_options.specs.declared.line_ending.LineEnding.TheVariants.{CarriageReturnLineFeed, CarriageReturn, LineFeed}
-use Rattle.markdown_options.specs.declared.beside.Kind.{Kind}
 use Rattle.markdown_options.specs.declared.beside.Kind.TheVariants.{Whitespace}
-use Rattle.definition_text.specs.BlockLines.{BlockLine, own_lines}
-use Rattle.definition_text.specs.Columns.{code_byte}
-use Rattle.definition_text.specs.Content.{ending_code, line_codes}
-use Rattle.definition_text.specs.InlineCode.{InlineCode, codes_of, with_kinds, line_content, inline_content}
-use Rattle.definition_inline.specs.GfmTaskListItem.{check_at, check_size}
-use Rattle.definition_inline.specs.Scan.{InlineContext, inlines, inlines_from, without_indent}
-use Rattle.definition_inline.specs.Strings.{string_text}
+use Rattle.definition_text.specs.InlineCode.{line_content, inline_content}
+use Rattle.definition_inline.specs.GfmTaskListItem.{check_size}
 use Rattle.definition_block.specs.Tree as tree
-use Rattle.definition_block.specs.Tree.{is_ending, join, one}
 use Rattle.definition_block.specs.Lists.{endings_at_front, endings_of, after_endings, is_some_block, has_gap, has_gap_inside, is_loose, item_marker}
-use Rattle.definition_block.specs.Lists.{list_marker, list_items, rest_of, before_list, put_before, grouped_block, group_items}
-use Rattle.definition_block.specs.GfmTable.{Cell, cells, line_cells, delimiters as delimiters_of}
-use Rattle.definition_inline.specs.Inline.{Leaf, TaskCheck, Inlines, Cons}
-use Rattle.definition_page.specs.GfmTable.{TableRow, Table, head_line, delimiter_line, body_lines, line_aligns, in_cell}
+use Rattle.definition_block.specs.Lists.{list_marker, list_items, rest_of, before_list, put_before, grouped_block}
+use Rattle.definition_block.specs.GfmTable.{delimiters as delimiters_of}
+use Rattle.definition_page.specs.GfmTable.{body_lines, line_aligns}
 use Rattle.definition_page.specs.Page as page
 use Rattle.definition_page.specs.Page.{cons_ending, cons_blank}
-use Rattle.definition_page.specs.Read.{Reading, Standing, context_of, in_container, ending_list, next_standing, checked_text, read_paragraph, read_cell, read_row}
+use Rattle.definition_page.specs.Read.{Reading, Standing, context_of, in_container, next_standing, checked_text, read_paragraph, read_cell, read_row}
 use Rattle.definition_page.specs.Read.{read_table, read_text, info_text, code_lines, without_ending, after_leaf, read_leaf, read_container, standing_in}
-use Rattle.definition_page.specs.Read.{list_number, read_block, read_blocks, is_blank_ending, ends_blank}
+use Rattle.definition_page.specs.Read.{list_number, read_block, is_blank_ending}
 use Rattle.definition_page.proofs.ContentCodes.{kinds_codes}
-use Rattle.laws_endings.specs.Endings.{with_ending, ending_with, if_ending_with, codes_with, line_with, lines_with, leaf_block_with, block_with, blocks_with}
-use Rattle.laws_endings.specs.Inlines.{inline_code_with, inlines_with, content_with}
 use Rattle.laws_endings.proofs.Codes.{cond-under}
 use Rattle.laws_endings.proofs.Cuts.{own_lines-with, line_codes-with, join-with}
 use Rattle.laws_endings.proofs.Closing.{is_ending-with}
@@ -39,7 +29,6 @@ use Rattle.laws_endings.proofs.Matching.{bytes-with}
 use Rattle.laws_endings.proofs.Literals.{codes_of-with}
 use Rattle.laws_endings.proofs.Contents.{unindented-with, from-with, inlines-with}
 use Rattle.laws_endings.proofs.GfmTaskListItem.{check_at-with}
-use Rattle.laws_endings.specs.Kinds.{AreAlike}
 use Rattle.laws_endings.proofs.AlikeLiterals.{alike_codes, alike_drop, alike_append}
 use Rattle.laws_endings.proofs.Each.{Each, each-append, each-drop, each_map}
 use Rattle.laws_endings.proofs.Characters.{Begins, continues_one, AreWhole}

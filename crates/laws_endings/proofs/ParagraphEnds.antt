@@ -1,22 +1,13 @@
 -- HTML with another line ending in place of each LF ends with a paragraph where it does with LF.
 use Rattle.std.proofs.Common.{◌≡◌, ℕ, suc, ◌+◌, ◌-◌, Bool, true, false, cond, eqb, ◌&&◌, List, [], ◌∷◌, ◌++◌, refl, sym, ap, ◌∙◌, arith, length, take, drop}
 use Rattle.std.proofs.Common.{reverse, flat_map, append-nil, append_assoc, take-append-drop, length-append, take_at, drop_at}
-use Rattle.std.specs.Prelude.{codes}
-use Rattle.std.specs.List.{prefix_len}
-use Rattle.std.specs.Str.{bytes_eq}
-use Rattle.std.proofs.lemmas.Grind.{flat_map-append}
-use Rattle.std.proofs.lemmas.Bool.{eqb-true, or_left}
-use Rattle.std.proofs.lemmas.List.{reverse-append, reverse-reverse, length-reverse, length-drop}
+use Rattle.laws_endings.proofs.Prelude.{begins_with, byte_with, bytes_eq, codes, ended_size, ending_bytes, ends_line, eqb-true, flat_map-append, LineEnding}
+use Rattle.laws_endings.proofs.Prelude.{or_left, prefix_len, reverse-append, with_ending}
+use Rattle.std.proofs.lemmas.List.{reverse-reverse, length-reverse, length-drop}
 use Rattle.std.proofs.lemmas.Slice.Eq.{bytes_eq-Decides}
 use Rattle.std.specs.Cmp.{both_ways}
-use Rattle.markdown_options.specs.declared.line_ending.LineEnding.{LineEnding}
 use Rattle.markdown_options.specs.declared.line_ending.LineEnding.TheVariants.{CarriageReturnLineFeed, CarriageReturn, LineFeed}
-use Rattle.markdown_options.specs.LineEndings.{ending_bytes}
-use Rattle.definition_text.specs.Bytes.{begins_with}
-use Rattle.definition_text.specs.Lines.{ends_line}
 use Rattle.definition_inline.specs.GfmAutolinkLiteral.{ends_with}
-use Rattle.definition_page.specs.GfmFootnoteDefinition.{ended_size}
-use Rattle.laws_endings.specs.Endings.{byte_with, with_ending}
 use Rattle.laws_endings.proofs.Bytes.{with-append}
 
 -- ---- a text from its end back

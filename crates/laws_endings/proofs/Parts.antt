@@ -1,7 +1,7 @@
 -- Inline structure of codes that stand for themselves.
 use Rattle.std.proofs.Common.{◌≡◌, true, false}
-use Rattle.definition_inline.specs.Inline.{Target, Resource, Reference, InlineLeaf, Data, Escape, Character, Code, Math, Autolink, Literal, Html, LineEnd}
-use Rattle.definition_inline.specs.Inline.{Inline, Leaf, Span, Linked, Call, Inlines, Nil, Cons}
+use Rattle.laws_endings.proofs.Prelude.{Autolink, Call, Character, Code, Cons, Data, Escape, Html, Inline, InlineLeaf, Inlines, Leaf, LineEnd, Linked, Literal}
+use Rattle.laws_endings.proofs.Prelude.{Math, Nil, Reference, Resource, Span, Target}
 use Rattle.laws_endings.proofs.Each.{Each}
 use Rattle.laws_endings.proofs.Fits.{Single, Plain, TitleFits}
 

@@ -1,21 +1,14 @@
 -- Pieces of a page with another line ending in place of each LF.
 use Rattle.std.proofs.Common.{◌≡◌, ℕ, Bool, true, false, cond, List, [], ◌∷◌, ◌++◌, refl, sym, ap, ◌∙◌, map, fold, append_assoc, append-nil, flat_map, subst}
 use Rattle.std.proofs.Common.{◌⊎◌, inl, inr}
-use Rattle.std.specs.Prelude.{codes}
-use Rattle.std.proofs.lemmas.List.{map-append}
-use Rattle.std.proofs.lemmas.List.Sums.{fold-append}
-use Rattle.markdown_options.specs.declared.line_ending.LineEnding.{LineEnding}
+use Rattle.laws_endings.proofs.Prelude.{ArePlain, Attribute, attribute_bytes, Close, codes, CompileOptions, element, ending_bytes, Eol, fold-append, Fresh}
+use Rattle.laws_endings.proofs.Prelude.{HaveNoFeeds, is_fresh, layout, LineEnding, map-append, named_calls, NamedCall, Open, Piece, print, PrintedPart}
+use Rattle.laws_endings.proofs.Prelude.{said_bytes, Says, tag, Void, with_calls, with_ending}
 use Rattle.markdown_options.specs.declared.line_ending.LineEnding.TheVariants.{LineFeed}
-use Rattle.markdown_options.specs.declared.configuration.CompileOptions.{CompileOptions}
-use Rattle.markdown_options.specs.LineEndings.{ending_bytes}
-use Rattle.definition_page.specs.Tags.{PrintedPart, said_bytes, Attribute, attribute_bytes, tag, tag_bytes, start_tag, end_tag, void_tag}
-use Rattle.definition_page.specs.Pieces.{Piece, Open, Close, Void, Says, Eol, Fresh, NoteStart, NoteEnd, is_fresh, print}
-use Rattle.definition_page.specs.Layout.{NamedCall, named_calls, with_calls, layout}
-use Rattle.definition_page.specs.InlinePieces.{element}
-use Rattle.definition_page.proofs.PlainLayout.{ArePlain, plain_calls, uncalled_shown}
+use Rattle.definition_page.specs.Tags.{tag_bytes, start_tag, end_tag, void_tag}
+use Rattle.definition_page.specs.Pieces.{NoteStart, NoteEnd}
+use Rattle.definition_page.proofs.PlainLayout.{plain_calls, uncalled_shown}
 use Rattle.definition_page.proofs.Cuts.{calls_append, shown_append, Cut, cut_plain, cut_append, cut_note}
-use Rattle.laws_endings.specs.Endings.{with_ending}
-use Rattle.laws_endings.specs.PageLaws.{HaveNoFeeds}
 use Rattle.laws_endings.proofs.Bytes.{fresh-with}
 use Rattle.laws_endings.proofs.Saids.{SaidWith, SaidsWith, then-with}
 

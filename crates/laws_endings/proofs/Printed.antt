@@ -1,31 +1,22 @@
 -- What the inline structure of a content prints, with another line ending in place of each LF.
 use Rattle.std.proofs.Common.{◌≡◌, ℕ, Bool, true, false, cond, eqb, ◌||◌, List, [], ◌∷◌, ◌++◌, Option, None, Some, refl, sym, ap, ◌∙◌, map, flat_map}
 use Rattle.std.proofs.Common.{true≢false, subst, inl, inr, ◌⊎◌}
-use Rattle.std.specs.Prelude.{codes, unwrap_or, is_some}
-use Rattle.std.specs.Option.{option_map}
-use Rattle.markdown_options.specs.declared.line_ending.LineEnding.{LineEnding}
+use Rattle.laws_endings.proofs.Prelude.{attribute, Attribute, attribute_bytes, Call, codes, codes_with, CompileOptions, Cons, element, ending_bytes}
+use Rattle.laws_endings.proofs.Prelude.{first_match, HaveNoFeeds, href_protocols, Image, Inline, inline_counts, inline_pieces, inline_with, Inlines}
+use Rattle.laws_endings.proofs.Prelude.{inlines_with, is_some, Leaf, LineEnding, Link, link_texts, link_url, Linked, LinkTexts, Meaning, Nil, normal_label}
+use Rattle.laws_endings.proofs.Prelude.{option_map, Piece, place_of, plain, PrintedPart, Reference, Resource, Span, string_text, Target, target_with}
+use Rattle.laws_endings.proofs.Prelude.{unwrap_or, Void, with_ending, Words}
 use Rattle.markdown_options.specs.declared.line_ending.LineEnding.TheVariants.{CarriageReturnLineFeed, CarriageReturn, LineFeed}
-use Rattle.markdown_options.specs.declared.configuration.CompileOptions.{CompileOptions}
-use Rattle.markdown_options.specs.LineEndings.{ending_bytes}
-use Rattle.definition_text.specs.Encode.{plain}
-use Rattle.definition_inline.specs.Inline.{Target, Resource, Reference, LinkTexts, link_texts, SpanKind, Emphasis, Link, Image, Inline, Leaf, Span, Linked}
-use Rattle.definition_inline.specs.Inline.{Call, Inlines, Nil, Cons}
-use Rattle.definition_inline.specs.LabelMatch.{normal_label, place_of, first_match}
-use Rattle.definition_inline.specs.Strings.{string_text}
-use Rattle.definition_page.specs.Urls.{href_protocols, src_protocols}
-use Rattle.definition_page.specs.Tags.{PrintedPart, Words, Attribute, attribute, attribute_bytes}
-use Rattle.definition_page.specs.Pieces.{Piece, Void}
-use Rattle.definition_page.specs.InlinePieces.{Meaning, link_url, image_url, url_of, title_attributes, title_attribute, link_tag, image_tag, span_name}
+use Rattle.definition_inline.specs.Inline.{SpanKind, Emphasis}
+use Rattle.definition_page.specs.Urls.{src_protocols}
+use Rattle.definition_page.specs.InlinePieces.{image_url, url_of, title_attributes, title_attribute, link_tag, image_tag, span_name}
 use Rattle.definition_page.specs.InlinePieces.{part_says}
 use Rattle.definition_inline.specs.Targets.{leads_to}
-use Rattle.definition_page.specs.InlinePieces.{description, call_at, count_at, part_counts, inline_counts, element, part_pieces, inline_pieces}
-use Rattle.laws_endings.specs.Endings.{with_ending, codes_with}
-use Rattle.laws_endings.specs.Inlines.{target_with, inline_with, inlines_with}
+use Rattle.definition_page.specs.InlinePieces.{description, call_at, count_at, part_counts, part_pieces}
 use Rattle.laws_endings.proofs.Matching.{normal_label-with}
 use Rattle.laws_endings.proofs.Each.{Each, WhereSome}
 use Rattle.laws_endings.proofs.Fits.{Plain, TitleFits}
 use Rattle.laws_endings.proofs.Parts.{TargetFits, IsFit, AreFit}
-use Rattle.laws_endings.specs.PageLaws.{HaveNoFeeds}
 use Rattle.laws_endings.proofs.Bytes.{encode-with}
 use Rattle.laws_endings.proofs.Saids.{plains_no_feed, codes-kept, string_text-with, SaidWith, SaidsWith, says_one, says_append}
 use Rattle.laws_endings.proofs.Pieces.{BytesWith, AttributesWith, attribute-with, more_attributes, PiecesWith, no_pieces, append-with, void_piece-with}

@@ -1,31 +1,21 @@
 -- What the blocks of a page print, with another line ending in place of each LF.
 use Rattle.std.proofs.Common.{◌≡◌, ℕ, ◌+◌, Bool, true, false, true≢false, cond, eqb, not, ◌&&◌, ◌||◌, List, [], ◌∷◌, ◌++◌, Option, None, Some, refl, sym, ap}
 use Rattle.std.proofs.Common.{◌∙◌, subst, arith, map, flat_map, append-nil, ◌⊎◌}
-use Rattle.std.specs.Prelude.{codes}
-use Rattle.std.specs.Option.{option_map}
-use Rattle.std.proofs.lemmas.Bool.{cond_both, ne_eqb}
-use Rattle.markdown_options.specs.declared.line_ending.LineEnding.{LineEnding}
+use Rattle.laws_endings.proofs.Prelude.{AlignKind, attribute, Attribute, bare_tag, BlockLine, bytes_of, children_pieces, code_byte, codes, codes_with}
+use Rattle.laws_endings.proofs.Prelude.{cond_both, element, encode, ending_bytes, ending_with, Eol, Fresh, fresh_unless, HaveNoFeeds, if_ending_with}
+use Rattle.laws_endings.proofs.Prelude.{inline_counts, inline_pieces, Inlines, inlines_with, is_byte, line_with, LineEnding, lines_with, LinkTexts, Meaning}
+use Rattle.laws_endings.proofs.Prelude.{ne_eqb, Number, option_map, Piece, raw_html, Says, TableRow, tag, Void, with_ending, Words}
 use Rattle.markdown_options.specs.declared.line_ending.LineEnding.TheVariants.{CarriageReturnLineFeed, CarriageReturn, LineFeed}
-use Rattle.markdown_options.specs.LineEndings.{ending_bytes}
-use Rattle.definition_text.specs.BlockLines.{BlockLine}
 use Rattle.definition_text.specs.Lines.{ending_text}
-use Rattle.definition_text.specs.Columns.{is_byte, code_byte, bytes_of}
-use Rattle.definition_text.specs.Encode.{encode}
-use Rattle.definition_inline.specs.Inline.{LinkTexts, Inlines, Nil as NoText}
-use Rattle.markdown_options.specs.declared.align_kind.AlignKind.{AlignKind}
+use Rattle.definition_inline.specs.Inline.{Nil as NoText}
 use Rattle.markdown_options.specs.declared.align_kind.AlignKind.TheVariants as kind
-use Rattle.definition_page.specs.GfmTable.{TableRow, Table as TableOf, align_attributes, cell_pieces, cells_pieces, row_pieces, ending_piece, endings_pieces, body_row_pieces}
+use Rattle.definition_page.specs.GfmTable.{Table as TableOf, align_attributes, cell_pieces, cells_pieces, row_pieces, ending_piece, endings_pieces, body_row_pieces}
 use Rattle.definition_page.specs.GfmTable.{head_pieces, body_pieces, table_pieces}
-use Rattle.definition_page.specs.Tags.{Words, Number, Attribute, attribute, tag, bare_tag}
-use Rattle.definition_page.specs.Pieces.{Piece, Void, Says, Eol, Fresh}
-use Rattle.definition_page.specs.InlinePieces.{Meaning, raw_html, element, inline_counts, inline_pieces}
 use Rattle.definition_page.specs.Page.{PageLeaf, Paragraph, Heading, Break, IndentedCode, FencedCode, Html, Table, Definition, Quote, Item, Footnote}
 use Rattle.definition_page.specs.Page.{Block, Leaf, Holds, ItemList, Ending, Blank, Blocks, Nil, Cons}
 use Rattle.definition_page.specs.BlockPieces.{Place, inside, code_line, html_line, says, heading_name}
-use Rattle.definition_page.specs.BlockPieces.{info_attributes, start_attributes, list_tag, is_silent, last_visible, ends_plainly, fresh_unless, fenced_pieces}
-use Rattle.definition_page.specs.BlockPieces.{is_paragraph, is_definition, is_visible, leaf_block_pieces, block_pieces, children_pieces}
-use Rattle.laws_endings.specs.Endings.{with_ending, ending_with, if_ending_with, codes_with, line_with, lines_with}
-use Rattle.laws_endings.specs.Inlines.{inlines_with}
+use Rattle.definition_page.specs.BlockPieces.{info_attributes, start_attributes, list_tag, is_silent, last_visible, ends_plainly, fenced_pieces}
+use Rattle.definition_page.specs.BlockPieces.{is_paragraph, is_definition, is_visible, leaf_block_pieces, block_pieces}
 use Rattle.laws_endings.proofs.Codes.{cond-under}
 use Rattle.laws_endings.proofs.Each.{Each, WhereSome, each_filter, each_map}
 use Rattle.laws_endings.proofs.Fits.{Plain, space_plain}
@@ -33,7 +23,6 @@ use Rattle.laws_endings.proofs.Parts.{AreFit}
 use Rattle.laws_endings.proofs.BlockReads.{IsFed, LineFits, LinesFit}
 use Rattle.laws_endings.proofs.Bytes.{IsNoFeed, decimal_no_feed, with-append, kept, encode-with}
 use Rattle.laws_endings.proofs.Saids.{plains_no_feed, codes-kept, SaidWith, SaidsWith, says_more, says_one, says_append, words-kept, raw-kept}
-use Rattle.laws_endings.specs.PageLaws.{HaveNoFeeds}
 use Rattle.laws_endings.proofs.Pieces.{BytesWith, AttributesWith, attribute-with, more_attributes, PiecesWith, no_pieces, append-with, more-with}
 use Rattle.laws_endings.proofs.Pieces.{said-with, void_piece-with, eol_piece-with, fresh_piece-with, element-with, saids-with, note-with}
 use Rattle.laws_endings.proofs.Printed.{LinkedFits, linked_with, counts-with, inlines-with}

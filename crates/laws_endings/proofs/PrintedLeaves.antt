@@ -1,19 +1,13 @@
 -- What a leaf of inline structure says and prints, and how it stands in a cell of a table, with another line ending in place of each LF.
 use Rattle.std.proofs.Common.{◌≡◌, ℕ, Bool, true, false, ◌||◌, List, [], ◌∷◌, ◌++◌, refl, sym, true≢false, subst}
-use Rattle.std.specs.Prelude.{codes}
-use Rattle.std.proofs.lemmas.Bool.{cond_both}
-use Rattle.markdown_options.specs.declared.line_ending.LineEnding.{LineEnding}
-use Rattle.markdown_options.specs.declared.configuration.CompileOptions.{CompileOptions}
-use Rattle.definition_inline.specs.Inline.{InlineLeaf, Data, Escape, Character, Code, Math, Autolink, Literal, Html, EscapedBreak, TrailingBreak, LineEnd}
-use Rattle.definition_inline.specs.Inline.{TaskCheck}
-use Rattle.definition_page.specs.Urls.{percent, permits, sanitize, href_protocols}
-use Rattle.definition_page.specs.Tags.{Words, EndOfLine, Attribute, attribute, attribute_bytes, tag}
-use Rattle.definition_page.specs.Pieces.{Says}
+use Rattle.laws_endings.proofs.Prelude.{attribute, Attribute, attribute_bytes, Autolink, Character, Code, code_with, codes, codes_with, CompileOptions}
+use Rattle.laws_endings.proofs.Prelude.{cond_both, Data, element, EndOfLine, Escape, href_protocols, Html, InlineLeaf, leaf_with, LineEnd, LineEnding}
+use Rattle.laws_endings.proofs.Prelude.{link_url, Literal, Math, percent, Says, tag, TaskCheck, TrailingBreak, Words}
+use Rattle.definition_inline.specs.Inline.{EscapedBreak}
+use Rattle.definition_page.specs.Urls.{permits, sanitize}
 use Rattle.definition_page.specs.GfmTable.{escapes_bar, cell_code, leaf_in_cell}
 use Rattle.definition_page.specs.GfmTaskListItem.{checkable_attributes, done_attributes}
-use Rattle.definition_page.specs.InlinePieces.{permitted_url, link_url, address, literal_address, math_tag, leaf_says, element, address_tag, leaf_pieces}
-use Rattle.laws_endings.specs.Endings.{code_with, codes_with}
-use Rattle.laws_endings.specs.Inlines.{leaf_with}
+use Rattle.definition_page.specs.InlinePieces.{permitted_url, address, literal_address, math_tag, leaf_says, address_tag, leaf_pieces}
 use Rattle.laws_endings.proofs.Each.{Each}
 use Rattle.laws_endings.proofs.Fits.{Plain}
 use Rattle.laws_endings.proofs.Parts.{IsFitLeaf}

@@ -1,18 +1,11 @@
 -- Tables of a page with another line ending in place of each LF (GFM 4.10).
 use Rattle.std.proofs.Common.{◌≡◌, ℕ, Bool, false, List, [], ◌∷◌, Option, None, Some, refl, ap, ◌∙◌, map}
-use Rattle.std.proofs.lemmas.Bool.{cond_both}
-use Rattle.markdown_options.specs.declared.line_ending.LineEnding.{LineEnding}
-use Rattle.definition_text.specs.BlockLines.{BlockLine}
-use Rattle.definition_text.specs.Columns.{is_blank}
-use Rattle.definition_text.specs.Content.{may_escape}
-use Rattle.markdown_options.specs.declared.beside.Kind.{Kind}
+use Rattle.laws_endings.proofs.Prelude.{BlockLine, Call, Cell, cond_both, Cons, delimiter_line, ending_list, ending_with, head_line, if_ending_with, in_cell}
+use Rattle.laws_endings.proofs.Prelude.{in_first_cell, Inline, inline_with, Inlines, inlines_with, is_bar, is_blank, Kind, Leaf, line_cells, line_with}
+use Rattle.laws_endings.proofs.Prelude.{LineEnding, lines_with, Linked, may_escape, Nil, parts, Span, Table, TableRow, target_with, without_blank_first}
+use Rattle.laws_endings.proofs.Prelude.{without_blank_last}
 use Rattle.markdown_options.specs.declared.beside.Kind.TheVariants.{Punctuation}
-use Rattle.definition_inline.specs.Inline.{Inline, Leaf, Span, Linked, Call, Inlines, Nil, Cons}
-use Rattle.definition_block.specs.GfmTable.{Cell, in_first_cell, is_bar, parts, without_blank_first, without_blank_last, line_cells}
-use Rattle.definition_page.specs.GfmTable.{TableRow, Table, part_in_cell, in_cell, head_line, delimiter_line}
-use Rattle.definition_page.specs.Read.{ending_list}
-use Rattle.laws_endings.specs.Endings.{ending_with, if_ending_with, line_with, lines_with}
-use Rattle.laws_endings.specs.Inlines.{target_with, inline_with, inlines_with}
+use Rattle.definition_page.specs.GfmTable.{part_in_cell}
 use Rattle.laws_endings.proofs.Each.{Each}
 use Rattle.laws_endings.proofs.Fits.{Plain}
 use Rattle.laws_endings.proofs.Parts.{IsFit, AreFit}

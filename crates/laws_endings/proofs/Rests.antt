@@ -1,31 +1,22 @@
 -- Codes that hold none of LF, which the code of another ending could replace: the rest of a line, and what is made of it.
 use Rattle.std.proofs.Common.{◌≡◌, ℕ, zero, suc, ◌+◌, ◌-◌, List, [], ◌∷◌, ◌++◌, None, Some, Option, Bool, true, false, cond, not, ◌&&◌, ◌||◌, eqb, leb, refl}
 use Rattle.std.proofs.Common.{sym, ap, ◌∙◌, length, drop, take}
-use Rattle.std.specs.Prelude.{IfSome, min, replicate}
-use Rattle.std.specs.List.{filter, prefix_len, suffix_len}
-use Rattle.std.proofs.lemmas.Bool.{cond_both}
-use Rattle.std.proofs.lemmas.List.{drop-map, take-map, map-append}
-use Rattle.markdown_options.specs.declared.line_ending.LineEnding.{LineEnding}
-use Rattle.markdown_options.specs.declared.configuration.Constructs.{Constructs}
-use Rattle.definition_block.specs.Container.{Container, Quote, Item, Footnote}
-use Rattle.definition_text.specs.Columns.{Rest, codes_from, tab_column, columns_after_tab, indent, bare, is_tab_column, is_byte, bytes_of, block_codes}
-use Rattle.definition_text.specs.Columns.{is_white, trim}
+use Rattle.laws_endings.proofs.Prelude.{after_run, Atx, atx, atx_of, bare, begins_apart, block_codes, bytes_of, code_with, codes_from, codes_with}
+use Rattle.laws_endings.proofs.Prelude.{columns_after_tab, cond_both, Constructs, Container, ContainerLine, ContainerStart, continues, drop-map, ends_apart}
+use Rattle.laws_endings.proofs.Prelude.{filter, Footnote, heading_atx, IfSome, indent, is_break, is_byte, is_tab_column, is_white, Item, line_ending_code}
+use Rattle.laws_endings.proofs.Prelude.{LineEnding, map-append, outdent, prefix_len, Quote, replicate, Rest, run, small_indent, starts, tab_column, take-map}
+use Rattle.laws_endings.proofs.Prelude.{trim, without_closing, without_run}
+use Rattle.std.specs.Prelude.{min}
+use Rattle.std.specs.List.{suffix_len}
 use Rattle.markdown_options.specs.declared.beside.Kind.TheVariants.{Whitespace}
-use Rattle.definition_text.specs.Indents.{small_indent, outdent}
-use Rattle.definition_text.specs.Content.{line_ending_code}
-use Rattle.definition_text.specs.Runs.{run, after_run}
-use Rattle.definition_block.specs.ContainerLine.{ContainerLine, container_line}
-use Rattle.definition_block.specs.ContainerStart.{ContainerStart}
-use Rattle.definition_block.specs.ThematicBreak.{is_break}
+use Rattle.definition_block.specs.ContainerLine.{container_line}
 use Rattle.definition_block.specs.BlockQuote.{after_byte, after_mark, quote_prefix}
 use Rattle.definition_block.specs.ListItem.{Marker, marker_of, is_digit, number_of, bullet, after_number, ordered_marker, marker, gap, is_item, item}
 use Rattle.definition_block.specs.ListItem.{item_after}
 use Rattle.definition_block.specs.ListItem.{item_start, is_inside}
 use Rattle.definition_block.specs.GfmFootnoteDefinition.{footnote_start}
-use Rattle.definition_block.specs.Containers.{continues, quote_or, footnote_or, starts}
+use Rattle.definition_block.specs.Containers.{quote_or, footnote_or}
 use Rattle.definition_block.proofs.GfmFootnoteDefinition.{fine_after, footnote_fine, footnote_either}
-use Rattle.definition_block.specs.HeadingAtx.{Atx, atx, begins_apart, ends_apart, without_run, without_closing, atx_of, heading_atx}
-use Rattle.laws_endings.specs.Endings.{code_with, codes_with}
 use Rattle.laws_endings.proofs.Codes.{same_code}
 
 -- no byte is LF

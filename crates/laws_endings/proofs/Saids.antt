@@ -1,27 +1,13 @@
 -- What strings and raw HTML say, with another line ending in place of each LF.
 use Rattle.std.proofs.Common.{◌≡◌, ℕ, zero, suc, ◌-◌, Bool, true, false, cond, eqb, ◌&&◌, List, [], ◌∷◌, ◌++◌, Option, None, Some, refl, sym, ap, ◌∙◌, map}
 use Rattle.std.proofs.Common.{flat_map, true≢false}
-use Rattle.std.specs.Prelude.{nat_le}
-use Rattle.std.proofs.lemmas.Grind.{flat_map-append}
-use Rattle.std.proofs.lemmas.List.{map-append}
-use Rattle.std.proofs.lemmas.Bool.{cond_both, or_parts}
-use Rattle.markdown_options.specs.declared.line_ending.LineEnding.{LineEnding}
-use Rattle.markdown_options.specs.declared.configuration.Constructs.{Constructs}
-use Rattle.markdown_options.specs.declared.configuration.CompileOptions.{CompileOptions}
-use Rattle.definition_text.specs.Columns.{is_white, indent, bare, is_byte, bytes_of}
-use Rattle.definition_text.specs.Content.{is_eol}
-use Rattle.definition_text.specs.Encode.{plain, encode}
-use Rattle.definition_inline.specs.Inline.{InlineLeaf, Data, Escape, Character, LineEnd, Found, leaf, or_else}
-use Rattle.definition_inline.specs.CharacterEscape.{escape_at}
-use Rattle.definition_inline.specs.CharacterReference.{reference_at}
-use Rattle.definition_inline.specs.HardBreak.{line_end_at}
-use Rattle.definition_inline.specs.Strings.{begins_with_eol, spaces_at, string_leaf_at, or_byte, string_parts, string_bytes, string_text}
-use Rattle.definition_page.specs.GfmTagfilter.{filter_if}
-use Rattle.definition_page.specs.Tags.{PrintedPart, Words, AsItIs, EndOfLine, said_bytes}
-use Rattle.definition_page.specs.InlinePieces.{raw_html, HtmlLine, html_text_line, in_first_line, html_lines, html_line_says, later_line_says, html_lines_say}
+use Rattle.laws_endings.proofs.Prelude.{AsItIs, bare, bytes_of, Character, code_with, codes_with, CompileOptions, cond_both, Constructs, Data, encode}
+use Rattle.laws_endings.proofs.Prelude.{EndOfLine, Escape, escape_at, filter_if, flat_map-append, Found, indent, InlineLeaf, is_byte, is_eol, is_white, leaf}
+use Rattle.laws_endings.proofs.Prelude.{leaf_with, line_end_at, LineEnd, LineEnding, map-append, nat_le, or_else, or_parts, plain, PrintedPart, raw_html}
+use Rattle.laws_endings.proofs.Prelude.{reference_at, said_bytes, string_text, with_ending, Words}
+use Rattle.definition_inline.specs.Strings.{begins_with_eol, spaces_at, string_leaf_at, or_byte, string_parts, string_bytes}
+use Rattle.definition_page.specs.InlinePieces.{HtmlLine, html_text_line, in_first_line, html_lines, html_line_says, later_line_says, html_lines_say}
 use Rattle.definition_page.specs.InlinePieces.{html_says}
-use Rattle.laws_endings.specs.Endings.{with_ending, code_with, codes_with}
-use Rattle.laws_endings.specs.Inlines.{leaf_with}
 use Rattle.laws_endings.proofs.Codes.{cond-under, same_code, prefix_len-with}
 use Rattle.laws_endings.proofs.Leaves.{found_with, if_found, or_else-with, same_byte, escape_at-with, line_end_at-with, bare-with, reference_at-with}
 use Rattle.laws_endings.proofs.Contents.{or_none, end_none}

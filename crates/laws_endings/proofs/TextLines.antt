@@ -1,11 +1,9 @@
 -- The lines of a text of whole characters without CR and `&`.
 use Rattle.std.proofs.Common.{◌≡◌, ℕ, zero, suc, ◌+◌, Bool, true, false, cond, eqb, List, [], ◌∷◌, ◌++◌, None, Some, refl, sym, ap, ◌∙◌, subst, replicate, inl}
 use Rattle.std.proofs.Common.{inr, ⊎_elim, ◌⊎◌}
-use Rattle.std.proofs.lemmas.Bool.{cond_both, cond-true, eqb-true, both_ways, not_from_false, or_from}
+use Rattle.laws_endings.proofs.Prelude.{after_return, both_ways, bytes_of, codes_from, columns_after_tab, cond-true, cond_both, eqb-true, first_of}
+use Rattle.laws_endings.proofs.Prelude.{in_first_line, is_byte, is_continuation, lines, not_from_false, or_from, tab_column, text_line, TextLine, whole}
 use Rattle.markdown_options.specs.declared.line_ending.LineEnding.TheVariants.{LineFeed}
-use Rattle.definition_text.specs.Columns.{whole, codes_from, columns_after_tab, tab_column, is_byte, bytes_of}
-use Rattle.definition_text.specs.InlineCode.{is_continuation}
-use Rattle.definition_text.specs.Lines.{TextLine, text_line, in_first_line, after_return, lines, first_of}
 use Rattle.laws_endings.proofs.Lines.{lines_after-byte}
 use Rattle.laws_endings.proofs.Each.{Each, each-append, each_same}
 use Rattle.laws_endings.proofs.Characters.{Begins, continues_one, need, IsWhole, AreWhole, IsTextByte}

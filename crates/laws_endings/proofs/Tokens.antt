@@ -1,17 +1,13 @@
 -- Tokens and the spans among them, with another ending in place of each LF.
 use Rattle.std.proofs.Common.{◌≡◌, ℕ, zero, suc, ◌+◌, ◌-◌, List, [], ◌∷◌, ◌++◌, eqb, refl, sym, ap, ◌∙◌, map}
-use Rattle.std.specs.Prelude.{replicate, reverse}
-use Rattle.std.specs.List.{fold, filter}
-use Rattle.std.proofs.lemmas.List.{map-append}
-use Rattle.markdown_options.specs.declared.line_ending.LineEnding.{LineEnding}
-use Rattle.definition_inline.specs.Inline.{Inline, Leaf, Data, Span, Inlines, Nil, Cons, followed_by}
-use Rattle.definition_inline.specs.Attention.{Run}
+use Rattle.laws_endings.proofs.Prelude.{Cons, Data, Delimiters, filter, fold, Inline, inline_with, Inlines, inlines_with, Leaf, LineEnding, map-append, Nil}
+use Rattle.laws_endings.proofs.Prelude.{replicate, reverse, Run, Span, Token, with_spans}
+use Rattle.definition_inline.specs.Inline.{followed_by}
 use Rattle.definition_inline.specs.Pairing.{Pair, pairs}
-use Rattle.definition_inline.specs.Spans.{Token, Item, Delimiters, runs_of, span_of, with_spans}
+use Rattle.definition_inline.specs.Spans.{Item, runs_of, span_of}
 use Rattle.definition_inline.specs.SpanRows.{SpanRow, Holds, Opens, Closes, bytes_taken, run_rows, rows_from}
 use Rattle.definition_inline.specs.SpanRows.{OpenSpan, Nest, nest, leave, nest_row, nest_spans}
 use Rattle.definition_inline.proofs.SpanRows.{spans_by_rows}
-use Rattle.laws_endings.specs.Inlines.{inline_with, inlines_with}
 
 module _ (e : LineEnding) where
   abbrev pub token_with : Token → Token

@@ -1,17 +1,13 @@
 -- A line that begins nothing but a paragraph.
 use Rattle.std.proofs.Common.{inl, inr, ◌≡◌, ℕ, Bool, true, false, cond, not, ◌&&◌, ◌||◌, List, [], ◌∷◌, Option, None, refl, sym, ap, ◌∙◌, drop, take}
-use Rattle.std.specs.Prelude.{◌==◌, leb, codes}
-use Rattle.std.specs.List.{list_all, prefix_len}
-use Rattle.std.specs.Char.{is_ascii_punctuation}
-use Rattle.std.proofs.lemmas.Bool.{cases_Bool, cond-true, cond-false, cond_both, both_ways, or_from, eqb-true, eq-eqb, and_parts}
-use Rattle.markdown_options.specs.declared.configuration.Constructs.{Constructs}
-use Rattle.markdown_options.specs.declared.beside.Beside.{Beside}
-use Rattle.definition_text.specs.Columns.{is_white, is_blank, indent, bare, is_byte, bytes_of}
+use Rattle.laws_escape.proofs.Prelude.{after_number, and_parts, bare, begins_with, Beside, both_ways, bytes_of, cases_Bool, codes, cond-false, cond-true}
+use Rattle.laws_escape.proofs.Prelude.{cond_both, Constructs, eqb-true, indent, is_ascii_punctuation, is_blank, is_byte, is_digit, is_line_byte, is_white}
+use Rattle.laws_escape.proofs.Prelude.{list_all, nothing, option_and_then, or_from, prefix_len, run, Tree, ◌==◌}
+use Rattle.std.specs.Prelude.{leb}
+use Rattle.std.proofs.lemmas.Bool.{eq-eqb}
 use Rattle.definition_text.specs.Indents.{small_indent}
-use Rattle.definition_text.specs.Bytes.{begins_with}
-use Rattle.definition_text.specs.Runs.{run}
 use Rattle.definition_block.specs.BlockQuote.{after_byte, after_mark, quote_prefix}
-use Rattle.definition_block.specs.ListItem.{is_digit, number_of, bullet, after_number, ordered_marker, marker, item_after, item_start}
+use Rattle.definition_block.specs.ListItem.{number_of, bullet, ordered_marker, marker, item_after, item_start}
 use Rattle.definition_block.specs.GfmFootnoteDefinition.{after_bracket, footnote_mark, footnote_of, footnote_start}
 use Rattle.definition_block.specs.Containers.{quote_or, footnote_or, starts}
 use Rattle.definition_block.specs.CodeIndented.{starts_code_indented}
@@ -22,12 +18,11 @@ use Rattle.definition_inline.specs.HtmlTags.{open_tag, closing_tag}
 use Rattle.definition_block.specs.HeadingAtx.{atx_of, heading_atx}
 use Rattle.definition_block.specs.HeadingSetext.{underline_of, underline}
 use Rattle.definition_block.specs.ThematicBreak.{is_break_text, is_break}
-use Rattle.definition_block.specs.Tree.{Tree, nothing, makes_table, indented_tree, fence_tree, html_tree, atx_tree, break_tree, underlined, anew, first_of}
+use Rattle.definition_block.specs.Tree.{makes_table, indented_tree, fence_tree, html_tree, atx_tree, break_tree, underlined, anew, first_of}
 use Rattle.definition_block.specs.Tree.{leaf_starts}
 use Rattle.std.specs.Bool.{then_some}
-use Rattle.std.specs.Option.{option_or, option_map, option_and_then}
+use Rattle.std.specs.Option.{option_or, option_map}
 use Rattle.laws_escape.proofs.PlainText.{and_no, bare_other}
-use Rattle.laws_escape.specs.Escaped.{is_line_byte}
 use Rattle.laws_escape.proofs.Escaped.{no_and, no_column}
 
 -- the codes of a line whose first is no space and no punctuation but a backslash, and in which no delimiter follows the digits at its front

@@ -1,42 +1,33 @@
 -- An escaped line prints itself as text.
 use Rattle.std.proofs.Common.{inl, inr, ◌≡◌, ◌+◌, ◌<◌, ℕ, Bool, true, false, cond, not, ◌&&◌, ◌||◌, List, [], ◌∷◌, ◌++◌, map, Option, None, Some, refl, sym, ap}
 use Rattle.std.proofs.Common.{◌∙◌, length, get_or, drop, arith, subst, append_assoc}
-use Rattle.std.specs.Prelude.{◌==◌, nat_lt, nat_le, codes}
-use Rattle.std.specs.List.{list_all, flat_map, prefix_len}
-use Rattle.std.specs.Char.{is_ascii_punctuation, to_ascii_lowercase}
-use Rattle.std.proofs.lemmas.Bool.{cases_Bool, cond-true, cond-false, cond_both, both_ways, and_parts, or_parts, or_from, eqb-true, ne_eqb, ltb-false, not-true}
+use Rattle.laws_escape.proofs.Prelude.{and_parts, append-nil, bare, begins_with, both_ways, cases_Bool, codes, codes_of, CompileOptions, cond-false, cond-true}
+use Rattle.laws_escape.proofs.Prelude.{cond_both, Cons, Constructs, Data, encode, encoded_byte, ends_here, eqb-true, Escape, escape_at, flat_map, Found}
+use Rattle.laws_escape.proofs.Prelude.{has_calls, indent, inline_html, InlineCode, InlineContext, InlineLeaf, inlines, is_ascii_punctuation, is_eol}
+use Rattle.laws_escape.proofs.Prelude.{is_line_byte, is_white, IsTrimmedLine, Item, leaf, leaf_at, leaf_here, leaf_html, line_end_at, line_spaces_at, list_all}
+use Rattle.laws_escape.proofs.Prelude.{map-append, nat_le, nat_lt, ne_eqb, Next, not-true, or_else, or_from, or_parts, parts_before, prefix_len, read_tokens}
+use Rattle.laws_escape.proofs.Prelude.{reading, Reading, reference_at, run, scan, text, Token, whole_text, with_backslashes, with_spans, ◌==◌}
+use Rattle.std.specs.Char.{to_ascii_lowercase}
+use Rattle.std.proofs.lemmas.Bool.{ltb-false}
 use Rattle.std.proofs.lemmas.Grind.{common_steps}
-use Rattle.std.proofs.lemmas.List.{append-nil, map-append}
-use Rattle.markdown_options.specs.declared.configuration.Constructs.{Constructs}
-use Rattle.definition_text.specs.Columns.{is_white, indent, bare}
-use Rattle.definition_text.specs.Bytes.{begins_with}
-use Rattle.definition_text.specs.Runs.{run}
-use Rattle.definition_text.specs.Content.{is_eol}
-use Rattle.definition_text.specs.Encode.{encoded_byte, encode}
-use Rattle.definition_text.specs.InlineCode.{InlineCode, codes_of}
-use Rattle.definition_inline.specs.Inline.{InlineLeaf, Data, Escape, Leaf, Cons, Found, leaf, or_else}
-use Rattle.definition_inline.specs.CharacterEscape.{escape_at}
-use Rattle.definition_inline.specs.CharacterReference.{reference_after, reference_form, reference_of, reference_at}
+use Rattle.definition_inline.specs.Inline.{Leaf}
+use Rattle.definition_inline.specs.CharacterReference.{reference_after, reference_form, reference_of}
 use Rattle.definition_inline.specs.CodeText.{raw_at, code_text_at}
 use Rattle.definition_inline.specs.MathText.{may_open_math, math_text_at}
 use Rattle.definition_inline.specs.Autolink.{autolink_at}
 use Rattle.definition_inline.specs.HtmlText.{html_text_at}
-use Rattle.definition_inline.specs.HardBreak.{ends_inner_line, ends_here, line_end_at, escaped_break_at, line_spaces_at}
+use Rattle.definition_inline.specs.HardBreak.{ends_inner_line, escaped_break_at}
 use Rattle.definition_inline.specs.Attention.{is_marker, run_at}
-use Rattle.definition_inline.specs.Spans.{Token, Item, with_spans}
-use Rattle.definition_inline.specs.GfmAutolinkLiteral.{begins_caselessly, parts_from, parts_before, with_literals, linked_literals}
+use Rattle.definition_inline.specs.GfmAutolinkLiteral.{begins_caselessly, parts_from, with_literals, linked_literals}
 use Rattle.definition_inline.specs.GfmLabelStartFootnote.{starts_call}
 use Rattle.definition_inline.proofs.GfmAutolinkLiteral.{HasNoStart, no_literal}
 use Rattle.definition_inline.proofs.Markers.{of_marker}
-use Rattle.definition_inline.specs.Scan.{InlineContext, leaf_at, leaf_here, starts_image, starts_link, label_start_at, text, Reading, reading, read_tokens}
-use Rattle.definition_inline.specs.Scan.{Next, data_step, label_end_step, step, scan, whole_text, inlines}
-use Rattle.markdown_options.specs.declared.configuration.CompileOptions.{CompileOptions}
-use Rattle.html_bytes.specs.InlineHtml.{leaf_html, inline_html}
+use Rattle.definition_inline.specs.Scan.{starts_image, starts_link, label_start_at}
+use Rattle.definition_inline.specs.Scan.{data_step, label_end_step, step}
 use Rattle.definition_inline.proofs.Scanning.{scan_step, step_leaf, step_last}
-use Rattle.html_bytes.proofs.WithoutCalls.{has_calls}
 use Rattle.laws_escape.proofs.InlineParts.{read_nothing, white_codes, items, leaves, leaves_alone, html_of_leaves, html_of_data, leaves_call_nothing}
 use Rattle.laws_escape.proofs.PlainText.{and_no, bare_white, bare_other}
-use Rattle.laws_escape.specs.Escaped.{with_backslashes, is_line_byte, begins_with_space, ends_with_space, IsTrimmedLine, EscapeLaw}
+use Rattle.laws_escape.specs.Escaped.{begins_with_space, ends_with_space, EscapeLaw}
 use Rattle.definition_text.proofs.Each.{Each, each-append}
 
 -- ---- a byte that isn't ASCII punctuation begins nothing

@@ -1,13 +1,9 @@
 -- An escaped line begins nothing but a paragraph, and no byte order mark.
 use Rattle.std.proofs.Common.{inl, inr, ◌≡◌, ℕ, suc, true, false, ◌&&◌, ◌||◌, ◌+◌, List, [], ◌∷◌, None, refl, sym, ap, ◌∙◌, drop, arith}
-use Rattle.std.specs.Prelude.{◌==◌, nat_lt, not}
-use Rattle.std.specs.List.{list_all, prefix_len}
-use Rattle.std.specs.Char.{is_ascii_punctuation}
-use Rattle.std.proofs.lemmas.Bool.{cases_Bool, cond-true, cond-false, and_parts, or_parts, or_from, ltb-true}
-use Rattle.definition_text.specs.Lines.{has_mark}
-use Rattle.definition_block.specs.ListItem.{is_digit, after_number}
+use Rattle.laws_escape.proofs.Prelude.{after_number, and_parts, cases_Bool, cond-false, cond-true, has_mark, is_ascii_punctuation, is_digit, is_line_byte}
+use Rattle.laws_escape.proofs.Prelude.{IsTrimmedLine, list_all, ltb-true, nat_lt, or_from, or_parts, prefix_len, with_backslashes, ◌==◌}
+use Rattle.std.specs.Prelude.{not}
 use Rattle.laws_escape.proofs.PlainText.{AreInLine, and_no}
-use Rattle.laws_escape.specs.Escaped.{with_backslashes, is_line_byte, IsTrimmedLine}
 use Rattle.laws_escape.proofs.Escaped.{no_and, other, line_byte, not_white, escaped_punctuation, escaped_other}
 use Rattle.laws_escape.proofs.BeginsNothing.{BeginsNothing, apart_both}
 

@@ -1,32 +1,16 @@
 -- The page of an escaped line.
 use Rattle.std.proofs.Common.{◌≡◌, ℕ, true, List, [], ◌∷◌, ◌++◌, None, refl, sym, ap, ◌∙◌, append_assoc}
-use Rattle.std.specs.Prelude.{codes}
-use Rattle.std.proofs.lemmas.Bool.{cond-false}
-use Rattle.std.proofs.lemmas.List.{append-nil}
-use Rattle.markdown_options.specs.declared.line_ending.LineEnding.{LineEnding}
-use Rattle.markdown_options.specs.LineEndings.{ending_bytes}
-use Rattle.markdown_options.specs.declared.configuration.CompileOptions.{CompileOptions}
-use Rattle.markdown_options.specs.declared.configuration.Options.{Options}
-use Rattle.markdown_options.specs.declared.beside.Kind.{Kind}
+use Rattle.laws_escape.proofs.Prelude.{add, AddsBytes, append-nil, block_and_ending, block_line, BlockLine, blocks, blocks_html, Bytes, codes, CompileOptions}
+use Rattle.laws_escape.proofs.Prelude.{cond-false, Document, document, document_meaning, encode, ending_bytes, has_mark, html_is, inline_content, inlines}
+use Rattle.laws_escape.proofs.Prelude.{IsTrimmedLine, Kind, kind_before_text, Leaf, LineEnding, marked_html, Options, page_layout, Paragraph, Piece}
+use Rattle.laws_escape.proofs.Prelude.{reading_of, text_ending, text_of, TextTables, with_backslashes, with_footnotes, without_calls}
 use Rattle.markdown_options.specs.declared.beside.Kind.TheVariants.{Whitespace}
-use Rattle.definition_text.specs.Encode.{encode}
-use Rattle.definition_text.specs.Lines.{has_mark, kind_before_text}
-use Rattle.definition_text.specs.BlockLines.{BlockLine, block_line}
-use Rattle.definition_text.specs.InlineCode.{inline_content}
-use Rattle.definition_block.specs.Tree.{Leaf, Paragraph, block_and_ending, blocks}
-use Rattle.definition_inline.specs.Scan.{inlines}
 use Rattle.definition_inline.specs.Targets.{no_targets}
-use Rattle.definition_page.specs.TextTables.{TextTables}
-use Rattle.html_bytes.specs.Document.{Document, document, reading_of, document_meaning, text_of}
 use Rattle.definition_page.specs.Read.{context_of}
-use Rattle.html_bytes.specs.Html.{text_ending, blocks_html, marked_html}
-use Rattle.html_bytes.specs.Layout.{layout_state, with_footnotes, page_layout}
-use Rattle.html_bytes.specs.Pieces.{Piece, Bytes}
-use Rattle.html_bytes.proofs.SameLayout.{add, add_nil}
-use Rattle.html_bytes.proofs.SamePage.{html_is}
-use Rattle.html_bytes.proofs.WithoutCalls.{AddsBytes, adds_append, without_calls}
+use Rattle.html_bytes.specs.Layout.{layout_state}
+use Rattle.html_bytes.proofs.SameLayout.{add_nil}
+use Rattle.html_bytes.proofs.WithoutCalls.{adds_append}
 use Rattle.laws_escape.proofs.PlainText.{content_codes, paragraph_bytes}
-use Rattle.laws_escape.specs.Escaped.{with_backslashes, IsTrimmedLine}
 use Rattle.laws_escape.proofs.Escaped.{escape_law, escaped_calls_nothing}
 use Rattle.laws_escape.specs.EscapedPage.{EscapedPageLaw}
 use Rattle.laws_escape.proofs.Paragraph.{one_paragraph}

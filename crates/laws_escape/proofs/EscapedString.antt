@@ -1,22 +1,15 @@
 -- A text that is escaped gives itself back as a string.
 use Rattle.std.proofs.Common.{inl, inr, ◌≡◌, ℕ, true, false, not, ◌&&◌, ◌||◌, ◌+◌, ◌<◌, List, [], ◌∷◌, ◌++◌, Option, None, Some, refl, sym, ap, ◌∙◌, subst}
 use Rattle.std.proofs.Common.{drop, arith}
-use Rattle.std.specs.Prelude.{◌==◌, nat_le}
-use Rattle.std.specs.List.{list_all, flat_map}
-use Rattle.std.specs.Char.{is_ascii_punctuation}
-use Rattle.std.proofs.lemmas.Bool.{cases_Bool, cond-true, cond-false, both_ways, and_parts, and_left, and_right, or_cases, or_parts, not-true, eqb-true}
-use Rattle.std.proofs.lemmas.Bool.{ltb-true}
-use Rattle.markdown_options.specs.declared.configuration.Constructs.{Constructs}
-use Rattle.definition_text.specs.Columns.{is_white, indent, bare}
-use Rattle.definition_text.specs.Content.{content_codes, is_eol}
-use Rattle.definition_inline.specs.Inline.{leaf, or_else, Escape, LineEnd}
-use Rattle.definition_inline.specs.CharacterEscape.{escape_at}
-use Rattle.definition_inline.specs.CharacterReference.{reference_at}
-use Rattle.definition_inline.specs.HardBreak.{line_end_at}
+use Rattle.laws_escape.proofs.Prelude.{and_parts, bare, both_ways, cases_Bool, cond-false, cond-true, Constructs, eqb-true, Escape, escape_at, flat_map}
+use Rattle.laws_escape.proofs.Prelude.{indent, is_ascii_punctuation, is_eol, is_white, leaf, line_end_at, LineEnd, list_all, ltb-true, nat_le, not-true}
+use Rattle.laws_escape.proofs.Prelude.{or_else, or_parts, reference_at, with_backslashes, ◌==◌}
+use Rattle.std.proofs.lemmas.Bool.{and_left, and_right, or_cases}
+use Rattle.definition_text.specs.Content.{content_codes}
 use Rattle.definition_inline.specs.Strings.{begins_with_eol, eol_bytes, spaces_at, string_bytes, string_leaf_at, string_text}
 use Rattle.laws_escape.proofs.PlainText.{bare_white, bare_other}
 use Rattle.definition_inline.proofs.Scanning.{string_step, string_byte}
-use Rattle.laws_escape.specs.Escaped.{with_backslashes, is_octet, has_bare_endings, StringEscapeLaw}
+use Rattle.laws_escape.specs.Escaped.{is_octet, has_bare_endings, StringEscapeLaw}
 use Rattle.definition_block.specs.ContainerLine.{begins_with_white}
 use Rattle.laws_escape.proofs.Escaped.{or_none, or_first, no_escape, no_reference, escaped_punctuation, escaped_other}
 

@@ -1,23 +1,15 @@
 -- What leaves are read as, and what they print where no runs stand among them.
 use Rattle.std.proofs.Common.{◌≡◌, ℕ, ◌+◌, false, List, [], ◌∷◌, ◌++◌, cond, refl, sym, ap, ◌∙◌, append_assoc, map}
-use Rattle.std.specs.List.{fold, flat_map, prefix_len}
-use Rattle.std.proofs.lemmas.List.{append-nil}
-use Rattle.std.proofs.lemmas.List.Concat.{flat_map-append}
-use Rattle.markdown_options.specs.declared.configuration.CompileOptions.{CompileOptions}
-use Rattle.definition_text.specs.Columns.{is_white, indent}
-use Rattle.definition_text.specs.Encode.{encoded_byte}
-use Rattle.definition_text.specs.InlineCode.{InlineCode, codes_of}
-use Rattle.definition_inline.specs.Inline.{InlineLeaf, Data, Inline, Leaf, Inlines, Nil, Cons, followed_by}
+use Rattle.laws_escape.proofs.Prelude.{append-nil, codes_of, CompileOptions, Cons, Data, encoded_byte, flat_map, flat_map-append, fold, has_calls, indent}
+use Rattle.laws_escape.proofs.Prelude.{inline_html, inline_pieces, InlineCode, InlineLeaf, Inlines, is_white, Item, leaf_html, Meaning, parts_before}
+use Rattle.laws_escape.proofs.Prelude.{prefix_len, read_tokens, reading, Reading, text, Token, with_spans}
+use Rattle.definition_inline.specs.Inline.{Inline, Leaf, Nil, followed_by}
 use Rattle.definition_inline.specs.Pairing.{Pair, pairs}
-use Rattle.definition_inline.specs.Spans.{Token, Item, runs_of, with_spans}
+use Rattle.definition_inline.specs.Spans.{runs_of}
 use Rattle.definition_inline.specs.SpanRows.{Holds, rows_from, Nest, nest, nest_row, nest_spans}
-use Rattle.definition_inline.specs.Scan.{text, Reading, reading, read_tokens}
-use Rattle.definition_inline.specs.GfmAutolinkLiteral.{parts_before}
 use Rattle.definition_inline.proofs.SpanRows.{spans_by_rows}
-use Rattle.definition_page.specs.InlinePieces.{Meaning, leaf_pieces, inline_pieces}
-use Rattle.html_bytes.specs.InlineHtml.{leaf_html, inline_html}
+use Rattle.definition_page.specs.InlinePieces.{leaf_pieces}
 use Rattle.html_bytes.specs.Pieces.{piece_html}
-use Rattle.html_bytes.proofs.WithoutCalls.{has_calls}
 
 -- no more tokens
 pub read_nothing : (r : Reading) → r ≡ read_tokens [] r

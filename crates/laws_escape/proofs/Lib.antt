@@ -1,3 +1,4 @@
+mod Prelude
 mod Plain
 mod InlineParts
 mod PlainText

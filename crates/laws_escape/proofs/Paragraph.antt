@@ -1,30 +1,22 @@
 -- A text of one line that begins nothing is a paragraph.
 use Rattle.std.proofs.Common.{◌≡◌, ℕ, zero, suc, true, false, ◌&&◌, ◌||◌, List, [], ◌∷◌, ◌++◌, Option, None, Some, refl, ap, ◌∙◌, take, length}
-use Rattle.std.specs.Prelude.{◌+◌, ◌==◌, unwrap_or}
-use Rattle.std.specs.Option.{option_and_then}
-use Rattle.std.specs.List.{list_all}
-use Rattle.std.proofs.lemmas.Bool.{cond-false, cond_both, and_parts, or_parts}
-use Rattle.markdown_options.specs.declared.configuration.Constructs.{Constructs}
-use Rattle.markdown_options.specs.declared.beside.Beside.{Beside}
-use Rattle.markdown_options.specs.declared.beside.Kind.{Kind}
-use Rattle.definition_text.specs.Columns.{is_blank, is_tab_column, bytes_of, block_codes, codes_from}
-use Rattle.definition_text.specs.Lines.{text_line, in_first_line, lines}
-use Rattle.definition_text.specs.BlockLines.{BlockLine, block_line}
-use Rattle.definition_text.specs.Runs.{run}
+use Rattle.laws_escape.proofs.Prelude.{after_frontmatter, and_parts, At, Beside, beside_line, block_and_ending, block_codes, block_line, BlockLine, blocks}
+use Rattle.laws_escape.proofs.Prelude.{blocks_at_end, bytes_of, children_after, codes_from, cond-false, cond_both, Constructs, empty_tree, grow, in_first_line}
+use Rattle.laws_escape.proofs.Prelude.{is_blank, is_line_byte, is_tab_column, join, Kind, Leaf, leaf_line, lines, list_all, new, Nil, nothing, option_and_then}
+use Rattle.laws_escape.proofs.Prelude.{or_parts, Paragraph, rest_line, run, step, Text, text_line, text_line_of, tree, Tree, ◌==◌}
+use Rattle.std.specs.Prelude.{◌+◌, unwrap_or}
 use Rattle.definition_inline.specs.Label.{label_at}
 use Rattle.definition_inline.specs.Definition.{definition_at}
 use Rattle.definition_inline.proofs.PartSteps.{with_label}
 use Rattle.definition_block.specs.ContainerStart.{ContainerStart}
 use Rattle.definition_block.specs.Definitions.{DefinitionCut, cut_into, cut_after, cut_most, definition_cut}
-use Rattle.definition_block.specs.Frontmatter.{is_metadata_fence, after_frontmatter}
+use Rattle.definition_block.specs.Frontmatter.{is_metadata_fence}
 use Rattle.markdown_options.specs.declared.align_kind.AlignKind.{AlignKind}
 use Rattle.definition_block.specs.GfmTable.{delimiter_row, is_head}
-use Rattle.definition_block.specs.Tree.{is_some_line, tabled, Nil, Leaf, Paragraph, join, block_and_ending, Text, At, Tree, tree, nothing, empty_tree}
-use Rattle.definition_block.specs.Tree.{with_paragraph, rest_line, text_line_of, beside_in, leaf_line, start}
-use Rattle.definition_block.specs.Tree.{new}
-use Rattle.definition_block.specs.Tree.{grow, beside_line, step, blocks_at_end, children, children_after, blocks}
+use Rattle.definition_block.specs.Tree.{is_some_line, tabled}
+use Rattle.definition_block.specs.Tree.{with_paragraph, beside_in, start}
+use Rattle.definition_block.specs.Tree.{children}
 use Rattle.laws_escape.proofs.PlainText.{and_no, bare_other}
-use Rattle.laws_escape.specs.Escaped.{is_line_byte}
 use Rattle.laws_escape.proofs.Escaped.{no_and, no_column, line_byte}
 use Rattle.laws_escape.proofs.BeginsNothing.{BeginsNothing, same_bytes, no_start, not_blank, no_leaf}
 

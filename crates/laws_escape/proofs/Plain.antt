@@ -1,12 +1,7 @@
 -- What a line does where every construct is off.
 use Rattle.std.proofs.Common.{◌≡◌, ℕ, suc, zero, List, [], ◌∷◌, ◌++◌, Option, true, cond, refl, ap, length}
-use Rattle.markdown_options.specs.declared.line_ending.LineEnding.{LineEnding}
-use Rattle.markdown_options.specs.Defaults.{no_constructs}
-use Rattle.markdown_options.specs.declared.beside.Beside.{Beside}
-use Rattle.definition_text.specs.Columns.{Rest, is_blank}
-use Rattle.definition_text.specs.BlockLines.{BlockLine}
-use Rattle.definition_block.specs.Tree.{Blank, Nil, join, one, Text, Opening, At, Tree, tree, nothing, close_leaf, rest_line, text_line_of, leaf_line, new}
-use Rattle.definition_block.specs.Tree.{grow}
+use Rattle.laws_escape.proofs.Prelude.{At, Beside, Blank, BlockLine, close_leaf, grow, is_blank, join, leaf_line, LineEnding, new, Nil, no_constructs, nothing}
+use Rattle.laws_escape.proofs.Prelude.{one, Opening, Rest, rest_line, Text, text_line_of, tree, Tree}
 
 -- the open paragraph with these lines, none where it isn't open
 abbrev pub paragraph : List BlockLine → Opening

@@ -1,47 +1,35 @@
 -- The text of lines where every construct is off: the lines without the spaces and tabs at their ends, encoded.
 use Rattle.std.proofs.Common.{◌≡◌, ℕ, ◌+◌, ◌-◌, ◌<◌, suc, zero, List, [], ◌∷◌, ◌++◌, Option, None, Some, Bool, true, false, cond, ◌&&◌, eqb, leb, inl, inr}
 use Rattle.std.proofs.Common.{refl, sym, ap, ◌∙◌, subst, append_assoc, arith, take, drop, length, map}
-use Rattle.std.specs.Prelude.{codes, reverse}
-use Rattle.std.specs.List.{flat_map, fold, prefix_len, suffix_len}
+use Rattle.laws_escape.proofs.Prelude.{add, AddsBytes, and_parts, bare, BlockLine, both_ways, Bytes, cases_Bool, codes, codes_of, CompileOptions, cond-false}
+use Rattle.laws_escape.proofs.Prelude.{cond-true, Constructs, Data, Document, document_meaning, encode, ending_text, ends_here, ends_line, eqb-true, flat_map}
+use Rattle.laws_escape.proofs.Prelude.{fold, Found, Fresh, has_calls, indent, inline_content, inline_html, inline_pieces, InlineCode, InlineContext}
+use Rattle.laws_escape.proofs.Prelude.{InlineLeaf, Inlines, inlines, is_blank, is_eol, is_tab_column, is_white, Item, Kind, lay, leaf, leaf_at, leaf_bytes}
+use Rattle.laws_escape.proofs.Prelude.{leaf_here, leaf_html, line_end_at, line_spaces_at, LineEnd, LineEnding, map-append, Meaning, ne_eqb, Next}
+use Rattle.laws_escape.proofs.Prelude.{no_constructs, on_page, or_else, or_from, prefix_len, read_tokens, reading, Reading, reading_of, scan, suffix_len, text}
+use Rattle.laws_escape.proofs.Prelude.{text_of, trim, whole_text, with_spans, without_calls}
+use Rattle.std.specs.Prelude.{reverse}
 use Rattle.std.proofs.Math.Seq.{drop-append_seam}
-use Rattle.std.proofs.lemmas.Bool.{true≢false, both_ways, cases_Bool, cond-true, cond-false, and_parts, and_cases, or_from, ne_eqb, eqb-true, le-leb}
-use Rattle.std.proofs.lemmas.List.{length-reverse, map-append, reverse-append}
+use Rattle.std.proofs.lemmas.Bool.{true≢false, and_cases, le-leb}
+use Rattle.std.proofs.lemmas.List.{length-reverse, reverse-append}
 use Rattle.std.proofs.lemmas.List.Folds.{prefix_len-append}
 use Rattle.std.proofs.lemmas.List.Sums.{suffix_len-le-length}
-use Rattle.markdown_options.specs.declared.line_ending.LineEnding.{LineEnding}
 use Rattle.markdown_options.specs.declared.line_ending.LineEnding.TheVariants.{CarriageReturnLineFeed, CarriageReturn, LineFeed}
-use Rattle.markdown_options.specs.declared.configuration.CompileOptions.{CompileOptions}
-use Rattle.markdown_options.specs.declared.configuration.Constructs.{Constructs}
 use Rattle.markdown_options.specs.declared.configuration.ParseOptions.{ParseOptions}
-use Rattle.markdown_options.specs.Defaults.{no_constructs}
-use Rattle.markdown_options.specs.declared.beside.Kind.{Kind}
 use Rattle.markdown_options.specs.declared.beside.Kind.TheVariants.{Whitespace}
-use Rattle.definition_text.specs.Lines.{ends_line, ending_text}
-use Rattle.definition_text.specs.Columns.{is_white, is_blank, indent, bare, is_tab_column, code_byte, trim}
-use Rattle.definition_text.specs.Encode.{encode}
-use Rattle.definition_text.specs.BlockLines.{BlockLine}
-use Rattle.definition_text.specs.Content.{is_eol, ending_code, line_codes, content_of}
-use Rattle.definition_text.specs.InlineCode.{InlineCode, codes_of, line_content, inline_content}
-use Rattle.definition_inline.specs.Inline.{InlineLeaf, Data, LineEnd, Leaf, Inlines, Found, leaf, or_else}
-use Rattle.definition_inline.specs.HardBreak.{ends_here, line_end_at, line_spaces_at}
-use Rattle.definition_inline.specs.Spans.{Item, with_spans}
-use Rattle.definition_inline.specs.Scan.{InlineContext, leaf_at, leaf_here, text, Reading, reading, read_tokens, Next, leaf_step, step, and_then, scan}
-use Rattle.definition_inline.specs.Scan.{whole_text, inlines}
+use Rattle.definition_text.specs.Columns.{code_byte}
+use Rattle.definition_text.specs.Content.{ending_code, line_codes, content_of}
+use Rattle.definition_text.specs.InlineCode.{line_content}
+use Rattle.definition_inline.specs.Inline.{Leaf}
+use Rattle.definition_inline.specs.Scan.{leaf_step, step, and_then}
 use Rattle.definition_inline.specs.Strings.{or_byte}
 use Rattle.definition_block.specs.Blocks.{Paragraph}
 use Rattle.definition_page.specs.Tags.{bare_tag}
-use Rattle.definition_page.specs.InlinePieces.{Meaning, inline_pieces}
-use Rattle.definition_page.specs.Read.{on_page, read_text}
-use Rattle.html_bytes.specs.InlineHtml.{leaf_html, inline_html}
-use Rattle.html_bytes.specs.Pieces.{Bytes, Fresh, in_bytes}
+use Rattle.definition_page.specs.Read.{read_text}
+use Rattle.html_bytes.specs.Pieces.{in_bytes}
 use Rattle.definition_page.proofs.ContentCodes.{kinds_codes}
-use Rattle.html_bytes.specs.Layout.{lay}
-use Rattle.html_bytes.specs.Document.{Document, reading_of, document_meaning, text_of}
 use Rattle.definition_inline.specs.Targets.{is_label_of, is_footnote_of}
-use Rattle.html_bytes.specs.Html.{leaf_bytes}
-use Rattle.html_bytes.proofs.SameLayout.{add}
 use Rattle.html_bytes.proofs.SameText.{element_bytes}
-use Rattle.html_bytes.proofs.WithoutCalls.{has_calls, AddsBytes, without_calls}
 use Rattle.definition_inline.proofs.Scanning.{drop-codes_of}
 use Rattle.laws_escape.proofs.InlineParts.{read_nothing, white_codes, items, leaves, leaves_alone, html_of_leaves, html_of_data, leaves_call_nothing}
 

@@ -1,41 +1,32 @@
 -- What a page shows outside of tags and line endings.
 use Rattle.std.proofs.Common.{◌≡◌, ℕ, ◌+◌, ◌-◌, ◌<◌, suc, zero, List, [], ◌∷◌, ◌++◌, Option, None, Some, Bool, true, false, cond, ◌||◌, not, eqb, inl, inr}
 use Rattle.std.proofs.Common.{refl, sym, ap, ◌∙◌, subst, append_assoc, take, drop, length, get_or, arith}
-use Rattle.std.specs.Prelude.{replicate, codes}
-use Rattle.std.specs.List.{All, fold, filter, flat_map, prefix_len, suffix_len}
-use Rattle.std.proofs.lemmas.Bool.{cases_Bool, cond-true, cond-false, cond_both, or_from, ne_eqb, eqb-true}
-use Rattle.std.proofs.lemmas.List.{append-nil}
+use Rattle.laws_escape.proofs.Prelude.{AddsBytes, after_frontmatter, append-nil, At, Beside, beside_line, Blank, block_codes, BlockLine, blocks, blocks_at_end}
+use Rattle.laws_escape.proofs.Prelude.{blocks_html, Bytes, bytes_of, cases_Bool, children_after, close_leaf, codes, codes_from, CompileOptions, cond-false}
+use Rattle.laws_escape.proofs.Prelude.{cond-true, cond_both, document, Document, empty_tree, encode, encoded_byte, ending_bytes, ending_text, ends_line}
+use Rattle.laws_escape.proofs.Prelude.{eqb-true, flat_map, flat_map-append, fold, Fresh, grow, has_mark, html_is, in_first_line, is_blank, is_byte}
+use Rattle.laws_escape.proofs.Prelude.{is_tab_column, is_white, join, Kind, kind_before_text, lay, Leaf, leaf_bytes, LineEnding, lines, marked_html, ne_eqb}
+use Rattle.laws_escape.proofs.Prelude.{Nil, no_constructs, on_page, one, Opening, Options, or_from, page_layout, Paragraph, Piece, prefix_len, Rest, rest_line}
+use Rattle.laws_escape.proofs.Prelude.{step, suffix_len, Text, text_ending, text_line, text_of, TextTables, Tree, tree, trim, with_footnotes}
+use Rattle.std.specs.Prelude.{replicate}
+use Rattle.std.specs.List.{All, filter}
 use Rattle.std.proofs.lemmas.List.Sums.{fold-append}
-use Rattle.std.proofs.lemmas.List.Concat.{flat_map-append}
-use Rattle.markdown_options.specs.declared.line_ending.LineEnding.{LineEnding}
 use Rattle.markdown_options.specs.declared.line_ending.LineEnding.TheVariants.{CarriageReturnLineFeed, CarriageReturn, LineFeed}
-use Rattle.markdown_options.specs.declared.configuration.CompileOptions.{CompileOptions}
-use Rattle.markdown_options.specs.declared.configuration.Options.{Options}
-use Rattle.markdown_options.specs.LineEndings.{ending_bytes}
-use Rattle.markdown_options.specs.Defaults.{no_constructs}
-use Rattle.markdown_options.specs.declared.beside.Beside.{Beside}
-use Rattle.markdown_options.specs.declared.beside.Kind.{Kind}
 use Rattle.markdown_options.specs.declared.beside.Kind.TheVariants.{Whitespace}
-use Rattle.definition_text.specs.Lines.{TextLine, text_line, in_first_line, after_return, lines, ends_line, ending_text, has_mark, without_mark}
-use Rattle.definition_text.specs.Lines.{kind_before_text}
-use Rattle.definition_text.specs.Columns.{Rest, codes_from, whole, is_white, is_blank, is_byte, is_tab_column, bytes_of, block_codes, trim, tab_column}
+use Rattle.definition_text.specs.Lines.{TextLine, after_return, without_mark}
+use Rattle.definition_text.specs.Columns.{whole, tab_column}
 use Rattle.definition_text.specs.Columns.{columns_after_tab}
-use Rattle.definition_text.specs.Encode.{replacement_character, encoded_byte, encode}
-use Rattle.definition_text.specs.BlockLines.{BlockLine, own_lines}
-use Rattle.definition_block.specs.Tree.{beside_line, Block, Leaf, Paragraph, Ending, Blank, Blocks, Nil, Cons, join, one, Text, Opening, At, Tree, tree}
-use Rattle.definition_block.specs.Tree.{empty_tree, close_leaf, close, rest_line, grow, step, steps, blocks_at_end, children_after, blocks}
-use Rattle.definition_block.specs.Frontmatter.{after_frontmatter}
+use Rattle.definition_text.specs.Encode.{replacement_character}
+use Rattle.definition_text.specs.BlockLines.{own_lines}
+use Rattle.definition_block.specs.Tree.{Block, Ending, Blocks, Cons}
+use Rattle.definition_block.specs.Tree.{close, steps}
 use Rattle.definition_block.specs.Lists.{put_before, grouped_block, group_items}
 use Rattle.definition_page.specs.Pieces.{is_fresh}
-use Rattle.html_bytes.specs.Pieces.{Piece, Bytes, Fresh, print}
-use Rattle.html_bytes.specs.Layout.{LayoutState, with_text, lay, nothing_laid, with_footnotes, page_layout}
-use Rattle.definition_page.specs.Read.{on_page, ends_blank}
-use Rattle.html_bytes.specs.Html.{silences, leaf_bytes, block_bytes, children_bytes, last_piece, document_bytes, text_ending, blocks_html, marked_html}
+use Rattle.html_bytes.specs.Pieces.{print}
+use Rattle.html_bytes.specs.Layout.{LayoutState, with_text, nothing_laid}
+use Rattle.definition_page.specs.Read.{ends_blank}
+use Rattle.html_bytes.specs.Html.{silences, block_bytes, children_bytes, last_piece, document_bytes}
 use Rattle.definition_block.specs.Definitions.{document_targets}
-use Rattle.definition_page.specs.TextTables.{TextTables}
-use Rattle.html_bytes.specs.Document.{Document, document, text_of}
-use Rattle.html_bytes.proofs.SamePage.{html_is}
-use Rattle.html_bytes.proofs.WithoutCalls.{AddsBytes}
 use Rattle.laws_escape.specs.Visible.{visible, is_not_blank, said_by, all_said_by, VisibleLaw}
 use Rattle.laws_escape.proofs.PlainText.{line_text, plain_text, AreInLine, AreText, line_drop, first_line, other_lines, paragraph_bytes, text_is_plain}
 use Rattle.laws_escape.proofs.Plain.{paragraph, blank_tree, text_tree, plain_tree, plain_grow}

@@ -2,20 +2,16 @@
 use Rattle.std.proofs.Common.{◌≡◌, ◌∙◌, ℕ, ◌+◌, ◌-◌, ◌*◌, ◌<◌, ◌≤◌, zero, suc, Bool, true, false, ◌==◌, nat_lt, if◌then◌else◌, List, [], ◌∷◌, ◌++◌, map, take}
 use Rattle.std.proofs.Common.{drop, length, slice_get, Option, Some, None, option_map, min, refl, sym, ap, subst, arith, append_assoc, append-nil}
 use Rattle.std.proofs.Common.{length-append, length-take, length-drop, inl, inr}
-use Rattle.std.proofs.lemmas.Bool.{cases_lt}
-use Rattle.std.proofs.lemmas.Bool.Decides.{nat_tests}
+use Rattle.markdown_engine.proofs.Prelude.{AreApart, cases_lt, Chain, chains, chunks, chunks_of, Content, counts, Divides, edit_at, EditAt, Event, found_both}
+use Rattle.markdown_engine.proofs.Prelude.{FoundLabels, IsOrdered, nat_tests, nothing_found, part_size, Places, places, places_of, replacement, Resolves}
+use Rattle.markdown_engine.proofs.Prelude.{Steps, with_division, with_new_links}
 use Rattle.std.proofs.lemmas.List.{length-map}
 use Rattle.std.proofs.lemmas.List.Sums.{prefix_len-le-length}
 use Rattle.std.proofs.lemmas.Option.{slice_get-map}
-use Rattle.engine_events.specs.declared.event.Content.{Content}
-use Rattle.engine_events.specs.declared.event.Event.{Event}
-use Rattle.engine_edits.specs.Edits.{EditAt, edit_at, with_edit, with_new, with_merge, has_place}
-use Rattle.engine_edits.specs.Replacement.{IsOrdered, Places, arrivals, places, with_new_links, replacement, rising}
-use Rattle.engine_chunks.specs.Chunks.{chunks, part_size, size_to}
-use Rattle.engine_chunks.specs.Parts.{counts, with_division, with_division_at, places_of}
-use Rattle.markdown_engine.specs.Chains.{AreApart, Chain, chains, chunks_of, Divides}
-use Rattle.markdown_engine.specs.Reading.{Steps}
-use Rattle.markdown_engine.specs.Resolving.{FoundLabels, Resolves, found_both, nothing_found}
+use Rattle.engine_edits.specs.Edits.{with_edit, with_new, with_merge, has_place}
+use Rattle.engine_edits.specs.Replacement.{arrivals, rising}
+use Rattle.engine_chunks.specs.Chunks.{size_to}
+use Rattle.engine_chunks.specs.Parts.{with_division_at}
 use Rattle.markdown_engine.specs.Standing.{EachStands, LinksLead}
 
 -- items of lists that are joined or cut

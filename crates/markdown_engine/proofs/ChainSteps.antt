@@ -1,26 +1,15 @@
 -- Chains: their chunks one after another, what is skipped before them, and the edits that replace them.
 use Rattle.std.proofs.Common.{◌≡◌, ◌∙◌, ℕ, ◌+◌, ◌<◌, ◌≤◌, zero, suc, Bool, true, false, ◌&&◌, List, [], ◌∷◌, ◌++◌, length, drop, get_or, Option, refl, ap}
 use Rattle.std.proofs.Common.{subst, sym, arith}
-use Rattle.std.proofs.lemmas.List.{drop_more}
-use Rattle.engine_events.specs.declared.event.Content.{Content}
-use Rattle.engine_events.specs.declared.event.Event.{Event}
-use Rattle.engine_events.specs.declared.place.Point.{Point}
-use Rattle.engine_events.specs.declared.state.State.{State}
+use Rattle.markdown_engine.proofs.Prelude.{after_chunk, AreApart, ArePlaces, Chain, chains, chains_from, chunks, chunks_of, config, Config, Content, Context}
+use Rattle.markdown_engine.proofs.Prelude.{counts, Divides, drop_more, EditAt, end_of, Event, first_state, found_both, FoundLabels, fresh_config, HasCompleted}
+use Rattle.markdown_engine.proofs.Prelude.{Holds, HoldsAt, IsPlace, MayBegin, nothing_found, Outcome, place_at, Point, ReadsChain, Resolves, Source, source}
+use Rattle.markdown_engine.proofs.Prelude.{State, Steps, Text, text_to, Tokenizer, view_config, with_chunks, with_division, without_skips}
 use Rattle.engine_events.specs.declared.state.State.TheVariants as states
 use Rattle.engine_events.specs.Events.{point_of}
-use Rattle.engine_edits.specs.Edits.{EditAt}
-use Rattle.engine_chunks.specs.Chunks.{chunks}
-use Rattle.engine_chunks.specs.Parts.{counts, with_division}
-use Rattle.markdown_engine.specs.declared.tokenizer.Tokenizer.{Tokenizer}
-use Rattle.markdown_engine.specs.Chains.{Chain, chain_content, chains, chains_from, with_chain, chunks_of, AreApart, IsPlace, ArePlaces, place_at, after_chunk}
-use Rattle.markdown_engine.specs.Chains.{with_chunks, end_of, chain_text, first_state, Divides, IsFresh, ReadsChain, ReadsChainIn, MayBegin, is_empty}
+use Rattle.markdown_engine.specs.Chains.{chain_content, with_chain}
+use Rattle.markdown_engine.specs.Chains.{chain_text, IsFresh, ReadsChainIn, is_empty}
 use Rattle.markdown_engine.proofs.ChainLaws.{apart_room}
-use Rattle.markdown_engine.specs.Context.{Context}
-use Rattle.markdown_engine.specs.Laws.{Holds, HoldsAt}
-use Rattle.markdown_engine.specs.Machine.{config, view_config, fresh_config, source, HasCompleted}
-use Rattle.markdown_engine.specs.Reading.{Config, Outcome, Steps}
-use Rattle.markdown_engine.specs.Resolving.{FoundLabels, Resolves, found_both, nothing_found}
-use Rattle.markdown_engine.specs.VirtualText.{Source, Text, text_to, without_skips}
 use Rattle.markdown_engine.proofs.Push.{at_outcome, whole_run}
 
 pub place_read : (events : List Event) (k : ℕ) (d : Event) → k < length events → point_of (get_or events k d) ≡ place_at events k

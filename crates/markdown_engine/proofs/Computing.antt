@@ -1,25 +1,17 @@
 -- Reading is a function: what `push`, `flush` and `subtokenize` say of it.
 use Rattle.std.proofs.Common.{◌≡◌, ◌∙◌, ◌⊎◌, ℕ, ◌+◌, List, [], ◌∷◌, Bool, true, false, Option, Some, if◌then◌else◌, length, refl, sym, ap, subst, arith}
-use Rattle.std.specs.Prelude.{Err, IfOk, IsErr, Ok, Result}
-use Rattle.engine_events.specs.declared.event.Content.{Content}
-use Rattle.engine_events.specs.declared.event.Event.{Event}
-use Rattle.engine_events.specs.declared.place.Point.{Point}
-use Rattle.engine_events.specs.declared.state.State.{State}
+use Rattle.markdown_engine.proofs.Prelude.{after_chunk, AreApart, ArePlaces, Attempt, Chain, chains, chunks, chunks_of, Config, Content, Context, counts}
+use Rattle.markdown_engine.proofs.Prelude.{Divides, EditAt, end_of, end_state, Err, Event, first_state, found_both, FoundLabels, fresh_config, GoesAll}
+use Rattle.markdown_engine.proofs.Prelude.{HasCompleted, Holds, HoldsAt, IsCut, IsFed, IsPlace, IsRefused, LawfulAt, MayBegin, nothing_found, Ok, Outcome}
+use Rattle.markdown_engine.proofs.Prelude.{place_at, Point, RanksAt, read_with, reading, ReadsChain, resolve_all, Resolves, Result, Runs, Source, source}
+use Rattle.markdown_engine.proofs.Prelude.{State, Steps, Subtokenizes, text_to, Tokenizer, view_config, with_chunks, with_division, with_skip, without_skips}
+use Rattle.std.specs.Prelude.{IfOk, IsErr}
 use Rattle.engine_events.specs.declared.state.State.TheVariants as states
-use Rattle.engine_edits.specs.Edits.{EditAt}
-use Rattle.engine_chunks.specs.Chunks.{chunks}
-use Rattle.engine_chunks.specs.Parts.{counts, with_division}
-use Rattle.markdown_engine.specs.declared.attempt.Attempt.{Attempt}
-use Rattle.markdown_engine.specs.declared.tokenizer.Tokenizer.{Tokenizer}
-use Rattle.markdown_engine.specs.Chains.{AreApart, ArePlaces, AreReadable, Chain, Divides, IsPlace, MayBegin, ReadsChain, Subtokenizes, after_chunk, chains}
-use Rattle.markdown_engine.specs.Chains.{chunks_of, end_of, first_state, place_at, starts_line, with_chunks}
-use Rattle.markdown_engine.specs.Context.{Context}
-use Rattle.markdown_engine.specs.Evaluation.{AreReadingOf, IsReadingOf, StaysReading, after_chain, chain_edits, chain_reading, reading}
-use Rattle.markdown_engine.specs.Laws.{Holds, HoldsAt, IsFed, LawfulAt, Ranks, RanksAt}
-use Rattle.markdown_engine.specs.Machine.{HasCompleted, GoesAll, IsRefused, bytes_of, view_config, fresh_config, read_with, source}
-use Rattle.markdown_engine.specs.Reading.{Config, Outcome, Runs, Steps, end_state}
-use Rattle.markdown_engine.specs.Resolving.{FoundLabels, Resolves, found_both, nothing_found, resolve_all}
-use Rattle.markdown_engine.specs.VirtualText.{IsCut, Source, text_to, without_skips, with_skip}
+use Rattle.markdown_engine.specs.Chains.{AreReadable}
+use Rattle.markdown_engine.specs.Chains.{starts_line}
+use Rattle.markdown_engine.specs.Evaluation.{AreReadingOf, IsReadingOf, StaysReading, after_chain, chain_edits, chain_reading}
+use Rattle.markdown_engine.specs.Laws.{Ranks}
+use Rattle.markdown_engine.specs.Machine.{bytes_of}
 use Rattle.markdown_engine.proofs.ChainSteps.{apart_first, apart_front, apart_rest, after_front}
 use Rattle.markdown_engine.proofs.Push.{unless_refused}
 use Rattle.markdown_engine.proofs.Total.{feeds_to, has_outcome}

@@ -1,10 +1,8 @@
 -- More turns change nothing.
 use Rattle.std.proofs.Common.{◌≡◌, ℕ, zero, suc, ◌+◌, List, [], ◌∷◌, Bool, true, false, Some, None, refl, arith}
-use Rattle.engine_events.specs.declared.state.State.{State}
+use Rattle.markdown_engine.proofs.Prelude.{after_success, Config, feed, Frame, hand_on, State, Steps, Text}
 use Rattle.engine_events.specs.declared.state.State.TheVariants as states
 use Rattle.markdown_engine.specs.Evaluation.{Ending, after_attempt, evaluate}
-use Rattle.markdown_engine.specs.Reading.{Config, Frame, Steps, feed, hand_on, after_success}
-use Rattle.markdown_engine.specs.VirtualText.{Text}
 
 module _ {M : Type 0} (text : Text) (step : Steps M) where
   stays_on : (f : Frame M) (rest more : Config M → State → Ending M) (r q : Ending M) (a : Config M × Bool)

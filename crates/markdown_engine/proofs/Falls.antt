@@ -1,16 +1,13 @@
 -- Each byte of the virtual text that is read leaves less.
 use Rattle.std.proofs.Common.{◌≡◌, ℕ, ◌+◌, ◌<◌, ◌≤◌, ◌∙◌, Bool, true, false, if◌then◌else◌, ◌==◌, nat_lt, nat_le, ◌||◌, List, length, slice_index, refl, sym}
 use Rattle.std.proofs.Common.{subst, arith, Option, Some, None, ◌⊎◌, inl, inr}
-use Rattle.std.proofs.lemmas.Bool.{ltb-true, eqb-true, cases_lt}
-use Rattle.std.proofs.lemmas.Bool.Decides.{nat_tests}
-use Rattle.engine_events.specs.declared.place.Point.{Point}
+use Rattle.markdown_engine.proofs.Prelude.{byte_before, cases_lt, eqb-true, is_before, IsFed, ltb-true, nat_tests, place_in, Point, Reaches, remaining, Skips}
+use Rattle.markdown_engine.proofs.Prelude.{VirtualByte}
 use Rattle.engine_events.specs.Columns.{tab_size}
-use Rattle.markdown_engine.specs.declared.virtual_text.VirtualByte.{VirtualByte}
-use Rattle.markdown_engine.specs.VirtualText.{virtual_byte, byte_before, place_in, Skips, is_before, byte_given, tab_column, in_line, in_tab, next_line}
+use Rattle.markdown_engine.specs.VirtualText.{virtual_byte, byte_given, tab_column, in_line, in_tab, next_line}
 use Rattle.markdown_engine.specs.VirtualText.{as_byte}
 use Rattle.markdown_engine.specs.VirtualText.{feeds}
-use Rattle.markdown_engine.specs.Laws.{remaining, IsRead, IsFed}
-use Rattle.markdown_engine.specs.Order.{Reaches}
+use Rattle.markdown_engine.specs.Laws.{IsRead}
 use Rattle.markdown_engine.proofs.Starts.{start_less, start_reaches}
 use Rattle.markdown_engine.proofs.Tests.{by_tests}
 

@@ -1,3 +1,4 @@
+mod Prelude
 pub mod Tests
 pub mod Outcomes
 pub mod Starts

@@ -1,12 +1,7 @@
 -- What was read to the end is balanced.
 use Rattle.std.proofs.Common.{◌≡◌, ℕ, Bool, true, false, List, [], subst, inl, inr, ◌⊎◌}
-use Rattle.engine_events.specs.declared.state.State.{State}
-use Rattle.markdown_engine.specs.declared.attempt.Attempt.{Attempt}
-use Rattle.markdown_engine.specs.declared.tokenizer.Tokenizer.{Tokenizer}
-use Rattle.markdown_engine.specs.Laws.{HoldsAt, LawfulAt, RanksAt}
-use Rattle.markdown_engine.specs.Machine.{HasEnded, IsRefused, view_config}
+use Rattle.markdown_engine.proofs.Prelude.{Attempt, end_state, HasEnded, HoldsAt, IsRefused, LawfulAt, RanksAt, State, Steps, Tokenizer, view_config}
 use Rattle.markdown_engine.specs.Order.{AreWhole}
-use Rattle.markdown_engine.specs.Reading.{Steps, end_state}
 
 module _ {M V T A : Type 0} (view : M → V) (size : ℕ) (valid : HoldsAt V) (step : Steps V) (rank : RanksAt V) (lawful : LawfulAt size valid step rank)
     (t : Tokenizer M T A) where

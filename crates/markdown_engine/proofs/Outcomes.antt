@@ -3,15 +3,11 @@ use Rattle.std.proofs.Common.{◌≡◌, ◌++◌, [], ◌∷◌, length, take, 
 use Rattle.std.proofs.Common.{arith}
 use Rattle.std.proofs.lemmas.Grind.{common_steps}
 use Rattle.std.proofs.Math.Seq.{take-append_seam}
-use Rattle.engine_events.specs.declared.event.Event.{Event}
-use Rattle.engine_events.specs.declared.state.Name.{Name}
-use Rattle.markdown_engine.specs.declared.attempt.Attempt.{Attempt}
-use Rattle.engine_events.specs.declared.state.State.{State}
+use Rattle.markdown_engine.proofs.Prelude.{after_success, AreNested, Attempt, Config, continuation, end_state, ends-nok, ends-ok, Event, feed, first, Frame}
+use Rattle.markdown_engine.proofs.Prelude.{hand_on, mark, Name, next, OnlyAdds, Outcome, restore, retry, Runs, second, State, state_after, Steps, Text}
+use Rattle.markdown_engine.proofs.Prelude.{Unwinds}
 use Rattle.engine_events.specs.declared.state.State.TheVariants as states
-use Rattle.markdown_engine.specs.Reading.{Config, Frame, Steps, Runs, ends-ok, ends-nok, next, retry, first, second, mark, restore, continuation, state_after}
-use Rattle.markdown_engine.specs.Reading.{feed, after_success, hand_on, Unwinds, Outcome, end_state}
-use Rattle.markdown_engine.specs.VirtualText.{Text}
-use Rattle.markdown_engine.specs.Laws.{IsFront, AreNested, OnlyAdds}
+use Rattle.markdown_engine.specs.Laws.{IsFront}
 
 pub front_take : (a b : List Event) → IsFront a b → take (length a) b ≡ a
 front_take a b (m, h) = rw h (take-append_seam a m)

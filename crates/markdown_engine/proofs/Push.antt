@@ -2,25 +2,20 @@
 use Rattle.std.proofs.Common.{◌≡◌, ℕ, ◌+◌, ◌<◌, ◌≤◌, ◌++◌, [], ◌∷◌, length, map, List, Bool, true, false, refl, sym, ap, subst, ◌∙◌, arith, ◌⊎◌, inl, inr}
 use Rattle.std.proofs.Common.{Option, None, cond, is_some, not, append-nil}
 use Rattle.std.proofs.Common.{nat_lt, ◌==◌, ◌&&◌}
-use Rattle.std.specs.Prelude.{OnOk, Result, Ok, Err, is_err}
-use Rattle.std.proofs.lemmas.Bool.{ltb-true, lt-ltb, eqb-true, eq-eqb, cases_lt}
-use Rattle.engine_events.specs.declared.place.Point.{Point}
-use Rattle.engine_events.specs.declared.state.Name.{Name}
-use Rattle.engine_events.specs.declared.state.State.{State}
+use Rattle.markdown_engine.proofs.Prelude.{Attempt, byte_before, cases_lt, config, Config, context, Context, continuation, end_state, eq-eqb, eqb-true, Err}
+use Rattle.markdown_engine.proofs.Prelude.{feed, GoesAll, GoesOn, HasEnded, HasFlushed, Holds, HoldsAt, is_before, IsCut, IsFed, IsRefused, LawfulAt}
+use Rattle.markdown_engine.proofs.Prelude.{line_start, lt-ltb, ltb-true, mark, MovesOn, Name, Ok, OnlyAdds, Outcome, ParseState, place_in, Point, RanksAt}
+use Rattle.markdown_engine.proofs.Prelude.{read_with, restore, Result, Runs, seen_as, Source, source, State, state_after, Steps, Text, text_to, Tokenizer}
+use Rattle.markdown_engine.proofs.Prelude.{Turn, view_config, VirtualByte, weight, with_skip}
+use Rattle.std.specs.Prelude.{OnOk, is_err}
 use Rattle.engine_events.specs.declared.state.State.TheVariants as states
 use Rattle.std.specs.Borrow.{Bor}
 use Rattle.markdown_options.specs.declared.message.Message.{Message}
-use Rattle.markdown_engine.specs.declared.attempt.Attempt.{Attempt}
-use Rattle.markdown_engine.specs.declared.parse_state.ParseState.{ParseState}
-use Rattle.markdown_engine.specs.declared.virtual_text.VirtualByte.{VirtualByte}
-use Rattle.markdown_engine.specs.declared.tokenizer.Tokenizer.{Tokenizer}
-use Rattle.markdown_engine.specs.VirtualText.{IsCut, Source, Text, is_before, byte_before, line_start, place_in, text_to, with_skip}
-use Rattle.markdown_engine.specs.Context.{Context, context}
-use Rattle.markdown_engine.specs.Reading.{Config, Steps, Runs, state_after, end_state, feed, with_byte, mark, at_point, restore, continuation, seen_as, Outcome}
-use Rattle.markdown_engine.specs.Machine.{config, read_with, view_config, source, AreCuts, Around, OpensRange, IsAfter}
-use Rattle.markdown_engine.specs.Machine.{GoesOn, Goes, GoesAll, HasPushed, IsRefused, Did}
-use Rattle.markdown_engine.specs.Machine.{Shows, Turn, HasEnded, HasFlushed, ReadWhole, weight}
-use Rattle.markdown_engine.specs.Laws.{Holds, HoldsAt, LawfulAt, MovesOn, RanksAt, KeepsAt, FallsAt, OnlyAdds, IsFed}
+use Rattle.markdown_engine.specs.Reading.{with_byte, at_point}
+use Rattle.markdown_engine.specs.Machine.{AreCuts, Around, OpensRange, IsAfter}
+use Rattle.markdown_engine.specs.Machine.{Goes, HasPushed, Did}
+use Rattle.markdown_engine.specs.Machine.{Shows, ReadWhole}
+use Rattle.markdown_engine.specs.Laws.{KeepsAt, FallsAt}
 use Rattle.markdown_engine.proofs.Falls.{is_fed}
 use Rattle.markdown_engine.proofs.Outcomes.{ends, outcome_pop, outcome_retry, outcome_next}
 use Rattle.markdown_engine.proofs.Starts.{before, before_start, skip_later}

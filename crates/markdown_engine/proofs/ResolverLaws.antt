@@ -7,7 +7,7 @@ use denote.Enum.Bare.{sameb}
 use denote.Enum.Declared.{tag_of}
 use Rattle.engine_events.specs.contracts.resolve.Name.{the_type}
 use Rattle.engine_events.specs.declared.resolve.Name.{Name}
-use Rattle.markdown_engine.specs.Resolvers.{AreOnce, is_registered}
+use Rattle.markdown_engine.proofs.Prelude.{AreOnce, is_registered}
 
 same_either_way : (a b : Name) → sameb the_type a b ≡ sameb the_type b a
 same_either_way a b = (on_equiv (tag_of the_type) nat_eq_equiv).symm a b

@@ -1,17 +1,11 @@
 -- Resolvers, one after another.
 use Rattle.std.proofs.Common.{◌≡◌, ◌∙◌, [], ◌∷◌, ◌⊎◌, inl, inr, Bool, true, false, List, ap, subst, sym}
-use Rattle.engine_events.specs.declared.resolve.Name.{Name as Resolver}
+use Rattle.markdown_engine.proofs.Prelude.{Config, context, Context, end_state, found_both, found_in, FoundLabels, HasCompleted, HasFlushed, HoldsAt}
+use Rattle.markdown_engine.proofs.Prelude.{IsRefused, nothing_found, Outcome, ParseState, read_with, resolve_all, resolve_each, Resolver, Resolves, SettlesAt}
+use Rattle.markdown_engine.proofs.Prelude.{State, Steps, Text, Tokenizer, view_config}
 use Rattle.engine_events.specs.declared.subresult.Subresult.{Subresult}
-use Rattle.markdown_engine.specs.declared.parse_state.ParseState.{ParseState}
-use Rattle.markdown_engine.specs.declared.tokenizer.Tokenizer.{Tokenizer}
-use Rattle.engine_events.specs.declared.state.State.{State}
 use Rattle.engine_events.specs.declared.state.State.TheVariants as states
-use Rattle.markdown_engine.specs.Context.{Context, context}
-use Rattle.markdown_engine.specs.Laws.{HoldsAt}
-use Rattle.markdown_engine.specs.Machine.{view_config, read_with, HasCompleted, HasFlushed, IsRefused}
-use Rattle.markdown_engine.specs.Reading.{Config, Outcome, Steps, end_state}
-use Rattle.markdown_engine.specs.VirtualText.{Text}
-use Rattle.markdown_engine.specs.Resolving.{FoundLabels, Resolves, Settles, SettlesAt, found_both, found_in, nothing_found, resolve_all, resolve_each}
+use Rattle.markdown_engine.specs.Resolving.{Settles}
 
 -- what the walk over resolvers keeps
 pub record ResolvingOn {M V T A : Type 0} (view : M → V) (resolve : Resolves V) (settled : SettlesAt V) (names : List Resolver) (t : Tokenizer M T A)

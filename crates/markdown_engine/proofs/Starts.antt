@@ -1,15 +1,12 @@
 -- Where lines are read from.
 use Rattle.std.proofs.Common.{◌≡◌, ℕ, ◌<◌, ◌≤◌, ◌∙◌, Bool, true, false, not, if◌then◌else◌, cond, ◌==◌, nat_lt, nat_cmp, ◌||◌, ◌&&◌, [], ◌∷◌, refl, sym, ap}
 use Rattle.std.proofs.Common.{subst, arith, Option, None, Some, ◌⊎◌, inl, inr}
-use Rattle.std.proofs.lemmas.Bool.{ltb-true, lt-ltb, eqb-true, eq-eqb, ne_eqb}
+use Rattle.markdown_engine.proofs.Prelude.{eq-eqb, eqb-true, is_before, lt-ltb, ltb-true, place_in, Point, Reaches, remaining, Skips, stays}
+use Rattle.std.proofs.lemmas.Bool.{ne_eqb}
 use Rattle.std.specs.Cmp.{unsigned_tied}
 use Rattle.std.specs.BTreeMap.{is_at, insert_entry}
 use Rattle.std.specs.Map.{lookup}
-use Rattle.engine_events.specs.declared.place.Point.{Point}
-use Rattle.markdown_engine.specs.VirtualText.{Skips, is_before, place_in, start_of_line}
-use Rattle.markdown_engine.specs.Laws.{remaining}
-use Rattle.markdown_engine.specs.Order.{Reaches}
-use Rattle.markdown_engine.specs.OrderLaws.{stays}
+use Rattle.markdown_engine.specs.VirtualText.{start_of_line}
 use Rattle.markdown_engine.proofs.Tests.{by_tests, or_right, and_both}
 
 -- a place stands before another

@@ -1,13 +1,8 @@
 -- Reading ends: whatever holds has an outcome.
 use Rattle.std.proofs.Common.{◌≡◌, ℕ, zero, suc, ◌+◌, ◌<◌, ◌≤◌, ◌++◌, [], ◌∷◌, length, map, List, Bool, true, false, refl, sym, subst, arith, ◌⊎◌, inl, inr}
-use Rattle.engine_events.specs.declared.place.Point.{Point}
-use Rattle.engine_events.specs.declared.state.Name.{Name}
-use Rattle.engine_events.specs.declared.state.State.{State}
+use Rattle.markdown_engine.proofs.Prelude.{Attempt, byte_before, Config, continuation, end_state, feed, HoldsAt, IsFed, LawfulAt, mark, Name, OnlyAdds}
+use Rattle.markdown_engine.proofs.Prelude.{place_in, Point, RanksAt, Source, State, state_after, Steps, Text, text_to}
 use Rattle.engine_events.specs.declared.state.State.TheVariants as states
-use Rattle.markdown_engine.specs.declared.attempt.Attempt.{Attempt}
-use Rattle.markdown_engine.specs.VirtualText.{Source, Text, byte_before, place_in, text_to}
-use Rattle.markdown_engine.specs.Reading.{Config, Steps, mark, feed, continuation, state_after, end_state}
-use Rattle.markdown_engine.specs.Laws.{HoldsAt, LawfulAt, RanksAt, OnlyAdds, IsFed}
 use Rattle.markdown_engine.specs.Outcomes.{HasOutcome, HasRun}
 use Rattle.markdown_engine.proofs.Outcomes.{ends, outcome_pop, outcome_retry, outcome_next}
 use Rattle.markdown_engine.proofs.Falls.{is_fed}

@@ -1,16 +1,11 @@
 -- How many turns are enough: twice the rank, and one.
 use Rattle.std.proofs.Common.{◌≡◌, ℕ, suc, ◌+◌, ◌-◌, ◌*◌, ◌<◌, ◌≤◌, ◌∙◌, ◌++◌, map, Bool, true, false, cond, List, [], ◌∷◌, Option, Some, refl, sym, ap, subst}
 use Rattle.std.proofs.Common.{arith, append-nil, append_assoc}
-use Rattle.engine_events.specs.declared.place.Point.{Point}
-use Rattle.engine_events.specs.declared.state.Name.{Name}
-use Rattle.engine_events.specs.declared.state.State.{State}
+use Rattle.markdown_engine.proofs.Prelude.{after_success, AreNested, Attempt, Config, continuation, end_state, ends-nok, ends-ok, feed, first, Frame, hand_on}
+use Rattle.markdown_engine.proofs.Prelude.{HoldsAt, IsFed, LawfulAt, mark, Name, next, Outcome, Point, RanksAt, reading, retry, Runs, second, State}
+use Rattle.markdown_engine.proofs.Prelude.{state_after, Steps, Text, Unwinds}
 use Rattle.engine_events.specs.declared.state.State.TheVariants as states
-use Rattle.markdown_engine.specs.declared.attempt.Attempt.{Attempt}
-use Rattle.markdown_engine.specs.Evaluation.{after_mark, after_stack, evaluate, reading}
-use Rattle.markdown_engine.specs.Laws.{HoldsAt, IsFed, LawfulAt, AreNested, RanksAt}
-use Rattle.markdown_engine.specs.Reading.{Config, Frame, Outcome, Runs, Steps, Unwinds, state_after, end_state, ends-nok, ends-ok, feed, first, hand_on, mark}
-use Rattle.markdown_engine.specs.Reading.{next, after_success, continuation, retry, second}
-use Rattle.markdown_engine.specs.VirtualText.{Text}
+use Rattle.markdown_engine.specs.Evaluation.{after_mark, after_stack, evaluate}
 use Rattle.markdown_engine.proofs.Evaluation.{more_turns}
 use Rattle.markdown_engine.proofs.Outcomes.{front_nested, keeps, restored}
 

@@ -1,24 +1,17 @@
 -- Parts of balanced lists in place of chunks.
 use Rattle.std.proofs.Common.{◌≡◌, ◌∙◌, ◌≤◌, ◌+◌, ◌-◌, ◌++◌, ℕ, List, [], ◌∷◌, Option, drop, length, map, take, refl, sym, ap, subst, arith, append-nil}
 use Rattle.std.proofs.Common.{append_assoc}
-use Rattle.std.proofs.lemmas.List.{drop-drop, drop_all, take-append-drop, take-map}
+use Rattle.markdown_engine.proofs.Prelude.{AreApart, ArePlaces, Chain, chains, chunks, chunks_of, Config, Content, counts, Divides, drop_all, edit_at, EditAt}
+use Rattle.markdown_engine.proofs.Prelude.{Event, first_state, found_both, FoundLabels, fresh_config, HoldsAt, LawfulAt, MayBegin, nothing_found, part_size}
+use Rattle.markdown_engine.proofs.Prelude.{place_at, Places, places, places_of, RanksAt, ReadsChain, replacement, resolve_each, Resolver, Resolves, SettlesAt}
+use Rattle.markdown_engine.proofs.Prelude.{Steps, Subtokenizes, with_division, with_new_links}
+use Rattle.std.proofs.lemmas.List.{drop-drop, take-append-drop, take-map}
 use Rattle.std.specs.List.{drop-map}
-use Rattle.engine_events.specs.declared.event.Content.{Content}
-use Rattle.engine_events.specs.declared.event.Event.{Event}
 use Rattle.engine_events.specs.declared.event.Name.{Name}
-use Rattle.engine_events.specs.declared.resolve.Name.{Name as Resolver}
 use Rattle.engine_events.specs.declared.state.State.TheVariants as states
-use Rattle.engine_edits.specs.Edits.{EditAt, edit_at}
-use Rattle.engine_edits.specs.Replacement.{Places, places, with_new_links, replacement}
-use Rattle.engine_chunks.specs.Chunks.{chunks, part_size}
-use Rattle.engine_chunks.specs.Parts.{counts, with_division, places_of}
-use Rattle.markdown_engine.specs.Chains.{AreApart, ArePlaces, Chain, Divides, MayBegin, ReadsChain, Subtokenizes, chains, chunks_of, first_state, place_at}
-use Rattle.markdown_engine.specs.Laws.{HoldsAt, LawfulAt, RanksAt}
-use Rattle.markdown_engine.specs.Machine.{fresh_config}
 use Rattle.markdown_engine.specs.Order.{IsBalanced, IsNested, open_after}
 use Rattle.markdown_engine.specs.OrderLaws.{nested_append, nested_front, nested_in, opened_append}
-use Rattle.markdown_engine.specs.Reading.{Config, Steps}
-use Rattle.markdown_engine.specs.Resolving.{FoundLabels, Resolves, ResolvesAt, SettlesAt, found_both, nothing_found, resolve_each}
+use Rattle.markdown_engine.specs.Resolving.{ResolvesAt}
 use Rattle.markdown_engine.specs.ResolvingLaws.{still_nested, still_opened}
 use Rattle.markdown_engine.specs.Together.{AreTogether, AreTogetherFrom, EachHasPlace, EachTogether, children_to}
 use Rattle.markdown_engine.proofs.ChainLaws.{EditsSoFar, after_edits, chunk_edits, edits_made, none_made, part_of}

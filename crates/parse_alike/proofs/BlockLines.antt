@@ -1,19 +1,10 @@
 -- Lines that are alike say the same.
 use Rattle.std.proofs.Common.{◌≡◌, ℕ, List, [], ◌∷◌, ◌++◌, Option, None, Some, map, flat_map, refl, sym, ap, ◌∙◌}
-use Rattle.std.proofs.lemmas.Grind.{flat_map-append}
-use Rattle.std.proofs.lemmas.List.{append-nil}
-use Rattle.markdown_options.specs.LineEndings.{ending_bytes}
-use Rattle.markdown_options.specs.declared.configuration.CompileOptions.{CompileOptions}
-use Rattle.markdown_options.specs.declared.line_ending.LineEnding.{LineEnding}
-use Rattle.definition_text.specs.BlockLines.{BlockLine}
-use Rattle.definition_text.specs.Columns.{bytes_of, code_byte}
-use Rattle.definition_text.specs.Content.{line_text}
+use Rattle.parse_alike.proofs.Prelude.{append-nil, AreCodeLinesAlike, AreHtmlLinesAlike, BlockLine, bytes_of, code_byte, code_line, CompileOptions}
+use Rattle.parse_alike.proofs.Prelude.{ending_bytes, ending_text, flat_map-append, html_end, html_line, html_parts, html_text, HtmlPart, line_text, LineEnding}
+use Rattle.parse_alike.proofs.Prelude.{raw_html, said_bytes, says, Words}
 use Rattle.definition_text.specs.Encode.{encoded_byte, encode}
-use Rattle.definition_text.specs.Lines.{ending_text}
-use Rattle.definition_page.specs.BlockPieces.{code_line, html_line, says}
-use Rattle.definition_page.specs.InlinePieces.{raw_html}
-use Rattle.definition_page.specs.Tags.{Words, said_bytes}
-use Rattle.parse_alike.specs.BlockLines.{AreCodeLinesAlike, AreHtmlLinesAlike, HtmlPart, Text, End, html_text, html_end, html_parts}
+use Rattle.parse_alike.specs.BlockLines.{Text, End}
 use Rattle.parse_alike.proofs.HtmlText.{raw_nothing}
 use Rattle.parse_alike.proofs.Printed.{of_bytes, printed}
 use Rattle.parse_alike.proofs.Said.{said, said-append, said-printed, both}

@@ -1,23 +1,16 @@
 -- Parts of texts and blocks, one after another, are alike if each is.
 use Rattle.std.proofs.Common.{◌≡◌, Bool, true, false, ◌++◌, ◌&&◌, not, if◌then◌else◌, List, [], ◌∷◌, None, Some, refl, sym, ap, ◌∙◌, subst}
-use Rattle.definition_text.proofs.Each.{Each}
+use Rattle.parse_alike.proofs.Prelude.{after_leaf, append, AreBlocksAlike, AreDefinitionsAlike, ArePartsAlike, Blocks, Call, Cons, Definition, Each, Html}
+use Rattle.parse_alike.proofs.Prelude.{html_leaves, in_container, Inline, InlineLeaf, Inlines, IsPartAlike, Leaf, leaf_parts, leaves, Linked, Meaning}
+use Rattle.parse_alike.proofs.Prelude.{next_standing, Nil, read_block, read_blocks, read_container, Reading, Span, Standing, standing_in, without_ending}
 use Rattle.definition_block.specs.Blocks as tree
 use Rattle.definition_block.specs.Lists.{is_loose}
-use Rattle.definition_inline.specs.Definition.{Definition}
-use Rattle.definition_inline.specs.Inline.{InlineLeaf, Html, Inline, Leaf, Span, Linked, Call, Inlines, Nil, Cons}
 use Rattle.definition_page.specs.GfmTable.{leaf_in_cell, part_in_cell, in_cell}
-use Rattle.definition_page.specs.InlinePieces.{Meaning}
-use Rattle.definition_page.specs.Page.{Blocks}
 use Rattle.definition_page.specs.Page as page
-use Rattle.definition_page.specs.Read.{Reading, Standing, in_container, list_number, next_standing, standing_in, read_container, without_ending}
-use Rattle.definition_page.specs.Read.{after_leaf, read_leaf, read_block, read_blocks}
+use Rattle.definition_page.specs.Read.{list_number}
+use Rattle.definition_page.specs.Read.{read_leaf}
 use Rattle.event_meaning.specs.Blocks.{join}
-use Rattle.event_meaning.specs.Texts.{append, leaves}
 use Rattle.parse_alike.specs.Composed.{is_unclosed, ends_unclosed, after_unclosed, standing_after, AlikePartsCompose, AlikeBlocksCompose}
-use Rattle.parse_alike.specs.HtmlText.{html_leaves}
-use Rattle.parse_alike.specs.Inline.{leaf_parts, IsPartAlike, ArePartsAlike}
-use Rattle.parse_alike.specs.Page.{AreBlocksAlike}
-use Rattle.parse_alike.specs.Targets.{AreDefinitionsAlike}
 use Rattle.parse_alike.proofs.HtmlText.{each_piece}
 
 append_assoc : (is js ks : Inlines) → append (append is js) ks ≡ append is (append js ks)

@@ -1,15 +1,11 @@
 -- Labels that are alike lead to links that are, by definitions that are.
 use Rattle.std.proofs.Common.{◌≡◌, ℕ, zero, suc, List, [], ◌∷◌, Option, None, Some, map, refl, sym, ap, ◌∙◌, subst}
-use Rattle.std.specs.Prelude.{unwrap_or}
+use Rattle.parse_alike.proofs.Prelude.{AreDefinitionsAlike, AreFootnotesAlike, AreLabelsAlike, AreLinksAlike, AreMeaningsAlike, Code, Definition, first_match}
+use Rattle.parse_alike.proofs.Prelude.{leads_to, LinkTexts, Meaning, normal_label, place_of, Reference, unwrap_or}
 use Rattle.std.specs.Option.{option_map}
-use Rattle.definition_text.specs.Columns.{Code}
-use Rattle.definition_inline.specs.Definition.{Definition}
-use Rattle.definition_inline.specs.Inline.{Reference, LinkTexts, link_texts}
-use Rattle.definition_inline.specs.LabelMatch.{normal_label, place_of, first_match}
-use Rattle.definition_inline.specs.Targets.{labels_of, linked_at, linked_by, leads_to}
-use Rattle.definition_page.specs.InlinePieces.{Meaning}
+use Rattle.definition_inline.specs.Inline.{link_texts}
+use Rattle.definition_inline.specs.Targets.{labels_of, linked_at, linked_by}
 use Rattle.parse_alike.specs.Laws.{AlikeDefinitionsMeanTheSame}
-use Rattle.parse_alike.specs.Targets.{AreLabelsAlike, AreFootnotesAlike, AreLinksAlike, AreDefinitionsAlike, AreMeaningsAlike}
 
 module _ (m m' : Meaning) where
   labels_same : (ds ds' : List Definition) → AreDefinitionsAlike m m' ds ds' → map normal_label (labels_of ds) ≡ map normal_label (labels_of ds')

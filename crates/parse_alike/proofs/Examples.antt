@@ -1,18 +1,15 @@
 -- Pages that are alike, and pages that aren't.
 use Rattle.std.proofs.Common.{◌≡◌, inl, inr, ℕ, eqb, List, [], ◌∷◌, None, Some, length, codes, refl, sym, ap, ◌∙◌, subst}
 use Rattle.std.specs.Prelude.{slice_index_or}
-use Rattle.std.proofs.lemmas.Bool.{true≢false}
+use Rattle.parse_alike.proofs.Prelude.{append, AreAlikeAfterFront, AreMeaningsAlike, ArePartsAlike, AreTargetsAlike, Call, Cons, Html, HtmlPart, Inline}
+use Rattle.parse_alike.proofs.Prelude.{Inlines, IsBlockAlike, IsPartAlike, Leaf, leaves, LineEnd, Link, Linked, Nil, Reference, Resource, Target, true≢false}
 use Rattle.markdown_options.specs.declared.line_ending.LineEnding.TheVariants.{LineFeed}
 use Rattle.definition_text.specs.BlockLines.{spaced_line}
 use Rattle.definition_text.specs.Columns.{tab_column}
-use Rattle.definition_inline.specs.Inline.{Target, Resource, Reference, Data, Html, LineEnd, Inline, Leaf, Link, Linked, Call, Inlines, Nil, Cons}
+use Rattle.definition_inline.specs.Inline.{Data}
 use Rattle.definition_page.specs.Page as page
-use Rattle.event_meaning.specs.Texts.{append, part, leaves}
-use Rattle.parse_alike.specs.BlockLines.{HtmlPart}
+use Rattle.event_meaning.specs.Texts.{part}
 use Rattle.parse_alike.specs.Examples.{plain_meaning, AreAlike, text, paragraph, link, code_block, html_block, AlikeExamples, RefusedExamples}
-use Rattle.parse_alike.specs.Inline.{IsPartAlike, ArePartsAlike}
-use Rattle.parse_alike.specs.Page.{IsBlockAlike, AreAlikeAfterFront}
-use Rattle.parse_alike.specs.Targets.{AreTargetsAlike, AreMeaningsAlike}
 
 -- ---- alike
 

@@ -1,26 +1,22 @@
 -- The labels of the footnotes of a page are those of the footnotes among its blocks.
 use Rattle.std.proofs.Common.{◌≡◌, ◌⊎◌, inl, inr, ℕ, Bool, true, false, eqb, ◌&&◌, not, List, [], ◌∷◌, ◌++◌, None, Some, map, refl, sym, ap, ◌∙◌}
-use Rattle.std.proofs.lemmas.Bool.{cond_both, eqb-true, true≢false}
-use Rattle.std.proofs.lemmas.List.{append_assoc, append-nil, map-append}
+use Rattle.parse_alike.proofs.Prelude.{after_leaf, append-nil, AreAlikeAfterFront, AreBlocksAlike, AreContainersAlike, AreFootnotesAlike, Code, cond_both}
+use Rattle.parse_alike.proofs.Prelude.{in_container, IsBlockAlike, map-append, Meaning, next_standing, normal_label, read, read_block, read_blocks}
+use Rattle.parse_alike.proofs.Prelude.{read_container, Reading, Standing, standing_in, TextTables, true≢false, without_ending, without_mark}
+use Rattle.std.proofs.lemmas.Bool.{eqb-true}
+use Rattle.std.proofs.lemmas.List.{append_assoc}
 use Rattle.markdown_options.specs.declared.configuration.ParseOptions.{ParseOptions}
-use Rattle.definition_text.specs.Columns.{Code}
-use Rattle.definition_text.specs.Lines.{without_mark, kind_before_text}
-use Rattle.definition_inline.specs.LabelMatch.{normal_label}
+use Rattle.definition_text.specs.Lines.{kind_before_text}
 use Rattle.definition_block.specs.Blocks as tree
 use Rattle.definition_block.specs.Container.{Container, Quote, Item, Footnote}
 use Rattle.definition_block.specs.Definitions.{container_footnotes, block_footnotes, footnotes, document_targets}
 use Rattle.definition_block.specs.Lists.{endings_of, after_endings, item_marker, list_marker, list_items, rest_of, before_list, put_before, grouped_block}
 use Rattle.definition_block.specs.Lists.{group_items}
 use Rattle.definition_block.specs.Tree.{blocks}
-use Rattle.definition_page.specs.InlinePieces.{Meaning}
 use Rattle.definition_page.specs.Page as page
-use Rattle.definition_page.specs.Read.{Reading, reading, Standing, on_page, in_container, standing_in, next_standing, read_container, without_ending}
-use Rattle.definition_page.specs.Read.{after_leaf, read_block, read_blocks, read}
-use Rattle.definition_page.specs.TextTables.{TextTables}
+use Rattle.definition_page.specs.Read.{reading, on_page}
 use Rattle.event_meaning.specs.Spelled as events
 use Rattle.parse_alike.specs.GfmFootnoteDefinition.{FootnotesAreThoseOfBlocks}
-use Rattle.parse_alike.specs.Page.{AreContainersAlike, IsBlockAlike, AreBlocksAlike, AreAlikeAfterFront}
-use Rattle.parse_alike.specs.Targets.{AreFootnotesAlike}
 use Rattle.parse_alike.proofs.Said.{both}
 
 -- ---- items put into lists

@@ -2,16 +2,11 @@
 use Rattle.std.proofs.Common.{◌≡◌, ℕ, List, [], ◌∷◌, ◌++◌, codes, flat_map, refl, ap, ◌∙◌}
 use Rattle.std.specs.List.{AllZip}
 use Rattle.markdown_options.specs.declared.align_kind.AlignKind.{AlignKind}
-use Rattle.markdown_options.specs.declared.line_ending.LineEnding.{LineEnding}
-use Rattle.definition_inline.specs.Inline.{Inlines, Nil}
+use Rattle.parse_alike.proofs.Prelude.{AreMeaningsAlike, ArePartsAlike, bare_tag, element, Fresh, inline_counts, inline_pieces, Inlines, LineEnding, Meaning}
+use Rattle.parse_alike.proofs.Prelude.{Nil, Piece, tag}
 use Rattle.definition_page.specs.GfmTable.{Table, TableRow, align_attributes, cell_pieces, cells_pieces, row_pieces, endings_pieces}
 use Rattle.definition_page.specs.GfmTable.{body_row_pieces, head_pieces, body_pieces, table_pieces}
-use Rattle.definition_page.specs.InlinePieces.{Meaning, element, inline_counts, inline_pieces}
-use Rattle.definition_page.specs.Pieces.{Piece, Fresh}
-use Rattle.definition_page.specs.Tags.{tag, bare_tag}
 use Rattle.parse_alike.specs.GfmTable.{AreRowsAlike, AreTablesAlike}
-use Rattle.parse_alike.specs.Inline.{ArePartsAlike}
-use Rattle.parse_alike.specs.Targets.{AreMeaningsAlike}
 use Rattle.parse_alike.proofs.Inline.{parts-printed, parts-counts}
 use Rattle.parse_alike.proofs.Printed.{Other, printed}
 use Rattle.parse_alike.proofs.Said.{both, both-printed, element-printed}

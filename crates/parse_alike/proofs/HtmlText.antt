@@ -1,19 +1,14 @@
 -- Raw HTML in a text says what its pieces say.
 use Rattle.std.proofs.Common.{◌≡◌, Bool, true, false, cond, List, [], ◌∷◌, ◌++◌, map, flat_map, refl, sym, ap, ◌∙◌}
-use Rattle.std.proofs.lemmas.Bool.{cond_both}
-use Rattle.std.proofs.lemmas.Grind.{flat_map-append}
-use Rattle.std.proofs.lemmas.List.{append-nil}
-use Rattle.markdown_options.specs.declared.configuration.CompileOptions.{CompileOptions}
-use Rattle.definition_text.specs.Columns.{Code, indent, bare, bytes_of}
+use Rattle.parse_alike.proofs.Prelude.{append-nil, bytes_of, Code, CompileOptions, cond_both, Each, each-append, each-drop, flat_map-append, Html, html_leaves}
+use Rattle.parse_alike.proofs.Prelude.{html_says, InlineLeaf, leaf_pieces, leaf_says, LineEnd, PrintedPart, raw_html, said_bytes, Says, Words}
+use Rattle.definition_text.specs.Columns.{indent, bare}
 use Rattle.definition_text.specs.Content.{is_eol}
-use Rattle.definition_text.proofs.Each.{Each, each-append, each-drop, each_map}
-use Rattle.definition_inline.specs.Inline.{InlineLeaf, Html, LineEnd}
+use Rattle.definition_text.proofs.Each.{each_map}
 use Rattle.definition_page.specs.GfmTagfilter.{filter_tags}
-use Rattle.definition_page.specs.InlinePieces.{raw_html, HtmlLine, html_text_line, in_first_line, html_lines, html_line_says, later_line_says, html_lines_say}
-use Rattle.definition_page.specs.InlinePieces.{html_says, leaf_says, leaf_pieces}
-use Rattle.definition_page.specs.Pieces.{Says}
-use Rattle.definition_page.specs.Tags.{PrintedPart, Words, AsItIs, EndOfLine, said_bytes}
-use Rattle.parse_alike.specs.HtmlText.{html_leaf, line_leaves, later_leaves, lines_leaves, html_leaves}
+use Rattle.definition_page.specs.InlinePieces.{HtmlLine, html_text_line, in_first_line, html_lines, html_line_says, later_line_says, html_lines_say}
+use Rattle.definition_page.specs.Tags.{AsItIs, EndOfLine}
+use Rattle.parse_alike.specs.HtmlText.{html_leaf, line_leaves, later_leaves, lines_leaves}
 use Rattle.parse_alike.proofs.Said.{said, said-append, both}
 
 -- ---- lines

@@ -1,18 +1,12 @@
 -- Inline structures that are alike print the same.
 use Rattle.std.proofs.Common.{◌≡◌, List, [], ◌∷◌, ◌++◌, map, flat_map, refl, sym, ap, ◌∙◌, append_assoc}
-use Rattle.std.proofs.lemmas.List.{append-nil, map-append}
-use Rattle.markdown_options.specs.declared.configuration.CompileOptions.{CompileOptions}
-use Rattle.definition_text.proofs.Each.{Each}
-use Rattle.definition_inline.specs.Inline.{InlineLeaf, Html, Link, Image, Inline, Leaf, Span, Linked, Call, Inlines, Nil, Cons}
-use Rattle.definition_inline.specs.Targets.{leads_to}
-use Rattle.definition_page.specs.InlinePieces.{Meaning, html_says, leaf_says, leaf_pieces, element, link_tag, image_tag, span_name, part_says, description}
-use Rattle.definition_page.specs.InlinePieces.{part_counts, inline_counts, part_pieces, inline_pieces}
-use Rattle.definition_page.specs.Pieces.{Piece, Says}
-use Rattle.definition_page.specs.Tags.{bare_tag, void_tag}
-use Rattle.event_meaning.specs.Texts.{append, leaves}
-use Rattle.parse_alike.specs.HtmlText.{html_leaves}
-use Rattle.parse_alike.specs.Inline.{leaf_parts, IsPartAlike, ArePartsAlike}
-use Rattle.parse_alike.specs.Targets.{AreMeaningsAlike}
+use Rattle.parse_alike.proofs.Prelude.{append, append-nil, AreMeaningsAlike, ArePartsAlike, bare_tag, Call, CompileOptions, Cons, Each, element, Html}
+use Rattle.parse_alike.proofs.Prelude.{html_leaves, html_says, image_tag, Inline, inline_counts, inline_pieces, InlineLeaf, Inlines, IsPartAlike, leads_to}
+use Rattle.parse_alike.proofs.Prelude.{Leaf, leaf_parts, leaf_pieces, leaf_says, leaves, Link, link_tag, Linked, map-append, Meaning, Nil, Piece, Says, Span}
+use Rattle.parse_alike.proofs.Prelude.{void_tag}
+use Rattle.definition_inline.specs.Inline.{Image}
+use Rattle.definition_page.specs.InlinePieces.{span_name, part_says, description}
+use Rattle.definition_page.specs.InlinePieces.{part_counts, part_pieces}
 use Rattle.parse_alike.proofs.HtmlText.{HasNoTags, html-said, html_plain}
 use Rattle.parse_alike.proofs.Printed.{of_bytes, printed}
 use Rattle.parse_alike.proofs.Said.{said, said-append, said-printed, both, both-printed, element-printed}

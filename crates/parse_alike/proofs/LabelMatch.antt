@@ -1,11 +1,9 @@
 -- Labels match by their words.
 use Rattle.std.proofs.Common.{◌≡◌, Bool, true, false, cond, List, [], ◌∷◌, ◌++◌, filter, refl, sym, ap, ◌∙◌}
-use Rattle.std.specs.List.{list_all, join_by, onto_first, slice_split}
-use Rattle.std.proofs.lemmas.Bool.{and_parts}
-use Rattle.std.proofs.lemmas.List.{append-nil}
+use Rattle.parse_alike.proofs.Prelude.{and_parts, append-nil, Code, list_all}
+use Rattle.std.specs.List.{join_by, onto_first, slice_split}
 use Rattle.std.proofs.lemmas.List.Elements.{filter-append}
 use Rattle.definition_text.specs.Ascii.{space}
-use Rattle.definition_text.specs.Columns.{Code}
 use Rattle.definition_text.specs.Content.{is_space}
 use Rattle.definition_inline.specs.LabelMatch.{is_word, words, fold_word}
 use Rattle.parse_alike.specs.LabelMatch.{HaveSameWords, AreSpaces, SameWordsAreAlike}

@@ -1,3 +1,4 @@
+mod Prelude
 mod Printed
 mod Said
 mod HtmlText

@@ -1,23 +1,17 @@
 -- Pages that are alike print the same.
 use Rattle.std.proofs.Common.{◌≡◌, ◌⊎◌, inl, inr, ℕ, Bool, true, false, ◌&&◌, ◌||◌, not, if◌then◌else◌, List, [], ◌∷◌, ◌++◌, Option, None, Some, codes}
 use Rattle.std.proofs.Common.{flat_map, refl, ap, ◌∙◌}
-use Rattle.std.proofs.lemmas.Bool.{true≢false, false≢true}
-use Rattle.markdown_options.specs.LineEndings.{ending_bytes}
-use Rattle.markdown_options.specs.declared.configuration.CompileOptions.{CompileOptions}
-use Rattle.markdown_options.specs.declared.line_ending.LineEnding.{LineEnding}
-use Rattle.definition_text.specs.BlockLines.{BlockLine}
-use Rattle.definition_page.specs.BlockPieces.{Place, at_top, inside, code_line, html_line, says, heading_name, info_attributes, list_tag, is_paragraph}
+use Rattle.parse_alike.proofs.Prelude.{AreAlikeAfterFront, AreBlocksAlike, AreCodeLinesAlike, AreContainersAlike, AreMeaningsAlike, ArePagesAlike, bare_tag}
+use Rattle.parse_alike.proofs.Prelude.{BlockLine, Blocks, code_line, CompileOptions, element, ending_bytes, false≢true, Fresh, has_lines, html_line}
+use Rattle.parse_alike.proofs.Prelude.{inline_pieces, IsBlockAlike, LineEnding, Meaning, NoteEnd, NoteStart, Page, Piece, says, Says, tag, true≢false, Words}
+use Rattle.definition_page.specs.BlockPieces.{Place, at_top, inside, heading_name, info_attributes, list_tag, is_paragraph}
 use Rattle.definition_page.specs.BlockPieces.{is_definition, is_footnote, is_silent, is_visible, last_visible, ends_plainly, fresh_unless, fenced_pieces}
 use Rattle.definition_page.specs.BlockPieces.{leaf_block_pieces, block_pieces, children_pieces, document_pieces}
-use Rattle.definition_page.specs.InlinePieces.{Meaning, element, inline_pieces}
-use Rattle.definition_page.specs.Page.{Page, PageLeaf, Paragraph, Heading, Break, IndentedCode, FencedCode, Html, Table, Definition}
-use Rattle.definition_page.specs.Page.{PageContainer, Quote, Item, Footnote, Block, Leaf, Holds, ItemList, Ending, Blank, Blocks, Nil, Cons}
-use Rattle.definition_page.specs.Pieces.{Piece, Says, Eol, Fresh, NoteStart, NoteEnd}
-use Rattle.definition_page.specs.Tags.{Words, tag, bare_tag}
-use Rattle.parse_alike.specs.BlockLines.{has_lines, AreCodeLinesAlike}
+use Rattle.definition_page.specs.Page.{PageLeaf, Paragraph, Heading, Break, IndentedCode, FencedCode, Html, Table, Definition}
+use Rattle.definition_page.specs.Page.{PageContainer, Quote, Item, Footnote, Block, Leaf, Holds, ItemList, Ending, Blank, Nil, Cons}
+use Rattle.definition_page.specs.Pieces.{Eol}
 use Rattle.parse_alike.specs.Laws.{AlikePagesPrintTheSame}
-use Rattle.parse_alike.specs.Page.{AreContainersAlike, AreLeavesAlike, IsBlockAlike, AreBlocksAlike, AreAlikeAfterFront, ArePagesAlike}
-use Rattle.parse_alike.specs.Targets.{AreMeaningsAlike}
+use Rattle.parse_alike.specs.Page.{AreLeavesAlike}
 use Rattle.parse_alike.proofs.BlockLines.{code_lines-printed, html_lines-printed}
 use Rattle.parse_alike.proofs.GfmTable.{fresh-printed, ended-printed, table-printed}
 use Rattle.parse_alike.proofs.Inline.{parts-printed}

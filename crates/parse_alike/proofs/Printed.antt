@@ -1,15 +1,14 @@
 -- Pieces as their bytes, one by one, with the pieces between them that aren't bytes: all that the layout of a page looks at.
 use Rattle.std.proofs.Common.{◌≡◌, ℕ, zero, suc, List, [], ◌∷◌, ◌++◌, map, reverse, fold, flat_map, refl, sym, ap, ◌∙◌, append_assoc}
-use Rattle.std.proofs.lemmas.Grind.{flat_map-append}
-use Rattle.std.proofs.lemmas.List.{append-nil, reverse-append}
+use Rattle.parse_alike.proofs.Prelude.{append-nil, Close, CompileOptions, flat_map-append, NoteEnd, NoteStart, Piece, said_bytes, Says, start_tag, void_tag}
+use Rattle.std.proofs.lemmas.List.{reverse-append}
 use Rattle.std.proofs.lemmas.List.Sums.{fold-append}
-use Rattle.markdown_options.specs.declared.configuration.CompileOptions.{CompileOptions}
 use Rattle.definition_page.specs.GfmFootnoteDefinition.{section_pieces}
 use Rattle.definition_page.specs.GfmLabelStartFootnote.{call_pieces}
 use Rattle.definition_page.specs.Layout.{NamedCall, named_call, named_calls, first_calls, times, call_of, with_calls, content, contents, layout}
 use Rattle.definition_page.specs.Layout.{called_footnotes, page_layout}
-use Rattle.definition_page.specs.Pieces.{Piece, Open, Close, Void, Says, CallOf, CountOf, NoteStart, NoteEnd, print}
-use Rattle.definition_page.specs.Tags.{said_bytes, start_tag, end_tag, void_tag}
+use Rattle.definition_page.specs.Pieces.{Open, Void, CallOf, CountOf, print}
+use Rattle.definition_page.specs.Tags.{end_tag}
 
 -- a byte, or a piece that isn't bytes
 pub data Printed : Type 0 where

@@ -1,16 +1,9 @@
 -- Lines of raw blocks are alike to their parts.
 use Rattle.std.proofs.Common.{◌≡◌, ℕ, Bool, true, false, cond, ◌||◌, is_some, List, [], ◌∷◌, ◌++◌, Option, None, Some, map, flat_map, refl, sym, ap, ◌∙◌}
-use Rattle.std.specs.List.{list_all}
-use Rattle.std.proofs.lemmas.Bool.{and_parts, false≢true}
-use Rattle.std.proofs.lemmas.Grind.{flat_map-append}
-use Rattle.std.proofs.lemmas.List.{append-nil}
-use Rattle.markdown_options.specs.declared.line_ending.LineEnding.{LineEnding}
-use Rattle.definition_text.specs.BlockLines.{BlockLine}
-use Rattle.definition_text.specs.Columns.{Code, is_tab_column, is_byte, bytes_of, code_byte}
-use Rattle.definition_text.specs.Content.{line_text}
-use Rattle.definition_text.specs.Lines.{ending_text}
+use Rattle.parse_alike.proofs.Prelude.{and_parts, append-nil, AreCodeLinesAlike, AreHtmlLinesAlike, BlockLine, bytes_of, Code, code_byte, ending_text}
+use Rattle.parse_alike.proofs.Prelude.{false≢true, flat_map-append, has_lines, html_end, html_parts, html_text, HtmlPart, line_text, LineEnding, list_all}
+use Rattle.definition_text.specs.Columns.{is_tab_column, is_byte}
 use Rattle.event_meaning.specs.Raw.{RawPart, Chunk, End, raw_lines, some_line}
-use Rattle.parse_alike.specs.BlockLines.{has_lines, AreCodeLinesAlike, AreHtmlLinesAlike, HtmlPart, html_text, html_end, html_parts}
 use Rattle.parse_alike.specs.Raw.{chunk, end_part, code_parts, html_line_parts, has_codes, is_there, AreFencedAlike, RawLinesAreAlike}
 use Rattle.parse_alike.proofs.Said.{both}
 

@@ -1,10 +1,6 @@
 -- The bytes of what is said, and of tags around it.
 use Rattle.std.proofs.Common.{◌≡◌, ℕ, List, [], ◌∷◌, ◌++◌, map, flat_map, refl, sym, ap, ◌∙◌}
-use Rattle.std.proofs.lemmas.Grind.{flat_map-append}
-use Rattle.std.proofs.lemmas.List.{map-append}
-use Rattle.definition_page.specs.InlinePieces.{element}
-use Rattle.definition_page.specs.Pieces.{Piece, Close, Says}
-use Rattle.definition_page.specs.Tags.{PrintedPart, said_bytes, Tag, start_tag}
+use Rattle.parse_alike.proofs.Prelude.{Close, element, flat_map-append, map-append, Piece, PrintedPart, said_bytes, Says, start_tag, Tag}
 use Rattle.parse_alike.proofs.Printed.{Byte, of_bytes, printed, printed-append}
 
 abbrev pub said : List PrintedPart → List ℕ

@@ -1,18 +1,11 @@
 -- A page that is alike to that of a text prints the HTML of the text.
 use Rattle.std.proofs.Common.{◌≡◌, ℕ, List, map, refl, sym, ap, ◌∙◌}
 use Rattle.markdown_options.specs.declared.configuration.Options.{Options}
-use Rattle.definition_text.specs.Lines.{without_mark}
-use Rattle.definition_inline.specs.LabelMatch.{normal_label}
+use Rattle.parse_alike.proofs.Prelude.{AreFootnotesAlike, ArePagesAlike, Meaning, normal_label, Page, read, TextTables, without_mark}
 use Rattle.definition_page.specs.DocumentPieces as document
 use Rattle.definition_page.specs.Html.{html}
-use Rattle.definition_page.specs.InlinePieces.{Meaning}
-use Rattle.definition_page.specs.Page.{Page}
-use Rattle.definition_page.specs.Read.{read}
-use Rattle.definition_page.specs.TextTables.{TextTables}
 use Rattle.event_meaning.specs.Spelled as events
-use Rattle.parse_alike.specs.Page.{ArePagesAlike}
 use Rattle.parse_alike.specs.Spelled.{IsPageOfText, PagesOfTextsPrintTheirHtml}
-use Rattle.parse_alike.specs.Targets.{AreFootnotesAlike}
 use Rattle.parse_alike.proofs.Definition.{alike_definitions_mean_the_same}
 use Rattle.parse_alike.proofs.GfmFootnoteDefinition.{footnotes_read, front_footnotes}
 use Rattle.parse_alike.proofs.Page.{alike_pages_print_the_same}

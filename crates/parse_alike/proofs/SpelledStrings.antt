@@ -1,11 +1,12 @@
 -- What the events of a string spell is a text of bytes.
 use Rattle.std.proofs.Common.{◌≡◌, ◌<◌, ℕ, zero, suc, List, [], ◌∷◌, Option, None, Some, drop, refl, arith}
-use Rattle.std.specs.Prelude.{is_some, unwrap_or, nat_le, nat_lt}
+use Rattle.parse_alike.proofs.Prelude.{cond_both, Each, each-append, each-drop, IsOfBytes, unwrap_or}
+use Rattle.std.specs.Prelude.{is_some, nat_le, nat_lt}
 use Rattle.std.specs.Char.{encode_utf8}
-use Rattle.std.proofs.lemmas.Bool.{cond_both, or_parts, ltb-true, leb-false}
+use Rattle.std.proofs.lemmas.Bool.{or_parts, ltb-true, leb-false}
 use Rattle.engine_events.specs.declared.event.Name.{Name}
 use Rattle.engine_events.specs.declared.event.Name.TheVariants as n
-use Rattle.definition_text.proofs.Each.{Each, each-append, each-take, each-drop}
+use Rattle.definition_text.proofs.Each.{each-take}
 use Rattle.definition_inline.specs.CharacterReference.{Names, number_of, is_replaced, character_of, numbered_text}
 use Rattle.event_grammar.specs.Checks.{spot_of}
 use Rattle.event_grammar.specs.InGrammar.{node_name, kids_of}
@@ -13,7 +14,7 @@ use Rattle.event_grammar.specs.Points.{edge}
 use Rattle.event_grammar.specs.Trees.{Node, Nodes, Around, Nil, Cons}
 use Rattle.event_meaning.specs.Children.{child, text_of, text_or_none, text_in}
 use Rattle.event_meaning.specs.Strings.{reference_text_of, string_part, string_of}
-use Rattle.parse_alike.specs.Strings.{IsOfBytes, HaveTextsOfBytes, SpelledStringsAreOfBytes}
+use Rattle.parse_alike.specs.Strings.{HaveTextsOfBytes, SpelledStringsAreOfBytes}
 
 abbrev pub IsByte : ℕ → Type 0
 IsByte b = b < 256

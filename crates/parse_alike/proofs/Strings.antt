@@ -1,13 +1,11 @@
 -- Strings that are written anew stand for the same texts.
 use Rattle.std.proofs.Common.{◌≡◌, ℕ, List, sym, ap, ◌∙◌}
 use Rattle.markdown_options.specs.Defaults.{default_constructs}
-use Rattle.definition_inline.specs.Strings.{string_text}
-use Rattle.definition_page.specs.InlinePieces.{Meaning}
+use Rattle.parse_alike.proofs.Prelude.{IsOfBytes, Meaning, string_text, title_text}
 use Rattle.event_meaning.specs.Strings.{written}
 use Rattle.event_meaning.proofs.Written.{written_text}
 use Rattle.parse_alike.proofs.SpelledStrings.{each_byte}
-use Rattle.parse_alike.specs.Strings.{IsOfBytes, WrittenStringsAreAlike}
-use Rattle.parse_alike.specs.Targets.{title_text}
+use Rattle.parse_alike.specs.Strings.{WrittenStringsAreAlike}
 
 -- a text that is written for what constructs of CommonMark read
 text_written : (m' : Meaning) (text : List ℕ) → m'.on ≡ default_constructs → IsOfBytes text → text ≡ string_text m'.on m'.names (written text)

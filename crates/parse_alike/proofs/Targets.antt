@@ -1,16 +1,11 @@
 -- Links, images and calls with targets and labels that are alike have the same tags.
 use Rattle.std.proofs.Common.{◌≡◌, ℕ, List, ◌∷◌, ◌++◌, Option, None, Some, codes, map, flat_map, refl, sym, ap, ◌∙◌}
-use Rattle.markdown_options.specs.declared.configuration.CompileOptions.{CompileOptions}
-use Rattle.definition_text.specs.Columns.{Code}
+use Rattle.parse_alike.proofs.Prelude.{AreLabelsAlike, AreLinksAlike, AreMeaningsAlike, AreTargetsAlike, Code, CompileOptions, first_match, image_tag}
+use Rattle.parse_alike.proofs.Prelude.{leads_to, link_tag, LinkTexts, Meaning, normal_label, Piece, place_of, PrintedPart, Reference, Resource, string_text}
+use Rattle.parse_alike.proofs.Prelude.{Tag, tag, Target, title_text, void_tag}
 use Rattle.definition_text.specs.Encode.{plain}
-use Rattle.definition_inline.specs.Inline.{Target, Resource, Reference, LinkTexts}
-use Rattle.definition_inline.specs.LabelMatch.{normal_label, place_of, first_match}
-use Rattle.definition_inline.specs.Strings.{string_text}
-use Rattle.definition_inline.specs.Targets.{leads_to}
-use Rattle.definition_page.specs.InlinePieces.{Meaning, link_url, image_url, url_of, title_attributes, title_attribute, link_tag, image_tag, call_at, count_at}
-use Rattle.definition_page.specs.Pieces.{Piece}
-use Rattle.definition_page.specs.Tags.{PrintedPart, Attribute, attribute, attribute_bytes, Tag, tag, void_tag}
-use Rattle.parse_alike.specs.Targets.{AreLabelsAlike, AreLinksAlike, AreTargetsAlike, AreMeaningsAlike, title_text}
+use Rattle.definition_page.specs.InlinePieces.{link_url, image_url, url_of, title_attributes, title_attribute, call_at, count_at}
+use Rattle.definition_page.specs.Tags.{Attribute, attribute, attribute_bytes}
 use Rattle.parse_alike.proofs.Said.{said}
 
 -- an attribute for the text of a title

@@ -1,33 +1,22 @@
 -- Blocks and the page, with their data cut into bytes.
 use Rattle.std.proofs.Common.{◌≡◌, ℕ, ◌||◌, ◌&&◌, not, Bool, true, false, List, [], ◌++◌, map, length, Option, None, Some, refl, sym, ap, ap₂, ◌∙◌}
-use Rattle.std.specs.Prelude.{is_some, if◌then◌else◌}
-use Rattle.std.specs.Option.{option_map}
-use Rattle.engine_events.specs.Names.{same_name, is_listed}
-use Rattle.engine_events.specs.declared.event.Name.{Name}
+use Rattle.parse_bytewise.proofs.Prelude.{after_child, AreSound, Around, before_child, bytewise, Child, child, Cons, ends_in, has, HaveNoData, if◌then◌else◌}
+use Rattle.parse_bytewise.proofs.Prelude.{is_listed, is_some, IsSound, kids_in, Name, named, Names, Nil, Node, Nodes, option_map, page_of, raw_parts}
+use Rattle.parse_bytewise.proofs.Prelude.{same_name, Spot, spot_of, string_of, text_in, text_of, written}
 use Rattle.engine_events.specs.declared.event.Name.TheVariants as n
 use Rattle.definition_text.specs.Columns.{Code}
 use Rattle.definition_text.specs.Content.{content_codes}
 use Rattle.definition_block.specs.ListItem.{number_of}
 use Rattle.definition_block.specs.MathFlow.{math_info}
-use Rattle.definition_inline.specs.CharacterReference.{Names}
 use Rattle.definition_inline.specs.Definition.{Definition, definition}
 use Rattle.definition_page.specs.Page as page
 use Rattle.event_check.specs.Loose.{are_apart, is_far, is_loose_item, has_loose_item, is_loose_list}
-use Rattle.event_grammar.specs.Checks.{spot_of}
-use Rattle.event_grammar.specs.declared.slot.Child.{Child}
 use Rattle.event_grammar.specs.declared.slot.Child.TheVariants.{Only, Block}
-use Rattle.event_grammar.specs.declared.spot.Spot.{Spot}
-use Rattle.event_grammar.specs.Slots.{has}
-use Rattle.event_grammar.specs.References.{named}
-use Rattle.event_grammar.specs.Trees.{Node, Nodes, Around, Nil, Cons}
 use Rattle.event_meaning.specs.Blocks.{join, one, leaf, start_of, underline_rank, heading_setext_of, heading_atx_of, info_of, fenced_of, label_of}
 use Rattle.event_meaning.specs.Blocks.{footnote_label, list_number, block_of, blocks_of, blocks_from}
-use Rattle.event_meaning.specs.Children.{child, kids_in, after_child, before_child, ends_in, text_of, text_in}
-use Rattle.event_meaning.specs.Raw.{RawPart, raw_parts, raw_lines, fenced_lines}
-use Rattle.event_meaning.specs.Spelled.{footnotes, definition_of, page_of}
-use Rattle.event_meaning.specs.Strings.{string_of, written}
-use Rattle.parse_output.specs.Forest.{bytewise}
-use Rattle.parse_bytewise.specs.Sound.{HaveNoData, fenced_names, IsSound, AreSound}
+use Rattle.event_meaning.specs.Raw.{RawPart, raw_lines, fenced_lines}
+use Rattle.event_meaning.specs.Spelled.{footnotes, definition_of}
+use Rattle.parse_bytewise.specs.Sound.{fenced_names}
 use Rattle.parse_bytewise.specs.Laws.{PagesSpellTheSame}
 use Rattle.parse_bytewise.proofs.Nodes.{kept, by_cases, skipped}
 use Rattle.parse_bytewise.proofs.Children.{IsOther, IsFoundSound, if_no, has_same, child_same, child_sound, kids_same, kids_sound, after_same}

@@ -1,17 +1,10 @@
 -- Children by their names, with their data cut into bytes: a name of another event finds the same.
 use Rattle.std.proofs.Common.{◌≡◌, ℕ, zero, suc, ◌+◌, Bool, true, false, List, [], ◌∷◌, map, Option, None, Some, refl, sym, ap, subst, ◌∙◌}
-use Rattle.std.specs.Prelude.{is_some, if◌then◌else◌}
-use Rattle.std.specs.Option.{option_map}
-use Rattle.std.proofs.lemmas.Bool.{cond_both}
-use Rattle.engine_events.specs.Names.{same_name}
-use Rattle.engine_events.specs.declared.event.Name.{Name}
+use Rattle.parse_bytewise.proofs.Prelude.{after_child, append, AreSound, Around, before_child, byte_node, byte_nodes, bytewise, child, children, cond_both}
+use Rattle.parse_bytewise.proofs.Prelude.{Cons, edge, ends_in, HaveNoData, if◌then◌else◌, is_some, IsSound, kids_in, Name, Nil, Node, Nodes, option_map}
+use Rattle.parse_bytewise.proofs.Prelude.{same_name, spot_of, text_in}
 use Rattle.engine_events.specs.declared.event.Name.TheVariants as n
-use Rattle.event_grammar.specs.Checks.{spot_of}
-use Rattle.event_grammar.specs.Points.{edge}
-use Rattle.event_grammar.specs.Trees.{Node, Nodes, Around, Nil, Cons}
-use Rattle.event_meaning.specs.Children.{child, children, inside_of, kids_in, after_child, before_child, ends_in, text_or_none, text_in}
-use Rattle.parse_output.specs.Forest.{append, byte_node, byte_nodes, bytewise}
-use Rattle.parse_bytewise.specs.Sound.{HaveNoData, IsSound, AreSound}
+use Rattle.event_meaning.specs.Children.{inside_of, text_or_none}
 use Rattle.parse_bytewise.proofs.Nodes.{kept, by_cut, by_cases, skipped}
 
 -- a name that isn't that of data

@@ -1,8 +1,7 @@
 -- Lists of events, with their data cut into bytes.
 use Rattle.std.proofs.Common.{sym, ap, ◌∙◌}
 use Rattle.std.proofs.lemmas.Bool.{true≢false}
-use Rattle.event_grammar.specs.Trees.{tree}
-use Rattle.event_meaning.specs.Spelled.{page_of}
+use Rattle.parse_bytewise.proofs.Prelude.{page_of, tree}
 use Rattle.parse_bytewise.specs.Examples.{RefusedExample}
 use Rattle.parse_bytewise.specs.Laws.{EventsSpellTheSame}
 use Rattle.parse_bytewise.proofs.Blocks.{page_same}

@@ -5,30 +5,25 @@ use Rattle.std.proofs.lemmas.Bool.{eqb-true, leb-true, ltb-true, or_parts}
 use Rattle.std.proofs.lemmas.List.{append-nil}
 use Rattle.std.specs.Prelude.{nat_lt, nat_le}
 use denote.Enum.Bare.{same_true}
-use Rattle.engine_events.specs.contracts.event.Name.{the_type}
-use Rattle.engine_events.specs.Names.{same_name}
-use Rattle.engine_events.specs.declared.event.Event.{Event}
-use Rattle.engine_events.specs.declared.event.Name.{Name}
+use Rattle.parse_bytewise.proofs.Prelude.{AreBetween, AreSound, Around, Child, Cons, edge, Event, has, HaveNoData, IsSound, Name, Nil, Node, Nodes, same_name}
+use Rattle.parse_bytewise.proofs.Prelude.{spot, Spot, spot_of, the_type, tree}
 use Rattle.engine_events.specs.declared.event.Name.TheVariants as n
 use Rattle.event_check.proofs.Fits.{split}
 use Rattle.event_check.proofs.Joined.{fits_then, then_fits}
 use Rattle.event_check.proofs.Matching.{matches_in}
 use Rattle.event_grammar.specs.declared.slot.Between.{Between}
 use Rattle.event_grammar.specs.declared.slot.Between.TheVariants.{Nothing, Spaces, Lines}
-use Rattle.event_grammar.specs.declared.slot.Child.{Child}
 use Rattle.event_grammar.specs.declared.slot.Form.{Form}
 use Rattle.event_grammar.specs.declared.slot.Slot.{Slot}
 use Rattle.event_grammar.specs.declared.slot.Slot.TheVariants.{One, Opt, Lead, Many}
-use Rattle.event_grammar.specs.declared.spot.Spot.{Spot}
-use Rattle.event_grammar.specs.Checks.{spot_of, stands_between}
+use Rattle.event_grammar.specs.Checks.{stands_between}
 use Rattle.event_grammar.specs.Grammar.{row, document_row}
 use Rattle.event_grammar.specs.InGrammar.{Within, inside, Before, before, node_name, NodeFits, fits, KidsFit, end, takes, between, PlacesFit}
-use Rattle.event_grammar.specs.Points.{edge, reaches, spot}
-use Rattle.event_grammar.specs.Slots.{Taken, taken, has, take_child}
-use Rattle.event_grammar.specs.Trees.{Node, Nodes, Around, Nil, Cons, events_of, tree}
+use Rattle.event_grammar.specs.Points.{reaches}
+use Rattle.event_grammar.specs.Slots.{Taken, taken, take_child}
+use Rattle.event_grammar.specs.Trees.{events_of}
 use Rattle.parse_output.specs.Children.{has_place}
 use Rattle.parse_bytewise.specs.Laws.{GrammarIsSound}
-use Rattle.parse_bytewise.specs.Sound.{AreBetween, HaveNoData, IsSound, AreSound}
 
 -- ---- places for data
 

@@ -1,3 +1,4 @@
+mod Prelude
 pub mod Nodes
 pub mod Children
 pub mod Strings

@@ -1,16 +1,11 @@
 -- Nodes whose data is cut into bytes, by cases: data, or a node that is kept.
 use Rattle.std.proofs.Common.{◌≡◌, ◌≤◌, ◌+◌, ◌-◌, ◌&&◌, ℕ, zero, suc, true, refl, subst, ◌∙◌, arith}
-use Rattle.std.proofs.lemmas.Bool.{and_parts, cond_both}
+use Rattle.parse_bytewise.proofs.Prelude.{append, AreBetween, Around, byte_node, byte_nodes, bytewise, cond_both, Cons, edge, Event, IsSound, Nil, Node, Nodes}
+use Rattle.parse_bytewise.proofs.Prelude.{same_name, spot_of, the_type}
+use Rattle.std.proofs.lemmas.Bool.{and_parts}
 use denote.Enum.Bare.{same_true}
-use Rattle.engine_events.specs.contracts.event.Name.{the_type}
-use Rattle.engine_events.specs.Names.{same_name}
-use Rattle.engine_events.specs.declared.event.Event.{Event}
 use Rattle.engine_events.specs.declared.event.Name.TheVariants as n
-use Rattle.event_grammar.specs.Checks.{spot_of}
-use Rattle.event_grammar.specs.Points.{edge}
-use Rattle.event_grammar.specs.Trees.{Node, Nodes, Around, Nil, Cons}
-use Rattle.parse_output.specs.Forest.{append, is_nil, one, byte_node, byte_nodes, bytes_from, cut, bytewise}
-use Rattle.parse_bytewise.specs.Sound.{AreBetween, IsSound}
+use Rattle.parse_output.specs.Forest.{is_nil, one, bytes_from, cut}
 
 -- a node with the data in it cut into bytes
 abbrev pub kept : Node → Node

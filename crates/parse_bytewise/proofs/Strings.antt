@@ -1,17 +1,11 @@
 -- Strings, with their data cut into bytes.
 use Rattle.std.proofs.Common.{◌≡◌, ℕ, zero, suc, ◌+◌, ◌-◌, List, [], ◌∷◌, ◌++◌, take, drop, refl, sym, ap, ap₂, ◌∙◌, append_assoc, arith}
-use Rattle.std.specs.Prelude.{is_some, if◌then◌else◌, unwrap_or}
-use Rattle.engine_events.specs.Columns.{between}
-use Rattle.engine_events.specs.declared.event.Name.{Name}
+use Rattle.parse_bytewise.proofs.Prelude.{append, AreSound, Around, between, byte_nodes, bytewise, child, Cons, edge, if◌then◌else◌, is_some, Name, Names, Nil}
+use Rattle.parse_bytewise.proofs.Prelude.{Nodes, spot_of, string_of, text_in, text_of}
+use Rattle.std.specs.Prelude.{unwrap_or}
 use Rattle.engine_events.specs.declared.event.Name.TheVariants as n
-use Rattle.definition_inline.specs.CharacterReference.{Names, number_of, numbered_text}
-use Rattle.event_grammar.specs.Checks.{spot_of}
-use Rattle.event_grammar.specs.Points.{edge}
-use Rattle.event_grammar.specs.Trees.{Nodes, Around, Nil, Cons}
-use Rattle.event_meaning.specs.Children.{child, text_of, text_in}
-use Rattle.event_meaning.specs.Strings.{reference_text_of, string_part, string_of}
-use Rattle.parse_output.specs.Forest.{append, byte_nodes, bytewise}
-use Rattle.parse_bytewise.specs.Sound.{AreSound}
+use Rattle.definition_inline.specs.CharacterReference.{number_of, numbered_text}
+use Rattle.event_meaning.specs.Strings.{reference_text_of, string_part}
 use Rattle.parse_bytewise.specs.Laws.{StringsSpellTheSame}
 use Rattle.parse_bytewise.proofs.Nodes.{by_cases}
 use Rattle.parse_bytewise.proofs.Children.{has_same, text_same}

@@ -1,23 +1,14 @@
 -- Tables and raw blocks, with their data cut into bytes.
 use Rattle.std.proofs.Common.{◌≡◌, ℕ, false, List, [], ◌∷◌, ◌++◌, map, refl, sym, ap, ap₂, ◌∙◌}
-use Rattle.std.specs.Prelude.{if◌then◌else◌}
+use Rattle.parse_bytewise.proofs.Prelude.{after_child, AreSound, Around, before_child, bytewise, children, Cons, Event, if◌then◌else◌, Inlines, IsSound}
+use Rattle.parse_bytewise.proofs.Prelude.{kids_in, Name, named, Names, Nil, Node, Nodes, raw_parts, same_name, text_of}
 use Rattle.markdown_options.specs.declared.line_ending.LineEnding.{LineEnding}
-use Rattle.engine_events.specs.Names.{same_name}
-use Rattle.engine_events.specs.declared.event.Event.{Event}
-use Rattle.engine_events.specs.declared.event.Name.{Name}
 use Rattle.engine_events.specs.declared.event.Name.TheVariants as n
-use Rattle.definition_inline.specs.CharacterReference.{Names}
-use Rattle.definition_inline.specs.Inline.{Inlines}
 use Rattle.definition_page.specs.GfmTable.{Table, TableRow, in_cell}
 use Rattle.event_check.specs.Align.{marks, mark, align_of, marks_in, value_align, table_align}
 use Rattle.event_check.specs.declared.align.Marks.{Marks}
-use Rattle.event_grammar.specs.References.{named}
-use Rattle.event_grammar.specs.Trees.{Node, Nodes, Around, Nil, Cons}
-use Rattle.event_meaning.specs.Children.{children, kids_in, after_child, before_child, text_of}
 use Rattle.event_meaning.specs.GfmTable.{cell_of, row_of, endings_in, endings_before_row, rows_of, table_of}
-use Rattle.event_meaning.specs.Raw.{ending_of, raw_part, raw_parts}
-use Rattle.parse_output.specs.Forest.{bytewise}
-use Rattle.parse_bytewise.specs.Sound.{IsSound, AreSound}
+use Rattle.event_meaning.specs.Raw.{ending_of, raw_part}
 use Rattle.parse_bytewise.proofs.Nodes.{kept, by_cases, skipped}
 use Rattle.parse_bytewise.proofs.Children.{IsOther, not_data, has_same, kids_same, kids_sound, after_same, after_sound, before_same, before_sound}
 use Rattle.parse_bytewise.proofs.Children.{children_same, children_sound, AllSound}

@@ -1,28 +1,16 @@
 -- Texts, with their data cut into bytes.
 use Rattle.std.proofs.Common.{◌≡◌, ℕ, zero, suc, ◌+◌, ◌||◌, Bool, true, false, List, [], ◌∷◌, ◌++◌, map, Option, None, Some, refl, sym, ap, ap₂, ◌∙◌}
-use Rattle.std.specs.Prelude.{is_some, if◌then◌else◌}
-use Rattle.std.specs.Option.{option_map}
-use Rattle.engine_events.specs.Columns.{between}
-use Rattle.engine_events.specs.Names.{same_name, is_listed}
-use Rattle.engine_events.specs.declared.event.Event.{Event}
-use Rattle.engine_events.specs.declared.event.Name.{Name}
+use Rattle.parse_bytewise.proofs.Prelude.{after_child, AreSound, Around, before_child, between, byte_nodes, bytewise, child, Cons, edge, Event, if◌then◌else◌}
+use Rattle.parse_bytewise.proofs.Prelude.{Inlines, is_listed, is_some, Name, Names, Nil, Node, Nodes, option_map, own, same_name, spot_of, text_in, text_of}
+use Rattle.parse_bytewise.proofs.Prelude.{written}
 use Rattle.engine_events.specs.declared.event.Name.TheVariants as n
-use Rattle.definition_inline.specs.CharacterReference.{Names}
 use Rattle.definition_inline.specs.CodeText.{without_padding}
 use Rattle.definition_inline.specs.Inline.{Resource, Reference, Data, Escape, Character, Code, Math, Autolink, TaskCheck, Link, Image, Leaf, Linked}
-use Rattle.definition_inline.specs.Inline.{Call, Inlines}
+use Rattle.definition_inline.specs.Inline.{Call}
 use Rattle.definition_inline.specs.Inline as inline
-use Rattle.event_grammar.specs.Checks.{spot_of}
-use Rattle.event_grammar.specs.Points.{edge}
-use Rattle.event_grammar.specs.References.{own}
-use Rattle.event_grammar.specs.Trees.{Node, Nodes, Around, Nil, Cons}
-use Rattle.event_meaning.specs.Children.{child, after_child, before_child, text_of, text_in}
-use Rattle.event_meaning.specs.Strings.{written}
 use Rattle.event_meaning.specs.Texts.{append, part, leaves, text_names, code_part, code_parts, code_of, html_part, html_parts, autolink_of}
 use Rattle.event_meaning.specs.Texts.{written_string, resource_of, label_or_none, label_codes, target_of, text_part, inlines_of, text_within}
 use Rattle.parse_output.specs.Forest as forest
-use Rattle.parse_output.specs.Forest.{byte_nodes, bytewise}
-use Rattle.parse_bytewise.specs.Sound.{AreSound}
 use Rattle.parse_bytewise.specs.Laws.{TextsSpellTheSame}
 use Rattle.parse_bytewise.proofs.Nodes.{kept, by_cases, skipped}
 use Rattle.parse_bytewise.proofs.Children.{some_kept, IsOther, has_same, after_same, after_sound, before_same, before_sound, text_same, IsFoundSound}

@@ -1,28 +1,14 @@
 -- The rows that are left of a text: from all of them to none, one by one.
 use Rattle.std.proofs.Common.{◌≡◌, ℕ, ◌<◌, get_or, List, [], ◌∷◌, ◌++◌, drop, sym, ap, ◌∙◌, subst, append_assoc}
-use Rattle.std.specs.List.{fold}
-use Rattle.std.proofs.lemmas.List.{append-nil}
-use Rattle.std.proofs.lemmas.List.Elements.{All-head, All-tail}
-use Rattle.markdown_options.specs.declared.beside.Kind.{Kind}
-use Rattle.markdown_options.specs.declared.configuration.Constructs.{Constructs}
-use Rattle.definition_text.specs.BlockLines.{BlockLine}
-use Rattle.definition_block.specs.Container.{Container}
-use Rattle.definition_block.specs.Lists.{group_items}
-use Rattle.definition_block.specs.Tree.{Blocks, Nil as NoBlock, blocks}
-use Rattle.block_rows.specs.declared.row.Row.{Row}
-use Rattle.block_rows.specs.Rows.{BlockRow, RowsValue, row_size, row_value, rows_of, rows_value, show_row, value_with}
-use Rattle.html_looseness.specs.Loose.{places_of}
-use Rattle.html_looseness.specs.Printable.{ArePrintable, CanBePrinted, IsPrintableRow}
-use Rattle.html_rows.proofs.Printable.{blocks_printable}
-use Rattle.html_rows.proofs.RowsOf.{printable_rows_of}
-use Rattle.parse_laid.specs.Laid.{unread_lines}
-use Rattle.parse_laid.specs.ParserRows.{AreRowsLaid}
-use Rattle.parse_laid.specs.Places.{Place, Between}
+use Rattle.parse_events.proofs.Prelude.{after_row, All-head, All-tail, append-nil, AreAhead, ArePrintable, AreRowsLaid, bare_blocks, Between, BlockLine}
+use Rattle.parse_events.proofs.Prelude.{BlockRow, Blocks, blocks, blocks_printable, Constructs, Container, fold, group_items, IsNext, IsPrintableRow, Kind}
+use Rattle.parse_events.proofs.Prelude.{NoBlock, Opened, opened, Place, places_of, printable_rows_of, Row, row_size, row_value, rows_of, rows_value, RowsValue}
+use Rattle.parse_events.proofs.Prelude.{unread_lines, value_with}
+use Rattle.block_rows.specs.Rows.{show_row}
+use Rattle.html_looseness.specs.Printable.{CanBePrinted}
 use Rattle.parse_laid.proofs.ParserRows.{parser_rows_are_laid}
-use Rattle.parse_open.specs.Open.{Fits, LeadTo, Opened, after_row, bare_blocks, opened}
+use Rattle.parse_open.specs.Open.{Fits, LeadTo}
 use Rattle.parse_open.proofs.Rows.{rows_lead}
-use Rattle.parse_events.specs.Document.{AreAhead}
-use Rattle.parse_events.specs.Parsing.{IsNext}
 use Rattle.parse_events.proofs.Rows.{nothing_follows}
 
 -- rows after those that were shown

@@ -1,38 +1,23 @@
 -- After all rows of a text, its events spell its page.
 use Rattle.std.proofs.Common.{◌≡◌, inl, inr, ℕ, List, [], ◌∷◌, refl, sym, ap, ap₂, ◌∙◌, subst, arith, length}
-use Rattle.markdown_options.specs.declared.beside.Kind.{Kind}
+use Rattle.parse_events.proofs.Prelude.{AreOpen, bare_blocks, Between, Blocks, blocks, document_targets, End, end_in, Event, forest_in, group_items, growth}
+use Rattle.parse_events.proofs.Prelude.{Growth, IsFront, IsInOrder, joined, Kind, kind_before_text, line_at, lines, lines_joined, Nodes, Opened, opened}
+use Rattle.parse_events.proofs.Prelude.{Output, Part, Reading, Spells, Stands, StandsBefore, TextLine, unmatched, unread, Walk, without_mark, written_to}
 use Rattle.markdown_options.specs.declared.configuration.ParseOptions.{ParseOptions}
-use Rattle.definition_text.specs.Lines.{TextLine, kind_before_text, lines, without_mark}
-use Rattle.definition_block.specs.Definitions.{document_targets}
-use Rattle.definition_block.specs.Lists.{group_items}
-use Rattle.definition_block.specs.Tree.{Blocks, blocks}
-use Rattle.definition_page.specs.Read.{Reading, reading}
+use Rattle.definition_page.specs.Read.{reading}
 use Rattle.definition_page.specs.TextTables.{TextTables}
-use Rattle.engine_events.specs.declared.event.Event.{Event}
 use Rattle.event_check.specs.Matches.{MatchesGrammar}
-use Rattle.event_grammar.specs.Trees.{Growth, Nodes, Part, growth, tree}
+use Rattle.event_grammar.specs.Trees.{tree}
 use Rattle.event_meaning.specs.Spelled.{spelled}
-use Rattle.parse_lines.specs.declared.walk.Walk.{Walk}
-use Rattle.parse_lines.specs.Ends.{written_to}
-use Rattle.parse_lines.proofs.Lines.{joined, lines_joined}
-use Rattle.parse_output.specs.declared.end.End.{End}
-use Rattle.parse_output.specs.declared.output.Output.{Output}
 use Rattle.parse_output.specs.Forest.{bytewise}
 use Rattle.parse_output.specs.Children.{HaveChildren}
-use Rattle.parse_output.specs.Open.{unmatched}
 use Rattle.parse_output.specs.Placed.{ArePlaced}
-use Rattle.parse_output.specs.Written.{IsInOrder, end_in, forest_in, open_in}
+use Rattle.parse_output.specs.Written.{open_in}
 use Rattle.parse_alike.specs.Spelled.{IsPageOfText}
-use Rattle.parse_laid.specs.Places.{Between, unread}
-use Rattle.parse_open.specs.Lines.{line_at}
-use Rattle.parse_open.specs.Open.{Opened, bare_blocks, opened}
-use Rattle.parse_open.specs.Fronts.{IsFront}
-use Rattle.parse_open.specs.Levels.{AreOpen, Spells}
 use Rattle.parse_open.specs.Texts.{text_blocks}
 use Rattle.parse_open.proofs.Texts.{texts_are_spelled}
-use Rattle.parse_events.specs.Document.{StandsBefore}
 use Rattle.parse_events.specs.Parsed.{AreEventsOf}
-use Rattle.parse_events.specs.Stands.{IsAt, Stands}
+use Rattle.parse_events.specs.Stands.{IsAt}
 use Rattle.parse_events.proofs.NestedLaw.{nested}
 
 -- ---- the end of the text

@@ -1,25 +1,9 @@
 -- A parser stands in the line on which a row begins.
 use Rattle.std.proofs.Common.{◌≡◌, ◌<◌, ◌≤◌, ℕ, Bool, true, false, List, [], ◌∷◌, Option, refl, sym, ap, ◌∙◌, subst, arith, map}
-use Rattle.std.specs.Prelude.{Result, Ok, Err, OnOk}
-use Rattle.std.proofs.lemmas.Bool.{true≢false}
-use Rattle.markdown_options.specs.declared.line_ending.LineEnding.{LineEnding}
-use Rattle.definition_block.specs.Container.{Container}
-use Rattle.definition_page.specs.Read.{Reading}
-use Rattle.block_rows.specs.Rows.{BlockRow}
-use Rattle.event_grammar.specs.Trees.{Nodes}
-use Rattle.parse_lines.specs.Ends.{EndsInLine, WritesLine}
-use Rattle.parse_lines.specs.Standing.{around, standing}
-use Rattle.parse_lines.specs.Steps.{HasSameOpen}
-use Rattle.parse_lines.specs.Steps.{IsBegun as IsLineBegun}
-use Rattle.parse_laid.specs.Begun.{begun, ends_line, is_in_line}
-use Rattle.parse_laid.specs.Laid.{IsRowLaid}
-use Rattle.parse_laid.specs.Places.{LineRest, Place, AtEnding}
-use Rattle.parse_laid.proofs.Begun.{lines_may_be_begun}
-use Rattle.parse_open.specs.Open.{Level, Opened, bare_container}
-use Rattle.parse_open.proofs.Steps.{always_go_on}
-use Rattle.parse_events.specs.declared.parser.Parser.{Parser}
-use Rattle.parse_events.specs.Parsing.{BeginsRow, GoesOn, GoesOnInLine, IsNext, IsParsing}
-use Rattle.parse_events.specs.Stands.{Stands, containers}
+use Rattle.parse_events.proofs.Prelude.{always_go_on, around, AtEnding, bare_container, begun, BlockRow, Container, containers, ends_line, EndsInLine, Err}
+use Rattle.parse_events.proofs.Prelude.{GoesOn, GoesOnInLine, HasSameOpen, is_in_line, IsLineBegun, IsNext, IsParsing, IsRowLaid, Level, LineEnding, LineRest}
+use Rattle.parse_events.proofs.Prelude.{lines_may_be_begun, Nodes, Ok, OnOk, Opened, Parser, Place, Reading, Result, standing, Stands, true≢false, WritesLine}
+use Rattle.parse_events.specs.Parsing.{BeginsRow}
 use Rattle.parse_events.proofs.Kept.{KeepsOpen, parsing_kept}
 use Rattle.parse_events.proofs.Lines.{begun_stands}
 use Rattle.parse_events.proofs.Rows.{only_ends}

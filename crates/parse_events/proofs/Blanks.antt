@@ -1,26 +1,10 @@
 -- A walk stands after a blank line, if that is written.
 use Rattle.std.proofs.Common.{◌≡◌, inl, inr, ◌+◌, ℕ, List, [], Option, None, Some, refl, sym, ap, ◌∙◌, subst, reverse, arith}
-use Rattle.markdown_options.specs.declared.line_ending.LineEnding.{LineEnding}
-use Rattle.definition_block.specs.Container.{Container}
-use Rattle.definition_block.specs.Tree.{Blank, join, one as one_block}
-use Rattle.definition_page.specs.Read.{Reading}
+use Rattle.parse_events.proofs.Prelude.{append, AreEnding, AreQuiet, Between, Blank, Container, End, ends_in_blank, forest_in, Growth, IsBegun, join}
+use Rattle.parse_events.proofs.Prelude.{LevelsGoOn, line_after, line_at, LineEnding, LineRest, Nodes, one, one_block, Opened, opened, Reading, Spells}
+use Rattle.parse_events.proofs.Prelude.{standing, Stands, Walk, with_nodes, Within, written_to}
 use Rattle.engine_events.specs.declared.event.Name.TheVariants as n
-use Rattle.event_grammar.specs.Trees.{Growth, Nodes}
-use Rattle.parse_lines.specs.declared.walk.Walk.{Walk}
-use Rattle.parse_lines.specs.Ends.{line_after, written_to}
-use Rattle.parse_lines.specs.Quiet.{AreQuiet}
-use Rattle.parse_lines.specs.Standing.{standing}
-use Rattle.parse_output.specs.declared.end.End.{End}
-use Rattle.parse_output.specs.Forest.{append, one, with_nodes}
-use Rattle.parse_output.specs.Written.{forest_in}
-use Rattle.parse_laid.specs.Places.{LineRest, Between, Within}
-use Rattle.parse_open.specs.Lines.{line_at}
-use Rattle.parse_open.specs.Open.{Opened, opened}
-use Rattle.parse_open.specs.Fronts.{ends_in_blank}
-use Rattle.parse_open.specs.Levels.{Spells}
-use Rattle.parse_open.specs.Steps.{IsBegun, LevelsGoOn}
-use Rattle.parse_raw.specs.Laid.{AreEnding, WritesBlank}
-use Rattle.parse_events.specs.Stands.{Stands}
+use Rattle.parse_raw.specs.Laid.{WritesBlank}
 use Rattle.parse_events.proofs.Endings.{IsApart, begun_more, next_line, quiet_mute, with_none}
 use Rattle.parse_events.proofs.LastBlank.{blank_ends}
 use Rattle.parse_events.proofs.Lines.{rest_before_end, on_line}

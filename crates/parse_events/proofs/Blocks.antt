@@ -1,37 +1,14 @@
 -- A parser writes the blocks of a text row by row: from before the first to the end.
 use Rattle.std.proofs.Common.{◌≡◌, inl, ◌<◌, ◌≤◌, ◌+◌, ◌-◌, ℕ, true, false, List, [], ◌∷◌, ◌++◌, refl, sym, ap, ◌∙◌, subst, arith, drop, get_or, length, map, reverse, take}
-use Rattle.std.proofs.lemmas.Bool.{true≢false}
-use Rattle.std.proofs.lemmas.List.{drop-drop, drop_more, length-drop, length-map, length-take-le, map-append, take-append-drop}
-use Rattle.markdown_options.specs.declared.beside.Kind.{Kind}
-use Rattle.definition_text.specs.BlockLines.{BlockLine}
-use Rattle.definition_block.specs.Container.{Container}
-use Rattle.definition_block.specs.Lists.{group_items}
-use Rattle.definition_block.specs.Tree.{Blocks, Nil as NoBlock, blocks}
-use Rattle.definition_page.specs.Read.{Reading}
-use Rattle.text_pieces.specs.declared.piece.Piece.{Piece}
-use Rattle.text_pieces.specs.Pieces.{piece_line, piece_lines}
-use Rattle.block_rows.specs.declared.row.Row.{Row}
-use Rattle.block_rows.specs.Rows.{BlockRow, RowsValue, row_size, row_value, rows_of, rows_value, value_with}
-use Rattle.event_grammar.specs.Trees.{Growth, Nodes, Nil, growth}
-use Rattle.parse_lines.specs.declared.walk.Walk.{Walk}
-use Rattle.parse_lines.specs.Ends.{written_to}
+use Rattle.parse_events.proofs.Prelude.{after_row, AreAhead, AreLinesOf, bare_blocks, Between, BlockLine, BlockRow, Blocks, blocks, Container, ends_in_blank}
+use Rattle.parse_events.proofs.Prelude.{GoesOn, group_items, growth, Growth, is_list, IsAmongRows, IsNew, IsNext, IsPrintableRow, ItemPlace, Kind, length-map}
+use Rattle.parse_events.proofs.Prelude.{line_at, map-append, Nil, NoBlock, Nodes, Opened, opened, Parser, Piece, piece_line, piece_lines, Place, places_of}
+use Rattle.parse_events.proofs.Prelude.{Reading, Row, row_size, row_value, rows_of, rows_value, RowsValue, Spells, Stands, StandsBefore, StandsInEnd}
+use Rattle.parse_events.proofs.Prelude.{true≢false, unread_lines, value_with, Walk, written_to}
+use Rattle.std.proofs.lemmas.List.{drop-drop, drop_more, length-drop, length-take-le, take-append-drop}
 use Rattle.parse_output.proofs.Forests.{append-nil}
-use Rattle.html_looseness.specs.declared.loose.Place.{Place as ItemPlace}
-use Rattle.html_looseness.specs.Loose.{places_of}
-use Rattle.html_looseness.specs.Printable.{IsPrintableRow}
-use Rattle.parse_laid.specs.Laid.{unread_lines}
-use Rattle.parse_laid.specs.Places.{Place, Between}
-use Rattle.parse_open.specs.Lines.{line_at}
-use Rattle.parse_open.specs.Open.{Opened, after_row, bare_blocks, opened}
-use Rattle.parse_open.specs.Fronts.{ends_in_blank}
-use Rattle.parse_open.specs.Levels.{Spells}
-use Rattle.parse_leaves.specs.Rows.{AreLinesOf}
 use Rattle.parse_events.specs.declared.opened.Opened.{Opened as OpenedHere}
-use Rattle.parse_events.specs.declared.parser.Parser.{Parser}
-use Rattle.parse_events.specs.Document.{AreAhead, IsAmongRows, IsNew, StandsBefore, WritesBlocksBy, WritesRows}
-use Rattle.parse_events.specs.Opened.{is_list}
-use Rattle.parse_events.specs.Parsing.{GoesOn, IsNext, StandsInEnd}
-use Rattle.parse_events.specs.Stands.{Stands}
+use Rattle.parse_events.specs.Document.{WritesBlocksBy, WritesRows}
 use Rattle.parse_events.proofs.Ahead.{all_ahead, none_ahead, one_ahead}
 use Rattle.parse_events.proofs.RowLines.{lines_of_row, same_value}
 

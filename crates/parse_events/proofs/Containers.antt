@@ -1,34 +1,18 @@
 -- A walk stands after the start or the end of a container or a list, if that is written.
 use Rattle.std.proofs.Common.{◌≡◌, ◌⊎◌, inl, inr, ◌≤◌, ◌-◌, ℕ, Bool, true, false, List, [], ◌∷◌, sym, ap, ap₂, ◌∙◌, subst, length, map}
-use Rattle.std.proofs.lemmas.Bool.{true≢false}
+use Rattle.parse_events.proofs.Prelude.{AreQuiet, around, AtEnding, bare_container, Between, blank_one, Block, Blocks, Container, containers, End, end_at}
+use Rattle.parse_events.proofs.Prelude.{end_in, ends_in_blank, entered, Event, Exits, forest_in, Growth, HasStart, Holds, InContainer, InList, innermost}
+use Rattle.parse_events.proofs.Prelude.{is_in_list, is_item, IsAfterOther, IsBegun, IsFirstOf, IsNamed, IsPastCode, IsStartName, Items, join, level, Level}
+use Rattle.parse_events.proofs.Prelude.{LevelsGoOn, line_at, Name, named, Nil, NoBlock, Node, node_name, Nodes, one, one_block, opened, Opened, Place, Reading}
+use Rattle.parse_events.proofs.Prelude.{rest_start, Spells, Standing, standing, Stands, StandsAt, true≢false, Walk, with_nodes, Within, within, written_to}
 use Rattle.definition_text.specs.Columns.{Rest}
-use Rattle.definition_block.specs.Container.{Container}
-use Rattle.definition_block.specs.Tree.{Block, Holds, Items, Blocks, Nil as NoBlock, join, one as one_block}
-use Rattle.definition_page.specs.Read.{Reading}
-use Rattle.engine_events.specs.declared.event.Event.{Event}
-use Rattle.engine_events.specs.declared.event.Name.{Name}
 use Rattle.engine_events.specs.declared.event.Name.TheVariants as n
 use Rattle.block_starts.specs.View.{rest_of}
 use Rattle.event_grammar.specs.Checks.{spot_of}
-use Rattle.event_grammar.specs.InGrammar.{node_name}
-use Rattle.event_grammar.specs.References.{named}
-use Rattle.event_grammar.specs.Trees.{Growth, Node, Nodes, Nil}
-use Rattle.parse_lines.specs.declared.walk.Walk.{Walk}
-use Rattle.parse_lines.specs.Ends.{rest_start, written_to}
-use Rattle.parse_lines.specs.Quiet.{AreQuiet}
-use Rattle.parse_lines.specs.Standing.{Standing, StandsAt, standing, around}
-use Rattle.parse_output.specs.declared.end.End.{End}
-use Rattle.parse_output.specs.Ends.{end_at, exit_at}
-use Rattle.parse_output.specs.Forest.{entered, exited, one, with_nodes}
-use Rattle.parse_output.specs.Written.{Exits, end_in, forest_in}
-use Rattle.parse_laid.specs.Places.{Place, Between, Within, AtEnding}
-use Rattle.parse_open.specs.Lines.{line_at}
-use Rattle.parse_open.specs.Open.{InContainer, InList, Level, Opened, bare_container, is_in_list, level, opened, within}
-use Rattle.parse_open.specs.Fronts.{ends_in_blank}
-use Rattle.parse_open.specs.Levels.{HasStart, IsFirstOf, IsNamed, Spells, innermost, is_item}
-use Rattle.parse_open.specs.Steps.{IsBegun, IsStartName, LevelsGoOn}
-use Rattle.parse_open.proofs.Ends.{blank_one, exited_other}
-use Rattle.parse_events.specs.Stands.{IsAfterOther, IsPastCode, IsWrittenAt, Stands, containers}
+use Rattle.parse_output.specs.Ends.{exit_at}
+use Rattle.parse_output.specs.Forest.{exited}
+use Rattle.parse_open.proofs.Ends.{exited_other}
+use Rattle.parse_events.specs.Stands.{IsWrittenAt}
 use Rattle.parse_events.proofs.Endings.{begun_more, quiet_mute, with_none}
 use Rattle.parse_events.proofs.LastBlank.{other_ends}
 use Rattle.parse_events.proofs.Leaves.{HoldsOthers, ends_holding}

@@ -1,39 +1,16 @@
 -- A parser stands after the ending of a line or a blank line, if that is written.
 use Rattle.std.proofs.Common.{◌≡◌, inl, inr, ℕ, true, false, List, [], Option, None, Some, refl, sym, ap, ◌∙◌, subst, reverse}
-use Rattle.std.specs.Prelude.{Result, Ok, Err, OnOk}
-use Rattle.std.proofs.lemmas.Bool.{true≢false}
+use Rattle.parse_events.proofs.Prelude.{after_row, always_go_on, AreEnding, around, AtEnding, Between, Blank, blank_one, Block, BlockRow, Constructs}
+use Rattle.parse_events.proofs.Prelude.{Container, End, end_at, Ending, EndsLine, Err, forest_in, GoesOn, GoesOnInLine, HasSameOpen, is_ending, is_in_line}
+use Rattle.parse_events.proofs.Prelude.{IsInLine, IsNext, IsParsing, IsPastCode, join, LevelsGoOn, line_after, line_at, LineEnding, LineRest, lines, Nodes, Ok}
+use Rattle.parse_events.proofs.Prelude.{one_block, OnOk, Opened, opened, Parser, Place, Reading, Result, Single, Spells, Standing, standing, Stands, StandsAt}
+use Rattle.parse_events.proofs.Prelude.{true≢false, unread, void_nodes, Walk, Within, WritesEnding, written_to}
 use Rattle.markdown_options.specs.declared.beside.Kind.TheVariants.{Whitespace}
-use Rattle.markdown_options.specs.declared.line_ending.LineEnding.{LineEnding}
-use Rattle.markdown_options.specs.declared.configuration.Constructs.{Constructs}
 use Rattle.engine_events.specs.declared.event.Name.TheVariants as n
-use Rattle.definition_text.specs.Lines.{lines}
-use Rattle.definition_block.specs.Container.{Container}
-use Rattle.definition_block.specs.Tree.{Block, Ending, Blank, join, one as one_block, is_ending}
-use Rattle.definition_page.specs.Read.{Reading}
-use Rattle.block_rows.specs.Rows.{BlockRow, Single}
-use Rattle.event_grammar.specs.Trees.{Nodes}
-use Rattle.parse_lines.specs.declared.walk.Walk.{Walk}
-use Rattle.parse_lines.specs.Ends.{WritesEnding, line_after, written_to}
-use Rattle.parse_lines.specs.Standing.{Standing, IsInLine, StandsAt, around, standing}
-use Rattle.parse_lines.specs.Steps.{EndsLine, HasSameOpen}
-use Rattle.parse_output.specs.declared.end.End.{End}
-use Rattle.parse_output.specs.Ends.{end_at}
-use Rattle.parse_output.specs.Forest.{void_nodes}
-use Rattle.parse_output.specs.Written.{forest_in}
-use Rattle.parse_raw.specs.Laid.{AreEnding, WritesBlankLaid}
+use Rattle.parse_raw.specs.Laid.{WritesBlankLaid}
 use Rattle.parse_raw.proofs.Endings.{ending_nodes}
-use Rattle.parse_laid.specs.Begun.{is_in_line}
 use Rattle.parse_laid.specs.Laid.{IsBlankLaid}
-use Rattle.parse_laid.specs.Places.{LineRest, Place, Between, Within, AtEnding, line_left, unread}
-use Rattle.parse_open.specs.Lines.{line_at}
-use Rattle.parse_open.specs.Open.{Opened, after_row, opened}
-use Rattle.parse_open.specs.Levels.{Spells}
-use Rattle.parse_open.specs.Steps.{LevelsGoOn}
-use Rattle.parse_open.proofs.Ends.{blank_one}
-use Rattle.parse_open.proofs.Steps.{always_go_on}
-use Rattle.parse_events.specs.declared.parser.Parser.{Parser}
-use Rattle.parse_events.specs.Parsing.{GoesOn, GoesOnInLine, IsNext, IsParsing}
-use Rattle.parse_events.specs.Stands.{IsPastCode, Stands}
+use Rattle.parse_laid.specs.Places.{line_left}
 use Rattle.parse_events.proofs.Blanks.{blank_stands}
 use Rattle.parse_events.proofs.Endings.{begun_more, ending_stands, line_apart}
 use Rattle.parse_events.proofs.Kept.{KeepsOpen, parsing_after, stands_there}

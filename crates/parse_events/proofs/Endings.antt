@@ -1,41 +1,18 @@
 -- A walk stands after the ending of a line, if that is written.
 use Rattle.std.proofs.Common.{◌≡◌, inl, inr, ◌<◌, ◌+◌, ◌-◌, ℕ, zero, suc, ◌||◌, Bool, true, false, List, [], ◌∷◌, ◌++◌, Option, None, Some, refl, sym, ap, ◌∙◌, subst, arith, length, length-append, get_or, append_assoc, reverse}
-use Rattle.std.specs.Prelude.{if◌then◌else◌}
-use Rattle.std.proofs.lemmas.Bool.{true≢false}
-use Rattle.std.specs.List.{list_any}
-use Rattle.markdown_options.specs.declared.line_ending.LineEnding.{LineEnding}
-use Rattle.definition_text.specs.Lines.{ending_text, ends_line}
-use Rattle.definition_block.specs.Container.{Container}
-use Rattle.definition_block.specs.Tree.{Ending, Block, Blocks, Nil as NoBlock, Cons as ConsBlock, join, one as one_block}
-use Rattle.definition_page.specs.Read.{Reading}
-use Rattle.engine_events.specs.Names.{same_name}
-use Rattle.engine_events.specs.declared.event.Name.{Name}
+use Rattle.parse_events.proofs.Prelude.{AreEnding, AreMute, AreQuiet, Around, AtEnding, Between, Block, Blocks, Cons, ConsBlock, Container, End, end_at}
+use Rattle.parse_events.proofs.Prelude.{Ending, ending_text, ends_in_blank, ends_unclosed, EndsLine, Follows, forest_in, growth, Growth, HasSameOpen}
+use Rattle.parse_events.proofs.Prelude.{if◌then◌else◌, IsAfterOther, IsBegun, IsInLine, join, kids_of, LevelsGoOn, line_after, line_at, LineEnding, LineRest}
+use Rattle.parse_events.proofs.Prelude.{lines_are_counted, list_any, Name, named, Nil, NoBlock, Node, Nodes, one, one_block, Opened, opened, Reading}
+use Rattle.parse_events.proofs.Prelude.{same_name, Spells, Standing, standing, Stands, StandsAt, true≢false, void_nodes, Walk, with_nodes, WritesEnding}
+use Rattle.parse_events.proofs.Prelude.{written_to}
+use Rattle.definition_text.specs.Lines.{ends_line}
 use Rattle.engine_events.specs.declared.event.Name.TheVariants as n
-use Rattle.event_grammar.specs.InGrammar.{kids_of}
-use Rattle.event_grammar.specs.References.{named, named_in}
-use Rattle.event_grammar.specs.Trees.{Growth, Node, Nodes, Around, Nil, Cons, growth}
-use Rattle.parse_lines.specs.declared.walk.Walk.{Walk}
-use Rattle.parse_lines.specs.Ends.{WritesEnding, line_after, written_to}
-use Rattle.parse_lines.specs.Quiet.{AreOfPrefix, AreQuiet, IsVoidOf}
-use Rattle.parse_lines.specs.Standing.{Standing, IsInLine, StandsAt, standing}
-use Rattle.parse_lines.specs.Steps.{EndsLine, HasSameOpen}
+use Rattle.event_grammar.specs.References.{named_in}
+use Rattle.parse_lines.specs.Quiet.{AreOfPrefix, IsVoidOf}
 use Rattle.parse_lines.proofs.Ends.{end_to_next}
 use Rattle.parse_lines.proofs.Spots.{get_front, get_over}
-use Rattle.parse_output.specs.declared.end.End.{End}
-use Rattle.parse_output.specs.Ends.{Follows, end_at}
-use Rattle.parse_output.specs.Forest.{one, void_nodes, with_nodes}
-use Rattle.parse_output.specs.Written.{forest_in}
 use Rattle.parse_output.proofs.Forests.{append-nil}
-use Rattle.parse_laid.specs.Places.{LineRest, Between, AtEnding}
-use Rattle.parse_alike.specs.Composed.{ends_unclosed}
-use Rattle.parse_open.specs.Lines.{line_at}
-use Rattle.parse_open.specs.Open.{Opened, opened}
-use Rattle.parse_open.proofs.LineCounts.{lines_are_counted}
-use Rattle.parse_open.specs.Fronts.{ends_in_blank}
-use Rattle.parse_open.specs.Levels.{AreMute, Spells}
-use Rattle.parse_open.specs.Steps.{IsBegun, LevelsGoOn}
-use Rattle.parse_raw.specs.Laid.{AreEnding}
-use Rattle.parse_events.specs.Stands.{IsAfterOther, Stands}
 use Rattle.parse_events.proofs.LastBlank.{ending_ends}
 
 -- ---- quiet nodes are mute

@@ -1,39 +1,21 @@
 -- A parser stands after the end of a container, and of a list after its last item, if these are written.
 use Rattle.std.proofs.Common.{◌≡◌, ◌<◌, inl, inr, ℕ, Bool, true, false, List, [], ◌∷◌, ◌++◌, Option, refl, sym, ap, ◌∙◌, subst, length, reverse, map}
-use Rattle.std.specs.Prelude.{if◌then◌else◌, not, Result, Ok, Err, IfOk, OnOk}
-use Rattle.std.proofs.lemmas.Bool.{true≢false}
-use Rattle.markdown_options.specs.declared.configuration.Constructs.{Constructs}
+use Rattle.parse_events.proofs.Prelude.{after_row, always_go_on, AreOpen, around, AtEnding, bare_container, Between, Block, BlockRow, Blocks, Constructs}
+use Rattle.parse_events.proofs.Prelude.{Container, container_view, containers, end_in, Err, Exit, Exits, Footnote, forest_in, GoesOnInLine, Held, Holder}
+use Rattle.parse_events.proofs.Prelude.{holder_containers, Holds, if◌then◌else◌, InContainer, InList, is_ending, is_in_line, is_in_list, is_item, is_item_kind}
+use Rattle.parse_events.proofs.Prelude.{is_list, IsInOrder, IsNext, IsParsing, Item, ItemParts, ItemPlace, Items, join, KnowsItems, KnowsLists, level, Level}
+use Rattle.parse_events.proofs.Prelude.{LineRest, next_stands, NoBlock, Nodes, Ok, one_block, OnOk, opened, Opened, opened_name, Output, Parser, Part, Place}
+use Rattle.parse_events.proofs.Prelude.{Quote, Reading, Result, Standing, standing, standing_after, standing_at, Stands, StandsAt, StandsInEnd, true≢false}
+use Rattle.parse_events.proofs.Prelude.{Walk, which_go_on, Within, written_to}
+use Rattle.std.specs.Prelude.{not, IfOk}
 use Rattle.markdown_options.specs.declared.container.Container.{Container as CodeContainer}
 use Rattle.markdown_options.specs.declared.container.Container.TheVariants as code
-use Rattle.markdown_options.specs.declared.container.Item.{Item as ItemParts}
-use Rattle.block_starts.specs.View.{container_view}
-use Rattle.definition_block.specs.Container.{Container, Quote, Item, Footnote}
-use Rattle.definition_block.specs.Tree.{Block, Holds, Items, Blocks, Nil as NoBlock, join, one as one_block, is_ending}
-use Rattle.definition_page.specs.Read.{Reading}
-use Rattle.block_rows.specs.Rows.{BlockRow, Exit}
-use Rattle.event_grammar.specs.Trees.{Nodes, Part}
-use Rattle.parse_lines.specs.declared.walk.Walk.{Walk}
-use Rattle.parse_lines.specs.Ends.{written_to}
-use Rattle.parse_lines.specs.Kinds.{is_item as is_item_kind}
-use Rattle.parse_lines.specs.Standing.{Standing, StandsAt, around, standing}
 use Rattle.parse_lines.specs.Steps.{Leaves}
 use Rattle.parse_lines.specs.Steps.{IsSameLine as IsSameStanding}
-use Rattle.parse_output.specs.declared.output.Output.{Output}
-use Rattle.parse_output.specs.Written.{Exits, IsInOrder, end_in, forest_in}
-use Rattle.html_looseness.specs.declared.loose.Place.{Place as ItemPlace}
-use Rattle.parse_alike.specs.Composed.{standing_after}
-use Rattle.parse_laid.specs.Begun.{is_in_line}
-use Rattle.parse_laid.specs.Places.{LineRest, Place, Between, Within, AtEnding, Stops}
-use Rattle.parse_open.specs.Open.{Holder, InContainer, InList, Level, Opened, after_row, bare_container, container_end, is_in_list, level, list_end, opened}
+use Rattle.parse_laid.specs.Places.{Stops}
+use Rattle.parse_open.specs.Open.{container_end, list_end}
 use Rattle.parse_open.specs.Open as open_blocks
-use Rattle.parse_open.specs.Levels.{AreOpen, is_item, standing_at}
-use Rattle.parse_open.specs.Steps.{next_stands}
-use Rattle.parse_open.proofs.Steps.{always_go_on}
-use Rattle.parse_events.specs.declared.opened.Opened.{Opened as Held}
-use Rattle.parse_events.specs.declared.parser.Parser.{Parser}
-use Rattle.parse_events.specs.Opened.{is_list, opened_name}
-use Rattle.parse_events.specs.Parsing.{Closes, EndsItem, GoesOnInLine, IsAfterItem, IsNext, IsParsing, KnowsItems, KnowsLists, StandsInEnd, item_goes_on, which_go_on}
-use Rattle.parse_events.specs.Stands.{Stands, containers, holder_containers}
+use Rattle.parse_events.specs.Parsing.{Closes, EndsItem, IsAfterItem, item_goes_on}
 use Rattle.parse_events.proofs.Containers.{IsSameLine, container_ends, list_ends}
 use Rattle.parse_events.proofs.Kept.{first_over, items_last, items_less, lists_less, no_items, none_held, some_held, stands_there}
 

@@ -2,15 +2,12 @@
 use Rattle.std.proofs.Common.{◌≡◌, ℕ, zero, suc, List, [], ◌∷◌, ◌++◌, Bool, true, false, if◌then◌else◌, refl, sym, ap, ap₂, subst, ◌∙◌, drop, length, ◌≤◌, ◌<◌, arith}
 use Rattle.std.specs.Prelude.{◌==◌, replicate, slice_index_or}
 use Rattle.std.specs.List.{filter, join_by, onto_first, slice_split}
-use Rattle.std.proofs.lemmas.Bool.{eqb-true}
+use Rattle.parse_events.proofs.Prelude.{Code, eqb-true, first_codes, is_space, normal_label, Piece, piece_lines}
 use Rattle.std.proofs.lemmas.List.Splits.{slice_split-cons_yes, slice_split-cons_no}
 use Rattle.definition_text.specs.Ascii.{carriage_return, line_feed, space}
-use Rattle.definition_text.specs.Columns.{Code, tab_column}
-use Rattle.definition_text.specs.Content.{after_return_code, content_codes, is_space, return_and_feed}
-use Rattle.text_pieces.specs.declared.piece.Piece.{Piece}
-use Rattle.text_pieces.specs.Pieces.{piece_lines}
-use Rattle.block_rows.specs.Rows.{first_codes}
-use Rattle.definition_inline.specs.LabelMatch.{fold_word, is_word, normal_label, words}
+use Rattle.definition_text.specs.Columns.{tab_column}
+use Rattle.definition_text.specs.Content.{after_return_code, content_codes, return_and_feed}
+use Rattle.definition_inline.specs.LabelMatch.{fold_word, is_word, words}
 
 -- what stands before the first space, and the words after it
 abbrev parts : List Code → List (List Code)

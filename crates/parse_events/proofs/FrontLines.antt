@@ -1,12 +1,8 @@
 -- Lines at the front of a text are the lines of their bytes, and frontmatter is such lines (CommonMark 2.1).
 use Rattle.std.proofs.Common.{◌≡◌, inl, inr, ◌<◌, ◌≤◌, ◌+◌, ◌-◌, ℕ, Bool, false, List, [], ◌∷◌, ◌++◌, Option, None, Some, eqb, refl, sym, ap, ap₂, ◌∙◌, arith, length, drop, length-append, append_assoc}
-use Rattle.std.proofs.lemmas.Bool.{cases_Bool, cond-true, cond-false}
-use Rattle.std.proofs.lemmas.List.Concat.{flat_map-append}
-use Rattle.markdown_options.specs.declared.configuration.Constructs.{Constructs}
+use Rattle.parse_events.proofs.Prelude.{after_frontmatter, after_return, cases_Bool, cond-false, cond-true, Constructs, ending_text, flat_map-append}
+use Rattle.parse_events.proofs.Prelude.{in_first_line, joined, lines, lines_joined, text_line, TextLine}
 use Rattle.markdown_options.specs.declared.line_ending.LineEnding.TheVariants.{CarriageReturnLineFeed, CarriageReturn, LineFeed}
-use Rattle.definition_text.specs.Lines.{TextLine, text_line, in_first_line, after_return, lines, ending_text}
-use Rattle.definition_block.specs.Frontmatter.{after_frontmatter}
-use Rattle.parse_lines.proofs.Lines.{joined, lines_joined}
 use Rattle.parse_raw.proofs.MetadataLines.{front_lines}
 
 abbrev Line : Type 0

@@ -1,42 +1,27 @@
 -- What is in front of the blocks of a text is written: a byte order mark and frontmatter.
 use Rattle.std.proofs.Common.{◌≡◌, inl, inr, ◌<◌, ◌≤◌, ◌+◌, ◌-◌, ◌^◌, ℕ, Bool, true, false, ◌&&◌, List, [], ◌∷◌, ◌++◌, Option, None, Some, eqb, refl, sym, ap, ap₂, ◌∙◌, subst, arith, length, get_or, length-append}
-use Rattle.std.specs.Prelude.{if◌then◌else◌}
-use Rattle.std.specs.List.{fold}
-use Rattle.std.proofs.lemmas.Bool.{cases_Bool, cond-true, cond-false, and_parts, eqb-true}
-use Rattle.markdown_options.specs.declared.beside.Kind.{Kind}
+use Rattle.parse_events.proofs.Prelude.{after_frontmatter, and_parts, append, append-assoc, AreEnding, AreQuiet, Between, Blocks, blocks, cases_Bool}
+use Rattle.parse_events.proofs.Prelude.{cond-false, cond-true, Constructs, End, end_at, eqb-true, fold, Follows, forest_in, growth, Growth, if◌then◌else◌}
+use Rattle.parse_events.proofs.Prelude.{IsFront, IsInOrder, joined, Kind, LineEnding, lines, named, Nil, Node, node_name, Nodes, one, Standing, standing}
+use Rattle.parse_events.proofs.Prelude.{StandsAt, StandsBefore, TEXT_MAX, TextLine, unread, void_nodes, Walk, with_nodes, without_mark, WritesUpTo, written_to}
 use Rattle.markdown_options.specs.declared.beside.Kind.TheVariants.{Whitespace}
-use Rattle.markdown_options.specs.declared.configuration.Constructs.{Constructs}
-use Rattle.markdown_options.specs.declared.line_ending.LineEnding.{LineEnding}
-use Rattle.definition_text.specs.Lines.{TextLine, has_mark, lines, without_mark}
+use Rattle.definition_text.specs.Lines.{has_mark}
 use Rattle.definition_inline.specs.CharacterReference.{Names}
-use Rattle.definition_block.specs.Frontmatter.{after_frontmatter}
 use Rattle.definition_block.specs.Definitions.{DefinitionCut, cut_into}
-use Rattle.definition_block.specs.Tree.{Blocks, blocks, children, children_after, with_paragraph}
+use Rattle.definition_block.specs.Tree.{children, children_after, with_paragraph}
 use Rattle.definition_block.specs.Tree as tree
 use Rattle.engine_events.specs.Columns.{between, mark_size}
 use Rattle.engine_events.specs.declared.event.Name.TheVariants as n
-use Rattle.event_grammar.specs.InGrammar.{node_name}
-use Rattle.event_grammar.specs.References.{named}
-use Rattle.event_grammar.specs.Trees.{Growth, Node, Nodes, Nil, growth}
-use Rattle.parse_lines.specs.declared.walk.Walk.{Walk}
-use Rattle.parse_lines.specs.Ends.{WritesUpTo, written_to}
-use Rattle.parse_lines.specs.Quiet.{AreQuiet}
-use Rattle.parse_lines.specs.Standing.{IsLineStart, Standing, StandsAt, TEXT_MAX, standing}
+use Rattle.parse_lines.specs.Standing.{IsLineStart}
 use Rattle.parse_lines.specs.Steps.{BeginsAt}
-use Rattle.parse_lines.proofs.Lines.{joined}
 use Rattle.parse_lines.proofs.Spots.{bytes_after}
-use Rattle.parse_output.specs.declared.end.End.{End}
-use Rattle.parse_output.specs.Ends.{Follows, end_at, first_end}
-use Rattle.parse_output.specs.Forest.{append, one, void_nodes, with_nodes}
+use Rattle.parse_output.specs.Ends.{first_end}
 use Rattle.parse_output.specs.Spots.{next_spot, start}
-use Rattle.parse_output.specs.Written.{IsInOrder, forest_in}
-use Rattle.parse_output.proofs.Forests.{append-assoc}
 use Rattle.parse_laid.specs.Laid.{unread_after}
-use Rattle.parse_laid.specs.Places.{Between, unread}
-use Rattle.parse_open.specs.Fronts.{IsFront, SpellsNothing}
+use Rattle.parse_open.specs.Fronts.{SpellsNothing}
 use Rattle.parse_open.proofs.Fronts.{front_alone, front_ended, front_none, nothing_both, nothing_mark, nothing_mute}
-use Rattle.parse_raw.specs.Laid.{AreEnding, HasFrontmatter, WritesFront, WritesFrontLaid}
-use Rattle.parse_events.specs.Document.{StandsAfterMark, StandsBefore}
+use Rattle.parse_raw.specs.Laid.{HasFrontmatter, WritesFront, WritesFrontLaid}
+use Rattle.parse_events.specs.Document.{StandsAfterMark}
 use Rattle.parse_events.proofs.Endings.{quiet_mute}
 use Rattle.parse_events.proofs.FrontLines.{SomeFront}
 

@@ -1,23 +1,15 @@
 -- What is open in a document, one more of it or one less.
 use Rattle.std.proofs.Common.{◌≡◌, arith, ℕ, zero, suc, ◌+◌, List, [], ◌∷◌, ◌++◌, Bool, true, false, refl, sym, ap, ap₂, subst, ◌∙◌, get_or, length}
-use Rattle.std.specs.Prelude.{Result, Ok, Err, OnOk}
-use Rattle.std.proofs.lemmas.Bool.{true≢false}
-use Rattle.engine_events.specs.Names.{is_listed}
-use Rattle.engine_events.specs.declared.event.Name.{Name}
+use Rattle.parse_events.proofs.Prelude.{block_names, close_all, closed, ends_in_list, Entered, Err, is_last_list, is_list, is_listed, IsNew, Keeps, Mark}
+use Rattle.parse_events.proofs.Prelude.{more_if, Name, Ok, OnOk, opened_name, OpensIf, Parser, Result, Row, still_open, true≢false, Walk}
 use Rattle.engine_events.specs.declared.event.Name.TheVariants as n
-use Rattle.event_grammar.specs.Grammar.{block_names}
-use Rattle.parse_output.specs.Open.{Mark, Entered, closed}
 use Rattle.parse_output.specs.Children.{between_names, holds_blocks, holds_lines, may_enter, may_hold}
 use Rattle.parse_output.proofs.Classes.{blocks_lines, blocks_may, lines_may}
-use Rattle.block_rows.specs.declared.row.Row.{Row}
-use Rattle.parse_lines.specs.declared.walk.Walk.{Walk}
-use Rattle.parse_lines.specs.Open.{still_open, with_entered}
-use Rattle.parse_events.specs.declared.parser.Parser.{Parser}
-use Rattle.parse_events.specs.Closing.{HasOpen, Keeps, OpensIf, more_if, open_around}
-use Rattle.parse_events.specs.Document.{IsNew}
+use Rattle.parse_lines.specs.Open.{with_entered}
+use Rattle.parse_events.specs.Closing.{HasOpen, open_around}
 use Rattle.parse_events.specs.declared.opened.Opened.{Opened}
 use Rattle.parse_events.specs.declared.opened.Opened.TheVariants as held
-use Rattle.parse_events.specs.Opened.{AreHeld, close_all, ends_in_list, enter_all, is_last_list, is_list, opened_name}
+use Rattle.parse_events.specs.Opened.{AreHeld, enter_all}
 
 pub close_last : (os : List Opened) (o : Opened) (marks : List Mark) → close_all (os ++ o ∷ []) marks ≡ close_all os (closed (opened_name o) marks)
 close_last [] o marks = refl

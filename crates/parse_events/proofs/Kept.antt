@@ -1,25 +1,12 @@
 -- What a parser keeps of what is open, with one more of it or one less, and where the next block stands.
 use Rattle.std.proofs.Common.{◌≡◌, ◌<◌, ◌&&◌, ℕ, Bool, true, false, List, [], ◌∷◌, ◌++◌, refl, sym, ap, ap₂, ◌∙◌, subst, arith, length, map, reverse}
-use Rattle.std.proofs.lemmas.Bool.{true≢false}
-use Rattle.std.proofs.lemmas.List.{length-map, length-reverse, reverse-append, reverse-reverse}
-use Rattle.block_rows.specs.Rows.{Single}
-use Rattle.definition_block.specs.Container.{Container}
-use Rattle.definition_block.specs.Tree.{Block, Blocks, Nil as NoBlock, Cons as ConsBlock, join, one as one_block, is_ending}
-use Rattle.definition_page.specs.Read.{Reading, Standing, next_standing}
-use Rattle.event_grammar.specs.Trees.{Nodes}
-use Rattle.parse_lines.specs.declared.walk.Walk.{Walk}
-use Rattle.html_looseness.specs.declared.loose.Place.{Place as ItemPlace}
-use Rattle.parse_alike.specs.Composed.{standing_after}
-use Rattle.parse_laid.specs.Places.{Place}
-use Rattle.parse_open.specs.Open.{Level, Opened, after_row, is_in_list, opened}
+use Rattle.parse_events.proofs.Prelude.{after_row, Block, Blocks, ConsBlock, Container, ends_in_list, Held, is_ending, is_in_list, is_last_list, is_list}
+use Rattle.parse_events.proofs.Prelude.{IsParsing, ItemPlace, join, KnowsItems, KnowsLists, length-map, length-reverse, Level, next_stands, NoBlock, Nodes}
+use Rattle.parse_events.proofs.Prelude.{one_block, Opened, opened, Parser, Place, Reading, Single, standing_after, standing_at, Stands, true≢false, Walk}
+use Rattle.parse_events.proofs.Prelude.{which_are_lists, which_go_on}
+use Rattle.std.proofs.lemmas.List.{reverse-append, reverse-reverse}
+use Rattle.definition_page.specs.Read.{Standing, next_standing}
 use Rattle.parse_open.specs.Open as open_blocks
-use Rattle.parse_open.specs.Levels.{standing_at}
-use Rattle.parse_open.specs.Steps.{next_stands}
-use Rattle.parse_events.specs.declared.opened.Opened.{Opened as Held}
-use Rattle.parse_events.specs.Opened.{ends_in_list, is_last_list, is_list}
-use Rattle.parse_events.specs.declared.parser.Parser.{Parser}
-use Rattle.parse_events.specs.Parsing.{IsParsing, KnowsItems, KnowsLists, which_are_lists, which_go_on}
-use Rattle.parse_events.specs.Stands.{Stands}
 
 -- ---- one more, one less
 

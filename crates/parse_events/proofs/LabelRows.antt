@@ -1,20 +1,17 @@
 -- The labels of rows, and those of the blocks that they are the rows of.
 use Rattle.std.proofs.Common.{◌≡◌, ℕ, zero, suc, List, [], ◌∷◌, ◌++◌, Bool, true, false, Option, None, Some, refl, sym, ap, ap₂, ◌∙◌, map}
 use Rattle.std.specs.List.{flat_map}
-use Rattle.std.proofs.lemmas.List.{append-nil, map-append}
-use Rattle.std.proofs.lemmas.List.Concat.{flat_map-append}
-use Rattle.definition_text.specs.Columns.{Code}
+use Rattle.parse_events.proofs.Prelude.{append-nil, BlockLine, BlockRow, Code, Container, defined_in, definition_value, Exit, flat_map-append, Footnote}
+use Rattle.parse_events.proofs.Prelude.{HasLabels, Item, map-append, normal_label, normal_labels, own_label, Quote, row_definitions, rows_of, Single}
+use Rattle.parse_events.proofs.Prelude.{start_row}
 use Rattle.definition_inline.specs.Definition.{Definition}
-use Rattle.definition_inline.specs.LabelMatch.{normal_label}
 use Rattle.definition_inline.specs.Targets.{labels_of}
-use Rattle.definition_text.specs.BlockLines.{BlockLine}
-use Rattle.definition_block.specs.Container.{Container, Quote, Item, Footnote}
 use Rattle.definition_block.specs.Blocks.{Block, Leaf, Holds, Items, Ending, Blank, Blocks, Nil, Cons}
 use Rattle.definition_block.specs.Definitions.{container_footnotes}
-use Rattle.block_rows.specs.Rows.{BlockRow, Single, Exit, start_row, block_rows, rows_of, row_definitions, definition_value}
+use Rattle.block_rows.specs.Rows.{block_rows}
 use Rattle.block_rows.proofs.DefinitionRows.{definitions_of}
 use Rattle.parse_events.specs.declared.labels.Labels.{Labels}
-use Rattle.parse_events.specs.Labels.{HasLabels, begun, begun_in, block_begun, defined_in, definition_labels, footnote_labels, normal_labels, own_label, row_begun}
+use Rattle.parse_events.specs.Labels.{begun, begun_in, block_begun, definition_labels, footnote_labels, row_begun}
 
 -- the label of a definition's row
 pub one_label : (ls : List BlockLine) (o : Option Definition) → normal_labels (row_definitions (Single (definition_value ls o))) ≡ own_label o ∷ []

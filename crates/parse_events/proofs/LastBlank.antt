@@ -1,33 +1,18 @@
 -- What is written ends with the ending of a blank line where the blocks do, after each row.
 use Rattle.std.proofs.Common.{◌≡◌, inl, inr, ℕ, eqb, Bool, true, false, List, [], ◌∷◌, drop, Option, None, Some, refl, sym, ap, ◌∙◌, subst}
 use Rattle.std.specs.Prelude.{is_some}
-use Rattle.std.proofs.lemmas.Bool.{cond_both, true≢false}
-use Rattle.markdown_options.specs.declared.configuration.Constructs.{Constructs}
-use Rattle.markdown_options.specs.declared.line_ending.LineEnding.{LineEnding}
+use Rattle.parse_events.proofs.Prelude.{after_return, append, append-assoc, AreEnding, AreEndsAlike, AreMute, AtEnding, begun, Between, Blank, blank_one}
+use Rattle.parse_events.proofs.Prelude.{Block, block_names, Blocks, Constructs, Container, Ending, ends_in_blank, in_first_line, is_listed, join, Kind, Level}
+use Rattle.parse_events.proofs.Prelude.{LineEnding, LineRest, lines, Name, Nil, Node, node_name, Nodes, one, one_block, Place, same_name, text_line, TextLine}
+use Rattle.parse_events.proofs.Prelude.{true≢false, unread, whole, Within}
+use Rattle.std.proofs.lemmas.Bool.{cond_both}
 use Rattle.markdown_options.specs.declared.line_ending.LineEnding.TheVariants.{CarriageReturnLineFeed, CarriageReturn, LineFeed}
-use Rattle.markdown_options.specs.declared.beside.Kind.{Kind}
-use Rattle.definition_text.specs.Columns.{whole}
-use Rattle.definition_text.specs.Lines.{TextLine, text_line, in_first_line, after_return, lines}
-use Rattle.definition_block.specs.Container.{Container}
-use Rattle.definition_block.specs.Tree.{Block, Blocks, Ending, Blank, join, one as one_block}
 use Rattle.definition_page.specs.Read.{ends_blank, is_blank_ending}
-use Rattle.engine_events.specs.Names.{is_listed, same_name}
-use Rattle.engine_events.specs.declared.event.Name.{Name}
 use Rattle.engine_events.specs.declared.event.Name.TheVariants as n
-use Rattle.event_grammar.specs.Grammar.{block_names}
-use Rattle.event_grammar.specs.InGrammar.{node_name}
-use Rattle.event_grammar.specs.Trees.{Node, Nodes, Nil}
 use Rattle.parse_lines.proofs.Columns.{codes_first}
-use Rattle.parse_output.specs.Forest.{append, one}
-use Rattle.parse_output.proofs.Forests.{append-assoc, append-nil}
-use Rattle.parse_laid.specs.Begun.{begun}
-use Rattle.parse_laid.specs.Places.{LineRest, Place, Between, Within, AtEnding, unread}
-use Rattle.parse_open.specs.Open.{Level}
-use Rattle.parse_open.specs.Fronts.{ends_in_blank}
-use Rattle.parse_open.specs.Levels.{AreMute}
-use Rattle.parse_open.proofs.Ends.{blank_one, block_other, ends_blank_one, ends_mute, ends_one, none_or_other}
-use Rattle.parse_raw.specs.Laid.{AreEnding}
-use Rattle.parse_events.specs.LastBlank.{AreEndsAlike, HasMore}
+use Rattle.parse_output.proofs.Forests.{append-nil}
+use Rattle.parse_open.proofs.Ends.{block_other, ends_blank_one, ends_mute, ends_one, none_or_other}
+use Rattle.parse_events.specs.LastBlank.{HasMore}
 
 -- ---- a line without an ending isn't empty
 

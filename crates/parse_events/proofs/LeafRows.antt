@@ -1,53 +1,26 @@
 -- A parser stands after a leaf, if that is written.
 use Rattle.std.proofs.Common.{◌≡◌, ◌<◌, inl, inr, ℕ, Bool, true, false, List, [], ◌∷◌, ◌++◌, Option, Some, None, refl, sym, ap, ◌∙◌, subst, arith, drop, length, map, reverse, take}
-use Rattle.std.proofs.lemmas.Bool.{true≢false}
-use Rattle.std.proofs.lemmas.List.{length-map, length-reverse}
-use Rattle.markdown_options.specs.declared.configuration.Constructs.{Constructs}
-use Rattle.markdown_options.specs.declared.line_ending.LineEnding.{LineEnding}
-use Rattle.definition_text.specs.BlockLines.{BlockLine, last_ending, last_ending_or, own_lines}
-use Rattle.definition_text.specs.Columns.{bytes_of}
-use Rattle.definition_block.specs.Container.{Container, Quote, Item, Footnote}
-use Rattle.definition_block.specs.Definitions.{leaf_definitions}
-use Rattle.definition_block.specs.Tree.{LeafBlock, Paragraph, Heading, Break, IndentedCode, FencedCode, Html, Table, Definition, Leaf, join, one as one_block}
+use Rattle.parse_events.proofs.Prelude.{after_row, always_go_on, append, append-assoc, around, AtEnding, bare_container, Between, BlockLine, BlockRow, Break}
+use Rattle.parse_events.proofs.Prelude.{bytes_of, Constructs, Container, containers, Definition, definition_on, definition_value, End, ends_in_blank}
+use Rattle.parse_events.proofs.Prelude.{ends_in_list, ends_line, EnterFootnote, EnterItem, EnterQuote, Exit, FencedCode, first_codes, Footnote, forest_in}
+use Rattle.parse_events.proofs.Prelude.{GoesOnInLine, Growth, Heading, Held, Holder, holder_containers, holder_standing, Html, InContainer, IndentedCode}
+use Rattle.parse_events.proofs.Prelude.{InList, is_in_line, is_in_list, is_unclosed, IsNext, IsParsing, IsRowLaid, IsWrittenLaid, Item, ItemPlace, join}
+use Rattle.parse_events.proofs.Prelude.{KnowsItems, KnowsLists, Leaf, leaf_definitions, LeafBlock, length-map, length-reverse, Level, line_at, LineEnding}
+use Rattle.parse_events.proofs.Prelude.{LineRest, lines_are_counted, next_stands, node_end, node_start, Nodes, one, one_block, Opened, opened, own_lines}
+use Rattle.parse_events.proofs.Prelude.{Paragraph, Parser, Place, Quote, read_leaf, Reading, Row, row_size, row_value, Single, Spells, standing, Standing}
+use Rattle.parse_events.proofs.Prelude.{standing_at, Stands, StandsAt, Table, true≢false, Walk, which_go_on, with_nodes, Within, WritesLeaf, WritesRow}
+use Rattle.parse_events.proofs.Prelude.{WritesToEnd, written_to}
+use Rattle.definition_text.specs.BlockLines.{last_ending, last_ending_or}
 use Rattle.definition_inline.specs.Definition.{Definition as LinkDefinition}
-use Rattle.definition_page.specs.Read.{Reading, Standing as BlockStanding, read_leaf}
-use Rattle.block_rows.specs.Rows.{BlockRow, Single, EnterFootnote, EnterItem, EnterQuote, Exit, definition_on, definition_value, first_codes, row_size, row_value}
-use Rattle.block_rows.specs.declared.row.Row.{Row}
+use Rattle.definition_page.specs.Read.{Standing as BlockStanding}
 use Rattle.block_rows.specs.declared.row.Row.TheVariants as row
 use Rattle.text_pieces.specs.Pieces.{whole_lines}
-use Rattle.event_grammar.specs.Trees.{Growth, Nodes}
-use Rattle.parse_output.specs.declared.end.End.{End}
-use Rattle.parse_output.specs.Forest.{append, one, with_nodes}
-use Rattle.parse_output.specs.Written.{forest_in}
-use Rattle.parse_output.proofs.Forests.{append-assoc}
-use Rattle.parse_lines.specs.declared.walk.Walk.{Walk}
-use Rattle.parse_lines.specs.Ends.{written_to}
-use Rattle.parse_lines.specs.Standing.{Standing, StandsAt, around, standing}
 use Rattle.parse_leaves.specs.Definition.{IsOnOneLine, WritesDefinition, WritesReadDefinition}
-use Rattle.parse_raw.specs.Laid.{WritesReadInside, WritesReadToEnd, WritesReadUnclosed, WritesToEnd}
+use Rattle.parse_raw.specs.Laid.{WritesReadInside, WritesReadToEnd, WritesReadUnclosed}
 use Rattle.parse_raw.specs.Reads.{WritesReadLeaf}
-use Rattle.parse_leaves.specs.Rows.{WritesRow}
 use Rattle.parse_leaves.proofs.RowLeaves.{all_taken}
-use Rattle.parse_raw.specs.Written.{WritesLeaf, node_end, node_start}
-use Rattle.parse_alike.specs.Composed.{is_unclosed}
-use Rattle.parse_laid.specs.Begun.{ends_line, is_in_line}
-use Rattle.parse_laid.specs.Laid.{IsRowLaid, IsWrittenLaid}
 use Rattle.parse_laid.specs.Leaves.{IsLeafLaid}
-use Rattle.parse_laid.specs.Places.{LineRest, Place, Between, Within, AtEnding}
-use Rattle.parse_open.specs.Lines.{line_at}
-use Rattle.parse_open.specs.Open.{Holder, InContainer, InList, Level, Opened, after_row, bare_container, is_in_list, opened}
 use Rattle.parse_open.specs.Open as open_blocks
-use Rattle.parse_open.proofs.LineCounts.{lines_are_counted}
-use Rattle.parse_open.specs.Fronts.{ends_in_blank}
-use Rattle.parse_open.specs.Levels.{Spells, holder_standing, standing_at}
-use Rattle.parse_open.specs.Steps.{next_stands}
-use Rattle.parse_open.proofs.Steps.{always_go_on}
-use Rattle.parse_events.specs.declared.opened.Opened.{Opened as Held}
-use Rattle.parse_events.specs.declared.parser.Parser.{Parser}
-use Rattle.html_looseness.specs.declared.loose.Place.{Place as ItemPlace}
-use Rattle.parse_events.specs.Opened.{ends_in_list}
-use Rattle.parse_events.specs.Parsing.{GoesOnInLine, IsNext, IsParsing, KnowsItems, KnowsLists, which_go_on}
-use Rattle.parse_events.specs.Stands.{Stands, containers, holder_containers}
 use Rattle.parse_events.proofs.Endings.{begun_more, quiet_mute}
 use Rattle.parse_events.proofs.LastBlank.{leaf_ends}
 use Rattle.parse_events.proofs.Kept.{KeepsOpen, first_over, stands_there, top_after}

@@ -1,31 +1,12 @@
 -- A walk stands after a leaf or a blank line, if that is written.
 use Rattle.std.proofs.Common.{◌≡◌, inl, inr, ◌≤◌, ℕ, Bool, true, false, List, [], ◌++◌, Option, None, Some, refl, sym, ap, ◌∙◌, subst, arith, length, length-append, reverse}
-use Rattle.markdown_options.specs.declared.line_ending.LineEnding.{LineEnding}
-use Rattle.definition_text.specs.Lines.{ending_text}
-use Rattle.definition_block.specs.Container.{Container}
-use Rattle.definition_block.specs.Definitions.{leaf_definitions}
+use Rattle.parse_events.proofs.Prelude.{append, append-assoc, AreQuiet, Around, AtEnding, Blank, Block, Blocks, ConsBlock, Container, End, Ending, ending_text}
+use Rattle.parse_events.proofs.Prelude.{ends_in_blank, ends_unclosed, forest_in, Growth, Holds, is_in_list, is_unclosed, IsBegun, IsInLine, Items, join, Leaf}
+use Rattle.parse_events.proofs.Prelude.{leaf_definitions, LeafBlock, LevelsGoOn, line_at, LineEnding, LineRest, next_stands, Nil, NoBlock, Node, node_end}
+use Rattle.parse_events.proofs.Prelude.{node_start, Nodes, one, one_block, Opened, opened, Place, read_leaf, Reading, Spells, Standing, standing, Stands, Walk}
+use Rattle.parse_events.proofs.Prelude.{with_nodes, Within, WritesLeaf, WritesToEnd, written_to}
 use Rattle.definition_inline.specs.Definition.{Definition}
-use Rattle.definition_block.specs.Tree.{LeafBlock, Block, Leaf, Holds, Items, Ending, Blank, Blocks, Nil as NoBlock, Cons as ConsBlock, join, one as one_block}
-use Rattle.definition_page.specs.Read.{Reading, read_leaf}
-use Rattle.event_grammar.specs.Trees.{Growth, Node, Nodes, Around, Nil}
-use Rattle.parse_lines.specs.declared.walk.Walk.{Walk}
-use Rattle.parse_lines.specs.Ends.{written_to}
-use Rattle.parse_lines.specs.Quiet.{AreQuiet}
-use Rattle.parse_lines.specs.Standing.{Standing, IsInLine, standing}
-use Rattle.parse_output.specs.declared.end.End.{End}
-use Rattle.parse_output.specs.Forest.{append, one, with_nodes}
-use Rattle.parse_output.specs.Written.{forest_in}
-use Rattle.parse_output.proofs.Forests.{append-assoc}
-use Rattle.parse_laid.specs.Places.{LineRest, Place, Within, AtEnding}
-use Rattle.parse_alike.specs.Composed.{ends_unclosed, is_unclosed}
-use Rattle.parse_open.specs.Lines.{line_at}
-use Rattle.parse_open.specs.Open.{Opened, opened, is_in_list}
-use Rattle.parse_open.specs.Fronts.{ends_in_blank}
-use Rattle.parse_open.specs.Levels.{Spells}
-use Rattle.parse_open.specs.Steps.{IsBegun, LevelsGoOn, next_stands}
-use Rattle.parse_raw.specs.Written.{SpellsLeaf, WritesLeaf, node_end, node_start}
-use Rattle.parse_raw.specs.Laid.{WritesToEnd}
-use Rattle.parse_events.specs.Stands.{Stands}
+use Rattle.parse_raw.specs.Written.{SpellsLeaf}
 use Rattle.parse_events.proofs.Endings.{begun_more, quiet_mute}
 use Rattle.parse_events.proofs.LastBlank.{leaf_ends}
 use Rattle.parse_events.proofs.Lines.{rest_line_at}

@@ -1,3 +1,4 @@
+mod Prelude
 pub mod NestedLaw
 pub mod Outermost
 pub mod Held

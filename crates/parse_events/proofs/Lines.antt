@@ -1,30 +1,11 @@
 -- A walk stands in a line, if it is begun.
 use Rattle.std.proofs.Common.{◌≡◌, inl, inr, ◌≤◌, ◌+◌, ℕ, true, Bool, false, List, [], ◌∷◌, Option, refl, sym, ap, ◌∙◌, subst, arith, length, map, drop, reverse}
-use Rattle.std.proofs.lemmas.Bool.{true≢false}
-use Rattle.markdown_options.specs.declared.line_ending.LineEnding.{LineEnding}
-use Rattle.markdown_options.specs.declared.configuration.Constructs.{Constructs}
-use Rattle.definition_text.specs.Columns.{whole}
-use Rattle.definition_block.specs.Container.{Container}
-use Rattle.definition_page.specs.Read.{Reading}
-use Rattle.event_grammar.specs.Trees.{Growth, Nodes}
-use Rattle.parse_lines.specs.declared.walk.Walk.{Walk}
-use Rattle.parse_lines.specs.Ends.{EndsInLine, IsInLineFrom, IsWrittenToRest, WritesLine, rest_start, written_to}
-use Rattle.parse_lines.specs.Standing.{StandsAt, standing, around}
-use Rattle.parse_lines.specs.Steps.{HasSameOpen}
-use Rattle.parse_lines.specs.Steps.{IsBegun as IsLineBegun}
+use Rattle.parse_events.proofs.Prelude.{AreEndsAlike, around, AtEnding, bare_container, begun, Between, Constructs, Container, containers, End, EndsInLine}
+use Rattle.parse_events.proofs.Prelude.{forest_in, Growth, HasSameOpen, is_in_line, IsLineBegun, IsWrittenToRest, LevelsGoOn, line_at, LineEnding, LineRest}
+use Rattle.parse_events.proofs.Prelude.{lines_are_counted, Nodes, Opened, Place, Reading, rest_start, Spells, standing, Stands, StandsAt, true≢false, Walk}
+use Rattle.parse_events.proofs.Prelude.{whole, with_nodes, Within, WritesLine, written_to}
+use Rattle.parse_lines.specs.Ends.{IsInLineFrom}
 use Rattle.parse_lines.proofs.Ends.{line_follows, rest_to_end, start_line}
-use Rattle.parse_output.specs.declared.end.End.{End}
-use Rattle.parse_output.specs.Forest.{with_nodes}
-use Rattle.parse_output.specs.Written.{forest_in}
-use Rattle.parse_laid.specs.Begun.{begun, is_in_line}
-use Rattle.parse_laid.specs.Places.{LineRest, Place, Between, Within, AtEnding}
-use Rattle.parse_open.specs.Lines.{line_at}
-use Rattle.parse_open.specs.Open.{Opened, bare_container}
-use Rattle.parse_open.proofs.LineCounts.{lines_are_counted}
-use Rattle.parse_open.specs.Levels.{Spells}
-use Rattle.parse_open.specs.Steps.{LevelsGoOn}
-use Rattle.parse_events.specs.LastBlank.{AreEndsAlike}
-use Rattle.parse_events.specs.Stands.{Stands, containers}
 use Rattle.parse_events.proofs.Endings.{quiet_mute}
 use Rattle.parse_events.proofs.LastBlank.{begun_ends, next_more}
 

@@ -1,42 +1,21 @@
 -- A parser stands after the start of an item, and of its list if it is the first, if these are written.
 use Rattle.std.proofs.Common.{◌≡◌, ◌⊎◌, inl, inr, ℕ, Bool, true, false, List, [], ◌∷◌, ◌++◌, Option, None, Some, refl, sym, ap, ap₂, ◌∙◌, subst, length, reverse, take}
-use Rattle.std.specs.Prelude.{◌+◌, ◌-◌, if◌then◌else◌, MatchOption, Result, Ok, Err, OnOk}
+use Rattle.parse_events.proofs.Prelude.{after_row, always_go_on, append-nil, around, bare_container, bare_end, beside_in, BlockRow, Blocks, bytes_of}
+use Rattle.parse_events.proofs.Prelude.{ConsBlock, Constructs, Container, End, end_at, ends_in_list, EnterItem, Enters, Err, Footnote, forest_in, GoesOnInLine}
+use Rattle.parse_events.proofs.Prelude.{Growth, Held, if◌then◌else◌, InContainer, InList, innermost, is_in_line, is_in_list, is_item_kind, is_list, IsBegun}
+use Rattle.parse_events.proofs.Prelude.{IsFirstOf, IsInOrder, IsListed, IsNext, IsParsing, IsWrittenToRest, Item, ItemParts, ItemPlace, KnowsItems, KnowsLists}
+use Rattle.parse_events.proofs.Prelude.{level, Level, line_rest, LineRest, list_name, more_if, Name, NoBlock, Nodes, Ok, OnOk, Opened, opened, opened_name}
+use Rattle.parse_events.proofs.Prelude.{OpensIf, Parser, Place, Quote, Reading, Result, standing, Standing, Stands, StandsAt, start_row, Starts, StartsOf}
+use Rattle.parse_events.proofs.Prelude.{true≢false, Walk, which_are_lists, which_go_on, within, Within, WritesStartOf, WritesUpTo, written_to}
+use Rattle.std.specs.Prelude.{◌+◌, ◌-◌, MatchOption}
 use Rattle.std.specs.Option.{UnwrapsOrElse, option_to_list}
-use Rattle.std.proofs.lemmas.Bool.{true≢false}
-use Rattle.std.proofs.lemmas.List.{append-nil}
-use Rattle.markdown_options.specs.declared.container.Item.{Item as ItemParts}
-use Rattle.markdown_options.specs.declared.configuration.Constructs.{Constructs}
-use Rattle.definition_text.specs.Columns.{bare, bytes_of}
-use Rattle.definition_block.specs.Container.{Container, Quote, Item, Footnote}
-use Rattle.definition_block.specs.Tree.{Blocks, Nil as NoBlock, Cons as ConsBlock, beside_in}
-use Rattle.definition_page.specs.Read.{Reading}
-use Rattle.engine_events.specs.declared.event.Name.{Name}
+use Rattle.definition_text.specs.Columns.{bare}
 use Rattle.engine_events.specs.declared.event.Name.TheVariants as n
-use Rattle.block_rows.specs.Rows.{BlockRow, EnterItem, start_row}
-use Rattle.event_grammar.specs.Trees.{Growth, Nodes}
-use Rattle.parse_lines.specs.declared.walk.Walk.{Walk}
-use Rattle.parse_lines.specs.Ends.{IsWrittenToRest, IsWrittenToStart, WritesStartOf, WritesUpTo, bare_end, written_to}
-use Rattle.parse_lines.specs.Kinds.{is_item as is_item_kind}
-use Rattle.parse_lines.specs.Standing.{Standing, StandsAt, around, standing}
-use Rattle.parse_lines.specs.Steps.{StartsOf}
+use Rattle.parse_lines.specs.Ends.{IsWrittenToStart}
 use Rattle.parse_lines.proofs.Starts.{white_quiet}
-use Rattle.parse_output.specs.declared.end.End.{End}
-use Rattle.parse_output.specs.Ends.{end_at}
-use Rattle.parse_output.specs.Written.{Enters, IsInOrder, forest_in}
-use Rattle.html_looseness.specs.declared.loose.Place.{Place as ItemPlace}
-use Rattle.parse_laid.specs.Places.{LineRest, Place, Within, Starts, line_rest}
-use Rattle.parse_laid.specs.Begun.{is_in_line}
-use Rattle.parse_open.specs.Open.{InContainer, InList, Level, Opened, after_row, bare_container, in_list, is_in_list, item_begun, level, next_goes_on, opened, other_places, within}
-use Rattle.parse_open.specs.Levels.{IsFirstOf, innermost, list_name}
-use Rattle.parse_open.specs.Steps.{IsBegun}
-use Rattle.parse_open.proofs.Steps.{always_go_on}
-use Rattle.parse_events.specs.declared.opened.Opened.{Opened as Held}
+use Rattle.parse_open.specs.Open.{in_list, item_begun, next_goes_on, other_places}
 use Rattle.parse_events.specs.declared.opened.Opened.TheVariants as held
-use Rattle.parse_events.specs.declared.parser.Parser.{Parser}
-use Rattle.parse_events.specs.Closing.{OpensIf, more_if}
-use Rattle.parse_events.specs.Opened.{ends_in_list, is_list, opened_name}
-use Rattle.parse_events.specs.Parsing.{BeginsList, GoesOnInLine, IsListing, IsNext, IsParsing, KnowsItems, KnowsLists, which_are_lists, which_go_on}
-use Rattle.parse_events.specs.Stands.{IsListed, Stands}
+use Rattle.parse_events.specs.Parsing.{BeginsList, IsListing}
 use Rattle.parse_events.proofs.Kept.{ends_in, items_more, lists_more, reverse_push, stands_there}
 use Rattle.parse_events.proofs.Lists.{item_starts, list_starts, listed_already}
 use Rattle.parse_events.proofs.StartRows.{started_on}

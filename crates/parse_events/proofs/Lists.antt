@@ -1,26 +1,11 @@
 -- A walk stands after the start of an item, and of its list if it is the first, if these are written.
 use Rattle.std.proofs.Common.{◌≡◌, ◌⊎◌, inl, inr, ℕ, Bool, true, false, List, ◌∷◌, Option, refl, sym, ap, ◌∙◌, subst, arith}
-use Rattle.std.proofs.lemmas.Bool.{true≢false}
-use Rattle.markdown_options.specs.declared.container.Item.{Item as ItemParts}
-use Rattle.definition_block.specs.Container.{Container, Item}
-use Rattle.definition_block.specs.Tree.{Nil as NoBlock}
-use Rattle.definition_page.specs.Read.{Reading}
+use Rattle.parse_events.proofs.Prelude.{around, bare_container, bare_end, Container, End, end_in, enter_at, entered, Enters, forest_in, Growth, InContainer}
+use Rattle.parse_events.proofs.Prelude.{InList, innermost, is_in_list, IsBegun, IsFirstOf, IsListed, IsPrefixOf, IsWrittenToRest, Item, ItemParts, level}
+use Rattle.parse_events.proofs.Prelude.{LevelsGoOn, line_at, LineRest, list_name, Nil, NoBlock, Nodes, one, Opened, Reading, Spells, Standing, standing}
+use Rattle.parse_events.proofs.Prelude.{Stands, StandsAt, true≢false, Walk, with_nodes, Within, within, WritesStart, written_to}
 use Rattle.engine_events.specs.declared.event.Name.TheVariants as n
-use Rattle.event_grammar.specs.Trees.{Growth, Nodes, Nil}
-use Rattle.parse_lines.specs.declared.walk.Walk.{Walk}
-use Rattle.parse_lines.specs.Ends.{IsWrittenToRest, WritesQuiet, WritesStart, bare_end, written_to}
-use Rattle.parse_lines.specs.Prefixes.{IsPrefixOf}
-use Rattle.parse_lines.specs.Standing.{Standing, StandsAt, around, standing}
-use Rattle.parse_output.specs.declared.end.End.{End}
-use Rattle.parse_output.specs.Ends.{enter_at}
-use Rattle.parse_output.specs.Forest.{entered, one, with_nodes}
-use Rattle.parse_output.specs.Written.{Enters, end_in, forest_in}
-use Rattle.parse_laid.specs.Places.{LineRest, Within}
-use Rattle.parse_open.specs.Lines.{line_at}
-use Rattle.parse_open.specs.Open.{InContainer, InList, Opened, bare_container, is_in_list, level, within}
-use Rattle.parse_open.specs.Levels.{IsFirstOf, Spells, innermost, list_name}
-use Rattle.parse_open.specs.Steps.{IsBegun, LevelsGoOn}
-use Rattle.parse_events.specs.Stands.{IsListed, Stands}
+use Rattle.parse_lines.specs.Ends.{WritesQuiet}
 use Rattle.parse_events.proofs.Containers.{spells_start}
 use Rattle.parse_events.proofs.Endings.{quiet_mute}
 use Rattle.parse_events.proofs.LastBlank.{inside_ends}

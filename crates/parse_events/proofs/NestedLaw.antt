@@ -1,16 +1,12 @@
 -- Events of which each enter has its exit are those of a tree.
 use Rattle.std.proofs.Common.{◌≡◌, List, [], ◌∷◌, ◌++◌, Bool, true, false, if◌then◌else◌, refl, sym, ap, subst, ◌∙◌, append_assoc, map}
-use Rattle.std.specs.List.{fold}
-use Rattle.std.proofs.lemmas.List.{append-nil}
+use Rattle.parse_events.proofs.Prelude.{append-nil, Around, closed, Cons, Entered, Event, fold, Mark, Name, Nil, Node, Nodes, same_name, unmatched}
 use denote.Enum.Bare.{same_true}
 use Rattle.engine_events.specs.contracts.event.Name.{the_type}
-use Rattle.engine_events.specs.Names.{same_name}
-use Rattle.engine_events.specs.declared.event.Event.{Event}
 use Rattle.engine_events.specs.declared.event.Kind.{Kind}
 use Rattle.engine_events.specs.declared.event.Kind.TheVariants as kind
-use Rattle.engine_events.specs.declared.event.Name.{Name}
-use Rattle.event_grammar.specs.Trees.{Node, Nodes, Around, Nil, Cons, AreNodes, IsNode, events_of, followed_by, node_events}
-use Rattle.parse_output.specs.Open.{Mark, Entered, Exited, closed, mark_as, mark_of, then_mark, unmatched}
+use Rattle.event_grammar.specs.Trees.{AreNodes, IsNode, events_of, followed_by, node_events}
+use Rattle.parse_output.specs.Open.{Exited, mark_as, mark_of, then_mark}
 use Rattle.parse_events.specs.Nested.{IsNested}
 
 -- ---- one node more

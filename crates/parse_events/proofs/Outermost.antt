@@ -1,7 +1,7 @@
 -- What the document may hold.
 use Rattle.std.proofs.Common.{◌≡◌, List, [], true, ap}
 use Rattle.engine_events.specs.declared.event.Name.TheVariants as n
-use Rattle.parse_output.specs.Open.{Mark}
+use Rattle.parse_events.proofs.Prelude.{Mark}
 use Rattle.parse_output.specs.Children.{holds_blocks, holds_lines, may_enter}
 
 pub document_mark : (marks : List Mark) → marks ≡ [] → may_enter marks n.ByteOrderMark ≡ true

@@ -2,16 +2,14 @@
 use Rattle.std.proofs.Common.{◌≡◌, ◌+◌, ℕ, true, false, List, [], ◌∷◌, ◌++◌, refl, sym, ap, ◌∙◌, subst, arith, length, take}
 use Rattle.std.proofs.Math.Seq.{take-length}
 use Rattle.std.proofs.lemmas.List.{take-append-le}
-use Rattle.definition_text.specs.BlockLines.{BlockLine, own_lines}
-use Rattle.definition_block.specs.Tree.{Paragraph, Heading, IndentedCode, FencedCode, Html, Table, Leaf}
+use Rattle.parse_events.proofs.Prelude.{AreLinesOf, BlockLine, definition_on, definition_value, EnterFootnote, FencedCode, Heading, Html, IndentedCode}
+use Rattle.parse_events.proofs.Prelude.{IsPrintableRow, Leaf, own_lines, Paragraph, Row, row_size, row_value, Single, Table}
 use Rattle.text_pieces.specs.ParagraphLines.{AreLines}
 use Rattle.inline_content.specs.Lines.{AreContentLines}
-use Rattle.block_rows.specs.declared.row.Row.{Row}
 use Rattle.block_rows.specs.declared.row.Row.TheVariants as row
-use Rattle.block_rows.specs.Rows.{Single, EnterFootnote, definition_on, definition_value, row_size, row_value}
-use Rattle.html_looseness.specs.Printable.{AreHeadingLines, IsPrintableRow}
+use Rattle.html_looseness.specs.Printable.{AreHeadingLines}
 use Rattle.html_rows.proofs.Lines.{with_ending}
-use Rattle.parse_leaves.specs.Rows.{AreLinesOf, AreOfRow}
+use Rattle.parse_leaves.specs.Rows.{AreOfRow}
 
 front_taken : (count : ℕ) (xs ys : List BlockLine) → length xs ≡ count → take count (xs ++ ys) ≡ take count xs
 front_taken count xs ys size = take-append-le count xs ys (omega (arith, size))

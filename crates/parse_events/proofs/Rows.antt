@@ -1,19 +1,11 @@
 -- Where rows are laid: after the last line nothing follows, and at the ending of a line only the end of a container does.
 use Rattle.std.proofs.Common.{◌≡◌, inl, inr, ◌<◌, ℕ, true, false, List, [], ◌∷◌, Option, refl, sym, arith, length}
-use Rattle.std.proofs.lemmas.Bool.{true≢false}
-use Rattle.markdown_options.specs.declared.line_ending.LineEnding.{LineEnding}
-use Rattle.markdown_options.specs.declared.configuration.Constructs.{Constructs}
-use Rattle.definition_text.specs.BlockLines.{BlockLine}
-use Rattle.definition_block.specs.Container.{Container}
-use Rattle.definition_block.specs.Tree.{LeafBlock, Paragraph, Heading, Break, IndentedCode, FencedCode, Html, Table, Definition, Leaf, Holds, Items, Ending, Blank}
-use Rattle.block_rows.specs.declared.row.Row.{Row}
-use Rattle.block_rows.specs.Rows.{BlockRow, Single, EnterQuote, EnterItem, EnterFootnote, Exit, row_value}
-use Rattle.parse_laid.specs.Begun.{ends_line}
-use Rattle.parse_laid.specs.Laid.{IsRowLaid, IsWrittenLaid}
+use Rattle.parse_events.proofs.Prelude.{AreRowsLaid, AtEnding, Between, Blank, BlockLine, BlockRow, Break, Constructs, Container, Definition, Ending}
+use Rattle.parse_events.proofs.Prelude.{ends_line, EnterFootnote, EnterItem, EnterQuote, Exit, FencedCode, Heading, Holds, Html, IndentedCode, IsRowLaid}
+use Rattle.parse_events.proofs.Prelude.{IsWrittenLaid, Items, Leaf, LeafBlock, LineEnding, LineRest, lines_may_be_begun, Paragraph, Place, Row, row_value}
+use Rattle.parse_events.proofs.Prelude.{Single, Table, true≢false}
 use Rattle.parse_laid.specs.Leaves.{AreCode, AreHtml, AreTable, AreTaken, IsTextLine}
-use Rattle.parse_laid.specs.ParserRows.{AreRowsLaid}
-use Rattle.parse_laid.specs.Places.{LineRest, Place, Between, AtEnding, Prefixed}
-use Rattle.parse_laid.proofs.Begun.{lines_may_be_begun}
+use Rattle.parse_laid.specs.Places.{Prefixed}
 
 -- nothing follows where no line is left
 pub nothing_follows : (on : Constructs) (around : List Container) (rows : List Row) (ls : List BlockLine) → AreRowsLaid on around (Between []) rows ls → rows ≡ []

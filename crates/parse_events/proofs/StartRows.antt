@@ -1,35 +1,15 @@
 -- A parser stands after the start of a container, if that is written.
 use Rattle.std.proofs.Common.{◌≡◌, inl, inr, ℕ, Bool, true, false, List, [], ◌∷◌, ◌++◌, refl, sym, ap, ◌∙◌, subst, reverse}
-use Rattle.std.specs.Prelude.{Result, Ok, Err, OnOk}
-use Rattle.std.proofs.lemmas.Bool.{true≢false}
-use Rattle.markdown_options.specs.declared.configuration.Constructs.{Constructs}
-use Rattle.definition_block.specs.Container.{Container, Quote, Item, Footnote}
-use Rattle.definition_block.specs.Tree.{Blocks}
-use Rattle.definition_page.specs.Read.{Reading}
-use Rattle.engine_events.specs.declared.event.Name.{Name}
+use Rattle.parse_events.proofs.Prelude.{after_row, always_go_on, around, AtEnding, bare_container, beside_in, Between, BlockRow, Blocks, Constructs, Container}
+use Rattle.parse_events.proofs.Prelude.{ends_in_list, EnterFootnote, EnterQuote, Err, Footnote, GoesOnInLine, Held, holder_standing, InContainer, is_in_line}
+use Rattle.parse_events.proofs.Prelude.{is_in_list, is_item, is_list, IsFirstOf, IsNamed, IsNext, IsParsing, Item, ItemPlace, KnowsItems, KnowsLists, level}
+use Rattle.parse_events.proofs.Prelude.{Level, line_rest, LineRest, more_if, Name, Nodes, Ok, OnOk, Opened, OpensIf, Parser, Place, Quote, Reading, Result}
+use Rattle.parse_events.proofs.Prelude.{standing, Stands, StandsAt, start_row, Starts, StartsOf, true≢false, Walk, which_go_on, Within, within, WritesStartOf}
 use Rattle.engine_events.specs.declared.event.Name.TheVariants as n
-use Rattle.block_rows.specs.Rows.{BlockRow, EnterFootnote, EnterQuote, start_row}
-use Rattle.event_grammar.specs.Trees.{Nodes}
-use Rattle.parse_lines.specs.declared.walk.Walk.{Walk}
-use Rattle.parse_lines.specs.Ends.{WritesStartOf}
 use Rattle.parse_lines.specs.Kinds.{is_footnote}
-use Rattle.parse_lines.specs.Standing.{StandsAt, around, standing}
-use Rattle.parse_lines.specs.Steps.{StartsOf}
-use Rattle.html_looseness.specs.declared.loose.Place.{Place as ItemPlace}
-use Rattle.parse_laid.specs.Begun.{is_in_line}
 use Rattle.parse_laid.specs.EmptyRests.{is_quote}
-use Rattle.parse_laid.specs.Places.{LineRest, Place, Between, Within, AtEnding, Starts, line_rest}
-use Rattle.definition_block.specs.Tree.{beside_in}
-use Rattle.parse_open.specs.Open.{InContainer, Level, Opened, after_row, bare_container, is_in_list, level, within}
-use Rattle.parse_open.specs.Levels.{IsFirstOf, IsNamed, holder_standing, is_item}
-use Rattle.parse_open.proofs.Steps.{always_go_on}
-use Rattle.parse_events.specs.declared.opened.Opened.{Opened as Held}
 use Rattle.parse_events.specs.declared.opened.Opened.TheVariants as held
-use Rattle.parse_events.specs.declared.parser.Parser.{Parser}
-use Rattle.parse_events.specs.Closing.{OpensIf, more_if}
-use Rattle.parse_events.specs.Opened.{ends_in_list, is_list}
-use Rattle.parse_events.specs.Parsing.{GoesOnInLine, IsNext, IsParsing, KnowsItems, KnowsLists, holder_goes_on, which_go_on}
-use Rattle.parse_events.specs.Stands.{Stands}
+use Rattle.parse_events.specs.Parsing.{holder_goes_on}
 use Rattle.parse_events.proofs.Kept.{ends_in, lists_more, stands_there}
 use Rattle.parse_events.proofs.Starts.{container_starts}
 

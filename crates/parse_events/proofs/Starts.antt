@@ -1,39 +1,18 @@
 -- A walk stands after the start of a container, if that is written.
 use Rattle.std.proofs.Common.{◌≡◌, inl, inr, ◌≤◌, ℕ, Bool, List, [], ◌∷◌, ◌++◌, Option, None, Some, refl, sym, ap, ◌∙◌, arith, drop}
-use Rattle.std.specs.Prelude.{if◌then◌else◌}
-use Rattle.std.proofs.lemmas.Bool.{true≢false}
-use Rattle.definition_text.specs.Columns.{whole}
-use Rattle.definition_text.specs.Lines.{ending_text}
-use Rattle.definition_inline.specs.LabelMatch.{normal_label}
-use Rattle.definition_block.specs.Container.{Container, Quote, Item, Footnote}
+use Rattle.parse_events.proofs.Prelude.{around, bare_container, bare_end, Container, End, end_in, ending_text, enter_at, Footnote, forest_in, Growth, HasStart}
+use Rattle.parse_events.proofs.Prelude.{if◌then◌else◌, InContainer, innermost, is_in_list, is_item, IsFirstOf, IsNamed, IsPrefixOf, IsStartName}
+use Rattle.parse_events.proofs.Prelude.{IsWrittenToRest, Item, kids_of, level, LevelsGoOn, line_at, LineRest, Name, named, NoBlock, Node, node_name, Nodes}
+use Rattle.parse_events.proofs.Prelude.{normal_label, one, Opened, Quote, Reading, rest_start, same_name, standing, Stands, StandsAt, true≢false, Walk, whole}
+use Rattle.parse_events.proofs.Prelude.{with_nodes, Within, within, WritesStart, written_to}
 use Rattle.definition_block.specs.ListItem.{number_of}
-use Rattle.definition_block.specs.Tree.{Nil as NoBlock}
-use Rattle.definition_page.specs.Read.{Reading}
-use Rattle.engine_events.specs.Names.{same_name}
-use Rattle.engine_events.specs.declared.event.Name.{Name}
 use Rattle.engine_events.specs.declared.event.Name.TheVariants as n
-use Rattle.event_grammar.specs.InGrammar.{kids_of, node_name}
-use Rattle.event_grammar.specs.References.{named}
-use Rattle.event_grammar.specs.Trees.{Growth, Node, Nodes}
 use Rattle.event_meaning.specs.Blocks.{label_of}
 use Rattle.event_meaning.specs.Children.{child, inside_of, kids_in, text_in}
-use Rattle.parse_lines.specs.declared.walk.Walk.{Walk}
-use Rattle.parse_lines.specs.Ends.{IsWrittenToRest, WritesStart, bare_end, rest_start, written_to}
-use Rattle.parse_lines.specs.Prefixes.{IsPrefixOf}
-use Rattle.parse_lines.specs.Standing.{StandsAt, around, standing}
 use Rattle.parse_lines.proofs.Quiet.{quiet_named}
 use Rattle.parse_lines.proofs.Written.{bare_follows, bare_start}
-use Rattle.parse_output.specs.declared.end.End.{End}
-use Rattle.parse_output.specs.Ends.{enter_at}
-use Rattle.parse_output.specs.Forest.{one, with_nodes}
-use Rattle.parse_output.specs.Written.{end_in, forest_in}
 use Rattle.parse_output.proofs.Marks.{same_self}
-use Rattle.parse_laid.specs.Places.{LineRest, Within}
-use Rattle.parse_open.specs.Lines.{line_at}
-use Rattle.parse_open.specs.Open.{InContainer, Opened, bare_container, is_in_list, level, within}
-use Rattle.parse_open.specs.Levels.{HasNumber, HasStart, IsFirstOf, IsNamed, innermost, is_item}
-use Rattle.parse_open.specs.Steps.{IsStartName, LevelsGoOn}
-use Rattle.parse_events.specs.Stands.{Stands}
+use Rattle.parse_open.specs.Levels.{HasNumber}
 use Rattle.parse_events.proofs.Containers.{spells_start}
 use Rattle.parse_events.proofs.LastBlank.{inside_ends}
 use Rattle.parse_events.proofs.Leaves.{line_in_text}

@@ -1,19 +1,15 @@
 -- What the labels of a document lead to, as its rows say it (CommonMark 4.7).
 use Rattle.std.proofs.Common.{◌≡◌, true, not, List, [], ◌∷◌, refl}
-use Rattle.std.specs.List.{list_any}
-use Rattle.std.proofs.lemmas.Bool.{and_parts, and_from}
-use Rattle.std.proofs.lemmas.List.Elements.{All-head, All-tail}
-use Rattle.definition_text.specs.Content.{is_space}
+use Rattle.parse_events.proofs.Prelude.{All-head, All-tail, and_parts, ArePrintable, BlockRow, Blocks, document_definitions, document_targets, EnterFootnote}
+use Rattle.parse_events.proofs.Prelude.{EnterItem, EnterQuote, Exit, is_space, IsPrintableRow, list_any, Single}
+use Rattle.std.proofs.lemmas.Bool.{and_from}
 use Rattle.definition_inline.specs.Label.{is_label}
-use Rattle.definition_block.specs.Definitions.{document_definitions, document_targets, footnotes}
-use Rattle.definition_block.specs.Tree.{Blocks}
-use Rattle.block_rows.specs.Rows.{BlockRow, Single, EnterQuote, EnterItem, EnterFootnote, Exit}
+use Rattle.definition_block.specs.Definitions.{footnotes}
 use Rattle.block_targets.specs.declared.definitions.Definitions.{Definitions}
 use Rattle.block_targets.specs.declared.gfm_footnote_definition.Footnotes.{Footnotes}
 use Rattle.block_targets.specs.GfmFootnoteDefinition.{HasLabelsSoFar, are_bare_rows, is_bare_row, labels_so_far}
 use Rattle.block_targets.specs.Read.{HasDefinitions}
 use Rattle.inline_parser.specs.Scanned.{HasTargets}
-use Rattle.html_looseness.specs.Printable.{IsPrintableRow, ArePrintable}
 
 -- the labels of footnote definitions that are printed have no white space
 bare_row : (r : BlockRow) → IsPrintableRow r → is_bare_row r ≡ true

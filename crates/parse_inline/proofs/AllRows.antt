@@ -1,46 +1,24 @@
 -- From before all rows of a text to after them.
 use Rattle.std.proofs.Common.{◌≡◌, ◌+◌, ◌≤◌, ◌||◌, ℕ, zero, suc, true, false, List, [], ◌∷◌, ◌++◌, inl, inr, drop, length, map, refl, sym, ap, subst, ◌∙◌, arith}
-use Rattle.std.specs.List.{list_any}
-use Rattle.std.specs.Prelude.{◌==◌}
-use Rattle.std.proofs.lemmas.Bool.{cases_Bool, cond-false, cond-true, cond_both, eqb-true, or_cases, or_from}
-use Rattle.std.proofs.lemmas.List.{append-nil}
+use Rattle.parse_inline.proofs.Prelude.{append-nil, AreBytesAt, AreLaid, ArePartsAlike, AreWritten, Around, cases_Bool, codes_of, cond-false, cond-true}
+use Rattle.parse_inline.proofs.Prelude.{cond_both, Constructs, content_codes, End, end_after, end_in, ends_line, enter_at, eqb-true, exit_at, filled}
+use Rattle.parse_inline.proofs.Prelude.{held_levels, hole_of, indent, InlineCode, InlineContext, InlineRow, Inlines, inlines_from, inlines_of, is_eol}
+use Rattle.parse_inline.proofs.Prelude.{is_white, IsInRows, IsReadBy, laid_levels, Level, line_bytes, list_any, Names, Nil, no_ends, one, or_from, Outside}
+use Rattle.parse_inline.proofs.Prelude.{PassesRow, plain_void, rows_view, same_end, Setting, StandsInContent, StandsInText, Step, steps_of, Target, void_nodes}
+use Rattle.parse_inline.proofs.Prelude.{Walk, WritesInContent, WritesParts, WritesText, ◌==◌}
+use Rattle.std.proofs.lemmas.Bool.{or_cases}
 use Rattle.engine_events.specs.declared.event.Name.TheVariants as n
-use Rattle.definition_text.specs.Columns.{indent, is_white}
-use Rattle.definition_text.specs.Content.{content_codes, is_eol}
-use Rattle.definition_text.specs.InlineCode.{InlineCode, codes_of}
-use Rattle.definition_text.specs.Lines.{ends_line}
-use Rattle.definition_inline.specs.CharacterReference.{Names}
 use Rattle.definition_inline.specs.Inline as inline
-use Rattle.definition_inline.specs.Inline.{Inlines, LinkTexts, Target}
-use Rattle.definition_inline.specs.Scan.{InlineContext, inlines_from}
+use Rattle.definition_inline.specs.Inline.{LinkTexts}
 use Rattle.inline_rows.specs.InlineRows.{inline_rows}
-use Rattle.inline_rows.specs.View.{rows_view}
-use Rattle.inline_rows.specs.declared.row.InlineRow.{InlineRow}
-use Rattle.event_grammar.specs.Trees.{Around, Nil}
-use Rattle.event_meaning.specs.Texts.{inlines_of}
-use Rattle.parse_output.specs.declared.end.End.{End}
-use Rattle.parse_output.specs.Ends.{enter_at, exit_at, same_end}
-use Rattle.parse_output.specs.Forest.{one, void_nodes}
-use Rattle.parse_output.specs.Written.{end_in}
-use Rattle.parse_lines.specs.declared.walk.Walk.{Walk}
-use Rattle.parse_lines.specs.Content.{end_after}
-use Rattle.parse_lines.specs.InContent.{StandsInContent, WritesInContent}
-use Rattle.parse_strings.proofs.Codes.{line_bytes, no_ends}
-use Rattle.parse_strings.proofs.PlainNodes.{plain_void}
-use Rattle.parse_alike.specs.Inline.{ArePartsAlike}
 use Rattle.laws_inline.proofs.NestedLinks.{links_hold_no_links_from}
-use Rattle.parse_rows.specs.Bytes.{AreBytesAt}
 use Rattle.parse_rows.specs.Rows.{step_row}
 use Rattle.parse_rows.proofs.Parts.{spaces_after}
 use Rattle.parse_rows.proofs.Steps.{rows_of_steps}
-use Rattle.parse_written.specs.Laid.{AreLaid, MayBeSpaces, Step, steps_of}
+use Rattle.parse_written.specs.Laid.{MayBeSpaces}
 use Rattle.parse_written.proofs.Contents.{written_from_law}
 use Rattle.parse_written.proofs.Laid.{laid_law}
 use Rattle.parse_inline.specs.declared.opened.Open as opened
-use Rattle.parse_inline.specs.Holes.{filled}
-use Rattle.parse_inline.specs.Rows.{AreWritten, IsInRows, IsReadBy, Level, Outside, PassesRow, Setting, WritesParts, held_levels, hole_of, laid_levels}
-use Rattle.markdown_options.specs.declared.configuration.Constructs.{Constructs}
-use Rattle.parse_inline.specs.Texts.{StandsInText, WritesText}
 use Rattle.parse_inline.proofs.Calls.{DoesText, texting}
 use Rattle.parse_inline.proofs.Holes.{filled_whole, linkable_steps}
 use Rattle.parse_inline.proofs.LeavesAlike.{append_none}

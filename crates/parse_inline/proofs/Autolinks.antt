@@ -1,31 +1,13 @@
 -- What is written of an autolink (CommonMark 6.5).
 use Rattle.std.proofs.Common.{◌≡◌, ◌<◌, ℕ, Bool, true, false, ◌||◌, List, [], ◌∷◌, ◌++◌, refl, ap, ap₂, subst, ◌∙◌, append_assoc, length, arith}
-use Rattle.std.specs.List.{list_any}
-use Rattle.std.proofs.lemmas.List.Folds.{list_any-append}
-use Rattle.engine_events.specs.Names.{same_name}
-use Rattle.engine_events.specs.declared.event.Name.{Name}
+use Rattle.parse_inline.proofs.Prelude.{Anywhere, append, ArePlain, Around, End, end_after, end_in, ends_line, enter_at, EntersInLine, exit_at, ExitsInLine}
+use Rattle.parse_inline.proofs.Prelude.{in_angles, inlines_of, IsWhole, leaves, line_in_content, list_any, list_any-append, Name, Names, Nodes, one}
+use Rattle.parse_inline.proofs.Prelude.{plain_both, plain_none, plain_one, same_name, standing, StandsInContent, StandsInLine, still_whole, Stop, text_of}
+use Rattle.parse_inline.proofs.Prelude.{token, token_text, void_nodes, void_one, Walk, WritesFront, WritesInLine}
 use Rattle.engine_events.specs.declared.event.Name.TheVariants as n
-use Rattle.definition_text.specs.Lines.{ends_line}
-use Rattle.definition_inline.specs.CharacterReference.{Names}
 use Rattle.definition_inline.specs.Inline.{Autolink}
-use Rattle.event_grammar.specs.Trees.{Nodes, Around}
-use Rattle.parse_output.specs.declared.end.End.{End}
-use Rattle.parse_output.specs.Ends.{enter_at, exit_at}
-use Rattle.parse_output.specs.Forest.{append, one, void_nodes}
-use Rattle.parse_output.specs.Written.{end_in}
-use Rattle.event_meaning.specs.Children.{text_of}
-use Rattle.event_meaning.specs.Texts.{inlines_of, leaves}
-use Rattle.parse_lines.specs.declared.walk.Walk.{Walk}
-use Rattle.parse_lines.specs.Content.{EntersInLine, ExitsInLine, StandsInLine, WritesInLine, end_after}
-use Rattle.parse_lines.specs.InContent.{IsWhole, StandsInContent, Stop}
-use Rattle.parse_lines.specs.Standing.{standing}
-use Rattle.parse_lines.proofs.InContent.{line_in_content}
 use Rattle.parse_lines.proofs.InLine.{lines_around, lines_both}
-use Rattle.parse_strings.specs.Plain.{ArePlain}
-use Rattle.parse_strings.specs.References.{token}
-use Rattle.parse_strings.proofs.PlainNodes.{plain_both, plain_none, plain_one}
-use Rattle.parse_strings.proofs.Spelled.{still_whole, token_text, void_one}
-use Rattle.parse_inline.specs.Leaves.{Anywhere, WritesFront, address_name, in_angles}
+use Rattle.parse_inline.specs.Leaves.{address_name}
 use Rattle.parse_inline.proofs.Fronts.{WritesNext, next_here}
 
 -- a `<`, an address and a `>`

@@ -1,26 +1,17 @@
 -- What is behind a label, as it is read: a resource, a reference or nothing.
 use Rattle.std.proofs.Common.{◌≡◌, ◌<◌, ℕ, append_assoc, List, [], ◌∷◌, ◌++◌, None, Some, inl, inr, drop, length, refl, sym, ap, subst, ◌∙◌}
-use Rattle.std.specs.Prelude.{codes, if◌then◌else◌, slice_index}
-use Rattle.std.proofs.lemmas.Bool.{cond_both}
-use Rattle.std.proofs.lemmas.List.{take-append-drop}
+use Rattle.parse_inline.proofs.Prelude.{AreBytesAt, AreCodes, call_codes, Code, codes, codes_of, cond_both, content_codes, EndsLinked, if◌then◌else◌}
+use Rattle.parse_inline.proofs.Prelude.{inline_bytes_law, InlineCode, InlineContext, Nodes, resource_at, slice_index, SpellsResource, SpellsTarget}
+use Rattle.parse_inline.proofs.Prelude.{take-append-drop, Target, text_before}
 use Rattle.definition_text.specs.Bytes.{begins_with}
-use Rattle.definition_text.specs.Columns.{Code}
-use Rattle.definition_text.specs.Content.{content_codes, part, text_before}
-use Rattle.definition_text.specs.InlineCode.{InlineCode, codes_of}
-use Rattle.definition_inline.specs.Inline.{Target}
+use Rattle.definition_text.specs.Content.{part}
 use Rattle.definition_inline.specs.Label.{label_at}
-use Rattle.definition_inline.specs.Resource.{LinkResource, resource_at}
-use Rattle.definition_inline.specs.Scan.{InlineContext}
-use Rattle.event_grammar.specs.Trees.{Nodes}
-use Rattle.parse_links.specs.Tails.{SpellsReference, SpellsResource, after_reference}
-use Rattle.parse_rows.specs.Bytes.{AreBytesAt}
+use Rattle.definition_inline.specs.Resource.{LinkResource}
+use Rattle.parse_links.specs.Tails.{SpellsReference, after_reference}
 use Rattle.parse_rows.specs.Marks.{call_text}
-use Rattle.parse_rows.proofs.Bytes.{inline_bytes_law}
 use Rattle.parse_rows.proofs.Marks.{call_bytes_law}
 use Rattle.parse_written.specs.Tails.{AsLabel, AsResource, AsText, HasTail}
-use Rattle.parse_written.specs.Written.{AreCodes, EndsLinked, call_codes}
 use Rattle.parse_written.proofs.Tails.{tail_law}
-use Rattle.parse_inline.specs.Rows.{SpellsTarget}
 
 -- codes that stand between two places
 after_codes : (xs : List Code) (from to : List InlineCode) → AreCodes xs from to → codes_of to ≡ drop (length xs) (codes_of from)

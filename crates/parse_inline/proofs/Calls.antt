@@ -1,28 +1,15 @@
 -- What calls of a walk write of a content: a mark, the start and the end of a span, of a label.
 use Rattle.std.proofs.Common.{◌≡◌, ℕ, false, List, [], ◌∷◌, ◌++◌, length, refl, ap, subst, ◌∙◌, arith}
-use Rattle.std.specs.List.{list_any}
+use Rattle.parse_inline.proofs.Prelude.{append, ArePlain, Around, contents_around, contents_both, data_nodes, End, end_after, end_in, ends_line, EndsLabel}
+use Rattle.parse_inline.proofs.Prelude.{enter_at, EntersInContent, EntersInLine, EntersLabel, EntersSpan, exit_at, ExitsInContent, ExitsInLine, is_listed}
+use Rattle.parse_inline.proofs.Prelude.{IsWhole, LeavesSpan, line_enters, line_exits, line_in_content, list_any, Name, Nodes, plain_one, same_name}
+use Rattle.parse_inline.proofs.Prelude.{sequence_name, sought_names, Span, span_name, standing, StandsInContent, StandsInLine, Stop, text_name, void_next}
+use Rattle.parse_inline.proofs.Prelude.{void_nodes, Walk, WritesInContent, WritesInLine}
 use Rattle.std.specs.Prelude.{Result, Ok, Err, OnOk}
-use Rattle.engine_events.specs.Names.{same_name, is_listed}
-use Rattle.engine_events.specs.declared.event.Name.{Name}
 use Rattle.engine_events.specs.declared.event.Name.TheVariants as n
-use Rattle.definition_text.specs.Lines.{ends_line}
-use Rattle.inline_runs.specs.declared.pair.Span.{Span}
 use Rattle.inline_runs.specs.declared.pair.Span.TheVariants as span
-use Rattle.event_grammar.specs.Trees.{Nodes, Around}
-use Rattle.parse_output.specs.declared.end.End.{End}
-use Rattle.parse_output.specs.Ends.{enter_at, exit_at}
-use Rattle.parse_output.specs.Forest.{append, data_nodes, void_nodes}
-use Rattle.parse_output.specs.Written.{end_in}
-use Rattle.parse_lines.specs.declared.walk.Walk.{Walk}
-use Rattle.parse_lines.specs.Content.{EntersInLine, ExitsInLine, StandsInLine, WritesInLine, end_after}
-use Rattle.parse_lines.specs.InContent.{EntersInContent, ExitsInContent, IsWhole, StandsInContent, Stop, WritesInContent}
-use Rattle.parse_lines.specs.Standing.{standing}
 use Rattle.parse_lines.proofs.Ahead.{owed_after}
-use Rattle.parse_lines.proofs.InContent.{contents_around, contents_both, line_enters, line_exits, line_in_content}
-use Rattle.parse_strings.specs.Plain.{ArePlain}
-use Rattle.parse_strings.proofs.PlainNodes.{plain_one, sought_names}
-use Rattle.parse_inline.specs.Leaving.{sequence_name, span_name, text_name}
-use Rattle.parse_inline.specs.Rows.{EndsLabel, EntersLabel, EntersSpan, LeavesSpan, WritesMark, void_next}
+use Rattle.parse_inline.specs.Rows.{WritesMark}
 use Rattle.parse_inline.proofs.Plain.{cut_one}
 
 -- two facts of a result

@@ -1,55 +1,25 @@
 -- What is written of the check of a task list item (GFM 5.3).
 use Rattle.std.proofs.Common.{inl, inr, ◌≡◌, ℕ, Bool, true, false, List, [], ◌∷◌, ◌++◌, None, Some, is_some, refl, sym, ap, ap₂, subst, ◌∙◌}
 use Rattle.std.proofs.Common.{append_assoc, drop, take, length, arith}
-use Rattle.std.specs.Prelude.{◌==◌, ◌&&◌}
-use Rattle.std.specs.List.{list_any}
-use Rattle.std.proofs.lemmas.Bool.{and_parts, cases_Bool, cond-true, cond-false, eqb-true, or_from, or_parts}
-use Rattle.std.proofs.Math.Seq.{drop-append_seam, take-append_seam}
-use Rattle.std.proofs.lemmas.List.{length-append}
-use Rattle.markdown_options.specs.Defaults.{default_constructs}
-use Rattle.markdown_options.specs.declared.configuration.Constructs.{Constructs}
+use Rattle.parse_inline.proofs.Prelude.{and_parts, Anywhere, append, AreBytes, ArePartsAlike, ArePlain, AreQuiet, Around, begins_with_eol, bytes_drop}
+use Rattle.parse_inline.proofs.Prelude.{cases_Bool, codes_split, cond-false, cond-true, Cons, Constructs, content_codes, contents_around, contents_both}
+use Rattle.parse_inline.proofs.Prelude.{default_constructs, drop-append_seam, End, end_in, Ending, ending_bytes, ending_step, ends_line, enter_at}
+use Rattle.parse_inline.proofs.Prelude.{EntersInLine, eqb-true, exit_at, ExitsInLine, is_eol, is_listed, IsApart, IsWhole, Leaf, leaves, length-append}
+use Rattle.parse_inline.proofs.Prelude.{line_bytes, line_ending_code, line_enters, line_exits, LineEnding, list_any, Name, Names, Nil, no_ends, Node}
+use Rattle.parse_inline.proofs.Prelude.{node_name, Nodes, one, or_from, or_parts, part, plain_both, plain_none, plain_one, plain_quiet, ReadsEnding}
+use Rattle.parse_inline.proofs.Prelude.{same_codes, same_name, sought_names, standing, StandsInContent, StandsInLine, Stop, take-append_seam, the_type, token}
+use Rattle.parse_inline.proofs.Prelude.{Walk, WritesEndingIn, WritesFront, WritesText, ◌==◌}
+use Rattle.std.specs.Prelude.{◌&&◌}
 use denote.Enum.Bare.{true_same}
-use Rattle.markdown_options.specs.LineEndings.{ending_bytes}
-use Rattle.markdown_options.specs.declared.line_ending.LineEnding.{LineEnding}
-use Rattle.engine_events.specs.Names.{same_name, is_listed}
-use Rattle.engine_events.specs.contracts.event.Name.{the_type}
-use Rattle.engine_events.specs.declared.event.Name.{Name}
 use Rattle.engine_events.specs.declared.event.Name.TheVariants as n
-use Rattle.definition_text.specs.Content.{content_codes, is_eol, line_ending_code}
-use Rattle.definition_text.specs.Lines.{ends_line}
-use Rattle.definition_inline.specs.CharacterReference.{Names}
 use Rattle.definition_inline.specs.GfmTaskListItem.{check_of, is_apart, is_done}
-use Rattle.definition_inline.specs.Inline.{Leaf, TaskCheck}
-use Rattle.definition_inline.specs.Strings.{begins_with_eol}
-use Rattle.event_grammar.specs.InGrammar.{node_name}
-use Rattle.event_grammar.specs.Trees.{Node, Nodes, Around, Nil, Cons}
+use Rattle.definition_inline.specs.Inline.{TaskCheck}
 use Rattle.parse_output.specs.Children.{may_hold}
-use Rattle.parse_output.specs.declared.end.End.{End}
-use Rattle.parse_output.specs.Ends.{enter_at, exit_at}
-use Rattle.parse_output.specs.Forest.{append, one}
-use Rattle.parse_output.specs.Written.{end_in}
 use Rattle.event_meaning.specs.Children.{child}
-use Rattle.event_meaning.specs.Texts.{leaves, part}
-use Rattle.parse_lines.specs.declared.walk.Walk.{Walk}
-use Rattle.parse_lines.specs.Content.{EntersInLine, ExitsInLine, StandsInLine}
-use Rattle.parse_lines.specs.InContent.{IsApart, IsWhole, StandsInContent, Stop, WritesEndingIn}
-use Rattle.parse_lines.specs.Quiet.{AreQuiet}
-use Rattle.parse_lines.specs.Standing.{standing}
-use Rattle.parse_lines.proofs.InContent.{contents_around, contents_both, line_enters, line_exits}
-use Rattle.parse_strings.specs.Plain.{ArePlain}
-use Rattle.parse_strings.specs.References.{token}
-use Rattle.parse_strings.proofs.Codes.{codes_split, line_bytes, no_ends}
-use Rattle.parse_strings.proofs.Texts.{bytes_drop, ending_step, same_codes}
 use Rattle.inline_leaves.specs.GfmTaskListItem.{IsAfterCheck}
-use Rattle.inline_leaves.specs.Leaves.{ReadsEnding}
-use Rattle.inline_leaves.specs.declared.line_ending.Ending.{Ending}
-use Rattle.inline_links.proofs.Texts.{AreBytes}
-use Rattle.parse_alike.specs.Inline.{ArePartsAlike}
-use Rattle.parse_strings.proofs.PlainNodes.{plain_both, plain_none, plain_one, plain_quiet, sought_names}
 use Rattle.parse_inline.specs.Checks.{IsValueOf, WritesValue}
-use Rattle.parse_inline.specs.Leaves.{Anywhere, WritesFront, check_name}
+use Rattle.parse_inline.specs.Leaves.{check_name}
 use Rattle.parse_inline.proofs.Fronts.{WritesNext, token_in}
-use Rattle.parse_inline.specs.Texts.{WritesText}
 use Rattle.parse_inline.proofs.LeavesAlike.{leaf_alike}
 use Rattle.parse_inline.proofs.RawSpans.{cut_before}
 use Rattle.parse_inline.proofs.RawTexts.{dark_whole}

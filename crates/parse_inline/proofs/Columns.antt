@@ -1,14 +1,11 @@
 -- The column of a spot.
 use Rattle.std.proofs.Common.{⊎_elim, ◌≡◌, ℕ, suc, zero, ◌+◌, ◌-◌, Bool, true, false, List, [], ◌∷◌, refl, sym, ap, ap₂, ◌∙◌, drop, take, arith}
-use Rattle.std.specs.Prelude.{◌==◌, ◌||◌, not, nat_lt, if◌then◌else◌}
-use Rattle.std.specs.List.{fold}
-use Rattle.std.proofs.lemmas.Bool.{cases_lt}
-use Rattle.std.proofs.lemmas.Bool.Decides.{nat_tests}
+use Rattle.parse_inline.proofs.Prelude.{cases_lt, column_at, fold, if◌then◌else◌, index_spot, nat_tests, ◌==◌, ◌||◌}
+use Rattle.std.specs.Prelude.{not, nat_lt}
 use Rattle.engine_events.specs.Columns.{column_after, mark_size}
-use Rattle.event_grammar.specs.Points.{column_at, column_on}
+use Rattle.event_grammar.specs.Points.{column_on}
 use Rattle.parse_output.specs.declared.spot.Spot.{Spot}
 use Rattle.parse_output.specs.Spots.{next_spot, spot, start}
-use Rattle.parse_output.specs.Ends.{index_spot}
 
 passed_of : (t : Bool) (a b : Spot) → t ≡ true → (if t then a else b).column ≡ a.column
 passed_of true a b is = refl

@@ -1,27 +1,10 @@
 -- Data in a text spells its bytes.
 use Rattle.std.proofs.Common.{◌≡◌, ◌+◌, ◌-◌, ℕ, zero, suc, Bool, false, List, [], ◌∷◌, ◌++◌, length, drop, take, map, refl, sym, ap, subst, ◌∙◌, arith}
-use Rattle.std.specs.List.{list_any}
-use Rattle.std.proofs.lemmas.Bool.{or_from}
-use Rattle.engine_events.specs.Columns.{between}
-use Rattle.definition_text.specs.Content.{is_eol}
-use Rattle.definition_text.specs.Lines.{ends_line}
-use Rattle.definition_inline.specs.CharacterReference.{Names}
-use Rattle.definition_inline.specs.Inline.{Data}
-use Rattle.event_meaning.specs.Texts.{append, inlines_of, leaves}
-use Rattle.parse_output.specs.declared.end.End.{End}
-use Rattle.parse_output.specs.Ends.{end_at}
-use Rattle.parse_output.specs.Forest.{byte_node, byte_nodes, data_nodes, one}
-use Rattle.parse_output.specs.Written.{end_in}
-use Rattle.parse_lines.specs.declared.walk.Walk.{Walk}
-use Rattle.parse_lines.specs.Content.{AreNext, end_after}
-use Rattle.parse_lines.specs.InContent.{IsWhole, StandsInContent, Stop}
-use Rattle.parse_lines.proofs.InContent.{line_in_content}
-use Rattle.parse_strings.specs.Plain.{ArePlain}
-use Rattle.parse_strings.proofs.Codes.{no_ends}
-use Rattle.parse_strings.proofs.PlainNodes.{plain_both, plain_none, plain_one}
-use Rattle.parse_lines.proofs.Ahead.{after_bytes}
-use Rattle.parse_strings.proofs.Spelled.{whole_end}
-use Rattle.parse_written.specs.Written.{EndNoLine}
+use Rattle.parse_inline.proofs.Prelude.{after_bytes, AreNext, ArePlain, between, Data, data_nodes, End, end_after, end_at, end_in, EndNoLine, ends_line}
+use Rattle.parse_inline.proofs.Prelude.{inlines_of, is_eol, IsWhole, leaves, line_in_content, list_any, Names, no_ends, one, or_from, plain_both, plain_none}
+use Rattle.parse_inline.proofs.Prelude.{plain_one, StandsInContent, Stop, Walk, whole_end}
+use Rattle.event_meaning.specs.Texts.{append}
+use Rattle.parse_output.specs.Forest.{byte_node, byte_nodes}
 
 -- what ends no line in codes ends none in bytes
 pub dark_text : (xs : List ℕ) → EndNoLine xs → list_any ends_line xs ≡ false

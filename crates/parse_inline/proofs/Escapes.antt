@@ -1,45 +1,26 @@
 -- What is written of escapes and of a character reference (CommonMark 2.4 and 2.5).
 use Rattle.std.proofs.Common.{◌≡◌, ℕ, suc, ◌+◌, ◌<◌, ◌≤◌, Bool, false, ◌||◌, List, [], ◌∷◌, ◌++◌, refl, sym, ap, subst, ◌∙◌, append_assoc, take, drop}
 use Rattle.std.proofs.Common.{length, map, get_or, drop-cons, arith}
-use Rattle.std.specs.Prelude.{unwrap_or}
-use Rattle.std.specs.List.{list_any, position_or_len}
-use Rattle.std.proofs.Math.Seq.{drop-append_seam, take-suc}
-use Rattle.std.proofs.lemmas.Bool.{or_parts}
+use Rattle.parse_inline.proofs.Prelude.{Anywhere, append-nil, AreBytes, AreBytesAt, Around, bytes_drop, codes_of, codes_split, contents_none, drop-append_seam}
+use Rattle.parse_inline.proofs.Prelude.{ends_line, Escape, escaped, InlineCode, InlineContext, inlines_of, is_eol, IsWhole, kids_of, leaves, length-append}
+use Rattle.parse_inline.proofs.Prelude.{length-drop, line_bytes, list_any, list_any-append, map-append, Name, Names, Nil, no_ends, Node, node_name, one}
+use Rattle.parse_inline.proofs.Prelude.{or_parts, plain_none, position_or_len, same_codes, same_name, StandsInContent, Stop, string_of, take-append-drop}
+use Rattle.parse_inline.proofs.Prelude.{text_of, text_part, text_within, unwrap_or, Walk, WritesFront, WritesLeaves}
+use Rattle.std.proofs.Math.Seq.{take-suc}
 use Rattle.std.proofs.lemmas.Grind.{flat_map-append}
-use Rattle.std.proofs.lemmas.List.{append-nil, length-append, length-drop, length-take, map-append, take-append-drop}
-use Rattle.std.proofs.lemmas.List.Folds.{list_any-append}
-use Rattle.engine_events.specs.Names.{same_name}
-use Rattle.engine_events.specs.declared.event.Name.{Name}
+use Rattle.std.proofs.lemmas.List.{length-take}
 use Rattle.engine_events.specs.declared.event.Name.TheVariants as n
-use Rattle.definition_text.specs.Content.{is_eol}
-use Rattle.definition_text.specs.InlineCode.{InlineCode, codes_of}
-use Rattle.definition_text.specs.Lines.{ends_line}
-use Rattle.definition_inline.specs.CharacterReference.{Names, reference_text}
+use Rattle.definition_inline.specs.CharacterReference.{reference_text}
 use Rattle.definition_inline.specs.Inline as inline
-use Rattle.definition_inline.specs.Inline.{Character, Escape}
-use Rattle.definition_inline.specs.Scan.{InlineContext}
-use Rattle.event_grammar.specs.InGrammar.{kids_of, node_name}
-use Rattle.event_grammar.specs.Trees.{Node, Around, Nil}
-use Rattle.parse_output.specs.Forest.{one}
-use Rattle.event_meaning.specs.Children.{text_of}
-use Rattle.event_meaning.specs.Strings.{string_of, string_part}
+use Rattle.definition_inline.specs.Inline.{Character}
+use Rattle.event_meaning.specs.Strings.{string_part}
 use Rattle.event_meaning.specs.Texts as texts
-use Rattle.event_meaning.specs.Texts.{inlines_of, leaves, text_part, text_within}
-use Rattle.parse_lines.specs.declared.walk.Walk.{Walk}
-use Rattle.parse_lines.specs.InContent.{IsWhole, StandsInContent, Stop}
-use Rattle.parse_lines.proofs.InContent.{contents_none}
 use Rattle.parse_strings.specs.References.{AreMarks, is_semicolon, marked_text}
 use Rattle.parse_strings.specs.Strings.{WritesNodeIn}
-use Rattle.parse_strings.proofs.Codes.{codes_split, line_bytes, no_ends}
-use Rattle.parse_strings.proofs.PlainNodes.{plain_none}
-use Rattle.parse_strings.proofs.Texts.{bytes_drop, marked, same_codes}
-use Rattle.inline_links.proofs.Texts.{AreBytes}
+use Rattle.parse_strings.proofs.Texts.{marked}
 use Rattle.inline_references.proofs.Written.{read_is_written}
-use Rattle.parse_rows.specs.Bytes.{AreBytesAt}
-use Rattle.parse_rows.specs.Parts.{escaped}
 use Rattle.parse_rows.proofs.Leaves.{reference_bytes_law}
 use Rattle.parse_written.specs.Leaves.{IsReference}
-use Rattle.parse_inline.specs.Leaves.{Anywhere, WritesFront, WritesLeaves}
 use Rattle.parse_inline.proofs.Fronts.{fronts_both, leaves_of_front}
 use Rattle.parse_inline.proofs.LeavesAlike.{leaf_alike}
 

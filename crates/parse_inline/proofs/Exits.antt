@@ -1,32 +1,18 @@
 -- The row that ends the innermost that is open.
 use Rattle.std.proofs.Common.{◌≡◌, ◌+◌, ℕ, false, List, [], ◌∷◌, ◌++◌, drop, length, map, replicate, reverse, refl, sym, ap, subst, ◌∙◌, arith}
-use Rattle.std.specs.List.{list_any}
-use Rattle.std.proofs.lemmas.List.{length-replicate, reverse-append, reverse-reverse, take-append-drop}
+use Rattle.parse_inline.proofs.Prelude.{AreBytesAt, AreLaid, AreLinkable, AreWritten, codes_of, ends_line, EndsLinked, filled, Frame, HaveTextsOfBytes}
+use Rattle.parse_inline.proofs.Prelude.{held_levels, held_of, hole_of, Image, inline_bytes_law, InlineCode, InlineRow, Inlines, InLinked, InSpan, IsFirstLaid}
+use Rattle.parse_inline.proofs.Prelude.{IsInRows, IsWhole, laid_levels, LeavesLinked, LeavesSpan, length-replicate, level, Level, Link, linked_name}
+use Rattle.parse_inline.proofs.Prelude.{LinkedKind, links, list_any, part, rows_view, Setting, Span, StandsInContent, StandsInText, Step, Stop}
+use Rattle.parse_inline.proofs.Prelude.{take-append-drop, Target, text_before, Walk}
+use Rattle.std.proofs.lemmas.List.{reverse-append, reverse-reverse}
 use mathlib.Core.List.{reverse-cons}
-use Rattle.definition_text.specs.Content.{text_before}
-use Rattle.definition_text.specs.InlineCode.{InlineCode, codes_of}
-use Rattle.definition_text.specs.Lines.{ends_line}
 use Rattle.definition_inline.specs.Inline as inline
-use Rattle.definition_inline.specs.Inline.{Inlines, LinkedKind, Link, Image, Target}
-use Rattle.inline_rows.specs.View.{rows_view}
-use Rattle.inline_rows.specs.declared.row.InlineRow.{InlineRow}
 use Rattle.inline_rows.specs.declared.row.InlineRow.TheVariants as rows
-use Rattle.inline_runs.specs.declared.pair.Span.{Span}
-use Rattle.event_meaning.specs.Texts.{append, part}
-use Rattle.parse_lines.specs.declared.walk.Walk.{Walk}
-use Rattle.parse_lines.specs.InContent.{IsWhole, StandsInContent, Stop}
-use Rattle.parse_alike.specs.Strings.{HaveTextsOfBytes}
-use Rattle.parse_rows.specs.Bytes.{AreBytesAt}
-use Rattle.parse_rows.specs.Rows.{IsFirstLaid}
-use Rattle.parse_rows.proofs.Bytes.{inline_bytes_law}
-use Rattle.parse_written.specs.Laid.{AreLaid, Step}
-use Rattle.parse_written.specs.Written.{EndsLinked}
+use Rattle.event_meaning.specs.Texts.{append}
 use Rattle.parse_inline.specs.declared.opened.Open as opened
 use Rattle.parse_inline.specs.declared.opened.Open.TheVariants as opens
-use Rattle.parse_inline.specs.Holes.{AreLinkable, filled}
-use Rattle.parse_inline.specs.Rows.{AreWritten, Frame, InSpan, InLinked, IsInRows, LeavesLinked, LeavesSpan, Level, Setting, framed, held_levels, held_of, hole_of}
-use Rattle.parse_inline.specs.Rows.{laid_levels, level, linked_name, links}
-use Rattle.parse_inline.specs.Texts.{StandsInText}
+use Rattle.parse_inline.specs.Rows.{framed}
 use Rattle.parse_inline.proofs.Data.{dark_text}
 use Rattle.parse_inline.proofs.InRows.{found, onward}
 use Rattle.parse_inline.proofs.Levels.{dark_written, leave_linked_written, leave_span_written}

@@ -1,37 +1,14 @@
 -- What is written of a construct in a content, step by step.
 use Rattle.std.proofs.Common.{inl, inr, ◌≡◌, ℕ, ◌<◌, Bool, false, ◌||◌, List, [], ◌∷◌, ◌++◌, refl, sym, ap, ap₂, subst, ◌∙◌, length}
-use Rattle.std.specs.List.{list_any}
-use Rattle.std.proofs.lemmas.Bool.{cond_both}
-use Rattle.engine_events.specs.Names.{same_name, is_listed}
-use Rattle.engine_events.specs.declared.event.Name.{Name}
+use Rattle.parse_inline.proofs.Prelude.{append, AreBytesAt, AreNext, ArePartsAlike, AreQuiet, Around, cond_both, Cons, contents_both, End, end_after, end_at}
+use Rattle.parse_inline.proofs.Prelude.{end_in, ends_line, enter_at, exit_at, InlineCode, InlineLeaf, inlines_of, is_listed, IsWhole, kids_of, Leaf, leaves}
+use Rattle.parse_inline.proofs.Prelude.{line_in_content, LineEnd, list_any, Meaning, Name, Names, Nil, Node, node_name, Nodes, one, part, plain_both}
+use Rattle.parse_inline.proofs.Prelude.{plain_none, plain_one, same_end, same_name, sought_names, standing, StandsInContent, StandsInLine, still_whole, Stop}
+use Rattle.parse_inline.proofs.Prelude.{text_of, text_part, text_within, token, token_text, void_nodes, void_one, Walk, whole_end, WritesFront}
+use Rattle.parse_inline.proofs.Prelude.{WritesInContent, WritesInLine, WritesLeaves}
 use Rattle.engine_events.specs.declared.event.Name.TheVariants as n
-use Rattle.definition_text.specs.InlineCode.{InlineCode}
-use Rattle.definition_text.specs.Lines.{ends_line}
-use Rattle.definition_inline.specs.CharacterReference.{Names}
 use Rattle.definition_inline.specs.Inline as inline
-use Rattle.definition_inline.specs.Inline.{InlineLeaf, LineEnd, Leaf}
-use Rattle.definition_page.specs.InlinePieces.{Meaning}
-use Rattle.event_grammar.specs.InGrammar.{kids_of, node_name}
-use Rattle.event_grammar.specs.Trees.{Node, Nodes, Around, Nil, Cons}
-use Rattle.parse_output.specs.declared.end.End.{End}
-use Rattle.parse_output.specs.Ends.{end_at, enter_at, exit_at, same_end}
-use Rattle.parse_output.specs.Forest.{append, one, void_nodes}
-use Rattle.parse_output.specs.Written.{end_in}
-use Rattle.event_meaning.specs.Children.{text_of}
 use Rattle.event_meaning.specs.Texts as texts
-use Rattle.event_meaning.specs.Texts.{inlines_of, leaves, part, text_part, text_within}
-use Rattle.parse_lines.specs.declared.walk.Walk.{Walk}
-use Rattle.parse_lines.specs.Content.{AreNext, StandsInLine, WritesInLine, end_after}
-use Rattle.parse_lines.specs.InContent.{IsWhole, StandsInContent, Stop, WritesInContent}
-use Rattle.parse_lines.specs.Quiet.{AreQuiet}
-use Rattle.parse_lines.specs.Standing.{standing}
-use Rattle.parse_lines.proofs.InContent.{contents_both, line_in_content}
-use Rattle.parse_strings.specs.References.{token}
-use Rattle.parse_strings.proofs.PlainNodes.{plain_both, plain_none, plain_one, sought_names}
-use Rattle.parse_strings.proofs.Spelled.{still_whole, token_text, void_one, whole_end}
-use Rattle.parse_alike.specs.Inline.{ArePartsAlike}
-use Rattle.parse_rows.specs.Bytes.{AreBytesAt}
-use Rattle.parse_inline.specs.Leaves.{WritesFront, WritesLeaves}
 use Rattle.parse_inline.proofs.LeavesAlike.{inlines_append}
 
 pub leaves_append : (ls ks : List InlineLeaf) → leaves (ls ++ ks) ≡ texts.append (leaves ls) (leaves ks)

@@ -1,18 +1,15 @@
 -- What is open in a text, one more of it or one less.
 use Rattle.std.proofs.Common.{◌≡◌, ℕ, List, [], ◌∷◌, ◌++◌, true, refl, sym, ap, subst, ◌∙◌}
 use Rattle.std.proofs.lemmas.Bool.{or_right}
-use Rattle.engine_events.specs.Names.{same_name, is_listed}
-use Rattle.engine_events.specs.declared.event.Name.{Name}
+use Rattle.parse_inline.proofs.Prelude.{AreHeld, Entered, is_listed, leave_all, leave_open, Mark, Name, Open, same_name, sequence_name, Span, span_name}
+use Rattle.parse_inline.proofs.Prelude.{text_name}
 use Rattle.engine_events.specs.declared.event.Name.TheVariants as n
 use Rattle.event_grammar.specs.Grammar.{text_names}
-use Rattle.inline_runs.specs.declared.pair.Span.{Span}
 use Rattle.inline_runs.specs.declared.pair.Span.TheVariants as span
-use Rattle.parse_output.specs.Open.{Mark, Entered}
 use Rattle.parse_output.specs.Children.{has_text, holds_text, may_enter, may_hold}
 use Rattle.parse_output.proofs.Classes.{text_in, text_may}
-use Rattle.parse_inline.specs.declared.opened.Open.{Open}
 use Rattle.parse_inline.specs.declared.opened.Open.TheVariants as held
-use Rattle.parse_inline.specs.Leaving.{AreHeld, entered_all, entered_open, leave_all, leave_open, sequence_name, span_name, text_name}
+use Rattle.parse_inline.specs.Leaving.{entered_all, entered_open}
 use Rattle.parse_inline.proofs.LeavingAll.{leave_last}
 
 pub span_holds_sequence : (s : Span) → may_hold (span_name s) (sequence_name s) ≡ true

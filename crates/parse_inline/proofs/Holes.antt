@@ -1,13 +1,13 @@
 -- What becomes of the steps of a tree: the tree.
 use Rattle.std.proofs.Common.{◌≡◌, Bool, true, false, ◌||◌, List, [], ◌∷◌, ◌++◌, map, refl, sym, ap, subst, ◌∙◌, append_assoc}
-use Rattle.std.proofs.lemmas.Bool.{or_parts}
-use Rattle.std.proofs.lemmas.List.{append-nil}
-use Rattle.definition_inline.specs.Inline.{InlineLeaf, Literal, Link, Image, Inline, Leaf, Span, Linked, Call, Inlines, Nil, Cons}
-use Rattle.event_meaning.specs.Texts.{append, part, leaves}
+use Rattle.parse_inline.proofs.Prelude.{append-nil, AreLinkable, filled, Holds, Image, in_link, InlineLeaf, Inlines, Leaf, leaves, Link, or_parts, part, Step}
+use Rattle.parse_inline.proofs.Prelude.{steps_of}
+use Rattle.definition_inline.specs.Inline.{Literal, Inline, Span, Linked, Call, Nil, Cons}
+use Rattle.event_meaning.specs.Texts.{append}
 use Rattle.laws_inline.specs.NestedLinks.{is_leading, is_literal, is_nesting}
 use Rattle.laws_inline.specs.Occurs.{has, part_has}
-use Rattle.parse_written.specs.Laid.{Step, Holds, Leaves, part_steps, steps_of}
-use Rattle.parse_inline.specs.Holes.{Hole, hole, filled, in_link, IsLinkable, AreLinkable}
+use Rattle.parse_written.specs.Laid.{Leaves, part_steps}
+use Rattle.parse_inline.specs.Holes.{Hole, hole, IsLinkable}
 
 pub parts_assoc : (is js ks : Inlines) → append (append is js) ks ≡ append is (append js ks)
 parts_assoc Nil js ks = refl

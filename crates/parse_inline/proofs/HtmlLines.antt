@@ -1,15 +1,10 @@
 -- Raw HTML line by line (CommonMark 6.6).
 use Rattle.std.proofs.Common.{inl, inr, ◌≡◌, ◌+◌, suc, true, false, List, [], ◌∷◌, ◌++◌, refl, sym, ap, ◌∙◌, drop, arith, map}
-use Rattle.std.proofs.lemmas.List.{append-nil}
-use Rattle.std.proofs.lemmas.Bool.{cond-true, cond-false, cases_Bool}
-use Rattle.std.proofs.lemmas.Bool.Decides.{nat_tests}
+use Rattle.parse_inline.proofs.Prelude.{append-nil, bare, cases_Bool, Code, cond-false, cond-true, Each, Html, html_leaves, indent, is_eol, is_white, LineEnd}
+use Rattle.parse_inline.proofs.Prelude.{nat_tests}
 use Rattle.std.specs.List.{flat_map}
-use Rattle.definition_text.specs.Columns.{Code, bare, indent, is_white}
-use Rattle.definition_text.specs.Content.{is_eol}
-use Rattle.definition_text.proofs.Each.{Each}
-use Rattle.definition_inline.specs.Inline.{Html, LineEnd}
 use Rattle.definition_page.specs.InlinePieces.{HtmlLine, html_lines, html_text_line, in_first_line}
-use Rattle.parse_alike.specs.HtmlText.{html_leaf, html_leaves, later_leaves, lines_leaves}
+use Rattle.parse_alike.specs.HtmlText.{html_leaf, later_leaves, lines_leaves}
 
 abbrev pub EndsNoLine : Code → Type 0
 EndsNoLine c = is_eol c ≡ false

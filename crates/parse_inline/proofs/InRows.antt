@@ -1,51 +1,32 @@
 -- From before a row of a text to before the next one.
 use Rattle.std.proofs.Common.{◌≡◌, ◌+◌, ℕ, Bool, false, List, [], ◌∷◌, ◌++◌, drop, length, map, replicate, refl, sym, ap, subst, ◌∙◌, arith}
 use Rattle.std.specs.Borrow.{Bor}
-use Rattle.std.specs.List.{list_any}
+use Rattle.parse_inline.proofs.Prelude.{AreBytesAt, AreCodes, AreLaid, AreLinkable, ArePartsAlike, ArePlain, call_codes, content_codes, data_nodes, end_after}
+use Rattle.parse_inline.proofs.Prelude.{end_in, EndNoLine, ends_line, EntersLabel, EntersSpan, filled, held_levels, held_of, Holds, hole_of, Image, in_link}
+use Rattle.parse_inline.proofs.Prelude.{inline_bytes_law, InlineCode, InlineContext, InlineLeaf, InlineRow, Inlines, InLinked, InSpan, is_link, IsData}
+use Rattle.parse_inline.proofs.Prelude.{IsFirstLaid, IsInRows, IsLeafLaid, IsPartLaid, IsWhole, laid_levels, LeafPart, leaves, length-replicate, level, Level}
+use Rattle.parse_inline.proofs.Prelude.{Link, linked_name, LinkedKind, links, list_any, mark_name, Nodes, part, rows_view, sequence_size, Setting, Span}
+use Rattle.parse_inline.proofs.Prelude.{spelled_view, SpelledLeaf, StandsInContent, StandsInText, Step, Stop, take-append-drop, Target, Walk, WritesCall}
+use Rattle.parse_inline.proofs.Prelude.{WritesInContent, WritesLeaves, WritesPart, WritesSpelled}
 use Rattle.std.proofs.lemmas.Bool.{false_from_ne_true}
-use Rattle.std.proofs.lemmas.List.{drop-drop, drop_at, length-replicate, take-append-drop}
+use Rattle.std.proofs.lemmas.List.{drop-drop, drop_at}
 use mathlib.Core.List.{reverse-cons}
 use Rattle.engine_events.specs.declared.event.Name.TheVariants as n
-use Rattle.definition_text.specs.Content.{content_codes}
-use Rattle.definition_text.specs.InlineCode.{InlineCode}
-use Rattle.definition_text.specs.Lines.{ends_line}
 use Rattle.definition_inline.specs.Inline as inline
-use Rattle.definition_inline.specs.Inline.{Inlines, InlineLeaf, LinkedKind, Link, Image, Target}
-use Rattle.definition_inline.specs.Scan.{InlineContext}
 use Rattle.inline_leaves.specs.Leaves.{parts_of}
-use Rattle.inline_leaves.specs.declared.leaf.LeafPart.{LeafPart}
 use Rattle.inline_leaves.specs.declared.leaf.LeafPart.TheVariants.{Literal}
-use Rattle.inline_rows.specs.View.{rows_view, spelled_view}
-use Rattle.inline_rows.specs.declared.row.InlineRow.{InlineRow}
 use Rattle.inline_rows.specs.declared.row.InlineRow.TheVariants as rows
 use Rattle.inline_rows.specs.declared.row.LinkTarget.{LinkTarget}
-use Rattle.inline_rows.specs.declared.row.SpelledLeaf.{SpelledLeaf}
 use Rattle.inline_rows.specs.declared.row.VerbatimText.{VerbatimText}
-use Rattle.inline_runs.specs.declared.pair.Span.{Span}
-use Rattle.event_grammar.specs.Trees.{Nodes}
-use Rattle.event_meaning.specs.Texts.{append, leaves, part}
-use Rattle.parse_output.specs.Forest.{data_nodes}
-use Rattle.parse_output.specs.Written.{end_in}
-use Rattle.parse_lines.specs.declared.walk.Walk.{Walk}
-use Rattle.parse_lines.specs.Content.{end_after}
-use Rattle.parse_lines.specs.InContent.{IsWhole, StandsInContent, Stop, WritesInContent}
-use Rattle.parse_strings.specs.Plain.{ArePlain}
-use Rattle.parse_alike.specs.Inline.{ArePartsAlike}
-use Rattle.parse_rows.specs.Bytes.{AreBytesAt}
-use Rattle.parse_rows.specs.Marks.{sequence_size}
-use Rattle.parse_rows.specs.Rows.{AreEntered, AreHeld, IsData, IsFirstLaid, IsLinkedStart, IsPartLaid}
-use Rattle.parse_rows.proofs.Bytes.{inline_bytes_law}
+use Rattle.event_meaning.specs.Texts.{append}
+use Rattle.parse_rows.specs.Rows.{AreEntered, AreHeld, IsLinkedStart}
 use Rattle.parse_rows.proofs.Marks.{sequence_law}
 use Rattle.parse_rows.proofs.Rows.{first_row_law}
-use Rattle.parse_written.specs.Laid.{AreLaid, EntersLinked, Holds, IsLeafLaid, Step}
-use Rattle.parse_written.specs.Written.{AreCodes, EndNoLine, call_codes, linked_start}
+use Rattle.parse_written.specs.Laid.{EntersLinked}
+use Rattle.parse_written.specs.Written.{linked_start}
 use Rattle.parse_inline.specs.declared.opened.Open as opened
 use Rattle.parse_inline.specs.declared.opened.Open.TheVariants as opens
-use Rattle.parse_inline.specs.Holes.{AreLinkable, filled, in_link}
-use Rattle.parse_inline.specs.Leaves.{MayBeIn, WritesLeaves, WritesPart, WritesSpelled}
-use Rattle.parse_inline.specs.Rows.{EntersLabel, EntersSpan, InSpan, InLinked, IsInRows, Level, Setting, WritesCall, held_levels, held_of, hole_of, is_link}
-use Rattle.parse_inline.specs.Rows.{laid_levels, level, linked_name, links, mark_name}
-use Rattle.parse_inline.specs.Texts.{StandsInText}
+use Rattle.parse_inline.specs.Leaves.{MayBeIn}
 use Rattle.parse_inline.proofs.Calls.{DoesData, writing_data}
 use Rattle.parse_inline.proofs.Data.{dark_text, data_plain, data_spells}
 use Rattle.parse_inline.proofs.Holes.{filled_held, linkable_held}

@@ -1,30 +1,16 @@
 -- The nodes of raw text, and what they spell (CommonMark 6.1 and 6.6).
 use Rattle.std.proofs.Common.{inl, inr, ◌≡◌, ℕ, zero, suc, ◌+◌, ◌-◌, ◌<◌, true, false, ◌&&◌, List, [], ◌∷◌, ◌++◌, refl, sym, ap, ap₂, ◌∙◌, map}
 use Rattle.std.proofs.Common.{append_assoc, arith}
-use Rattle.std.specs.Prelude.{◌==◌, if◌then◌else◌}
-use Rattle.std.proofs.lemmas.Bool.{cases_Bool, cond-true, cond-false, true≢false, cases_lt}
-use Rattle.std.proofs.lemmas.Bool.Decides.{nat_tests}
+use Rattle.parse_inline.proofs.Prelude.{after_bytes, after_tab, append, AreNamed, Around, cases_Bool, cases_lt, code_of, code_part, code_parts, code_space}
+use Rattle.parse_inline.proofs.Prelude.{cond-false, cond-true, Cons, cut, Each, End, end_after, end_at, ends_line, enter_at, exit_at, html_part, html_parts}
+use Rattle.parse_inline.proofs.Prelude.{if◌then◌else◌, is_listed, IsInLine, Name, Names, nat_tests, Nil, Node, node_name, Nodes, one, same_end, same_name}
+use Rattle.parse_inline.proofs.Prelude.{text_of, the_type, true≢false, void_nodes, without_padding, ◌==◌}
 use denote.Enum.Bare.{same_true, true_same}
-use Rattle.engine_events.specs.Names.{same_name, is_listed}
-use Rattle.engine_events.specs.contracts.event.Name.{the_type}
-use Rattle.engine_events.specs.declared.event.Name.{Name}
 use Rattle.engine_events.specs.declared.event.Name.TheVariants as n
-use Rattle.definition_text.specs.Lines.{ends_line}
-use Rattle.definition_text.proofs.ContentBytes.{IsInLine}
-use Rattle.definition_text.proofs.Each.{Each}
-use Rattle.definition_inline.specs.CharacterReference.{Names}
-use Rattle.definition_inline.specs.CodeText.{code_space, without_padding}
-use Rattle.event_grammar.specs.InGrammar.{node_name}
-use Rattle.event_grammar.specs.Trees.{Node, Nodes, Around, Nil, Cons}
-use Rattle.parse_output.specs.declared.end.End.{End}
-use Rattle.parse_output.specs.Ends.{end_at, enter_at, exit_at, same_end}
-use Rattle.parse_output.specs.Forest.{append, bytes_from, cut, one, void_nodes}
-use Rattle.event_meaning.specs.Children.{after_child, before_child, text_of}
+use Rattle.parse_output.specs.Forest.{bytes_from}
+use Rattle.event_meaning.specs.Children.{after_child, before_child}
 use Rattle.event_meaning.specs.Texts as texts
-use Rattle.event_meaning.specs.Texts.{code_of, code_part, code_parts, html_part, html_parts}
-use Rattle.parse_lines.specs.Content.{end_after}
-use Rattle.parse_lines.proofs.Ahead.{after_bytes, after_columns, after_tab}
-use Rattle.parse_inline.specs.Lines.{AreNamed}
+use Rattle.parse_lines.proofs.Ahead.{after_columns}
 use Rattle.parse_inline.proofs.LeavesAlike.{append_append}
 
 pub named_both : (names : List Name) (ns ms : Nodes) → AreNamed names ns → AreNamed names ms → AreNamed names (append ns ms)

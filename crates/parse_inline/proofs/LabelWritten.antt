@@ -1,30 +1,13 @@
 -- A label that is written: its mark, its text and its end.
 use Rattle.std.proofs.Common.{◌≡◌, ℕ, false, List, [], ◌∷◌, ◌++◌, refl, sym, ap, subst, ◌∙◌, append_assoc, arith}
-use Rattle.engine_events.specs.Names.{same_name, is_listed}
-use Rattle.engine_events.specs.declared.event.Name.{Name}
+use Rattle.parse_inline.proofs.Prelude.{AreBytesAt, ArePartsAlike, ArePlain, Cons, content_codes, contents_around, contents_both, End, end_in, EndsLabel}
+use Rattle.parse_inline.proofs.Prelude.{EntersInContent, EntersLabel, ExitsInContent, HaveSameWords, InlineCode, InlineContext, is_listed, IsWhole, label_text}
+use Rattle.parse_inline.proofs.Prelude.{Name, Nodes, one, part, same_name, same_words_are_alike, Stop, text_names, Walk, WritesCall, WritesInContent}
 use Rattle.engine_events.specs.declared.event.Name.TheVariants as n
-use Rattle.definition_text.specs.Content.{content_codes}
-use Rattle.definition_text.specs.InlineCode.{InlineCode}
 use Rattle.definition_inline.specs.Inline as inline
-use Rattle.definition_inline.specs.Scan.{InlineContext}
-use Rattle.event_grammar.specs.References.{label_text}
-use Rattle.event_grammar.specs.Trees.{Nodes, Cons}
-use Rattle.event_meaning.specs.Texts.{part, text_names}
-use Rattle.parse_output.specs.declared.end.End.{End}
-use Rattle.parse_output.specs.Forest.{one}
 use Rattle.parse_output.specs.Joined.{AreJoined, end_edge, flat_text}
-use Rattle.parse_output.specs.Written.{end_in}
 use Rattle.parse_output.proofs.Joined.{flat_label}
-use Rattle.parse_lines.specs.declared.walk.Walk.{Walk}
-use Rattle.parse_lines.specs.InContent.{EntersInContent, ExitsInContent, IsWhole, Stop, WritesInContent}
-use Rattle.parse_lines.proofs.InContent.{contents_around, contents_both}
-use Rattle.parse_strings.specs.Plain.{ArePlain}
 use Rattle.parse_strings.proofs.SameText.{same_text_words}
-use Rattle.parse_alike.specs.Inline.{ArePartsAlike}
-use Rattle.parse_alike.specs.LabelMatch.{HaveSameWords}
-use Rattle.parse_alike.proofs.LabelMatch.{same_words_are_alike}
-use Rattle.parse_rows.specs.Bytes.{AreBytesAt}
-use Rattle.parse_inline.specs.Rows.{EndsLabel, EntersLabel, WritesCall}
 use Rattle.parse_inline.proofs.Labels.{IsLabel, Label, call_nodes, call_plain, call_spelled, label_node, own_node}
 use Rattle.parse_inline.proofs.LeavesAlike.{append_none}
 

@@ -1,37 +1,23 @@
 -- What the nodes of links, images and calls spell.
 use Rattle.std.proofs.Common.{◌≡◌, ◌||◌, ℕ, Bool, true, false, List, [], ◌∷◌, ◌++◌, Option, None, Some, inl, inr, refl, sym, ap, ap₂, subst, ◌∙◌}
-use Rattle.std.specs.Prelude.{is_some, if◌then◌else◌}
-use Rattle.std.specs.Option.{option_map, option_or}
-use Rattle.std.proofs.lemmas.Bool.{cond-false, cond-true}
-use Rattle.engine_events.specs.Names.{same_name, is_listed}
-use Rattle.engine_events.specs.declared.event.Name.{Name}
+use Rattle.parse_inline.proofs.Prelude.{AreMeanings, ArePlain, Around, Code, cond-false, cond-true, Cons, content_codes, cut, End, enter_at, exit_at}
+use Rattle.parse_inline.proofs.Prelude.{HaveSameWords, HaveTextsOfBytes, if◌then◌else◌, Image, InlineContext, inlines_of, InLinked, is_link, is_listed}
+use Rattle.parse_inline.proofs.Prelude.{label_text, Link, linked_name, LinkedKind, Meaning, Name, named, named_in, Names, Nil, Node, node_name, Nodes, one}
+use Rattle.parse_inline.proofs.Prelude.{option_or, own, own_in, part, Reference, Resource, same_name, same_words_are_alike, SpellsTarget, string_of, Target}
+use Rattle.parse_inline.proofs.Prelude.{target_of, text_names, text_within}
+use Rattle.std.specs.Prelude.{is_some}
+use Rattle.std.specs.Option.{option_map}
 use Rattle.engine_events.specs.declared.event.Name.TheVariants as n
-use Rattle.definition_text.specs.Columns.{Code}
-use Rattle.definition_text.specs.Content.{content_codes}
-use Rattle.definition_inline.specs.CharacterReference.{Names}
 use Rattle.definition_inline.specs.Inline as inline
-use Rattle.definition_inline.specs.Inline.{Target, Resource, Reference, LinkedKind, Link, Image}
-use Rattle.definition_inline.specs.Scan.{InlineContext}
 use Rattle.definition_inline.specs.Strings.{string_text}
-use Rattle.definition_page.specs.InlinePieces.{Meaning}
-use Rattle.event_grammar.specs.InGrammar.{node_name}
-use Rattle.event_grammar.specs.References.{label_text, named, named_in, own, own_in}
-use Rattle.event_grammar.specs.Trees.{Node, Nodes, Around, Nil, Cons}
 use Rattle.event_meaning.specs.Children.{inside_of}
-use Rattle.event_meaning.specs.Strings.{string_of, written}
-use Rattle.event_meaning.specs.Texts.{inlines_of, label_codes, label_or_none, part, resource_of, target_of, text_names, text_within}
-use Rattle.parse_output.specs.declared.end.End.{End}
-use Rattle.parse_output.specs.Ends.{enter_at, exit_at}
-use Rattle.parse_output.specs.Forest.{cut, one}
+use Rattle.event_meaning.specs.Strings.{written}
+use Rattle.event_meaning.specs.Texts.{label_codes, label_or_none, resource_of}
 use Rattle.parse_links.specs.Tails.{title_string}
-use Rattle.parse_strings.specs.Plain.{ArePlain, tail_names}
-use Rattle.parse_alike.specs.LabelMatch.{HaveSameWords}
-use Rattle.parse_alike.specs.Strings.{HaveTextsOfBytes, IsOfBytes, rewritten, rewritten_title}
+use Rattle.parse_strings.specs.Plain.{tail_names}
+use Rattle.parse_alike.specs.Strings.{IsOfBytes, rewritten, rewritten_title}
 use Rattle.parse_alike.specs.Targets.{AreLabelsAlike, AreTargetsAlike, title_text}
-use Rattle.parse_alike.proofs.LabelMatch.{same_words_are_alike}
 use Rattle.parse_alike.proofs.Strings.{written_strings_are_alike}
-use Rattle.parse_inline.specs.Rows.{InLinked, SpellsTarget, is_link, linked_name}
-use Rattle.parse_inline.specs.Texts.{AreMeanings}
 use Rattle.parse_inline.proofs.Plain.{HaveNoOther, named_one, own_one, plain_media}
 
 -- a label: a mark, its text and its end

@@ -1,65 +1,36 @@
 -- What is written of each construct that holds no other, where it is laid.
 use Rattle.std.proofs.Common.{inl, inr, ◌≡◌, append_assoc, eqb, ℕ, ◌<◌, Bool, true, false, List, [], ◌∷◌, ◌++◌, refl, sym, ap, ap₂, subst, ◌∙◌, take}
 use Rattle.std.proofs.Common.{drop, length, map, arith}
-use Rattle.std.specs.Prelude.{◌||◌, if◌then◌else◌, slice_index}
-use Rattle.std.specs.List.{list_any}
-use Rattle.std.proofs.lemmas.Bool.{cases_Bool, true≢false}
+use Rattle.parse_inline.proofs.Prelude.{Anywhere, AreBytesAt, AreCodes, AreCutBetween, ArePartsAlike, bare, cases_Bool, codes_of, codes_split, content_codes}
+use Rattle.parse_inline.proofs.Prelude.{contents_none, Data, data_nodes, End, end_after, end_in, ending_bytes, EndNoLine, ends_line, Escape, escaped}
+use Rattle.parse_inline.proofs.Prelude.{html_leaves, if◌then◌else◌, in_angles, indent, inline_bytes_law, InlineCode, InlineContext, InlineLeaf, is_eol}
+use Rattle.parse_inline.proofs.Prelude.{is_listed, is_white, IsApart, IsData, IsLeafLaid, IsPartLaid, IsWhole, Leaf, LeafPart, leaves, line_bytes, line_end}
+use Rattle.parse_inline.proofs.Prelude.{line_ending_code, line_in_content, LineEnding, list_any, Meaning, Name, Names, Nil, part, plain_none, same_name}
+use Rattle.parse_inline.proofs.Prelude.{slice_index, sought_names, spelled_view, SpelledLeaf, standing, StandsInContent, StandsInLine, still_whole, Stop}
+use Rattle.parse_inline.proofs.Prelude.{take-append-drop, text_part, the_type, true≢false, Walk, WritesFront, WritesInLine, WritesLeaves, WritesPart}
+use Rattle.parse_inline.proofs.Prelude.{WritesSpelled, ◌||◌}
 use denote.Enum.Bare.{same_true}
-use Rattle.engine_events.specs.contracts.event.Name.{the_type}
-use Rattle.std.proofs.lemmas.List.{take-append-drop}
-use Rattle.markdown_options.specs.LineEndings.{ending_bytes}
-use Rattle.markdown_options.specs.declared.line_ending.LineEnding.{LineEnding}
 use Rattle.markdown_options.specs.declared.line_ending.LineEnding.TheVariants as endings
-use Rattle.engine_events.specs.Names.{same_name, is_listed}
-use Rattle.engine_events.specs.declared.event.Name.{Name}
 use Rattle.engine_events.specs.declared.event.Name.TheVariants as n
-use Rattle.definition_text.specs.Columns.{bare, indent, is_white}
-use Rattle.definition_text.specs.Content.{content_codes, is_eol, line_ending_code}
-use Rattle.definition_text.specs.InlineCode.{InlineCode, codes_of}
-use Rattle.definition_text.specs.Lines.{ends_line}
-use Rattle.definition_inline.specs.CharacterReference.{Names}
 use Rattle.definition_inline.specs.Inline as inline
-use Rattle.definition_inline.specs.Inline.{Data, Escape, InlineLeaf, Leaf}
-use Rattle.definition_inline.specs.Scan.{InlineContext}
 use Rattle.definition_inline.proofs.Scanning.{drop-codes_of}
-use Rattle.definition_page.specs.InlinePieces.{Meaning}
-use Rattle.parse_output.specs.declared.end.End.{End}
-use Rattle.event_grammar.specs.Trees.{Nil}
-use Rattle.parse_output.specs.Forest.{data_nodes}
-use Rattle.parse_output.specs.Written.{end_in}
 use Rattle.event_meaning.specs.Texts as texts
-use Rattle.event_meaning.specs.Texts.{leaves, part, text_part}
-use Rattle.parse_lines.specs.declared.walk.Walk.{Walk}
-use Rattle.parse_lines.specs.Content.{StandsInLine, WritesInLine, end_after}
-use Rattle.parse_lines.specs.InContent.{IsApart, IsWhole, StandsInContent, Stop}
-use Rattle.parse_lines.specs.Standing.{standing}
-use Rattle.parse_lines.proofs.InContent.{contents_none, line_in_content}
-use Rattle.parse_strings.proofs.Codes.{alone_codes, codes_split, feed_codes, line_bytes}
-use Rattle.parse_strings.proofs.PlainNodes.{plain_none, sought_names}
-use Rattle.parse_strings.proofs.Spelled.{still_whole}
-use Rattle.parse_alike.specs.HtmlText.{html_leaves}
-use Rattle.parse_alike.specs.Inline.{ArePartsAlike}
-use Rattle.parse_rows.specs.Bytes.{AreBytesAt, Passes}
+use Rattle.parse_strings.proofs.Codes.{alone_codes, feed_codes}
+use Rattle.parse_rows.specs.Bytes.{Passes}
 use Rattle.inline_leaves.specs.Leaves.{kind_view}
-use Rattle.inline_leaves.specs.declared.leaf.LeafPart.{LeafPart}
 use Rattle.inline_leaves.specs.declared.leaf.LiteralKind.{LiteralKind}
 use Rattle.inline_leaves.specs.declared.leaf.LiteralKind.TheVariants.{Www, Protocol, Email}
 use Rattle.inline_leaves.proofs.Codes.{after_codes, prefix_codes}
-use Rattle.parse_rows.specs.Parts.{EndsLine, HasPartForm, escaped}
-use Rattle.parse_rows.specs.Rows.{IsData, IsPartLaid}
+use Rattle.parse_rows.specs.Parts.{EndsLine, HasPartForm}
 use Rattle.parse_rows.proofs.Parts.{parts_law}
-use Rattle.parse_rows.proofs.Bytes.{inline_bytes_law, text_bytes_law}
+use Rattle.parse_rows.proofs.Bytes.{text_bytes_law}
 use Rattle.parse_rows.proofs.Leaves.{break_bytes_law, line_bytes_law}
-use Rattle.inline_rows.specs.View.{spelled_view}
-use Rattle.inline_rows.specs.declared.row.SpelledLeaf.{SpelledLeaf}
 use Rattle.inline_rows.specs.declared.row.SpelledLeaf.TheVariants as spelled
-use Rattle.parse_written.specs.Laid.{IsLeafLaid}
 use Rattle.parse_written.specs.Leaves.{AreAllSpaces, HasForm, IsAutolink, IsHtml}
 use Rattle.parse_written.proofs.Forms.{leaf_law}
-use Rattle.parse_written.specs.Written.{AreCodes, EndNoLine, IsText}
+use Rattle.parse_written.specs.Written.{IsText}
 use Rattle.parse_written.proofs.Codes.{codes_are}
-use Rattle.parse_inline.specs.Leaves.{Anywhere, WritesFront, WritesLeaves, WritesPart, WritesSpelled, in_angles, line_end, literal_names}
-use Rattle.parse_inline.specs.Lines.{AreCutBetween}
+use Rattle.parse_inline.specs.Leaves.{literal_names}
 use Rattle.parse_inline.proofs.Data.{dark_text, data_plain, data_spells}
 use Rattle.parse_inline.proofs.Fronts.{WritesNext, leaves_of_front, token_front}
 use Rattle.parse_inline.proofs.LeavesAlike.{data_alike, escapes_alike, leaf_alike}

@@ -1,17 +1,14 @@
 -- Leaves that are alike to what nodes spell.
 use Rattle.std.proofs.Common.{◌≡◌, List, [], ◌∷◌, ℕ, map, refl, sym, ap, ◌∙◌}
-use Rattle.definition_inline.specs.Inline.{InlineLeaf, Data, Escape, Leaf, Inlines, Nil, Cons}
-use Rattle.definition_page.specs.InlinePieces.{Meaning}
+use Rattle.parse_inline.proofs.Prelude.{ArePartsAlike, Around, Data, Escape, InlineLeaf, Inlines, inlines_of, Leaf, leaves, Meaning, Names, Nodes, part}
+use Rattle.parse_inline.proofs.Prelude.{same_name, text_of, text_part, text_within, ◌||◌}
+use Rattle.definition_inline.specs.Inline.{Nil, Cons}
 use Rattle.event_grammar.specs.Trees as tree
-use Rattle.event_grammar.specs.Trees.{Nodes, Around}
 use Rattle.parse_output.specs.Forest as forest
-use Rattle.definition_inline.specs.CharacterReference.{Names}
-use Rattle.event_meaning.specs.Texts.{append, inlines_of, leaves, part, text_part, text_within}
-use Rattle.engine_events.specs.Names.{same_name}
+use Rattle.event_meaning.specs.Texts.{append}
 use Rattle.engine_events.specs.declared.event.Name.TheVariants as n
-use Rattle.std.specs.Prelude.{Bool, ◌||◌}
-use Rattle.event_meaning.specs.Children.{text_of}
-use Rattle.parse_alike.specs.Inline.{ArePartsAlike, leaf_parts}
+use Rattle.std.specs.Prelude.{Bool}
+use Rattle.parse_alike.specs.Inline.{leaf_parts}
 
 pub append_none : (is : Inlines) → append is Nil ≡ is
 append_none Nil = refl

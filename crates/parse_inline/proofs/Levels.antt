@@ -1,42 +1,22 @@
 -- What is written in what is open: more of it, one more that is open, and one less.
 use Rattle.std.proofs.Common.{◌≡◌, ◌||◌, ℕ, Bool, length, false, List, [], ◌∷◌, ◌++◌, refl, sym, ap, subst, ◌∙◌, append_assoc, arith, replicate}
-use Rattle.engine_events.specs.Names.{same_name, is_listed}
+use Rattle.parse_inline.proofs.Prelude.{AreBytesAt, AreMeanings, ArePartsAlike, ArePlain, AreWritten, Code, codes_of, Cons, content_codes, contents_around}
+use Rattle.parse_inline.proofs.Prelude.{contents_both, contents_none, end_after, end_in, EndNoLine, EntersInContent, EntersLabel, EntersSpan, Frame}
+use Rattle.parse_inline.proofs.Prelude.{HaveSameWords, HaveTextsOfBytes, Image, in_link, InlineCode, InlineContext, Inlines, inlines_of, InLinked, InSpan}
+use Rattle.parse_inline.proofs.Prelude.{is_link, is_listed, label_text, LeavesLinked, LeavesSpan, level, Level, Link, linked_name, LinkedKind, links}
+use Rattle.parse_inline.proofs.Prelude.{mark_name, Meaning, Nil, Nodes, one, Outside, part, plain_both, plain_none, Reference, Resource, same_name}
+use Rattle.parse_inline.proofs.Prelude.{sequence_name, Span, span_name, span_view, SpellsTarget, StandsInContent, Stop, Target, target_of, text_before}
+use Rattle.parse_inline.proofs.Prelude.{text_name, text_names, Walk, WritesInContent, WritesParts}
 use Rattle.engine_events.specs.declared.event.Name.TheVariants as n
-use Rattle.definition_text.specs.Columns.{Code}
-use Rattle.definition_text.specs.Content.{content_codes, text_before}
-use Rattle.definition_text.specs.InlineCode.{InlineCode, codes_of}
 use Rattle.definition_inline.specs.Inline as inline
-use Rattle.definition_inline.specs.Inline.{Target, Resource, Reference, LinkedKind, Link, Image, Inlines}
-use Rattle.definition_inline.specs.Scan.{InlineContext}
 use Rattle.definition_inline.proofs.DefinitionParts.{before_rest}
-use Rattle.definition_page.specs.InlinePieces.{Meaning}
 use Rattle.inline_content.proofs.Places.{codes_append}
-use Rattle.inline_runs.specs.View.{span_view}
-use Rattle.inline_runs.specs.declared.pair.Span.{Span}
 use Rattle.inline_runs.specs.declared.pair.Span.TheVariants as span
-use Rattle.event_grammar.specs.References.{label_text}
-use Rattle.event_grammar.specs.Trees.{Nodes, Nil, Cons}
-use Rattle.event_meaning.specs.Texts.{append, inlines_of, part, target_of, text_names}
+use Rattle.event_meaning.specs.Texts.{append}
 use Rattle.parse_output.specs.Forest as forest
-use Rattle.parse_output.specs.Forest.{one}
-use Rattle.parse_output.specs.Written.{end_in}
-use Rattle.parse_lines.specs.declared.walk.Walk.{Walk}
-use Rattle.parse_lines.specs.Content.{end_after}
-use Rattle.parse_lines.specs.InContent.{EntersInContent, StandsInContent, Stop, WritesInContent}
-use Rattle.parse_lines.proofs.InContent.{contents_around, contents_both, contents_none}
-use Rattle.parse_strings.specs.Plain.{ArePlain}
-use Rattle.parse_strings.proofs.PlainNodes.{plain_both, plain_none}
-use Rattle.parse_alike.specs.Inline.{ArePartsAlike, IsPartAlike}
-use Rattle.parse_alike.specs.LabelMatch.{HaveSameWords}
-use Rattle.parse_alike.specs.Strings.{HaveTextsOfBytes}
+use Rattle.parse_alike.specs.Inline.{IsPartAlike}
 use Rattle.parse_alike.proofs.Composed.{alike_parts_compose}
-use Rattle.parse_rows.specs.Bytes.{AreBytesAt}
-use Rattle.parse_written.specs.Written.{EndNoLine}
-use Rattle.parse_inline.specs.Holes.{in_link}
-use Rattle.parse_inline.specs.Leaving.{sequence_name, span_name, text_name}
-use Rattle.parse_inline.specs.Rows.{AreWritten, Outside, Inside, EntersFrame, EntersLabel, EntersSpan, Frame, InSpan, InLinked, LeavesLinked, LeavesSpan}
-use Rattle.parse_inline.specs.Rows.{Level, SpellsTarget, WritesParts, is_link, level, linked_name, links, mark_name}
-use Rattle.parse_inline.specs.Texts.{AreMeanings}
+use Rattle.parse_inline.specs.Rows.{Inside, EntersFrame}
 use Rattle.parse_inline.proofs.Labels.{label_node, linked_nodes, linked_plain, linked_spelled, own_node, target_alike}
 use Rattle.parse_inline.proofs.Plain.{HaveNoOther}
 use Rattle.parse_inline.proofs.LabelWritten.{labelled}

@@ -1,3 +1,4 @@
+mod Prelude
 pub mod LeavesAlike
 pub mod Fronts
 pub mod Autolinks

@@ -1,38 +1,15 @@
 -- What is written of a line ending with the spaces and tabs around it (CommonMark 6.8).
 use Rattle.std.proofs.Common.{◌≡◌, ℕ, zero, suc, ◌≤◌, Bool, false, List, [], ◌∷◌, ◌++◌, refl, sym, ap, ap₂, subst, ◌∙◌, append_assoc, take, drop, length, arith}
-use Rattle.std.specs.List.{list_any}
-use Rattle.std.proofs.Math.Seq.{drop-append_seam}
-use Rattle.std.proofs.lemmas.List.{length-take-le, take-append-drop}
-use Rattle.std.proofs.lemmas.List.Sums.{prefix_len-le-length}
-use Rattle.markdown_options.specs.LineEndings.{ending_bytes}
-use Rattle.markdown_options.specs.declared.line_ending.LineEnding.{LineEnding}
+use Rattle.parse_inline.proofs.Prelude.{after_bytes, after_tab, Anywhere, append, ArePlain, bare, Cons, contents_both, drop-append_seam, End, end_after}
+use Rattle.parse_inline.proofs.Prelude.{end_at, end_in, ending_bytes, ends_line, indent, inlines_of, is_listed, is_white, leaves, length-take-le, line_end}
+use Rattle.parse_inline.proofs.Prelude.{line_ending_code, line_in_content, LineEnd, LineEnding, list_any, Names, one, owed_indent, plain_both, plain_none}
+use Rattle.parse_inline.proofs.Prelude.{plain_one, plain_quiet, plain_void, prefix_len-le-length, sought_names, standing, StandsInContent, Stop}
+use Rattle.parse_inline.proofs.Prelude.{take-append-drop, void_nodes, Walk, WritesEndingIn, WritesFront, WritesInContent}
 use Rattle.markdown_options.specs.declared.line_ending.LineEnding.TheVariants as endings
-use Rattle.engine_events.specs.Names.{is_listed}
 use Rattle.engine_events.specs.declared.event.Name.TheVariants as n
-use Rattle.definition_text.specs.Columns.{bare, indent, is_white}
-use Rattle.definition_text.specs.Content.{line_ending_code}
-use Rattle.definition_text.specs.Lines.{ends_line}
-use Rattle.definition_inline.specs.CharacterReference.{Names}
 use Rattle.definition_inline.specs.Inline as inline
-use Rattle.definition_inline.specs.Inline.{LineEnd}
-use Rattle.event_grammar.specs.Trees.{Cons}
-use Rattle.parse_output.specs.declared.end.End.{End}
-use Rattle.parse_output.specs.Ends.{end_at}
-use Rattle.parse_output.specs.Forest.{append, one, void_nodes}
-use Rattle.parse_output.specs.Written.{end_in}
 use Rattle.event_meaning.specs.Texts as texts
-use Rattle.event_meaning.specs.Texts.{inlines_of, leaves}
-use Rattle.parse_lines.specs.declared.walk.Walk.{Walk}
-use Rattle.parse_lines.specs.Content.{end_after}
-use Rattle.parse_lines.specs.InContent.{StandsInContent, Stop, WritesEndingIn, WritesInContent}
-use Rattle.parse_lines.specs.Standing.{standing}
-use Rattle.parse_lines.proofs.Ahead.{after_bytes, after_tab}
-use Rattle.parse_lines.proofs.InContent.{contents_both, line_in_content}
-use Rattle.parse_strings.specs.Plain.{ArePlain}
-use Rattle.parse_strings.proofs.Parts.{owed_indent}
 use Rattle.parse_strings.proofs.Texts.{white_dark}
-use Rattle.parse_strings.proofs.PlainNodes.{plain_both, plain_none, plain_one, plain_quiet, plain_void, sought_names}
-use Rattle.parse_inline.specs.Leaves.{Anywhere, WritesFront, line_end}
 use Rattle.parse_inline.proofs.Fronts.{WritesNext, quiet_spells, void_spells, white_spells}
 use Rattle.parse_inline.proofs.LeavesAlike.{append_none, inlines_append}
 

@@ -1,6 +1,6 @@
 -- Places of a content, in bytes.
 use Rattle.std.proofs.Common.{◌≡◌, ◌<◌, ℕ, zero, suc, ◌+◌, List, [], ◌∷◌, drop, get_or, length, subst, arith}
-use Rattle.std.specs.Str.{IsCharBoundary, IsUtf8}
+use Rattle.parse_inline.proofs.Prelude.{IsCharBoundary, IsUtf8}
 use Rattle.std.proofs.lemmas.Str.{IsCharBoundary-after_ascii}
 
 -- a byte at a place, and what follows it

@@ -1,19 +1,11 @@
 -- What is looked for in events that are written around nodes.
 use Rattle.std.proofs.Common.{◌≡◌, ◌&&◌, ℕ, true, false, List, [], ◌∷◌, Option, None, Some, cond, refl, sym, ap, subst, ◌∙◌}
-use Rattle.std.specs.Option.{option_or}
-use Rattle.std.proofs.lemmas.Bool.{cond-false}
-use Rattle.std.proofs.lemmas.List.{append-nil}
-use Rattle.engine_events.specs.Names.{same_name, is_listed}
+use Rattle.parse_inline.proofs.Prelude.{append-nil, ArePlain, Around, cond-false, cut, End, enter_at, exit_at, is_listed, Name, named, named_in, Node, Nodes}
+use Rattle.parse_inline.proofs.Prelude.{one, option_or, own, own_in, plain_one, same_name, sought_names}
 use Rattle.engine_events.specs.declared.event.Event.{Event}
-use Rattle.engine_events.specs.declared.event.Name.{Name}
 use Rattle.engine_events.specs.declared.event.Name.TheVariants as n
-use Rattle.event_grammar.specs.References.{media_names, named, named_in, own, own_in}
-use Rattle.event_grammar.specs.Trees.{Node, Nodes, Around}
-use Rattle.parse_output.specs.declared.end.End.{End}
-use Rattle.parse_output.specs.Ends.{enter_at, exit_at}
-use Rattle.parse_output.specs.Forest.{cut, is_nil, one}
-use Rattle.parse_strings.specs.Plain.{ArePlain}
-use Rattle.parse_strings.proofs.PlainNodes.{plain_one, sought_names}
+use Rattle.event_grammar.specs.References.{media_names}
+use Rattle.parse_output.specs.Forest.{is_nil}
 
 or_none : {B : Type 0} (o : Option B) → option_or o None ≡ o
 or_none None = refl

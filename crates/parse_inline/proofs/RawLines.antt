@@ -1,56 +1,23 @@
 -- What is written of a part of a line of raw text, or of a line ending in it (CommonMark 6.1 and 6.6).
 use Rattle.std.proofs.Common.{inl, inr, ◌≡◌, ℕ, zero, suc, ◌+◌, ◌≤◌, ◌<◌, Bool, true, false, not, cond, ◌||◌, List, [], ◌∷◌, ◌++◌, refl, sym, ap, ap₂}
 use Rattle.std.proofs.Common.{subst, ◌∙◌, append_assoc, take, drop, length, map, arith}
-use Rattle.std.specs.Prelude.{◌==◌}
-use Rattle.std.specs.List.{list_any, position_or_len}
-use Rattle.std.proofs.Math.Seq.{drop-append-add, take-append-add, take-append_seam}
-use Rattle.std.proofs.lemmas.Bool.{cases_Bool, cond_both, cond-true, cond-false, eqb-true, or_from, or_parts, true≢false}
-use Rattle.std.proofs.lemmas.Bool.Decides.{nat_tests}
-use Rattle.std.proofs.lemmas.List.{append-nil, length-append, length-take-le, map-append, take-append-drop}
-use Rattle.std.proofs.lemmas.List.Sums.{prefix_len-le-length}
+use Rattle.parse_inline.proofs.Prelude.{after_bytes, after_return_code, append, append-nil, AreBytes, AreCutBetween, AreNamed, AreNext, AreQuiet, Around, bare}
+use Rattle.parse_inline.proofs.Prelude.{begins_with_eol, BeginsDark, cases_Bool, code_part, code_parts, code_space, cond-false, cond-true, cond_both, Cons}
+use Rattle.parse_inline.proofs.Prelude.{content_codes, contents_both, default_constructs, Each, End, end_after, end_at, end_in, Ending, ending_bytes}
+use Rattle.parse_inline.proofs.Prelude.{ending_step, ends_line, enter_at, eqb-true, exit_at, Html, html_leaves, html_part, html_parts, indent, is_eol}
+use Rattle.parse_inline.proofs.Prelude.{is_listed, is_white, IsApart, IsChunk, IsCodeChunk, IsInLine, Leaf, leaves, length-append, length-take-le}
+use Rattle.parse_inline.proofs.Prelude.{line_ending_code, line_in_content, line_names, LineEnd, LineEnding, list_any, map-append, Name, Names, nat_tests, Nil}
+use Rattle.parse_inline.proofs.Prelude.{Node, node_name, Nodes, one, or_from, or_parts, part, plain_both, plain_none, plain_one, plain_void, position_or_len}
+use Rattle.parse_inline.proofs.Prelude.{prefix_len-le-length, ReadsEnding, same_end, same_name, sought_names, spaced_text_of, standing, StandsInContent, Stop}
+use Rattle.parse_inline.proofs.Prelude.{take-append-drop, take-append_seam, text_of, the_type, token_text, true≢false, void_nodes, Walk, whole_end}
+use Rattle.parse_inline.proofs.Prelude.{WritesEndingIn, WritesInContent, WritesLine, ◌==◌}
+use Rattle.std.proofs.Math.Seq.{drop-append-add, take-append-add}
 use denote.Enum.Bare.{true_same}
-use Rattle.markdown_options.specs.Defaults.{default_constructs}
-use Rattle.markdown_options.specs.LineEndings.{ending_bytes}
-use Rattle.markdown_options.specs.declared.line_ending.LineEnding.{LineEnding}
 use Rattle.markdown_options.specs.declared.line_ending.LineEnding.TheVariants as endings
-use Rattle.engine_events.specs.Names.{same_name, is_listed}
-use Rattle.engine_events.specs.contracts.event.Name.{the_type}
-use Rattle.engine_events.specs.declared.event.Name.{Name}
 use Rattle.engine_events.specs.declared.event.Name.TheVariants as n
-use Rattle.definition_text.specs.Columns.{bare, indent, is_white}
-use Rattle.definition_text.specs.Content.{after_return_code, content_codes, is_eol, line_ending_code}
-use Rattle.definition_text.specs.Lines.{ends_line}
-use Rattle.definition_text.proofs.ContentBytes.{IsInLine, codes_in_line}
-use Rattle.definition_text.proofs.Each.{Each}
-use Rattle.definition_inline.specs.CharacterReference.{Names}
-use Rattle.definition_inline.specs.CodeText.{code_space}
+use Rattle.definition_text.proofs.ContentBytes.{codes_in_line}
 use Rattle.definition_inline.specs.Inline as inline
-use Rattle.definition_inline.specs.Inline.{Html, Leaf, LineEnd}
-use Rattle.definition_inline.specs.Strings.{begins_with_eol}
-use Rattle.event_grammar.specs.InGrammar.{node_name}
-use Rattle.event_grammar.specs.Trees.{Node, Nodes, Around, Nil, Cons}
-use Rattle.parse_output.specs.declared.end.End.{End}
-use Rattle.parse_output.specs.Ends.{end_at, enter_at, exit_at, same_end}
-use Rattle.parse_output.specs.Forest.{append, one, void_nodes}
-use Rattle.parse_output.specs.Written.{end_in}
-use Rattle.event_meaning.specs.Children.{spaced_text_of, text_of}
 use Rattle.event_meaning.specs.Texts as texts
-use Rattle.event_meaning.specs.Texts.{code_part, code_parts, html_part, html_parts, leaves, part}
-use Rattle.parse_lines.specs.declared.walk.Walk.{Walk}
-use Rattle.parse_lines.specs.Content.{AreNext, end_after}
-use Rattle.parse_lines.specs.InContent.{IsApart, StandsInContent, Stop, WritesEndingIn, WritesInContent}
-use Rattle.parse_lines.specs.Quiet.{AreQuiet}
-use Rattle.parse_lines.specs.Standing.{standing}
-use Rattle.parse_lines.proofs.Ahead.{after_bytes}
-use Rattle.parse_lines.proofs.InContent.{contents_both, line_in_content}
-use Rattle.parse_strings.proofs.PlainNodes.{plain_both, plain_none, plain_one, plain_void, sought_names}
-use Rattle.parse_strings.proofs.Spelled.{token_text, whole_end}
-use Rattle.parse_strings.proofs.Texts.{ending_step}
-use Rattle.inline_leaves.specs.Leaves.{ReadsEnding}
-use Rattle.inline_leaves.specs.declared.line_ending.Ending.{Ending}
-use Rattle.inline_links.proofs.Texts.{AreBytes}
-use Rattle.parse_alike.specs.HtmlText.{html_leaves}
-use Rattle.parse_inline.specs.Lines.{AreCutBetween, AreNamed, BeginsDark, IsChunk, IsCodeChunk, WritesLine, line_names}
 use Rattle.parse_inline.proofs.Fronts.{WritesNext, next_here}
 use Rattle.parse_inline.proofs.HtmlLines.{BeginsBare, BeginsEnding, EndsNoLine, IsWhite, html_chunk, html_ending}
 use Rattle.parse_inline.proofs.Kids.{codes_same, html_append, named_both, void_some}

@@ -1,44 +1,20 @@
 -- What is written of code and math (CommonMark 6.1).
 use Rattle.std.proofs.Common.{inl, inr, ◌≡◌, ◌⊎◌, ℕ, suc, ◌+◌, ◌-◌, ◌≤◌, ◌<◌, Bool, true, false, not, ◌&&◌, ◌||◌, List, [], ◌∷◌, ◌++◌, Some, refl}
 use Rattle.std.proofs.Common.{sym, ap, ap₂, subst, ◌∙◌, append_assoc, drop, take, length, arith}
-use Rattle.std.specs.Prelude.{◌==◌, unwrap_or}
-use Rattle.std.specs.List.{list_any}
-use Rattle.std.proofs.Math.Seq.{take-append_seam}
-use Rattle.std.proofs.lemmas.Bool.{and_parts, cases_Bool, cond-true, cond-false, eqb-true, or_from, or_parts}
-use Rattle.std.proofs.lemmas.Bool.Decides.{nat_tests}
-use Rattle.std.proofs.lemmas.List.{length-append, length-take-le, take-append-drop}
-use Rattle.std.proofs.lemmas.List.Sums.{prefix_len-le-length}
+use Rattle.parse_inline.proofs.Prelude.{after_return_code, and_parts, Anywhere, append, AreBytesAt, AreCutBetween, ArePartsAlike, Around, cases_Bool, code_of}
+use Rattle.parse_inline.proofs.Prelude.{cond-false, cond-true, content_codes, contents_around, contents_both, End, end_in, ends_line, enter_at, EntersInLine}
+use Rattle.parse_inline.proofs.Prelude.{eqb-true, exit_at, ExitsInLine, InlineCode, inlines_of, is_listed, is_white, IsChunk, IsCodeChunk, IsWhole, leaves}
+use Rattle.parse_inline.proofs.Prelude.{length-append, length-take-le, line_enters, line_exits, line_names, list_any, Meaning, Name, Names, nat_tests, Nodes}
+use Rattle.parse_inline.proofs.Prelude.{one, or_from, or_parts, plain_both, plain_none, plain_one, prefix_len-le-length, run, run_of, same_name, sought_names}
+use Rattle.parse_inline.proofs.Prelude.{standing, StandsInContent, StandsInLine, Stop, take-append-drop, take-append_seam, the_type, token, unwrap_or, Walk}
+use Rattle.parse_inline.proofs.Prelude.{without_padding, WritesInContent, WritesLeaves, WritesLines, ◌==◌}
 use denote.Enum.Bare.{same_true}
-use Rattle.engine_events.specs.Names.{same_name, is_listed}
-use Rattle.engine_events.specs.contracts.event.Name.{the_type}
-use Rattle.engine_events.specs.declared.event.Name.{Name}
 use Rattle.engine_events.specs.declared.event.Name.TheVariants as n
-use Rattle.definition_text.specs.Columns.{is_white}
-use Rattle.definition_text.specs.Content.{after_return_code, content_codes}
-use Rattle.definition_text.specs.InlineCode.{InlineCode}
-use Rattle.definition_text.specs.Lines.{ends_line}
-use Rattle.definition_text.specs.Runs.{after_run, run}
-use Rattle.definition_inline.specs.CharacterReference.{Names}
-use Rattle.definition_inline.specs.CodeText.{code_text, run_of, without_padding}
+use Rattle.definition_text.specs.Runs.{after_run}
+use Rattle.definition_inline.specs.CodeText.{code_text}
 use Rattle.definition_inline.specs.Inline as inline
-use Rattle.event_grammar.specs.Trees.{Nodes, Around}
-use Rattle.parse_output.specs.declared.end.End.{End}
-use Rattle.parse_output.specs.Ends.{enter_at, exit_at}
-use Rattle.parse_output.specs.Forest.{append, one}
-use Rattle.parse_output.specs.Written.{end_in}
-use Rattle.event_meaning.specs.Texts.{code_of, inlines_of, leaves}
-use Rattle.parse_lines.specs.declared.walk.Walk.{Walk}
-use Rattle.parse_lines.specs.Content.{EntersInLine, ExitsInLine, StandsInLine}
-use Rattle.parse_lines.specs.InContent.{IsWhole, StandsInContent, Stop, WritesInContent}
-use Rattle.parse_lines.specs.Standing.{standing}
-use Rattle.parse_lines.proofs.InContent.{contents_around, contents_both, line_enters, line_exits}
-use Rattle.parse_strings.specs.References.{token}
-use Rattle.parse_strings.proofs.PlainNodes.{plain_both, plain_none, plain_one, sought_names}
-use Rattle.definition_page.specs.InlinePieces.{Meaning}
-use Rattle.parse_alike.specs.Inline.{ArePartsAlike}
-use Rattle.parse_rows.specs.Bytes.{AreBytesAt, IsRawInBytes}
-use Rattle.parse_inline.specs.Leaves.{Anywhere, WritesLeaves}
-use Rattle.parse_inline.specs.Lines.{AreCutBetween, IsChunk, IsCodeChunk, WritesLines, are_raw_names, is_raw_marker, line_names, raw_leaf}
+use Rattle.parse_rows.specs.Bytes.{IsRawInBytes}
+use Rattle.parse_inline.specs.Lines.{are_raw_names, is_raw_marker, raw_leaf}
 use Rattle.parse_inline.proofs.Fronts.{WritesNext, token_in}
 use Rattle.parse_inline.proofs.Kids.{code_between}
 use Rattle.parse_inline.proofs.LeavesAlike.{leaf_alike}

@@ -1,33 +1,16 @@
 -- What is written of lines of raw text, and of raw HTML (CommonMark 6.1 and 6.6).
 use Rattle.std.proofs.Common.{◌≡◌, ℕ, zero, suc, ◌+◌, ◌<◌, Bool, true, false, List, [], ◌∷◌, ◌++◌, refl, sym, ap, subst, ◌∙◌, append_assoc, drop}
 use Rattle.std.proofs.Common.{take, length, map, arith}
-use Rattle.std.specs.List.{fold}
-use Rattle.std.proofs.lemmas.Bool.{cond-false, true≢false}
-use Rattle.std.proofs.lemmas.List.{append-nil, take-append-drop}
+use Rattle.parse_inline.proofs.Prelude.{Anywhere, append, append-nil, Around, BeginsDark, code_parts, code_space, cond-false, content_codes, contents_around}
+use Rattle.parse_inline.proofs.Prelude.{contents_both, contents_none, End, end_in, enter_at, EntersInLine, exit_at, ExitsInLine, fold, html_leaves, html_parts}
+use Rattle.parse_inline.proofs.Prelude.{indent, is_white, IsWhole, leaves, line_enters, line_exits, line_names, Name, Names, Nil, Nodes, one, owed_indent}
+use Rattle.parse_inline.proofs.Prelude.{plain_both, plain_none, plain_one, standing, StandsInContent, StandsInLine, Stop, take-append-drop, true≢false, Walk}
+use Rattle.parse_inline.proofs.Prelude.{WritesFront, WritesInContent, WritesLine, WritesLines, WritesLinesTo}
 use Rattle.std.proofs.lemmas.List.Sums.{fold-append}
-use Rattle.engine_events.specs.declared.event.Name.{Name}
 use Rattle.engine_events.specs.declared.event.Name.TheVariants as n
-use Rattle.definition_text.specs.Columns.{indent, is_white}
-use Rattle.definition_text.specs.Content.{at_line_start, content_codes}
-use Rattle.definition_inline.specs.CharacterReference.{Names}
-use Rattle.definition_inline.specs.CodeText.{code_space}
-use Rattle.event_grammar.specs.Trees.{Nodes, Around, Nil}
-use Rattle.parse_output.specs.declared.end.End.{End}
-use Rattle.parse_output.specs.Ends.{enter_at, exit_at}
-use Rattle.parse_output.specs.Forest.{append, one}
-use Rattle.parse_output.specs.Written.{end_in}
+use Rattle.definition_text.specs.Content.{at_line_start}
 use Rattle.event_meaning.specs.Texts as texts
-use Rattle.event_meaning.specs.Texts.{code_parts, html_parts, leaves}
-use Rattle.parse_lines.specs.declared.walk.Walk.{Walk}
-use Rattle.parse_lines.specs.Content.{EntersInLine, ExitsInLine, StandsInLine}
-use Rattle.parse_lines.specs.InContent.{IsWhole, StandsInContent, Stop, WritesInContent, ends_at_start}
-use Rattle.parse_lines.specs.Standing.{standing}
-use Rattle.parse_lines.proofs.InContent.{contents_around, contents_both, contents_none, line_enters, line_exits}
-use Rattle.parse_strings.proofs.Parts.{owed_indent}
-use Rattle.parse_strings.proofs.PlainNodes.{plain_both, plain_none, plain_one}
-use Rattle.parse_alike.specs.HtmlText.{html_leaves}
-use Rattle.parse_inline.specs.Leaves.{Anywhere, WritesFront}
-use Rattle.parse_inline.specs.Lines.{BeginsDark, WritesLine, WritesLines, WritesLinesTo, line_names}
+use Rattle.parse_lines.specs.InContent.{ends_at_start}
 use Rattle.parse_inline.proofs.Kids.{code_append, html_append, named_both}
 use Rattle.parse_inline.proofs.LeavesAlike.{append_append, append_none}
 

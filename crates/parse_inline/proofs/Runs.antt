@@ -1,10 +1,6 @@
 -- The search for a run of so many of a byte.
 use Rattle.std.proofs.Common.{inl, inr, ◌≡◌, ℕ, suc, ◌+◌, ◌<◌, ◌≤◌, Bool, true, false, not, ◌||◌, List, [], ◌∷◌, length, drop, refl, sym, ap, ◌∙◌, arith}
-use Rattle.std.specs.Prelude.{◌==◌, unwrap_or}
-use Rattle.std.specs.List.{position_or_len}
-use Rattle.std.proofs.lemmas.Bool.{cases_Bool, cond-true, cond-false}
-use Rattle.definition_text.specs.Runs.{run}
-use Rattle.definition_inline.specs.CodeText.{run_of}
+use Rattle.parse_inline.proofs.Prelude.{cases_Bool, cond-false, cond-true, position_or_len, run, run_of, unwrap_or, ◌==◌}
 use Rattle.inline_constructs.proofs.RawTextLemmas.{other_step, past_run, at_run}
 
 module _ (m : ℕ) where

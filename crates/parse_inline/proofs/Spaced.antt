@@ -1,21 +1,15 @@
 -- What is next is the text of a token with spaces for the columns of a tab that its start cuts.
 use Rattle.std.proofs.Common.{◌≡◌, ℕ, zero, suc, ◌+◌, ◌-◌, ◌<◌, ◌≤◌, Bool, true, false, not, ◌&&◌, List, [], ◌∷◌, ◌++◌, refl, sym, ap, ap₂, subst}
 use Rattle.std.proofs.Common.{◌∙◌, drop, take, length, arith}
-use Rattle.std.specs.Prelude.{◌==◌, if◌then◌else◌, codes}
+use Rattle.parse_inline.proofs.Prelude.{after_bytes, append-nil, AreNext, Around, between, codes, column_at, End, end_after, end_at, enter_at, eqb-true}
+use Rattle.parse_inline.proofs.Prelude.{exit_at, if◌then◌else◌, index_spot, Name, nat_tests, Nil, spaced_text_of, ◌==◌}
 use Rattle.std.specs.List.{repeat}
-use Rattle.std.proofs.lemmas.Bool.{eqb-true}
-use Rattle.std.proofs.lemmas.Bool.Decides.{nat_tests}
-use Rattle.std.proofs.lemmas.List.{append-nil}
-use Rattle.engine_events.specs.Columns.{between, tab_size}
-use Rattle.engine_events.specs.declared.event.Name.{Name}
-use Rattle.event_grammar.specs.Points.{column_at, spot}
-use Rattle.event_grammar.specs.Trees.{Around, Nil}
+use Rattle.engine_events.specs.Columns.{tab_size}
+use Rattle.event_grammar.specs.Points.{spot}
 use Rattle.event_grammar.specs.declared.spot.Spot.{Spot}
-use Rattle.parse_output.specs.declared.end.End.{End}
-use Rattle.parse_output.specs.Ends.{end_at, end_columns, enter_at, exit_at, index_spot}
-use Rattle.event_meaning.specs.Children.{spaced_between, spaced_text_of}
-use Rattle.parse_lines.specs.Content.{AreNext, end_after}
-use Rattle.parse_lines.proofs.Ahead.{after_bytes, follows_after}
+use Rattle.parse_output.specs.Ends.{end_columns}
+use Rattle.event_meaning.specs.Children.{spaced_between}
+use Rattle.parse_lines.proofs.Ahead.{follows_after}
 use Rattle.parse_inline.proofs.Columns.{column_is}
 
 some_columns : (n : ℕ) → 0 < n → (n == 0) ≡ false

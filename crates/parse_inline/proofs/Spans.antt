@@ -1,23 +1,12 @@
 -- What the nodes of a span spell.
 use Rattle.std.proofs.Common.{◌≡◌, ◌||◌, ℕ, Bool, false, List, refl, ap, ◌∙◌}
-use Rattle.std.proofs.lemmas.Bool.{cond_both, cond-false}
-use Rattle.engine_events.specs.Names.{is_listed, same_name}
-use Rattle.engine_events.specs.declared.event.Name.{Name}
+use Rattle.parse_inline.proofs.Prelude.{append, ArePlain, Around, cond-false, cond_both, cut, End, enter_at, exit_at, inlines_of, is_listed, Name, Names, Nil}
+use Rattle.parse_inline.proofs.Prelude.{Nodes, part, plain_both, plain_void, same_end, same_name, sequence_name, sought_names, Span, span_name, span_view}
+use Rattle.parse_inline.proofs.Prelude.{text_name, text_names, text_within, void_nodes}
 use Rattle.engine_events.specs.declared.event.Name.TheVariants as n
-use Rattle.definition_inline.specs.CharacterReference.{Names}
 use Rattle.definition_inline.specs.Inline as inline
-use Rattle.inline_runs.specs.View.{span_view}
-use Rattle.inline_runs.specs.declared.pair.Span.{Span}
 use Rattle.inline_runs.specs.declared.pair.Span.TheVariants as span
-use Rattle.event_grammar.specs.Trees.{Nodes, Around, Nil}
-use Rattle.event_meaning.specs.Texts.{inlines_of, part, text_names, text_within}
-use Rattle.parse_output.specs.declared.end.End.{End}
-use Rattle.parse_output.specs.Ends.{enter_at, exit_at, same_end}
-use Rattle.parse_output.specs.Forest.{append, cut, void_nodes}
 use Rattle.parse_output.proofs.Forests.{append-assoc}
-use Rattle.parse_strings.specs.Plain.{ArePlain}
-use Rattle.parse_strings.proofs.PlainNodes.{plain_both, plain_void, sought_names}
-use Rattle.parse_inline.specs.Leaving.{sequence_name, span_name, text_name}
 use Rattle.parse_inline.proofs.Plain.{cut_one, plain_event}
 
 module _ (text : List ℕ) where

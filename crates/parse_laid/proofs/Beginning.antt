@@ -2,33 +2,22 @@
 use Rattle.std.proofs.Common.{suc, ◌⊎◌, ◌≡◌, ℕ, ◌-◌, Bool, true, cond, ◌&&◌, List, [], ◌∷◌, ◌++◌, Option, None, Some, length, take, drop}
 use Rattle.std.proofs.Common.{refl, sym, ap, ◌∙◌, subst, inl, inr, arith}
 use Rattle.std.specs.Option.{option_and_then}
-use Rattle.std.proofs.lemmas.Bool.{false≢true, cond_both, and_parts, or_left, or_right}
-use Rattle.markdown_options.specs.declared.line_ending.LineEnding.{LineEnding}
-use Rattle.markdown_options.specs.declared.configuration.Constructs.{Constructs}
+use Rattle.parse_laid.proofs.Prelude.{after, and_parts, AreCode, AreHtml, AreLines, AreTable, AreTaken, At, AtEnding, Atx, atx_tree, Beside, Between, Blank}
+use Rattle.parse_laid.proofs.Prelude.{block_and_ending, BlockLine, Blocks, BlockTree, Break, break_tree, close, cond_both, Constructs, Container, cut_into}
+use Rattle.parse_laid.proofs.Prelude.{cut_most, definition_cut, DefinitionCut, false≢true, Fence, fence_start, fence_tree, Fenced, FencedCode, FollowsText}
+use Rattle.parse_laid.proofs.Prelude.{Heading, heading_atx, Html, html_start, html_tree, InAll, Indented, indented_tree, InSome, is_blank, is_break, is_head}
+use Rattle.parse_laid.proofs.Prelude.{is_some_line, IsCodeLine, IsFenceLine, IsHtmlLine, IsInAll, IsOn, IsTextLine, join, last_ending, last_ending_or, Leaf}
+use Rattle.parse_laid.proofs.Prelude.{line_rest, LineEnding, LineRest, makes_table, math_start, Nil, nothing, one, open_text, OpenHtml, Opening, OpenLeaf}
+use Rattle.parse_laid.proofs.Prelude.{OpenTable, outdent, own_lines, paragraph_of, Place, Prefixed, Rest, rest_line, spaced_line, starts_code_indented, takes}
+use Rattle.parse_laid.proofs.Prelude.{Text, tree, turns, WhereSome}
+use Rattle.std.proofs.lemmas.Bool.{or_left, or_right}
 use Rattle.markdown_options.specs.declared.align_kind.AlignKind.{AlignKind}
-use Rattle.markdown_options.specs.declared.beside.Beside.{Beside}
-use Rattle.definition_text.specs.BlockLines.{BlockLine, own_lines, last_ending, last_ending_or, spaced_line}
-use Rattle.definition_text.specs.Columns.{Rest, is_blank}
-use Rattle.definition_text.specs.Indents.{outdent}
-use Rattle.definition_text.proofs.Each.{WhereSome}
-use Rattle.definition_block.specs.Container.{Container}
-use Rattle.definition_block.specs.CodeIndented.{starts_code_indented}
-use Rattle.definition_block.specs.CodeFenced.{Fence, fence_start, is_fence_end, fence_line}
-use Rattle.definition_block.specs.MathFlow.{math_start}
-use Rattle.definition_block.specs.HtmlFlow.{html_start, html_ends_here, ends_before_blank}
-use Rattle.definition_block.specs.HeadingAtx.{Atx, heading_atx}
+use Rattle.definition_block.specs.CodeFenced.{is_fence_end, fence_line}
+use Rattle.definition_block.specs.HtmlFlow.{html_ends_here, ends_before_blank}
 use Rattle.definition_block.specs.HeadingSetext.{underline}
-use Rattle.definition_block.specs.ThematicBreak.{is_break}
-use Rattle.definition_block.specs.GfmTable.{delimiter_row, is_head}
-use Rattle.definition_block.specs.Definitions.{DefinitionCut, cut_into, cut_most, definition_cut}
-use Rattle.definition_block.specs.Tree.{Leaf, Heading, Break, FencedCode, Html, Blank, Blocks, Nil, join, one, block_and_ending}
-use Rattle.definition_block.specs.Tree.{OpenLeaf, Text, Indented, Fenced, OpenHtml, OpenTable, Opening, At, Tree as BlockTree, tree, nothing}
-use Rattle.definition_block.specs.Tree.{paragraph_of, close, open_text, is_some_line, rest_line, takes, html_with, after}
-use Rattle.definition_block.specs.Tree.{heading_of, underlined, turns, table_of, tabled, makes_table}
-use Rattle.definition_block.specs.Tree.{indented_tree, fence_tree, html_tree, atx_tree, break_tree}
-use Rattle.text_pieces.specs.ParagraphLines.{AreLines}
-use Rattle.parse_laid.specs.Places.{LineRest, line_rest, Place, Between, AtEnding, Prefixed, InAll, InSome, IsOn, IsInAll}
-use Rattle.parse_laid.specs.Leaves.{FollowsText, AreTaken, IsTextLine, IsCodeLine, IsFenceLine, IsHtmlLine, AreCode, AreHtml, AreTable}
+use Rattle.definition_block.specs.GfmTable.{delimiter_row}
+use Rattle.definition_block.specs.Tree.{html_with}
+use Rattle.definition_block.specs.Tree.{heading_of, underlined, table_of, tabled}
 use Rattle.parse_laid.proofs.Taken.{more_taken, join_taken, split_taken, each_taken}
 use Rattle.parse_laid.proofs.Trees.{AreBlocksLaid, join_laid, ended_laid}
 use Rattle.parse_laid.proofs.Definitions.{MayBegin, TextMayBegin, any_may_begin, paragraph_laid, cut_laid, head_kept, cut_head}

@@ -1,17 +1,10 @@
 -- Beginning a line before a row changes nothing.
 use Rattle.std.proofs.Common.{◌≡◌, ℕ, true, false, List, [], ◌∷◌, refl, sym, ap, ◌∙◌, inl, inr, arith}
-use Rattle.std.proofs.lemmas.Bool.{false≢true, true≢false, cases_Bool}
-use Rattle.markdown_options.specs.declared.configuration.Constructs.{Constructs}
-use Rattle.definition_text.specs.BlockLines.{BlockLine}
-use Rattle.definition_block.specs.Container.{Container}
-use Rattle.definition_block.specs.CodeFenced.{Fence}
-use Rattle.definition_block.specs.Tree.{LeafBlock, Paragraph, Heading, Break, IndentedCode, FencedCode, Html, Table, Definition}
-use Rattle.definition_block.specs.Tree.{Leaf, Holds, Items, Ending, Blank}
-use Rattle.block_rows.specs.Rows.{BlockRow, Single, EnterQuote, EnterItem, EnterFootnote, Exit}
-use Rattle.parse_laid.specs.Places.{LineRest, Place, Between, Within, AtEnding, Prefixed, InAll, line_left, IsOn, IsInAll, Stops}
-use Rattle.parse_laid.specs.Leaves.{AreText, AreCode, AreHtml, AreTable, AreFenced, IsLeafLaid}
-use Rattle.parse_laid.specs.Laid.{IsWrittenLaid, Enters, IsRowLaid}
-use Rattle.parse_laid.specs.Begun.{begun, is_in_line, ends_line, LinesMayBeBegun}
+use Rattle.parse_laid.proofs.Prelude.{AreCode, AreFenced, AreHtml, AreTable, AreText, AtEnding, begun, Between, Blank, BlockLine, BlockRow, Break, cases_Bool}
+use Rattle.parse_laid.proofs.Prelude.{Constructs, Container, Definition, Ending, ends_line, EnterFootnote, EnterItem, EnterQuote, Enters, Exit, false≢true}
+use Rattle.parse_laid.proofs.Prelude.{Fence, FencedCode, Heading, Holds, Html, InAll, IndentedCode, IsInAll, IsLeafLaid, IsOn, IsRowLaid, IsWrittenLaid, Items}
+use Rattle.parse_laid.proofs.Prelude.{Leaf, LeafBlock, line_left, LineRest, Paragraph, Place, Prefixed, Single, Stops, Table, true≢false, Within}
+use Rattle.parse_laid.specs.Begun.{is_in_line, LinesMayBeBegun}
 
 module _ (on : Constructs) (around : List Container) where
   on_begun : (from : Place) (here : Prefixed) (left : List LineRest) → IsOn on around from here left

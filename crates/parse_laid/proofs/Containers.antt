@@ -1,18 +1,17 @@
 -- Containers end before the endings that aren't theirs.
 use Rattle.std.proofs.Common.{◌≡◌, Bool, true, false, ℕ, suc, zero, ◌≤◌, ◌+◌, leb, cond, List, [], ◌∷◌, Option, None, Some, drop}
 use Rattle.std.proofs.Common.{refl, sym, ap, ◌∙◌, subst, inl, inr, arith}
-use Rattle.std.proofs.lemmas.Bool.{true≢false, false≢true, cases_Bool, cond-true, cond-false, cond_both, and_from, and_cases, leb-true}
-use Rattle.markdown_options.specs.declared.line_ending.LineEnding.{LineEnding}
-use Rattle.markdown_options.specs.declared.configuration.Constructs.{Constructs}
-use Rattle.definition_text.specs.Columns.{Rest, is_white, is_blank, indent}
-use Rattle.definition_block.specs.Container.{Container, Quote, Item, Footnote}
-use Rattle.definition_block.specs.ContainerLine.{ContainerLine, container_line}
-use Rattle.definition_block.specs.ListItem.{is_inside, item_continues}
+use Rattle.parse_laid.proofs.Prelude.{AtEnding, Between, Blank, Block, Blocks, cases_Bool, cond_both, Cons, Constructs, Container, ContainerLine, continues}
+use Rattle.parse_laid.proofs.Prelude.{Ending, false≢true, Footnote, going_on, Holds, InAll, indent, InSome, into, is_blank, is_ending, is_inside, Item, Items}
+use Rattle.parse_laid.proofs.Prelude.{join, Leaf, line_left, LineEnding, LineRest, Nil, one, Place, prefixed, Prefixed, Quote, Rest, Starts, Stops, true≢false}
+use Rattle.parse_laid.proofs.Prelude.{Within}
+use Rattle.std.proofs.lemmas.Bool.{cond-true, cond-false, and_from, and_cases, leb-true}
+use Rattle.definition_text.specs.Columns.{is_white}
+use Rattle.definition_block.specs.ContainerLine.{container_line}
+use Rattle.definition_block.specs.ListItem.{item_continues}
 use Rattle.markdown_options.specs.declared.beside.Kind.TheVariants.{Whitespace}
-use Rattle.definition_block.specs.Containers.{continues}
-use Rattle.definition_block.specs.Tree.{Block, Leaf, Holds, Items, Ending, Blank, Blocks, Nil, Cons, join, one, is_ending, all_endings}
+use Rattle.definition_block.specs.Tree.{all_endings}
 use Rattle.definition_block.specs.Tree.{front, trailing, without_last, last_of, container_block}
-use Rattle.parse_laid.specs.Places.{LineRest, Place, Between, Within, AtEnding, Prefixed, InAll, InSome, line_left, going_on, into, prefixed, Starts, Stops}
 use Rattle.parse_laid.proofs.Trees.{IsBlockLaid, AreBlocksLaid, is_between, split_laid, block_in_line}
 
 -- ---- a quote ends before the ending of its last line

@@ -1,19 +1,14 @@
 -- Lines of a paragraph: the definitions at its front, and what is left.
 use Rattle.std.proofs.Common.{◌⊎◌, inr, ◌≡◌, ℕ, suc, zero, ◌<◌, true, List, [], ◌∷◌, Option, None, Some, length, take, drop, refl, sym, ap, ◌∙◌, subst, arith}
-use Rattle.std.proofs.lemmas.Bool.{false≢true, cond_both}
+use Rattle.parse_laid.proofs.Prelude.{AreLines, AreTaken, AtEnding, block_and_ending, BlockLine, cond_both, Constructs, Container, cut_into, cut_most}
+use Rattle.parse_laid.proofs.Prelude.{Definition, definition_cut, DefinitionCut, false≢true, is_head, is_some_line, IsInAll, IsLeafLaid, IsTextLine}
+use Rattle.parse_laid.proofs.Prelude.{last_ending, Leaf, Nil, own_lines, Paragraph, paragraph_of, Place}
 use Rattle.std.proofs.lemmas.List.{length-take}
-use Rattle.markdown_options.specs.declared.configuration.Constructs.{Constructs}
-use Rattle.definition_text.specs.BlockLines.{BlockLine, own_lines, last_ending}
 use Rattle.definition_text.specs.Content.{content_of}
 use Rattle.definition_inline.specs.Definition.{Definition as LinkDefinition, definition, definition_at}
-use Rattle.definition_block.specs.Container.{Container}
-use Rattle.definition_block.specs.GfmTable.{is_head}
-use Rattle.definition_block.specs.Definitions.{lines_before, definition_lines, DefinitionCut, cut_into, cut_after, cut_most, definition_cut}
-use Rattle.definition_block.specs.Tree.{Leaf, Paragraph, Definition, Nil, block_and_ending, paragraph_of, is_some_line}
-use Rattle.text_pieces.specs.ParagraphLines.{AreLines}
+use Rattle.definition_block.specs.Definitions.{lines_before, definition_lines, cut_after}
 use Rattle.block_rows.proofs.DefinitionLines.{definition_cuts}
-use Rattle.parse_laid.specs.Places.{Place, AtEnding, IsInAll}
-use Rattle.parse_laid.specs.Leaves.{AreTaken, IsTextLine, FollowsDefinition, IsLeafLaid}
+use Rattle.parse_laid.specs.Leaves.{FollowsDefinition}
 use Rattle.parse_laid.proofs.Taken.{split_taken, after_some}
 use Rattle.parse_laid.proofs.Trees.{AreBlocksLaid, join_laid, ended_laid}
 

@@ -1,14 +1,8 @@
 -- Containers on a line of which nothing is left.
 use Rattle.std.proofs.Common.{◌≡◌, ℕ, suc, zero, false, [], ◌∷◌, Some, drop, refl, ap, ◌∙◌}
 use Rattle.std.specs.List.{list_any}
-use Rattle.std.proofs.lemmas.Bool.{or_parts, true≢false}
-use Rattle.markdown_options.specs.declared.configuration.Constructs.{Constructs}
-use Rattle.definition_block.specs.Container.{Container, Quote, Item, Footnote}
-use Rattle.definition_block.specs.ContainerLine.{ContainerLine}
-use Rattle.definition_block.specs.Containers.{continues}
-use Rattle.parse_laid.specs.Places.{into}
-use Rattle.parse_laid.specs.Places.{going_on, line_rest}
-use Rattle.definition_block.specs.Tree.{beside_in}
+use Rattle.parse_laid.proofs.Prelude.{beside_in, Constructs, Container, ContainerLine, continues, Footnote, going_on, into, Item, line_rest, Quote, true≢false}
+use Rattle.std.proofs.lemmas.Bool.{or_parts}
 use Rattle.parse_laid.specs.EmptyRests.{is_quote, NothingStaysNothing}
 
 drop_nothing : (n : ℕ) → drop {A = ℕ} n [] ≡ []

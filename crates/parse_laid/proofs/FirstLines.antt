@@ -1,16 +1,9 @@
 -- The first line of a row is in all open containers, but for later lines of a paragraph.
 use Rattle.std.proofs.Common.{◌≡◌, ◌⊎◌, ℕ, true, false, List, [], ◌∷◌, inl, inr}
-use Rattle.std.proofs.lemmas.Bool.{true≢false}
-use Rattle.markdown_options.specs.declared.configuration.Constructs.{Constructs}
-use Rattle.definition_text.specs.BlockLines.{BlockLine}
-use Rattle.definition_block.specs.Container.{Container}
-use Rattle.definition_block.specs.Tree.{LeafBlock, Paragraph, Heading, Break, IndentedCode, FencedCode, Html, Table, Definition}
-use Rattle.definition_block.specs.Tree.{Leaf, Holds, Items, Ending, Blank}
-use Rattle.block_rows.specs.Rows.{BlockRow, Single, EnterQuote, EnterItem, EnterFootnote, Exit}
-use Rattle.parse_laid.specs.Places.{Place, Between, Within, AtEnding, IsInAll, Stops}
-use Rattle.parse_laid.specs.Leaves.{FollowsText, AreText, AreCode, AreHtml, AreTable, IsLeafLaid}
-use Rattle.parse_laid.specs.Laid.{IsWrittenLaid, Enters, IsRowLaid}
-use Rattle.parse_laid.specs.Begun.{ends_line}
+use Rattle.parse_laid.proofs.Prelude.{AreCode, AreHtml, AreTable, AreText, AtEnding, Between, Blank, BlockLine, BlockRow, Break, Constructs, Container}
+use Rattle.parse_laid.proofs.Prelude.{Definition, Ending, ends_line, EnterFootnote, EnterItem, EnterQuote, Enters, Exit, FencedCode, FollowsText, Heading}
+use Rattle.parse_laid.proofs.Prelude.{Holds, Html, IndentedCode, IsInAll, IsLeafLaid, IsRowLaid, IsWrittenLaid, Items, Leaf, LeafBlock, Paragraph, Place}
+use Rattle.parse_laid.proofs.Prelude.{Single, Stops, Table, true≢false, Within}
 use Rattle.parse_laid.specs.FirstLines.{FirstLinesAreIn}
 use Rattle.parse_laid.proofs.Lines.{in_all}
 

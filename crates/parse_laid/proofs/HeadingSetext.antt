@@ -1,12 +1,7 @@
 -- A heading is told by its first line.
 use Rattle.std.proofs.Common.{◌≡◌, List, [], ◌∷◌, Some, sym, ap, ◌∙◌, arith}
-use Rattle.std.proofs.lemmas.Option.{none-some}
-use Rattle.markdown_options.specs.declared.configuration.Constructs.{Constructs}
-use Rattle.definition_text.specs.BlockLines.{BlockLine}
-use Rattle.definition_block.specs.Container.{Container}
-use Rattle.definition_block.specs.HeadingAtx.{Atx, heading_atx}
-use Rattle.parse_laid.specs.Places.{LineRest, Place, Between, Within, AtEnding, Prefixed, InAll, line_left, IsOn}
-use Rattle.parse_laid.specs.Leaves.{AreText}
+use Rattle.parse_laid.proofs.Prelude.{AreText, AtEnding, Atx, Between, BlockLine, Constructs, Container, heading_atx, InAll, IsOn, line_left, LineRest}
+use Rattle.parse_laid.proofs.Prelude.{none-some, Place, Prefixed, Within}
 use Rattle.parse_laid.specs.HeadingSetext.{HeadingsAreTold}
 
 -- something begins on one line

@@ -1,18 +1,12 @@
 -- The rows of the blocks of a text are laid in its lines.
 use Rattle.std.proofs.Common.{ℕ, cond, ◌&&◌, List, [], ◌∷◌, Option, None, Some, refl, subst}
-use Rattle.std.proofs.lemmas.Bool.{cond_both}
-use Rattle.markdown_options.specs.declared.line_ending.LineEnding.{LineEnding}
+use Rattle.parse_laid.proofs.Prelude.{AreLines, Between, blocks, BlockTree, close, cond_both, Constructs, Kind, LineEnding, lines, open_text, Place, step}
+use Rattle.parse_laid.proofs.Prelude.{TextLine, unread, WhereSome}
 use Rattle.markdown_options.specs.declared.line_ending.LineEnding.TheVariants.{LineFeed}
-use Rattle.markdown_options.specs.declared.configuration.Constructs.{Constructs}
-use Rattle.markdown_options.specs.declared.beside.Kind.{Kind}
 use Rattle.markdown_options.specs.declared.beside.Kind.TheVariants.{Whitespace}
-use Rattle.definition_text.specs.Lines.{TextLine, lines}
-use Rattle.definition_text.proofs.Each.{WhereSome}
 use Rattle.definition_block.specs.Frontmatter.{is_metadata_fence, after_metadata_fence, after_frontmatter}
-use Rattle.definition_block.specs.Tree.{Tree as BlockTree, empty_tree, open_text, close, step, steps, children, children_after, blocks}
+use Rattle.definition_block.specs.Tree.{empty_tree, steps, children, children_after}
 use Rattle.block_rows.proofs.OpenLines.{AreTextLines, AreLinesTo, are_lines, lines_of_text, open_step}
-use Rattle.text_pieces.specs.ParagraphLines.{AreLines}
-use Rattle.parse_laid.specs.Places.{Place, Between, unread}
 use Rattle.parse_laid.specs.Laid.{unread_after, RowsAreLaid}
 use Rattle.parse_laid.proofs.Trees.{AreBlocksLaid, join_laid}
 use Rattle.parse_laid.proofs.Leaves.{TreeLaid, close_laid}

@@ -1,19 +1,12 @@
 -- Leaves that are open, closed, or begin on a line.
 use Rattle.std.proofs.Common.{inl, ◌≡◌, ℕ, true, false, List, [], ◌∷◌, Option}
 use Rattle.std.proofs.Common.{refl, sym, ap, subst}
-use Rattle.markdown_options.specs.declared.line_ending.LineEnding.{LineEnding}
-use Rattle.markdown_options.specs.declared.configuration.Constructs.{Constructs}
-use Rattle.definition_text.specs.BlockLines.{BlockLine, own_lines, last_ending, last_ending_or}
-use Rattle.definition_text.specs.Columns.{is_blank}
-use Rattle.definition_text.specs.Indents.{outdent}
-use Rattle.definition_block.specs.Container.{Container}
-use Rattle.definition_block.specs.Definitions.{definition_cut}
-use Rattle.definition_block.specs.Tree.{Block, Leaf, IndentedCode, FencedCode, Html, Table, join, block_and_ending}
-use Rattle.definition_block.specs.Tree.{OpenLeaf, Text, Indented, Fenced, OpenHtml, OpenTable, Opening, At, Inside, Tree as BlockTree}
-use Rattle.definition_block.specs.Tree.{blanks, paragraph_of, close_leaf, close, leaf_text, open_text, rest_line}
-use Rattle.text_pieces.specs.ParagraphLines.{AreLines}
-use Rattle.parse_laid.specs.Places.{LineRest, Place, Between, AtEnding, Prefixed, InAll, InSome, IsInAll, Starts}
-use Rattle.parse_laid.specs.Leaves.{AreTaken, IsTextLine, IsCodeLine, IsFenceLine, IsHtmlLine, IsRowLine, AreCode, AreHtml, AreTable, AreFenced}
+use Rattle.parse_laid.proofs.Prelude.{AreCode, AreFenced, AreHtml, AreLines, AreTable, AreTaken, At, AtEnding, Between, Block, block_and_ending, BlockLine}
+use Rattle.parse_laid.proofs.Prelude.{BlockTree, close, Constructs, Container, definition_cut, Fenced, FencedCode, Html, InAll, Indented, IndentedCode, Inside}
+use Rattle.parse_laid.proofs.Prelude.{InSome, is_blank, IsCodeLine, IsFenceLine, IsHtmlLine, IsInAll, IsRowLine, IsTextLine, join, last_ending, last_ending_or}
+use Rattle.parse_laid.proofs.Prelude.{Leaf, LineEnding, LineRest, open_text, OpenHtml, Opening, OpenLeaf, OpenTable, outdent, own_lines, paragraph_of, Place}
+use Rattle.parse_laid.proofs.Prelude.{Prefixed, rest_line, Starts, Table, Text}
+use Rattle.definition_block.specs.Tree.{blanks, close_leaf, leaf_text}
 use Rattle.parse_laid.proofs.Taken.{after_taken}
 use Rattle.parse_laid.proofs.Trees.{IsBlockLaid, AreBlocksLaid, is_between, join_laid, ended_laid}
 use Rattle.parse_laid.proofs.Containers.{hold_laid}

@@ -1,3 +1,4 @@
+mod Prelude
 pub mod Taken
 pub mod Trees
 pub mod Containers

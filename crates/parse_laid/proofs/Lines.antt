@@ -1,32 +1,23 @@
 -- Line by line, what is read stays laid in the lines.
 use Rattle.std.proofs.Common.{◌≡◌, ℕ, suc, zero, Bool, true, false, not, cond, ◌&&◌, ◌||◌, List, [], ◌∷◌, ◌++◌, Option, None, Some, length, leb}
 use Rattle.std.proofs.Common.{refl, sym, ap, ◌∙◌, subst, inl, inr}
-use Rattle.std.proofs.lemmas.Bool.{false≢true, cond_both, and_parts, or_cases, and_right}
-use Rattle.std.proofs.lemmas.Option.{none-some}
-use Rattle.markdown_options.specs.declared.configuration.Constructs.{Constructs}
-use Rattle.markdown_options.specs.declared.beside.Beside.{Beside}
-use Rattle.markdown_options.specs.declared.beside.Kind.{Kind}
-use Rattle.definition_text.specs.BlockLines.{BlockLine}
-use Rattle.definition_text.specs.Columns.{Rest, whole, is_blank, indent, bare}
+use Rattle.parse_laid.proofs.Prelude.{and_parts, AreLines, AreTable, At, AtEnding, BeginsNoLeaf, Beside, beside_in, beside_line, Between, Blank, BlockLine}
+use Rattle.parse_laid.proofs.Prelude.{Blocks, BlockTree, cond_both, Constructs, Container, ContainerLine, continues, false≢true, Footnote, going_on, has_text}
+use Rattle.parse_laid.proofs.Prelude.{InAll, indent, Inside, InSome, into, is_blank, is_break, is_inside, IsInAll, IsOn, IsRowLine, IsTextLine, Item, Kind}
+use Rattle.parse_laid.proofs.Prelude.{leaf_line, line_rest, LineRest, Nil, none-some, nothing, one, open_text, Opening, OpenTable, Place, prefixed, Quote}
+use Rattle.parse_laid.proofs.Prelude.{Rest, rest_line, starts_code_indented, step, takes, Text, text_line_of, TextLine, tree, whole, Within}
+use Rattle.std.proofs.lemmas.Bool.{or_cases, and_right}
+use Rattle.definition_text.specs.Columns.{bare}
 use Rattle.definition_text.specs.Indents.{small_indent}
-use Rattle.definition_text.specs.Lines.{TextLine}
-use Rattle.definition_block.specs.Container.{Container, Quote, Item, Footnote}
-use Rattle.definition_block.specs.ContainerLine.{ContainerLine}
 use Rattle.definition_block.specs.ContainerStart.{ContainerStart}
 use Rattle.definition_block.specs.BlockQuote.{quote_prefix}
-use Rattle.definition_block.specs.ListItem.{Marker, marker, is_first, is_item, item, item_after, item_start, is_inside}
+use Rattle.definition_block.specs.ListItem.{Marker, marker, is_first, is_item, item, item_after, item_start}
 use Rattle.definition_block.specs.GfmFootnoteDefinition.{footnote_start}
-use Rattle.definition_block.specs.ThematicBreak.{is_break}
-use Rattle.definition_block.specs.Containers.{continues, starts, quote_or, footnote_or}
-use Rattle.definition_block.specs.CodeIndented.{starts_code_indented}
-use Rattle.definition_block.specs.Tree.{Blank, Blocks, Nil, one, Text, OpenTable, Opening, At, Inside, Tree as BlockTree, tree, nothing}
-use Rattle.definition_block.specs.Tree.{open_text, has_text, has_table, is_nothing, is_one_blank, began_blank, with_line, rest_line, takes, text_line_of}
-use Rattle.definition_block.specs.Tree.{leaf_line, beside_in, start, new, goes_on, grow, beside_line, step}
+use Rattle.definition_block.specs.Containers.{starts, quote_or, footnote_or}
+use Rattle.definition_block.specs.Tree.{has_table, is_nothing, is_one_blank, began_blank, with_line}
+use Rattle.definition_block.specs.Tree.{start, new, goes_on, grow}
 use Rattle.definition_block.proofs.LeafLines.{where_unwrapped}
 use Rattle.parse_laid.proofs.TextLines.{where_any_line}
-use Rattle.text_pieces.specs.ParagraphLines.{AreLines}
-use Rattle.parse_laid.specs.Places.{LineRest, line_rest, Place, Between, Within, AtEnding, InAll, InSome, going_on, into, prefixed, IsOn, IsInAll}
-use Rattle.parse_laid.specs.Leaves.{BeginsNoLeaf, IsTextLine, IsRowLine, AreTable}
 use Rattle.parse_laid.proofs.Taken.{more_taken}
 use Rattle.parse_laid.proofs.Trees.{join_laid}
 use Rattle.parse_laid.proofs.Leaves.{OpeningLaid, TreeLaid}

@@ -1,11 +1,8 @@
 -- Prefixes are read from the outermost container to the innermost.
 use Rattle.std.proofs.Common.{◌≡◌, List, [], ◌∷◌, ◌++◌, refl, sym, ap, ◌∙◌, append_assoc}
 use Rattle.std.specs.Prelude.{reverse}
-use Rattle.std.specs.List.{fold}
-use Rattle.std.proofs.lemmas.List.{append-nil, reverse-append}
-use Rattle.markdown_options.specs.declared.configuration.Constructs.{Constructs}
-use Rattle.definition_block.specs.Container.{Container}
-use Rattle.parse_laid.specs.Places.{LineRest, into, prefixed}
+use Rattle.parse_laid.proofs.Prelude.{append-nil, Constructs, Container, fold, into, LineRest, prefixed}
+use Rattle.std.proofs.lemmas.List.{reverse-append}
 use Rattle.parse_laid.specs.Outermost.{PrefixesAreInOrder}
 
 -- containers in others

@@ -1,15 +1,9 @@
 -- The rows of the block parser are laid in the lines of the text.
 use Rattle.std.proofs.Common.{◌≡◌, List, [], ◌∷◌, ◌++◌, drop, sym, ap, ◌∙◌, subst, append_assoc}
-use Rattle.std.specs.List.{fold}
-use Rattle.std.proofs.lemmas.List.{append-nil}
-use Rattle.markdown_options.specs.declared.configuration.Constructs.{Constructs}
-use Rattle.definition_text.specs.BlockLines.{BlockLine}
-use Rattle.definition_block.specs.Container.{Container}
-use Rattle.definition_block.specs.Tree.{blocks}
+use Rattle.parse_laid.proofs.Prelude.{append-nil, AreLaid, Between, BlockLine, BlockRow, blocks, Constructs, Container, fold, Place, rows_of}
 use Rattle.block_rows.specs.declared.row.Row.{Row}
-use Rattle.block_rows.specs.Rows.{BlockRow, RowsValue, rows_of, row_size, row_value, value_with, show_row}
-use Rattle.parse_laid.specs.Places.{Place, Between}
-use Rattle.parse_laid.specs.Laid.{AreLaid, unread_lines}
+use Rattle.block_rows.specs.Rows.{RowsValue, row_size, row_value, value_with, show_row}
+use Rattle.parse_laid.specs.Laid.{unread_lines}
 use Rattle.parse_laid.specs.ParserRows.{AreRowsLaid, ParserRowsAreLaid}
 use Rattle.parse_laid.proofs.Laid.{rows_are_laid}
 

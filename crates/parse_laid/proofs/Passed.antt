@@ -1,18 +1,11 @@
 -- How many lines of a text a leaf passes.
 use Rattle.std.proofs.Common.{◌≡◌, ℕ, suc, ◌-◌, ◌<◌, true, false, List, [], ◌∷◌, ◌++◌, Option, None, Some, length, refl, sym, ap, ◌∙◌, subst, inl, inr, arith}
 use Rattle.std.proofs.lemmas.List.{length-append}
-use Rattle.markdown_options.specs.declared.line_ending.LineEnding.{LineEnding}
-use Rattle.markdown_options.specs.declared.configuration.Constructs.{Constructs}
-use Rattle.definition_text.specs.BlockLines.{BlockLine, own_lines, last_ending, last_ending_or}
-use Rattle.definition_block.specs.Container.{Container}
-use Rattle.definition_block.specs.ContainerLine.{ContainerLine}
-use Rattle.definition_block.specs.Containers.{continues}
-use Rattle.definition_block.specs.CodeFenced.{Fence}
-use Rattle.definition_block.specs.Tree.{LeafBlock, Paragraph, Heading, Break, IndentedCode, FencedCode, Html, Table, Definition, rest_line}
-use Rattle.parse_laid.specs.Places.{LineRest, Place, Between, Within, AtEnding, Prefixed, InAll, InSome, line_left, going_on, into, prefixed, IsOn}
-use Rattle.parse_laid.specs.Leaves.{AreTaken, IsTextLine, IsCodeLine, IsFenceLine, IsHtmlLine, IsRowLine}
-use Rattle.parse_laid.specs.Leaves.{AreText, AreCode, AreHtml, AreTable, EndsAt, IsLeafLaid}
-use Rattle.parse_laid.specs.Begun.{begun}
+use Rattle.parse_laid.proofs.Prelude.{AreCode, AreHtml, AreTable, AreTaken, AreText, AtEnding, begun, Between, BlockLine, Break, Constructs, Container}
+use Rattle.parse_laid.proofs.Prelude.{ContainerLine, continues, Definition, Fence, FencedCode, going_on, Heading, Html, InAll, IndentedCode, InSome, into}
+use Rattle.parse_laid.proofs.Prelude.{IsCodeLine, IsFenceLine, IsHtmlLine, IsLeafLaid, IsOn, IsRowLine, IsTextLine, last_ending, last_ending_or, LeafBlock}
+use Rattle.parse_laid.proofs.Prelude.{line_left, LineEnding, LineRest, own_lines, Paragraph, Place, prefixed, Prefixed, rest_line, Table, Within}
+use Rattle.parse_laid.specs.Leaves.{EndsAt}
 use Rattle.parse_laid.specs.Passed.{lines_on, later, HasLater, LeavesPassLines}
 use Rattle.parse_laid.proofs.Taken.{more_taken, each_taken}
 use Rattle.parse_laid.proofs.Beginning.{last_more}

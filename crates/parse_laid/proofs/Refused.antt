@@ -1,18 +1,13 @@
 -- Rows that aren't laid in the lines of a text.
 use Rattle.std.proofs.Common.{◌≡◌, Bool, true, false, [], ◌∷◌, None, Some, codes, refl, sym, ap, ◌∙◌, subst}
-use Rattle.std.proofs.lemmas.Bool.{true≢false, false≢true}
+use Rattle.parse_laid.proofs.Prelude.{AtEnding, beside_line, Between, Blank, BlockRow, Container, Ending, EnterFootnote, EnterItem, EnterQuote, Exit}
+use Rattle.parse_laid.proofs.Prelude.{false≢true, Footnote, InAll, InSome, is_blank, IsOn, Item, Leaf, line_left, line_rest, lines, Paragraph, Place, Prefixed}
+use Rattle.parse_laid.proofs.Prelude.{Quote, Single, spaced_line, start_row, true≢false, unread, whole, Within}
 use Rattle.markdown_options.specs.Defaults.{default_constructs}
 use Rattle.markdown_options.specs.declared.beside.Kind.TheVariants.{Whitespace}
 use Rattle.markdown_options.specs.declared.line_ending.LineEnding.TheVariants.{LineFeed}
-use Rattle.definition_text.specs.BlockLines.{spaced_line}
-use Rattle.definition_text.specs.Columns.{whole, is_blank}
-use Rattle.definition_text.specs.Lines.{text_line, lines}
-use Rattle.definition_block.specs.Container.{Container, Quote, Item, Footnote}
+use Rattle.definition_text.specs.Lines.{text_line}
 use Rattle.definition_block.specs.HeadingAtx.{atx}
-use Rattle.definition_block.specs.Tree.{Paragraph}
-use Rattle.definition_block.specs.Tree.{Leaf, Ending, Blank, beside_line}
-use Rattle.block_rows.specs.Rows.{BlockRow, Single, EnterQuote, EnterItem, EnterFootnote, Exit, start_row}
-use Rattle.parse_laid.specs.Places.{line_rest, Place, Between, Within, AtEnding, Prefixed, InAll, InSome, line_left, unread, IsOn}
 use Rattle.parse_laid.specs.Refused.{AreRefused, RefusedRows}
 use Rattle.parse_laid.proofs.HeadingSetext.{no_text}
 

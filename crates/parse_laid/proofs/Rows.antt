@@ -1,13 +1,9 @@
 -- Blocks that are laid in lines have rows that are.
 use Rattle.std.proofs.Common.{List, [], ◌∷◌, ◌++◌, refl, sym, subst, append_assoc}
-use Rattle.std.proofs.lemmas.List.{append-nil}
-use Rattle.markdown_options.specs.declared.configuration.Constructs.{Constructs}
-use Rattle.definition_block.specs.Container.{Container, Quote, Item, Footnote}
-use Rattle.definition_block.specs.Tree.{LeafBlock, Definition, Block, Leaf, Holds, Items, Ending, Blank, Blocks, Nil, Cons}
-use Rattle.block_rows.specs.Rows.{BlockRow, Exit, start_row, spaced_leaf, block_rows, rows_of}
-use Rattle.parse_laid.specs.Places.{Place, Between, Starts}
-use Rattle.parse_laid.specs.Leaves.{IsLeafLaid}
-use Rattle.parse_laid.specs.Laid.{IsWrittenLaid, IsRowLaid, AreLaid}
+use Rattle.parse_laid.proofs.Prelude.{append-nil, AreLaid, Between, Blank, Block, BlockRow, Blocks, Cons, Constructs, Container, Definition, Ending, Exit}
+use Rattle.parse_laid.proofs.Prelude.{Footnote, Holds, IsLeafLaid, IsRowLaid, IsWrittenLaid, Item, Items, Leaf, LeafBlock, Nil, Place, Quote, rows_of}
+use Rattle.parse_laid.proofs.Prelude.{start_row, Starts}
+use Rattle.block_rows.specs.Rows.{spaced_leaf, block_rows}
 use Rattle.parse_laid.proofs.Trees.{IsBlockLaid, AreBlocksLaid}
 
 module _ (on : Constructs) where

@@ -1,10 +1,6 @@
 -- Lines of a leaf, one after another.
 use Rattle.std.proofs.Common.{◌≡◌, ℕ, suc, zero, ◌<◌, List, [], ◌∷◌, ◌++◌, length, take, drop, refl, sym, subst, arith}
-use Rattle.markdown_options.specs.declared.configuration.Constructs.{Constructs}
-use Rattle.definition_text.specs.BlockLines.{BlockLine}
-use Rattle.definition_block.specs.Container.{Container}
-use Rattle.parse_laid.specs.Places.{LineRest, Place, Between, Prefixed, IsOn}
-use Rattle.parse_laid.specs.Leaves.{AreTaken}
+use Rattle.parse_laid.proofs.Prelude.{AreTaken, Between, BlockLine, Constructs, Container, IsOn, LineRest, Place, Prefixed}
 
 module _ (on : Constructs) (around : List Container) (IsLine : Prefixed → BlockLine → Type 0) where
   -- one more line

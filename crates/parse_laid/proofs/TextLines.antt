@@ -3,21 +3,11 @@ use Rattle.std.proofs.Common.{◌≡◌, Bool, true, false, ◌&&◌, not, Optio
 use Rattle.std.specs.Prelude.{unwrap_or}
 use Rattle.std.specs.Bool.{then_some}
 use Rattle.std.specs.Option.{option_or, option_map}
-use Rattle.std.proofs.lemmas.Bool.{cond_both}
-use Rattle.std.proofs.lemmas.Option.{none-some}
-use Rattle.markdown_options.specs.declared.configuration.Constructs.{Constructs}
-use Rattle.markdown_options.specs.declared.beside.Beside.{Beside}
-use Rattle.definition_text.specs.Columns.{Rest, is_blank}
-use Rattle.definition_text.proofs.Each.{WhereSome}
-use Rattle.definition_block.specs.CodeIndented.{starts_code_indented}
-use Rattle.definition_block.specs.CodeFenced.{Fence, fence_start}
-use Rattle.definition_block.specs.MathFlow.{math_start}
-use Rattle.definition_block.specs.HtmlFlow.{html_start}
-use Rattle.definition_block.specs.HeadingAtx.{Atx, heading_atx}
-use Rattle.definition_block.specs.ThematicBreak.{is_break}
-use Rattle.definition_block.specs.Tree.{one, Blank, Opening, Tree, tree, nothing, has_text, after, text_line_of, indented_tree, fence_tree, html_tree, atx_tree}
-use Rattle.definition_block.specs.Tree.{break_tree, turns, makes_table, anew, first_of, leaf_starts, leaf_line}
-use Rattle.parse_laid.specs.Leaves.{BeginsNoLeaf}
+use Rattle.parse_laid.proofs.Prelude.{after, Atx, atx_tree, BeginsNoLeaf, Beside, Blank, break_tree, cond_both, Constructs, Fence, fence_start, fence_tree}
+use Rattle.parse_laid.proofs.Prelude.{has_text, heading_atx, html_start, html_tree, indented_tree, is_blank, is_break, leaf_line, makes_table, math_start}
+use Rattle.parse_laid.proofs.Prelude.{none-some, nothing, one, Opening, Rest, starts_code_indented, text_line_of, tree, turns, WhereSome}
+use Rattle.definition_block.specs.Tree.{Tree}
+use Rattle.definition_block.specs.Tree.{anew, first_of, leaf_starts}
 
 -- a value, or another where there is none
 where_none : {A : Type 0} (P : A → Type 0) (o : Option A) (other : A) → WhereSome P o → (o ≡ None → P other) → P (unwrap_or o other)

@@ -1,13 +1,8 @@
 -- The blocks of a tree are laid in lines, before they are rows.
 use Rattle.std.proofs.Common.{◌≡◌, Bool, true, false, List, [], ◌∷◌, Option, refl, sym, ap, subst, inl, inr}
-use Rattle.std.proofs.lemmas.Bool.{false≢true}
-use Rattle.markdown_options.specs.declared.line_ending.LineEnding.{LineEnding}
-use Rattle.markdown_options.specs.declared.configuration.Constructs.{Constructs}
-use Rattle.definition_block.specs.Container.{Container}
-use Rattle.definition_block.specs.Tree.{LeafBlock, Paragraph, Heading, Break, IndentedCode, FencedCode, Html, Table, Definition}
-use Rattle.definition_block.specs.Tree.{Block, Leaf, Holds, Items, Ending, Blank, Blocks, Nil, Cons, join, block_and_ending, is_ending}
-use Rattle.parse_laid.specs.Places.{LineRest, Place, Between, Within, AtEnding, Starts, Stops}
-use Rattle.parse_laid.specs.Leaves.{IsLeafLaid}
+use Rattle.parse_laid.proofs.Prelude.{AtEnding, Between, Blank, Block, block_and_ending, Blocks, Break, Cons, Constructs, Container, Definition, Ending}
+use Rattle.parse_laid.proofs.Prelude.{false≢true, FencedCode, Heading, Holds, Html, IndentedCode, is_ending, IsLeafLaid, Items, join, Leaf, LeafBlock}
+use Rattle.parse_laid.proofs.Prelude.{LineEnding, LineRest, Nil, Paragraph, Place, Starts, Stops, Table, Within}
 use Rattle.parse_laid.specs.Laid.{IsEndingLaid, IsBlankLaid}
 
 -- a block in these containers, from a place to another, and children one after another

@@ -1,50 +1,19 @@
 -- A heading by `#`, as it is written (CommonMark 4.2).
 use Rattle.std.proofs.Common.{◌≡◌, ℕ, ◌<◌, ◌≤◌, Bool, false, List, [], ◌∷◌, ◌++◌, None, refl, sym, ap, ◌∙◌, subst, length, replicate, take, drop, arith}
-use Rattle.std.specs.Prelude.{◌==◌}
-use Rattle.std.specs.List.{list_any}
+use Rattle.parse_leaves.proofs.Prelude.{append, AreMeanings, AreNext, ArePartsAlike, around, Around, around_on, AtEnding, bare, bare_end, BlockLine, bytes_of}
+use Rattle.parse_leaves.proofs.Prelude.{Constructs, End, end_at, end_in, enter_at, EnterCall, entered_on, exit_at, ExitCall, heading_atx, indent, Inlines}
+use Rattle.parse_leaves.proofs.Prelude.{is_tab_column, IsInOrder, IsOnLine, IsWrittenToRest, length-take-le, line_left, LineRest, list_any, Meaning, named}
+use Rattle.parse_leaves.proofs.Prelude.{Names, next_parts, Nodes, number_sign, on_end, on_line_both, one, own_lines, Piece, piece_line, Place, read_text}
+use Rattle.parse_leaves.proofs.Prelude.{Reading, rest_of, run, some_on, spaced_line, SpellsLeaf, Standing, standing, StandsAt, tab_column, text_in}
+use Rattle.parse_leaves.proofs.Prelude.{text_within, ToCall, token_text, TokenCall, tokens, Walk, white_ahead, Within, writes_both, WritesClosing}
+use Rattle.parse_leaves.proofs.Prelude.{WritesHeadingText, WritesLeaf, WritesOnLine, written_to, ◌==◌}
 use Rattle.std.proofs.Math.Seq.{drop-append_seam}
-use Rattle.std.proofs.lemmas.List.{length-take-le}
 use Rattle.std.proofs.lemmas.List.Sums.{prefix_len-le-length}
-use Rattle.markdown_options.specs.declared.configuration.Constructs.{Constructs}
 use Rattle.engine_events.specs.declared.event.Name.TheVariants as n
-use Rattle.block_starts.specs.View.{rest_of}
-use Rattle.definition_text.specs.Ascii.{number_sign}
-use Rattle.definition_text.specs.BlockLines.{BlockLine, own_lines, spaced_line}
-use Rattle.definition_text.specs.Columns.{bare, bytes_of, indent, is_tab_column, tab_column}
-use Rattle.definition_text.specs.Runs.{run}
-use Rattle.definition_block.specs.HeadingAtx.{heading_atx}
-use Rattle.definition_inline.specs.CharacterReference.{Names}
-use Rattle.definition_inline.specs.Inline.{Inlines}
-use Rattle.definition_page.specs.InlinePieces.{Meaning}
 use Rattle.definition_page.specs.Page as page
-use Rattle.definition_page.specs.Read.{Reading, read_text}
-use Rattle.event_grammar.specs.References.{named}
-use Rattle.event_grammar.specs.Trees.{Nodes, Around}
-use Rattle.event_meaning.specs.Children.{text_in}
-use Rattle.event_meaning.specs.Texts.{text_within}
-use Rattle.parse_output.specs.declared.end.End.{End}
-use Rattle.parse_output.specs.Ends.{end_at, enter_at, exit_at}
-use Rattle.parse_output.specs.Forest.{append, one}
-use Rattle.parse_output.specs.Written.{IsInOrder, end_in}
-use Rattle.parse_output.proofs.Written.{writes_both}
-use Rattle.parse_alike.specs.Inline.{ArePartsAlike}
 use Rattle.parse_laid.specs.Leaves.{IsAtxLaid}
-use Rattle.parse_laid.specs.Places.{LineRest, Place, Within, AtEnding, line_left}
-use Rattle.text_pieces.specs.declared.piece.Piece.{Piece}
-use Rattle.text_pieces.specs.Pieces.{piece_line}
-use Rattle.parse_lines.specs.declared.walk.Walk.{Walk}
-use Rattle.parse_lines.specs.Content.{AreNext}
-use Rattle.parse_lines.specs.Ends.{IsWrittenToRest, bare_end, written_to}
-use Rattle.parse_lines.specs.Standing.{Standing, StandsAt, around, standing}
-use Rattle.parse_strings.proofs.Spelled.{token_text}
-use Rattle.parse_inline.specs.Texts.{AreMeanings}
-use Rattle.parse_leaves.specs.Atx.{WritesClosing, WritesHeadingText}
-use Rattle.parse_raw.specs.Before.{IsOnLine, WritesOnLine, tokens}
-use Rattle.parse_raw.specs.Calls.{EnterCall, ExitCall, ToCall, TokenCall}
-use Rattle.parse_raw.specs.Written.{SpellsLeaf, WritesLeaf}
 use Rattle.parse_leaves.proofs.AtxLists.{atx_front, atx_on, text_bytes}
 use Rattle.parse_leaves.proofs.AtxParts.{hash_named, hash_within, space_within}
-use Rattle.parse_raw.proofs.OnLine.{around_on, entered_on, next_parts, on_end, on_line_both, some_on, white_ahead}
 use Rattle.parse_leaves.proofs.TextLeaves.{none_alike, open_both}
 use Rattle.parse_leaves.proofs.Underlines.{named_pair, space_named}
 

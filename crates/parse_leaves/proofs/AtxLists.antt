@@ -1,20 +1,13 @@
 -- The text of a heading by `#` among the bytes of its line (CommonMark 4.2).
 use Rattle.std.proofs.Common.{◌≡◌, ℕ, zero, suc, ◌-◌, ◌<◌, Bool, true, false, ◌||◌, ◌&&◌, eqb, leb, if◌then◌else◌, List, [], ◌∷◌, ◌++◌, None, Some, refl, sym, ap, ◌∙◌, inl, inr, length, get_or, replicate, take, drop, arith}
-use Rattle.std.specs.List.{list_any, suffix_len}
+use Rattle.parse_leaves.proofs.Prelude.{append_assoc, AreContentLines, Atx, bare, bytes_of, cases_Bool, cond-false, cond-true, Constructs, ends_line}
+use Rattle.parse_leaves.proofs.Prelude.{HaveNoEnding, heading_atx, is_tab_column, is_white, list_any, number_sign, or_parts, Piece, piece_line, piece_lines}
+use Rattle.parse_leaves.proofs.Prelude.{Rest, run, small_indent, tab_column, take-append-drop, true≢false}
+use Rattle.std.specs.List.{suffix_len}
 use Rattle.std.specs.Prelude.{not}
-use Rattle.std.proofs.lemmas.Bool.{cases_Bool, cond-true, cond-false, or_parts, true≢false}
-use Rattle.std.proofs.lemmas.List.{append_assoc, take-append-drop}
-use Rattle.markdown_options.specs.declared.configuration.Constructs.{Constructs}
-use Rattle.definition_text.specs.Ascii.{number_sign}
-use Rattle.definition_text.specs.Columns.{Rest, bare, bytes_of, is_tab_column, is_white, tab_column, trim}
-use Rattle.definition_text.specs.Indents.{small_indent}
-use Rattle.definition_text.specs.Lines.{ends_line}
-use Rattle.definition_text.specs.Runs.{after_run, run}
-use Rattle.definition_block.specs.HeadingAtx.{Atx, atx, atx_of, begins_apart, ends_apart, heading_atx, without_closing, without_run}
-use Rattle.inline_content.specs.Lines.{AreContentLines}
-use Rattle.text_pieces.specs.declared.piece.Piece.{Piece}
-use Rattle.text_pieces.specs.ParagraphLines.{HaveNoEnding}
-use Rattle.text_pieces.specs.Pieces.{piece_line, piece_lines}
+use Rattle.definition_text.specs.Columns.{trim}
+use Rattle.definition_text.specs.Runs.{after_run}
+use Rattle.definition_block.specs.HeadingAtx.{atx, atx_of, begins_apart, ends_apart, without_closing, without_run}
 use Rattle.parse_leaves.proofs.Starts.{BeginsDark, count_dark, start_dark, white_count}
 
 dark_take : (k : ℕ) (bs : List ℕ) → BeginsDark bs → BeginsDark (take k bs)

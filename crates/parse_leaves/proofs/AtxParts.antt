@@ -1,48 +1,19 @@
 -- The parts of a heading by `#`, as they are written (CommonMark 4.2).
 use Rattle.std.proofs.Common.{◌≡◌, ℕ, ◌+◌, ◌≤◌, false, List, [], ◌∷◌, ◌++◌, Option, None, refl, sym, ap, ◌∙◌, inl, inr, subst, length, length-append, map, replicate, take, drop, arith}
-use Rattle.std.specs.List.{list_any}
-use Rattle.std.proofs.lemmas.Bool.{cases_Bool, cond-true, cond-false, or_parts}
-use Rattle.std.proofs.lemmas.List.{append-nil}
+use Rattle.parse_leaves.proofs.Prelude.{all_on, append, append-nil, AreNext, ArePartsAlike, Around, AtEnding, block_line, cases_Bool, code_byte, cond-false}
+use Rattle.parse_leaves.proofs.Prelude.{cond-true, Constructs, content_text, End, end_at, end_in, ends_line, enter_at, exit_at, indent, inline_content}
+use Rattle.parse_leaves.proofs.Prelude.{is_tab_column, IsOnLine, LineEnding, LineRest, list_any, named, Names, Nil, Node, Nodes, NoInlines, on_line_both, one}
+use Rattle.parse_leaves.proofs.Prelude.{or_parts, own_lines, Piece, piece_line, read_content, read_text, Reading, some_on, Standing, standing, StandsInContent}
+use Rattle.parse_leaves.proofs.Prelude.{Stop, tab_column, text_within, ToCall, TokenCall, tokens, Walk, whole_end, Writes, WritesClosing, WritesContentIn}
+use Rattle.parse_leaves.proofs.Prelude.{WritesHeadingText, WritesOnLine, written_to}
 use Rattle.markdown_options.specs.declared.beside.Kind.TheVariants.{Whitespace}
-use Rattle.markdown_options.specs.declared.configuration.Constructs.{Constructs}
-use Rattle.markdown_options.specs.declared.line_ending.LineEnding.{LineEnding}
 use Rattle.engine_events.specs.declared.event.Name.TheVariants as n
-use Rattle.definition_text.specs.BlockLines.{block_line, own_lines}
-use Rattle.definition_text.specs.Columns.{code_byte, indent, is_tab_column, tab_column}
-use Rattle.definition_text.specs.Content.{content_text}
-use Rattle.definition_text.specs.InlineCode.{inline_content}
-use Rattle.definition_text.specs.Lines.{ends_line}
-use Rattle.definition_inline.specs.CharacterReference.{Names}
 use Rattle.definition_inline.specs.GfmAutolinkLiteral.{linked_literals, with_literals}
-use Rattle.definition_inline.specs.Inline.{Nil as NoInlines}
-use Rattle.definition_page.specs.Read.{Reading, read_text}
-use Rattle.event_grammar.specs.References.{named}
-use Rattle.event_grammar.specs.Trees.{Node, Nodes, Around, Nil}
-use Rattle.event_meaning.specs.Texts.{text_within}
-use Rattle.parse_output.specs.declared.end.End.{End}
-use Rattle.parse_output.specs.Ends.{end_at, enter_at, exit_at}
-use Rattle.parse_output.specs.Forest.{append, one}
-use Rattle.parse_output.specs.Written.{Writes, end_in}
 use Rattle.parse_output.proofs.Written.{writes_none}
-use Rattle.parse_alike.specs.Inline.{ArePartsAlike}
-use Rattle.parse_laid.specs.Places.{LineRest, AtEnding}
-use Rattle.text_pieces.specs.declared.piece.Piece.{Piece}
-use Rattle.text_pieces.specs.Pieces.{piece_line}
-use Rattle.parse_lines.specs.declared.walk.Walk.{Walk}
-use Rattle.parse_lines.specs.Content.{AreNext, BeginsLineHere}
-use Rattle.parse_lines.specs.Ends.{written_to}
-use Rattle.parse_lines.specs.InContent.{StandsInContent, Stop}
-use Rattle.parse_lines.specs.Standing.{Standing, standing}
+use Rattle.parse_lines.specs.Content.{BeginsLineHere}
 use Rattle.parse_lines.proofs.Ahead.{next_after}
 use Rattle.parse_lines.proofs.Parts.{part_begins, same_line}
-use Rattle.parse_strings.proofs.Spelled.{whole_end}
-use Rattle.parse_leaves.specs.Atx.{WritesClosing, WritesHeadingText}
-use Rattle.parse_raw.specs.Before.{IsOnLine, WritesOnLine, tokens}
-use Rattle.parse_raw.specs.Calls.{ToCall, TokenCall}
-use Rattle.parse_leaves.specs.Entered.{WritesContentIn}
-use Rattle.parse_leaves.specs.Texts.{read_content}
 use Rattle.parse_raw.proofs.LineTokens.{after_first}
-use Rattle.parse_raw.proofs.OnLine.{all_on, on_line_both, some_on}
 use Rattle.parse_leaves.proofs.Underlines.{named_pair, space_named}
 
 pub hash_named : (text : List ℕ) (index : ℕ) (front : List ℕ) → named n.Definition (tokens text n.HeadingAtxSequence index front) ≡ []

@@ -1,28 +1,19 @@
 -- A text that may begin with a check (GFM 5.3).
 use Rattle.std.proofs.Common.{◌≡◌, ℕ, zero, suc, ◌+◌, ◌-◌, ◌<◌, arith, Bool, ◌&&◌, if◌then◌else◌, List, [], ◌∷◌, ◌++◌, None, Some, refl, sym, ap, ◌∙◌, inl, inr, subst, get_or, length, take, drop}
-use Rattle.std.specs.List.{prefix_len}
-use Rattle.std.proofs.lemmas.Bool.{cases_Bool, cond-true, cond-false}
-use Rattle.std.proofs.lemmas.List.{drop-drop, length-take-le, take-append-drop}
-use Rattle.markdown_options.specs.declared.configuration.Constructs.{Constructs}
-use Rattle.definition_inline.specs.GfmTaskListItem.{check_at, check_of, check_size}
-use Rattle.definition_inline.specs.Inline.{Inlines, Leaf, TaskCheck}
-use Rattle.definition_inline.specs.Scan.{inlines_from, without_indent}
-use Rattle.definition_page.specs.Read.{Reading, checked_text, context_of}
-use Rattle.definition_text.specs.Columns.{is_white}
-use Rattle.definition_text.specs.Content.{content_codes}
-use Rattle.definition_text.specs.InlineCode.{InlineCode, codes_of}
-use Rattle.event_meaning.specs.Texts.{append as append_inlines, part}
-use Rattle.inline_content.specs.declared.content.Content.{Content}
-use Rattle.inline_content.specs.View.{content_view, view_at}
-use Rattle.inline_content.proofs.Views.{codes_of_view}
-use Rattle.inline_leaves.specs.GfmTaskListItem.{IsAfterCheck}
+use Rattle.parse_leaves.proofs.Prelude.{append_inlines, cases_Bool, check_of, codes_of, codes_of_view, cond-false, cond-true, Constructs, Content}
+use Rattle.parse_leaves.proofs.Prelude.{content_codes, content_view, context_of, drop-drop, Inlines, inlines_from, is_white, IsAfterCheck, IsWhole}
+use Rattle.parse_leaves.proofs.Prelude.{length-take-le, prefix_len, read_content, Reading, StandsInContent, StandsInText, Stop, take-append-drop, view_at}
+use Rattle.parse_leaves.proofs.Prelude.{Walk, without_white, WritesText, WritesWhite}
+use Rattle.definition_inline.specs.GfmTaskListItem.{check_at, check_size}
+use Rattle.definition_inline.specs.Inline.{Leaf, TaskCheck}
+use Rattle.definition_inline.specs.Scan.{without_indent}
+use Rattle.definition_page.specs.Read.{checked_text}
+use Rattle.definition_text.specs.InlineCode.{InlineCode}
+use Rattle.event_meaning.specs.Texts.{part}
 use Rattle.inline_parser.specs.Scanned.{IsPlace}
 use Rattle.inline_parser.proofs.Placed.{place_after}
 use Rattle.inline_parser.proofs.Views.{after_next, codes_left, view_next}
-use Rattle.parse_lines.specs.declared.walk.Walk.{Walk}
-use Rattle.parse_lines.specs.InContent.{IsWhole, StandsInContent, Stop}
-use Rattle.parse_inline.specs.Texts.{StandsInText, WritesText}
-use Rattle.parse_leaves.specs.Texts.{WritesStructure, WritesWhite, read_content, without_white}
+use Rattle.parse_leaves.specs.Texts.{WritesStructure}
 use Rattle.parse_leaves.proofs.Decoded.{bytes_single}
 use Rattle.parse_leaves.proofs.JoinedTexts.{quiet_then, texts_both}
 use Rattle.parse_leaves.proofs.Starts.{start_is, white_count}

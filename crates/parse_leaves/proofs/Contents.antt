@@ -1,23 +1,14 @@
 -- The text of a content is that of its lines (CommonMark 4.8).
 use Rattle.std.proofs.Common.{◌≡◌, ◌<◌, ℕ, Bool, true, false, if◌then◌else◌, List, [], ◌∷◌, None, sym, ap, ◌∙◌, subst, get_or}
-use Rattle.std.specs.Prelude.{◌==◌}
-use Rattle.markdown_options.specs.declared.beside.Kind.{Kind}
+use Rattle.parse_leaves.proofs.Prelude.{AreContentLines, BlockLine, codes_of, codes_of_view, Content, content_codes, content_lines_apart, content_text}
+use Rattle.parse_leaves.proofs.Prelude.{content_view, inline_content, Kind, own_lines, read_content, Reading, Walk, whole_lines, WritesContent, ◌==◌}
 use Rattle.markdown_options.specs.declared.beside.Kind.TheVariants.{Whitespace}
-use Rattle.definition_text.specs.BlockLines.{BlockLine, own_lines}
-use Rattle.definition_text.specs.Content.{content_codes, content_text}
-use Rattle.definition_text.specs.InlineCode.{codes_of, inline_content}
-use Rattle.inline_content.specs.declared.content.Content.{Content}
-use Rattle.text_pieces.specs.Pieces.{whole_lines}
 use Rattle.inline_content.specs.Endings.{without_last}
-use Rattle.inline_content.specs.Lines.{AreContentLines, marks_of}
+use Rattle.inline_content.specs.Lines.{marks_of}
 use Rattle.inline_content.specs.Marks.{kind_at}
-use Rattle.inline_content.specs.View.{content_view}
-use Rattle.inline_content.proofs.Lined.{content_is, content_lines_apart, lines_agree}
-use Rattle.inline_content.proofs.Views.{codes_from, codes_of_view}
+use Rattle.inline_content.proofs.Lined.{content_is, lines_agree}
+use Rattle.inline_content.proofs.Views.{codes_from}
 use Rattle.inline_content.proofs.WholeLines.{whole_content_is, whole_view}
-use Rattle.definition_page.specs.Read.{Reading}
-use Rattle.parse_lines.specs.declared.walk.Walk.{Walk}
-use Rattle.parse_leaves.specs.Texts.{WritesContent, read_content}
 use Rattle.parse_leaves.proofs.Decoded.{AreSingle, bytes_single, content_single, same_bytes}
 
 -- a content that stands for lines has their text

@@ -1,17 +1,11 @@
 -- The bytes of a content are told by its codes (CommonMark 2.1).
 use Rattle.std.proofs.Common.{◌≡◌, ℕ, suc, ◌<◌, false, eqb, ◌||◌, if◌then◌else◌, List, [], ◌∷◌, ◌++◌, Option, None, Some, refl, sym, ap, ◌∙◌, inl, inr, get_or, map, arith}
-use Rattle.std.specs.List.{flat_map}
-use Rattle.std.proofs.lemmas.Bool.{cases_Bool, cond-true, cond-false, eqb-true, ne_eqb, or_parts}
-use Rattle.std.proofs.lemmas.List.Concat.{flat_map-cons}
-use Rattle.markdown_options.specs.declared.line_ending.LineEnding.{LineEnding}
+use Rattle.parse_leaves.proofs.Prelude.{after_return_code, AreContentLines, AreLines, block_line, BlockLine, cases_Bool, code_byte, cond-false, cond-true}
+use Rattle.parse_leaves.proofs.Prelude.{content_codes, content_text, ending_text, eqb-true, flat_map, flat_map-cons, HaveNoEnding, is_eol, line_text}
+use Rattle.parse_leaves.proofs.Prelude.{LineEnding, ne_eqb, or_parts}
 use Rattle.markdown_options.specs.declared.line_ending.LineEnding.TheVariants.{CarriageReturnLineFeed, CarriageReturn, LineFeed}
 use Rattle.definition_text.specs.Ascii.{carriage_return, line_feed}
-use Rattle.definition_text.specs.BlockLines.{BlockLine, block_line}
-use Rattle.definition_text.specs.Columns.{code_byte}
-use Rattle.definition_text.specs.Content.{is_eol, return_and_feed, after_return_code, content_codes, content_text, line_text}
-use Rattle.definition_text.specs.Lines.{ending_text}
-use Rattle.text_pieces.specs.ParagraphLines.{HaveNoEnding, AreLines}
-use Rattle.inline_content.specs.Lines.{AreContentLines}
+use Rattle.definition_text.specs.Content.{return_and_feed}
 
 -- the bytes of a code of a content
 abbrev pub code_bytes : ℕ → List ℕ

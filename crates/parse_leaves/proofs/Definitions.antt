@@ -1,26 +1,25 @@
 -- What is written of a link reference definition, step by step (CommonMark 4.7).
 use Rattle.std.proofs.Common.{◌≡◌, ℕ, zero, suc, ◌+◌, ◌-◌, ◌<◌, ◌≤◌, Bool, true, false, eqb, List, [], ◌∷◌, ◌++◌, Option, None, Some, inl, inr, refl, sym, ap, ap₂, ◌∙◌, subst}
 use Rattle.std.proofs.Common.{drop, length, length-append, map, take, arith}
-use Rattle.std.specs.List.{list_any}
+use Rattle.parse_leaves.proofs.Prelude.{append, append-nil, AreBytes, AreDefinitionsAlike, AreLines, AreMeanings, AreNext, AreTaken, around, Around, AtEnding}
+use Rattle.parse_leaves.proofs.Prelude.{BeginsContent, Between, BlockLine, cases_Bool, code_byte, cond-false, cond-true, Constructs, Container, content_codes}
+use Rattle.parse_leaves.proofs.Prelude.{content_done, content_from, content_of, content_text, cut_one, definition_of, definition_on, definition_value, End}
+use Rattle.parse_leaves.proofs.Prelude.{end_after, end_at, end_in, ending_text, ends_line, enter_at, EntersInLine, exit_at, HasSameOpen, HaveNoEnding}
+use Rattle.parse_leaves.proofs.Prelude.{is_blank, is_eol, is_white, IsInOrder, IsLeafLaid, IsRestLine, IsTextLine, IsWhole, IsWrittenToRest, kids_in}
+use Rattle.parse_leaves.proofs.Prelude.{length-drop, length-take-le, line_in_content, line_left, LineEnding, LineRest, list_any, Meaning, named, Names, ne_eqb}
+use Rattle.parse_leaves.proofs.Prelude.{Node, Nodes, none-some, one, or_parts, own_lines, Place, Prefixed, Reading, rest_line, same_name, Single, spaced_line}
+use Rattle.parse_leaves.proofs.Prelude.{SpellsLeaf, standing, Standing, StandsAt, StandsInContent, StandsInLine, Stop, take-append-drop, text_stop, true≢false}
+use Rattle.parse_leaves.proofs.Prelude.{void_nodes, Walk, Within, Writes, writes_around, writes_both, WritesInLine, WritesRow}
 use Rattle.std.specs.Option.{option_map, option_or}
 use Rattle.std.specs.Str.{IsCharBoundary, IsUtf8}
-use Rattle.std.proofs.lemmas.Bool.{cases_Bool, cond-false, cond-true, eqb-false, ne_eqb, or_parts, true≢false}
-use Rattle.std.proofs.lemmas.List.{append-nil, length-drop, length-take-le, take-append-drop}
-use Rattle.std.proofs.lemmas.Option.{none-some}
+use Rattle.std.proofs.lemmas.Bool.{eqb-false}
 use Rattle.std.proofs.lemmas.Str.{IsCharBoundary-start}
 use Rattle.markdown_options.specs.LineEndings.{ending_bytes}
-use Rattle.markdown_options.specs.declared.configuration.Constructs.{Constructs}
-use Rattle.markdown_options.specs.declared.line_ending.LineEnding.{LineEnding}
 use Rattle.markdown_options.specs.declared.line_ending.LineEnding.TheVariants.{CarriageReturnLineFeed, CarriageReturn, LineFeed}
-use Rattle.engine_events.specs.Names.{same_name}
 use Rattle.engine_events.specs.declared.event.Name.TheVariants as n
-use Rattle.definition_text.specs.BlockLines.{BlockLine, own_lines, spaced_line}
-use Rattle.definition_text.specs.Columns.{Code, code_byte, is_blank, is_white}
-use Rattle.definition_text.specs.Content.{Part, content_codes, content_of, content_text, is_eol, line_ending_code}
-use Rattle.definition_text.specs.Lines.{ends_line, ending_text}
-use Rattle.definition_block.specs.Container.{Container}
-use Rattle.definition_block.specs.Tree.{Definition as DefinitionLeaf, rest_line}
-use Rattle.definition_inline.specs.CharacterReference.{Names}
+use Rattle.definition_text.specs.Columns.{Code}
+use Rattle.definition_text.specs.Content.{Part, line_ending_code}
+use Rattle.definition_block.specs.Tree.{Definition as DefinitionLeaf}
 use Rattle.definition_inline.specs.Definition.{Definition, definition, definition_at, definition_with_title, definition_without_title, next_line, next_line_after}
 use Rattle.definition_inline.specs.Destination.{destination_at}
 use Rattle.definition_inline.specs.Label.{label_at}
@@ -28,56 +27,30 @@ use Rattle.definition_inline.specs.Parts.{after_code, after_part}
 use Rattle.definition_inline.specs.Space.{after_spaces, after_white}
 use Rattle.definition_inline.specs.Strings.{string_text}
 use Rattle.definition_inline.proofs.LinkRenaming.{code_byte-renames, definition_renamed, renamed_definition}
-use Rattle.definition_page.specs.InlinePieces.{Meaning}
 use Rattle.definition_page.specs.Page as page
-use Rattle.definition_page.specs.Read.{Reading}
-use Rattle.block_rows.specs.Rows.{Single, definition_on, definition_value}
-use Rattle.event_grammar.specs.References.{label_text, named}
-use Rattle.event_grammar.specs.Trees.{Node, Nodes, Around}
+use Rattle.event_grammar.specs.References.{label_text}
 use Rattle.event_meaning.specs.Blocks.{label_of}
-use Rattle.event_meaning.specs.Children.{kids_in}
-use Rattle.event_meaning.specs.Spelled.{definition_of}
 use Rattle.event_meaning.specs.Strings.{string_of, written}
-use Rattle.parse_output.specs.declared.end.End.{End}
-use Rattle.parse_output.specs.Ends.{end_at, enter_at, exit_at}
-use Rattle.parse_output.specs.Forest.{append, one, void_nodes}
-use Rattle.parse_output.specs.Written.{IsInOrder, Writes, end_in}
-use Rattle.parse_output.proofs.Written.{writes_around, writes_both}
 use Rattle.inline_leaves.proofs.Codes.{after_codes, boundary_after_byte, plain_code}
 use Rattle.inline_links.proofs.Splits.{from_some}
-use Rattle.inline_links.proofs.Texts.{AreBytes}
-use Rattle.text_pieces.specs.ParagraphLines.{AreLines, HaveNoEnding}
 use Rattle.parse_alike.specs.Strings.{HaveTextsOfBytes, IsOfBytes, rewritten, rewritten_title}
-use Rattle.parse_alike.specs.Targets.{AreDefinitionsAlike, AreLabelsAlike, IsDefinitionAlike, title_text}
+use Rattle.parse_alike.specs.Targets.{AreLabelsAlike, IsDefinitionAlike, title_text}
 use Rattle.parse_alike.proofs.LabelMatch.{same_words_are_alike}
 use Rattle.parse_alike.proofs.Strings.{written_strings_are_alike}
 use Rattle.parse_laid.specs.Laid.{IsWrittenLaid}
-use Rattle.parse_laid.specs.Leaves.{AreTaken, IsLeafLaid, IsTextLine}
-use Rattle.parse_laid.specs.Places.{LineRest, Place, Prefixed, AtEnding, Between, Within, line_left}
-use Rattle.parse_lines.specs.declared.walk.Walk.{Walk}
-use Rattle.parse_lines.specs.Content.{AreNext, EntersInLine, ExitsInLine, StandsInLine, WritesInLine, end_after}
-use Rattle.parse_lines.specs.Ends.{IsWrittenToRest}
-use Rattle.parse_lines.specs.InContent.{BeginsContent, IsRestLine, IsWhole, StandsInContent, Stop, content_from}
-use Rattle.parse_lines.specs.Standing.{Standing, StandsAt, around, standing}
-use Rattle.parse_lines.specs.Steps.{HasSameOpen}
+use Rattle.parse_lines.specs.Content.{ExitsInLine}
 use Rattle.parse_lines.proofs.Ahead.{after_bytes, owes}
-use Rattle.parse_lines.proofs.ContentLines.{content_done}
-use Rattle.parse_lines.proofs.InContent.{line_exits, line_in_content, no_more}
+use Rattle.parse_lines.proofs.InContent.{line_exits, no_more}
 use Rattle.parse_strings.proofs.Texts.{white_last}
-use Rattle.parse_inline.specs.Texts.{AreMeanings}
 use Rattle.parse_links.specs.Definition.{IsDefinition, SpellsDefinition, WritesParts, place_of}
 use Rattle.parse_links.specs.Tails.{title_string}
 use Rattle.parse_leaves.specs.Definition.{IsOnOneLine, WritesDefinition, WritesReadDefinition}
-use Rattle.parse_leaves.specs.Entered.{text_stop}
-use Rattle.parse_leaves.specs.Rows.{WritesRow}
-use Rattle.parse_raw.specs.Written.{SpellsLeaf}
 use Rattle.parse_leaves.proofs.Entered.{white_entered}
 use Rattle.parse_leaves.proofs.Indents.{void_quiet, whole_start}
 use Rattle.parse_leaves.proofs.Lines.{text_begins, text_stops}
 use Rattle.parse_leaves.proofs.Starts.{BeginsDark, count_dark, count_white, start_dark, white_count, white_fits}
 use Rattle.parse_leaves.proofs.TakenLines.{lines_after, taken_codes, text_lines}
 use Rattle.parse_leaves.proofs.TextLeaves.{open_both, same_content}
-use Rattle.parse_raw.proofs.LeafNodes.{cut_one}
 
 -- ---- what a node spells
 

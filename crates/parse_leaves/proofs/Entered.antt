@@ -1,32 +1,13 @@
 -- An event that holds a text is entered after the white space at the start of its content.
 use Rattle.std.proofs.Common.{◌≡◌, ℕ, suc, ◌+◌, ◌<◌, ◌≤◌, false, List, [], ◌∷◌, ◌++◌, Option, refl, sym, ap, ◌∙◌, inl, inr, subst, length, map, take, drop, arith}
-use Rattle.std.proofs.lemmas.Bool.{cases_Bool}
-use Rattle.std.proofs.lemmas.List.{length-take-le, take-append-drop}
-use Rattle.engine_events.specs.Names.{same_name}
-use Rattle.engine_events.specs.declared.event.Name.{Name}
+use Rattle.parse_leaves.proofs.Prelude.{AreNext, AreTaken, around, BeginsContent, Between, block_codes, BlockLine, cases_Bool, code_byte, content_from}
+use Rattle.parse_leaves.proofs.Prelude.{content_text, End, end_after, end_at, end_in, ending_text, EntersAt, EntersInLine, Follows, is_white, IsInOrder}
+use Rattle.parse_leaves.proofs.Prelude.{IsRestLine, IsWrittenToRest, length-take-le, line_enters, line_in_content, LineEnding, LineRest, Name, rest_line}
+use Rattle.parse_leaves.proofs.Prelude.{rest_of, same_name, Standing, standing, StandsAt, StandsInContent, StandsInLine, Stop, take-append-drop, text_stop}
+use Rattle.parse_leaves.proofs.Prelude.{void_nodes, Walk, Within, Writes, WritesInLine}
 use Rattle.engine_events.specs.declared.event.Name.TheVariants.{BlockQuotePrefix, SpaceOrTab}
-use Rattle.markdown_options.specs.declared.line_ending.LineEnding.{LineEnding}
-use Rattle.definition_text.specs.BlockLines.{BlockLine}
-use Rattle.definition_text.specs.Columns.{block_codes, code_byte, is_white}
-use Rattle.definition_text.specs.Content.{content_text}
-use Rattle.definition_text.specs.Lines.{ending_text}
-use Rattle.definition_block.specs.Tree.{rest_line}
-use Rattle.block_starts.specs.View.{rest_of}
-use Rattle.parse_output.specs.declared.end.End.{End}
 use Rattle.parse_output.specs.declared.output.Output.{Output}
-use Rattle.parse_output.specs.Ends.{Follows, end_at}
-use Rattle.parse_output.specs.Forest.{void_nodes}
-use Rattle.parse_output.specs.Written.{IsInOrder, Writes, end_in}
-use Rattle.parse_laid.specs.Leaves.{AreTaken}
-use Rattle.parse_laid.specs.Places.{LineRest, Between, Within}
-use Rattle.parse_lines.specs.declared.walk.Walk.{Walk}
-use Rattle.parse_lines.specs.Content.{AreNext, EntersInLine, StandsInLine, WritesInLine, end_after}
-use Rattle.parse_lines.specs.Ends.{IsWrittenToRest}
-use Rattle.parse_lines.specs.InContent.{BeginsContent, IsRestLine, StandsInContent, Stop, content_from}
-use Rattle.parse_lines.specs.Standing.{Standing, StandsAt, around, standing}
 use Rattle.parse_lines.proofs.Ahead.{follows_after}
-use Rattle.parse_lines.proofs.InContent.{line_enters, line_in_content}
-use Rattle.parse_leaves.specs.Entered.{EntersAt, text_stop}
 use Rattle.parse_leaves.proofs.Indents.{void_quiet}
 use Rattle.parse_leaves.proofs.Lines.{lines_ahead}
 use Rattle.parse_leaves.proofs.Starts.{count_dark, count_white, white_count, white_fits, white_in_line}

@@ -1,19 +1,8 @@
 -- The line that is begun tells which kind a heading is of (CommonMark 4.2 and 4.3).
 use Rattle.std.proofs.Common.{◌≡◌, ℕ, ◌<◌, false, List, [], ◌∷◌, None, Some, inl, inr, refl, sym, ap, ◌∙◌, subst, arith, get_or, length}
-use Rattle.std.proofs.lemmas.List.{length-map}
-use Rattle.std.proofs.lemmas.Option.{none-some}
-use Rattle.definition_text.specs.BlockLines.{BlockLine, own_lines}
-use Rattle.definition_block.specs.HeadingAtx.{Atx, heading_atx}
-use Rattle.definition_block.specs.Tree.{Heading}
-use Rattle.definition_page.specs.Read.{Reading}
-use Rattle.text_pieces.specs.declared.piece.Piece.{Piece}
-use Rattle.text_pieces.specs.Pieces.{piece_line, piece_lines}
-use Rattle.block_starts.specs.View.{rest_of}
-use Rattle.parse_laid.specs.Places.{LineRest, Within, line_left}
+use Rattle.parse_leaves.proofs.Prelude.{around, Atx, BlockLine, Heading, heading_atx, length-map, line_left, LineRest, none-some, own_lines, Piece, piece_line}
+use Rattle.parse_leaves.proofs.Prelude.{piece_lines, Reading, rest_of, standing, Walk, Within, WritesReadLeaf}
 use Rattle.parse_laid.proofs.HeadingSetext.{no_text}
-use Rattle.parse_lines.specs.declared.walk.Walk.{Walk}
-use Rattle.parse_lines.specs.Standing.{around, standing}
-use Rattle.parse_raw.specs.Reads.{WritesReadLeaf}
 use Rattle.parse_leaves.specs.Headings.{WritesAtxHeading, WritesSetextHeading}
 use Rattle.parse_leaves.proofs.RowLeaves.{own_size}
 

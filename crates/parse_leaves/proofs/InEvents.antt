@@ -1,25 +1,9 @@
 -- A text in an event of its own.
 use Rattle.std.proofs.Common.{◌≡◌, ℕ, false, List, sym, ap, ◌∙◌, subst, drop, ◌≤◌, ◌+◌}
-use Rattle.std.specs.List.{prefix_len}
-use Rattle.engine_events.specs.Names.{same_name}
-use Rattle.engine_events.specs.declared.event.Name.{Name}
+use Rattle.parse_leaves.proofs.Prelude.{content_done, cut_one, End, end_in, EntersInLine, Exits, Inlines, is_white, IsInOrder, line_enters, Name, prefix_len}
+use Rattle.parse_leaves.proofs.Prelude.{Reading, same_name, Standing, standing, StandsAt, StandsInContent, StandsInLine, Walk, Writes, writes_around}
+use Rattle.parse_leaves.proofs.Prelude.{WritesContent, WritesContentIn, written_to}
 use Rattle.engine_events.specs.declared.event.Name.TheVariants as n
-use Rattle.definition_inline.specs.Inline.{Inlines}
-use Rattle.definition_page.specs.Read.{Reading}
-use Rattle.definition_text.specs.Columns.{is_white}
-use Rattle.parse_output.specs.declared.end.End.{End}
-use Rattle.parse_output.specs.Written.{Exits, IsInOrder, Writes, end_in}
-use Rattle.parse_output.proofs.Written.{writes_around}
-use Rattle.parse_lines.specs.declared.walk.Walk.{Walk}
-use Rattle.parse_lines.specs.Content.{EntersInLine, StandsInLine}
-use Rattle.parse_lines.specs.Ends.{written_to}
-use Rattle.parse_lines.specs.InContent.{StandsInContent}
-use Rattle.parse_lines.specs.Standing.{Standing, StandsAt, standing}
-use Rattle.parse_lines.proofs.ContentLines.{content_done}
-use Rattle.parse_lines.proofs.InContent.{line_enters}
-use Rattle.parse_leaves.specs.Entered.{WritesContentIn}
-use Rattle.parse_leaves.specs.Texts.{WritesContent}
-use Rattle.parse_raw.proofs.LeafNodes.{cut_one}
 
 pub text_in_event : {A : Type 0} (r : Reading) (name : Name) (content : List ℕ) (is : Inlines) (old b c new : Walk A) → same_name name n.Data ≡ false
     → standing b ≡ standing old → ((text line : List ℕ) → StandsInLine text line old → EntersInLine text name line old b)

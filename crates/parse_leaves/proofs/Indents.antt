@@ -1,24 +1,12 @@
 -- White space at the start of a content, as it is written (CommonMark 4.8).
 use Rattle.std.proofs.Common.{◌≡◌, ℕ, zero, suc, ◌-◌, ◌≤◌, Bool, true, false, if◌then◌else◌, List, [], ◌∷◌, ◌++◌, Option, refl, sym, ap, ◌∙◌, inl, subst, length, take, drop, arith}
-use Rattle.std.proofs.lemmas.Bool.{true≢false}
-use Rattle.std.proofs.lemmas.List.{length-drop, length-take-le}
-use Rattle.markdown_options.specs.declared.line_ending.LineEnding.{LineEnding}
-use Rattle.engine_events.specs.Names.{same_name}
+use Rattle.parse_leaves.proofs.Prelude.{AreNext, AreQuiet, Around, BlockLine, content_from, End, end_after, end_in, enter_at, exit_at, is_white, IsWhole}
+use Rattle.parse_leaves.proofs.Prelude.{length-drop, length-take-le, line_in_content, LineEnding, Nil, same_name, standing, StandsInContent, StandsInLine}
+use Rattle.parse_leaves.proofs.Prelude.{Stop, true≢false, void_nodes, Walk, without_white, WritesInLine, WritesWhite}
 use Rattle.engine_events.specs.declared.event.Name.TheVariants.{BlockQuotePrefix, SpaceOrTab}
-use Rattle.definition_text.specs.BlockLines.{BlockLine}
-use Rattle.definition_text.specs.Columns.{is_white}
-use Rattle.event_grammar.specs.Trees.{Around, Nil}
-use Rattle.parse_output.specs.declared.end.End.{End}
-use Rattle.parse_output.specs.Ends.{enter_at, exit_at, same_end}
-use Rattle.parse_output.specs.Forest.{cut, void_nodes}
-use Rattle.parse_output.specs.Written.{end_in}
-use Rattle.parse_lines.specs.declared.walk.Walk.{Walk}
-use Rattle.parse_lines.specs.Content.{AreNext, IsNext, StandsInLine, WritesInLine, end_after}
-use Rattle.parse_lines.specs.InContent.{IsWhole, StandsInContent, Stop, content_from}
-use Rattle.parse_lines.specs.Quiet.{AreQuiet}
-use Rattle.parse_lines.specs.Standing.{standing}
-use Rattle.parse_lines.proofs.InContent.{line_in_content}
-use Rattle.parse_leaves.specs.Texts.{WritesWhite, without_white}
+use Rattle.parse_output.specs.Ends.{same_end}
+use Rattle.parse_output.specs.Forest.{cut}
+use Rattle.parse_lines.specs.Content.{IsNext}
 use Rattle.parse_leaves.proofs.Starts.{BeginsDark, start_dark, white_count, white_fits, white_in_line, white_parts}
 
 pub void_quiet : (text : List ℕ) (from to : End) → AreQuiet (void_nodes text SpaceOrTab from to)

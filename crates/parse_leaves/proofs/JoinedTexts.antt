@@ -1,19 +1,10 @@
 -- Texts that are written one after another (CommonMark 6).
 use Rattle.std.proofs.Common.{ℕ, false, List, [], ◌++◌, sym, subst}
-use Rattle.std.proofs.lemmas.List.{append-nil}
-use Rattle.markdown_options.specs.declared.configuration.Constructs.{Constructs}
-use Rattle.definition_inline.specs.CharacterReference.{Names}
-use Rattle.definition_inline.specs.Inline.{Inlines}
-use Rattle.event_grammar.specs.Trees.{Nodes}
-use Rattle.event_meaning.specs.Texts.{append as append_inlines, inlines_of}
-use Rattle.parse_output.specs.Forest.{append}
-use Rattle.parse_lines.specs.declared.walk.Walk.{Walk}
-use Rattle.parse_lines.specs.InContent.{Stop, WritesInContent}
-use Rattle.parse_lines.specs.Quiet.{AreQuiet}
+use Rattle.parse_leaves.proofs.Prelude.{append, append-nil, append_inlines, ArePartsAlike, AreQuiet, Constructs, Inlines, inlines_of, Names, Nodes, Stop, Walk}
+use Rattle.parse_leaves.proofs.Prelude.{WritesText}
+use Rattle.parse_lines.specs.InContent.{WritesInContent}
 use Rattle.parse_lines.proofs.InContent.{contents_both}
 use Rattle.parse_strings.proofs.PlainNodes.{plain_both, plain_quiet}
-use Rattle.parse_inline.specs.Texts.{WritesText}
-use Rattle.parse_alike.specs.Inline.{ArePartsAlike}
 use Rattle.parse_alike.proofs.Composed.{alike_parts_compose}
 use Rattle.parse_leaves.proofs.Spelled.{after_quiet, inlines_append}
 

@@ -1,3 +1,4 @@
+mod Prelude
 pub mod Decoded
 pub mod Starts
 pub mod Lines

@@ -1,20 +1,11 @@
 -- The lines of a text, as the content of a walk (CommonMark 4.8).
 use Rattle.std.proofs.Common.{◌≡◌, ◌<◌, List, [], ◌∷◌, ◌++◌, sym, ap, ◌∙◌, subst, length, map, arith}
-use Rattle.std.proofs.lemmas.List.{append-nil, append_assoc}
-use Rattle.std.proofs.lemmas.List.Concat.{flat_map-cons}
-use Rattle.markdown_options.specs.declared.configuration.Constructs.{Constructs}
-use Rattle.definition_text.specs.BlockLines.{BlockLine, last_ending, last_ending_or, own_lines}
-use Rattle.definition_text.specs.Columns.{code_byte}
-use Rattle.definition_text.specs.Content.{content_text, line_text}
-use Rattle.definition_text.specs.Lines.{ending_text}
-use Rattle.definition_block.specs.Container.{Container}
-use Rattle.definition_block.specs.Tree.{rest_line}
-use Rattle.parse_laid.specs.Places.{LineRest, Place, Between, Within, AtEnding, Prefixed, line_left}
-use Rattle.parse_laid.specs.Leaves.{AreTaken, IsTextLine, EndsAt}
+use Rattle.parse_leaves.proofs.Prelude.{append-nil, append_assoc, AreContentLines, AreLines, AreTaken, AtEnding, Between, BlockLine, code_byte, Constructs}
+use Rattle.parse_leaves.proofs.Prelude.{Container, content_from, content_text, ending_text, flat_map-cons, IsRestLine, IsTextLine, last_ending, line_left}
+use Rattle.parse_leaves.proofs.Prelude.{line_text, LineRest, own_lines, Place, Prefixed, rest_line, Within}
+use Rattle.definition_text.specs.BlockLines.{last_ending_or}
+use Rattle.parse_laid.specs.Leaves.{EndsAt}
 use Rattle.parse_laid.proofs.Taken.{after_taken, each_taken}
-use Rattle.text_pieces.specs.ParagraphLines.{AreLines}
-use Rattle.inline_content.specs.Lines.{AreContentLines}
-use Rattle.parse_lines.specs.InContent.{IsRestLine, content_from}
 
 -- the content of lines is what is ahead from their first one on
 pub lines_ahead : (first : BlockLine) (others : List BlockLine)

@@ -2,26 +2,18 @@
 use Rattle.std.proofs.Common.{◌≡◌, ℕ, zero, suc, ◌+◌, ◌<◌, Bool, true, false, List, [], ◌∷◌, ◌++◌, refl, sym, ap, ◌∙◌, subst, arith, drop, take, length, length-drop, get_or}
 use Rattle.std.specs.Prelude.{replicate}
 use Rattle.std.proofs.lemmas.Bool.Decides.{nat_tests}
-use Rattle.std.proofs.lemmas.Bool.{cond-true}
-use Rattle.std.proofs.lemmas.List.{length-map}
-use Rattle.definition_text.specs.BlockLines.{BlockLine, own_lines}
-use Rattle.definition_text.specs.Columns.{bytes_of, is_byte, tab_column}
-use Rattle.definition_text.specs.Lines.{lines}
-use Rattle.definition_block.specs.Tree.{Break, FencedCode, Heading, Html, IndentedCode, Paragraph}
-use Rattle.definition_page.specs.Read.{Reading}
+use Rattle.parse_leaves.proofs.Prelude.{AreContentLines, AreLines, BlockLine, bytes_of, cond-true, definition_on, definition_value, Heading, length-map, lines}
+use Rattle.parse_leaves.proofs.Prelude.{own_lines, Paragraph, Piece, piece_lines, Reading, Single, tab_column, Walk, whole_lines, WritesReadLeaf, WritesRow}
+use Rattle.definition_text.specs.Columns.{is_byte}
+use Rattle.definition_block.specs.Tree.{Break, FencedCode, Html, IndentedCode}
 use Rattle.block_rows.specs.declared.row.Row.{Row}
 use Rattle.block_rows.specs.declared.row.Row.TheVariants as row
-use Rattle.block_rows.specs.Rows.{Single, definition_on, definition_value, first_codes, row_size, row_value}
-use Rattle.text_pieces.specs.declared.piece.Piece.{Piece}
-use Rattle.text_pieces.specs.ParagraphLines.{AreLines}
-use Rattle.text_pieces.specs.Pieces.{piece_lines, whole_line, whole_lines}
-use Rattle.inline_content.specs.Lines.{AreContentLines}
+use Rattle.block_rows.specs.Rows.{first_codes, row_size, row_value}
+use Rattle.text_pieces.specs.Pieces.{whole_line}
 use Rattle.text_lines.proofs.Codes.{no_bytes}
-use Rattle.parse_lines.specs.declared.walk.Walk.{Walk}
 use Rattle.parse_lines.proofs.Columns.{tail_bytes}
 use Rattle.parse_raw.specs.Laid.{WritesReadUnclosed}
-use Rattle.parse_raw.specs.Reads.{WritesReadLeaf}
-use Rattle.parse_leaves.specs.Rows.{AreLinesOf, WritesRow}
+use Rattle.parse_leaves.specs.Rows.{AreLinesOf}
 
 -- all lines of a row
 pub all_taken : (ls : List BlockLine) (count : ℕ) → length ls ≡ count → take count ls ≡ ls

@@ -1,56 +1,28 @@
 -- A heading with an underline, as it is written (CommonMark 4.3).
 use Rattle.std.proofs.Common.{◌≡◌, ℕ, suc, ◌+◌, ◌<◌, Bool, true, false, ◌&&◌, eqb, if◌then◌else◌, leb, List, [], ◌∷◌, ◌++◌, Option, None, Some, refl, sym, ap, ◌∙◌, inl, inr, subst, length, get_or, drop, reverse, arith}
-use Rattle.std.specs.List.{list_all, prefix_len}
-use Rattle.std.proofs.lemmas.Bool.{cases_Bool, cond-true, cond-false, eqb-true, true≢false}
-use Rattle.markdown_options.specs.declared.configuration.Constructs.{Constructs}
+use Rattle.parse_leaves.proofs.Prelude.{append, AreMeanings, ArePartsAlike, ArePlain, AreQuiet, around, Around, AtEnding, bare, Between, BlockLine, bytes_of}
+use Rattle.parse_leaves.proofs.Prelude.{cases_Bool, cond-false, cond-true, Cons, Constructs, Container, content_text, cut_one, End, end_at, end_in, enter_at}
+use Rattle.parse_leaves.proofs.Prelude.{EntersAt, EntersText, eqb-true, exit_at, Exits, Follows, HasSameOpen, inline_content, Inlines, inlines_of, is_white}
+use Rattle.parse_leaves.proofs.Prelude.{IsInOrder, IsQuiet, IsWrittenToRest, kids_in, last_ending, line_left, LineEnding, LineRest, Meaning, named, named_both}
+use Rattle.parse_leaves.proofs.Prelude.{Names, Nil, Node, node_name, Nodes, one, own_lines, Place, prefix_len, prefixed, read_content, read_text, Reading}
+use Rattle.parse_leaves.proofs.Prelude.{Rest, same_name, small_indent, SpellsLeaf, standing, Standing, StandsAt, Stop, text_in, true≢false, void_nodes, Walk}
+use Rattle.parse_leaves.proofs.Prelude.{whole_end, Within, Writes, writes_around, writes_both, WritesContentIn, WritesLeaf, WritesUnderline, written_to}
+use Rattle.std.specs.List.{list_all}
 use Rattle.markdown_options.specs.declared.beside.Kind.TheVariants.{Whitespace}
-use Rattle.markdown_options.specs.declared.line_ending.LineEnding.{LineEnding}
-use Rattle.engine_events.specs.Names.{same_name}
 use Rattle.engine_events.specs.declared.event.Name.TheVariants as n
-use Rattle.definition_text.specs.BlockLines.{BlockLine, last_ending, own_lines}
-use Rattle.definition_text.specs.Columns.{Rest, bare, bytes_of, is_white}
-use Rattle.definition_text.specs.Content.{content_text}
-use Rattle.definition_text.specs.Indents.{small_indent}
-use Rattle.definition_text.specs.InlineCode.{inline_content}
 use Rattle.definition_text.specs.Runs.{is_run}
-use Rattle.definition_block.specs.Container.{Container}
 use Rattle.definition_block.specs.HeadingSetext.{underline, underline_of}
-use Rattle.definition_inline.specs.CharacterReference.{Names}
-use Rattle.definition_inline.specs.Inline.{Inlines}
-use Rattle.definition_page.specs.InlinePieces.{Meaning}
 use Rattle.definition_page.specs.Page as page
-use Rattle.definition_page.specs.Read.{Reading, read_text}
-use Rattle.event_grammar.specs.InGrammar.{kids_of, node_name}
-use Rattle.event_grammar.specs.References.{named}
-use Rattle.event_grammar.specs.Trees.{Node, Nodes, Around, Nil, Cons}
+use Rattle.event_grammar.specs.InGrammar.{kids_of}
 use Rattle.event_meaning.specs.Blocks.{underline_rank}
-use Rattle.event_meaning.specs.Children.{child, inside_of, kids_in, text_in}
-use Rattle.event_meaning.specs.Texts.{inlines_of}
-use Rattle.parse_output.specs.declared.end.End.{End}
-use Rattle.parse_output.specs.Ends.{Follows, end_at, enter_at, exit_at}
-use Rattle.parse_output.specs.Forest.{append, one, void_nodes}
-use Rattle.parse_output.specs.Written.{Exits, IsInOrder, Writes, end_in}
-use Rattle.parse_output.proofs.Written.{writes_around, writes_both}
-use Rattle.parse_alike.specs.Inline.{ArePartsAlike}
+use Rattle.event_meaning.specs.Children.{child, inside_of}
 use Rattle.parse_laid.specs.Leaves.{IsSetextLaid}
-use Rattle.parse_laid.specs.Places.{LineRest, Place, Between, Within, AtEnding, InAll, IsOn, line_left, prefixed}
-use Rattle.parse_lines.specs.declared.walk.Walk.{Walk}
-use Rattle.parse_lines.specs.Ends.{IsWrittenToRest, WritesNextLine, line_after, written_to}
-use Rattle.parse_lines.specs.InContent.{Stop}
-use Rattle.parse_lines.specs.Quiet.{AreQuiet, IsQuiet}
-use Rattle.parse_lines.specs.Standing.{Standing, StandsAt, around, standing}
-use Rattle.parse_lines.specs.Steps.{HasSameOpen, PassesLine}
+use Rattle.parse_laid.specs.Places.{InAll, IsOn}
+use Rattle.parse_lines.specs.Ends.{WritesNextLine, line_after}
+use Rattle.parse_lines.specs.Steps.{PassesLine}
 use Rattle.parse_lines.proofs.Ends.{end_to_next}
-use Rattle.parse_strings.specs.Plain.{ArePlain}
-use Rattle.parse_strings.proofs.PlainNodes.{named_both}
-use Rattle.parse_strings.proofs.Spelled.{whole_end}
-use Rattle.parse_inline.specs.Texts.{AreMeanings}
-use Rattle.parse_leaves.specs.Entered.{EntersAt, EntersText, WritesContentIn, WritesUnderline}
-use Rattle.parse_leaves.specs.Texts.{read_content}
-use Rattle.parse_raw.specs.Written.{SpellsLeaf, WritesLeaf}
 use Rattle.parse_raw.proofs.Nodes.{child_append, quiet_definitions, void_cases}
 use Rattle.parse_leaves.proofs.TextLeaves.{enters_lines, none_alike, open_both}
-use Rattle.parse_raw.proofs.LeafNodes.{cut_one}
 
 -- ---- the rank
 

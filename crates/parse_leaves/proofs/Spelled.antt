@@ -1,16 +1,11 @@
 -- What nodes of a text spell, one after another (CommonMark 6).
 use Rattle.std.proofs.Common.{◌≡◌, ℕ, Bool, ◌||◌, List, refl, sym, ap, ◌∙◌, inl, inr, ◌⊎◌}
-use Rattle.engine_events.specs.Names.{same_name}
-use Rattle.engine_events.specs.declared.event.Name.{Name}
+use Rattle.parse_leaves.proofs.Prelude.{append, append_inlines, AreQuiet, Around, Cons, Inlines, inlines_of, IsQuiet, Name, Names, Nil, Node, node_name, Nodes}
+use Rattle.parse_leaves.proofs.Prelude.{NoInlines, same_name, text_within}
 use Rattle.engine_events.specs.declared.event.Name.TheVariants as n
-use Rattle.definition_inline.specs.CharacterReference.{Names}
-use Rattle.definition_inline.specs.Inline.{Inlines, Nil as NoInlines, Cons as ConsInline}
-use Rattle.event_grammar.specs.InGrammar.{node_name}
-use Rattle.event_grammar.specs.Trees.{Node, Nodes, Around, Nil, Cons}
+use Rattle.definition_inline.specs.Inline.{Cons as ConsInline}
 use Rattle.event_meaning.specs.Children.{text_of}
-use Rattle.event_meaning.specs.Texts.{append as append_inlines, inlines_of, text_part, text_within}
-use Rattle.parse_output.specs.Forest.{append}
-use Rattle.parse_lines.specs.Quiet.{AreQuiet, IsQuiet}
+use Rattle.event_meaning.specs.Texts.{text_part}
 
 append_assoc : (is js ks : Inlines) → append_inlines (append_inlines is js) ks ≡ append_inlines is (append_inlines js ks)
 append_assoc NoInlines js ks = refl

@@ -1,14 +1,10 @@
 -- White space at the start of a content, in bytes (CommonMark 4.8).
 use Rattle.std.proofs.Common.{◌≡◌, ℕ, zero, suc, ◌+◌, ◌-◌, ◌≤◌, true, false, eqb, ◌||◌, List, [], ◌∷◌, ◌++◌, refl, sym, ap, ◌∙◌, inl, inr, subst, length, map, replicate, take, drop, arith}
-use Rattle.std.specs.List.{list_any, prefix_len}
-use Rattle.std.proofs.lemmas.Bool.{cases_Bool, cond-true, cond-false, eqb-true, ne_eqb, true≢false}
-use Rattle.std.proofs.lemmas.List.{take-append-drop, drop-drop}
+use Rattle.parse_leaves.proofs.Prelude.{after_return_code, block_codes, bytes_of, cases_Bool, code_byte, code_bytes, cond-false, cond-true, content_codes}
+use Rattle.parse_leaves.proofs.Prelude.{drop-drop, ends_line, eqb-true, is_tab_column, is_white, list_any, ne_eqb, prefix_len, Rest, take-append-drop}
+use Rattle.parse_leaves.proofs.Prelude.{true≢false}
 use Rattle.definition_text.specs.Ascii.{space}
-use Rattle.definition_text.specs.Columns.{Rest, block_codes, bytes_of, code_byte, is_tab_column, is_white}
-use Rattle.definition_text.specs.Content.{after_return_code, content_codes}
-use Rattle.definition_text.specs.Lines.{ends_line}
 use Rattle.inline_links.specs.Codes.{IsRest}
-use Rattle.parse_lines.proofs.NextLine.{code_bytes}
 use Rattle.parse_leaves.proofs.Decoded.{AreSingle, same_bytes}
 
 -- how many spaces and tabs bytes begin with

@@ -1,27 +1,18 @@
 -- Lines of a text that are taken for a paragraph or a definition have no line ending in them: as bytes and as codes they read alike (CommonMark 4.7).
 use Rattle.std.proofs.Common.{◌≡◌, ℕ, suc, ◌<◌, false, eqb, List, [], ◌∷◌, ◌++◌, Option, None, Some, refl, sym, ap, ◌∙◌, subst, length, map, arith}
-use Rattle.std.specs.List.{list_any}
-use Rattle.std.proofs.lemmas.Bool.{ne_eqb, or_from, or_parts}
-use Rattle.std.proofs.lemmas.List.{length-map}
-use Rattle.markdown_options.specs.declared.configuration.Constructs.{Constructs}
-use Rattle.markdown_options.specs.declared.beside.Kind.{Kind}
+use Rattle.parse_leaves.proofs.Prelude.{AreBytes, AreLines, AreTaken, AtEnding, Between, block_codes, BlockLine, code_byte, code_bytes, Constructs, Container}
+use Rattle.parse_leaves.proofs.Prelude.{content_codes, content_lines_apart, content_of, content_text, ending_text, ends_line, HaveNoEnding, is_blank}
+use Rattle.parse_leaves.proofs.Prelude.{IsRestLine, Kind, length-map, line_left, LineEnding, LineRest, lines, list_any, ne_eqb, or_parts, own_lines, Place}
+use Rattle.parse_leaves.proofs.Prelude.{prefixed, Prefixed, rest_line, Standing, StandsAt, Within}
+use Rattle.std.proofs.lemmas.Bool.{or_from}
 use Rattle.markdown_options.specs.declared.beside.Kind.TheVariants.{Whitespace}
-use Rattle.markdown_options.specs.declared.line_ending.LineEnding.{LineEnding}
-use Rattle.definition_text.specs.BlockLines.{BlockLine, own_lines}
-use Rattle.definition_text.specs.Columns.{block_codes, code_byte, is_blank, whole}
-use Rattle.definition_text.specs.Content.{content_codes, content_of, content_text}
-use Rattle.definition_text.specs.Lines.{TextLine, ends_line, ending_text, lines}
-use Rattle.definition_block.specs.Container.{Container}
-use Rattle.definition_block.specs.Tree.{beside_line, rest_line}
-use Rattle.text_pieces.specs.ParagraphLines.{AreLines, HaveNoEnding}
+use Rattle.definition_text.specs.Columns.{whole}
+use Rattle.definition_text.specs.Lines.{TextLine}
+use Rattle.definition_block.specs.Tree.{beside_line}
 use Rattle.block_rows.proofs.OpenLines.{AreTextLines, clear-drop, clear_block, clear_codes, first_clear, lines_of_text}
-use Rattle.parse_laid.specs.Leaves.{AreTaken}
-use Rattle.parse_laid.specs.Places.{LineRest, Place, AtEnding, Between, Within, Prefixed, line_left, line_rest, prefixed, unread}
-use Rattle.inline_content.proofs.Lined.{apart_codes, content_lines_apart}
-use Rattle.inline_links.proofs.Texts.{AreBytes}
-use Rattle.parse_lines.specs.InContent.{IsRestLine}
-use Rattle.parse_lines.specs.Standing.{Standing, StandsAt}
-use Rattle.parse_lines.proofs.NextLine.{code_bytes, left_some}
+use Rattle.parse_laid.specs.Places.{line_rest, unread}
+use Rattle.inline_content.proofs.Lined.{apart_codes}
+use Rattle.parse_lines.proofs.NextLine.{left_some}
 use Rattle.parse_lines.proofs.Steps.{at_ending}
 use Rattle.parse_lines.proofs.Suffixes.{prefixed_follows}
 use Rattle.parse_strings.proofs.Texts.{bytes_after}

@@ -1,46 +1,17 @@
 -- Blocks that hold a text, as they are written (CommonMark 4.8).
 use Rattle.std.proofs.Common.{◌≡◌, ℕ, Bool, false, List, [], ◌++◌, refl, sym, ap, ◌∙◌, subst, map, drop, arith}
 use Rattle.std.specs.Prelude.{OnOk, Result, Ok, Err}
-use Rattle.markdown_options.specs.declared.configuration.Constructs.{Constructs}
+use Rattle.parse_leaves.proofs.Prelude.{AreDefinitionsAlike, AreMeanings, ArePartsAlike, ArePlain, around, Around, AtEnding, Between, BlockLine, Constructs}
+use Rattle.parse_leaves.proofs.Prelude.{content_done, content_text, cut_one, definition_of, End, end_at, end_in, enter_at, EntersAt, EntersText, exit_at}
+use Rattle.parse_leaves.proofs.Prelude.{Exits, flat_map, HasSameOpen, inline_content, Inlines, inlines_of, IsInOrder, IsLeafLaid, IsWrittenToRest, last_ending}
+use Rattle.parse_leaves.proofs.Prelude.{line_text, LineRest, Meaning, Name, named, Names, Node, Nodes, one, own_lines, Paragraph, Place, read_content, Reading}
+use Rattle.parse_leaves.proofs.Prelude.{same_name, SpellsLeaf, Standing, standing, StandsAt, Stop, text_stop, Walk, Within, Writes, writes_around, writes_both}
+use Rattle.parse_leaves.proofs.Prelude.{WritesContent, WritesLeaf, WritesText, written_to}
 use Rattle.markdown_options.specs.declared.beside.Kind.TheVariants.{Whitespace}
-use Rattle.engine_events.specs.Names.{same_name}
-use Rattle.engine_events.specs.declared.event.Name.{Name}
 use Rattle.engine_events.specs.declared.event.Name.TheVariants as n
-use Rattle.definition_text.specs.BlockLines.{BlockLine, last_ending, own_lines}
-use Rattle.definition_text.specs.Content.{content_text, line_text}
-use Rattle.definition_text.specs.InlineCode.{inline_content}
-use Rattle.std.specs.List.{flat_map}
-use Rattle.definition_block.specs.Tree.{Paragraph}
-use Rattle.definition_inline.specs.CharacterReference.{Names}
-use Rattle.definition_inline.specs.Inline.{Inlines}
-use Rattle.definition_page.specs.InlinePieces.{Meaning}
 use Rattle.definition_page.specs.Page as page
-use Rattle.definition_page.specs.Read.{Reading, read_paragraph}
-use Rattle.event_grammar.specs.References.{named}
-use Rattle.event_grammar.specs.Trees.{Node, Nodes, Around}
-use Rattle.event_meaning.specs.Spelled.{definition_of}
-use Rattle.event_meaning.specs.Texts.{inlines_of}
-use Rattle.parse_output.specs.declared.end.End.{End}
-use Rattle.parse_output.specs.Ends.{end_at, enter_at, exit_at}
-use Rattle.parse_output.specs.Forest.{one}
-use Rattle.parse_output.specs.Written.{Exits, IsInOrder, Writes, end_in}
-use Rattle.parse_output.proofs.Written.{writes_around, writes_both}
-use Rattle.parse_alike.specs.Inline.{ArePartsAlike}
-use Rattle.parse_alike.specs.Targets.{AreDefinitionsAlike}
-use Rattle.parse_laid.specs.Leaves.{AreText, IsLeafLaid}
-use Rattle.parse_laid.specs.Places.{LineRest, Place, Between, Within, AtEnding}
-use Rattle.parse_lines.specs.declared.walk.Walk.{Walk}
-use Rattle.parse_lines.specs.Ends.{IsWrittenToRest, written_to}
-use Rattle.parse_lines.specs.InContent.{Stop}
-use Rattle.parse_lines.specs.Standing.{Standing, StandsAt, around, standing}
-use Rattle.parse_lines.specs.Steps.{HasSameOpen}
-use Rattle.parse_lines.proofs.ContentLines.{content_done}
-use Rattle.parse_strings.specs.Plain.{ArePlain}
-use Rattle.parse_inline.specs.Texts.{AreMeanings, WritesText}
-use Rattle.parse_raw.proofs.LeafNodes.{cut_one}
-use Rattle.parse_leaves.specs.Entered.{EntersAt, EntersText, text_stop}
-use Rattle.parse_leaves.specs.Texts.{WritesContent, read_content}
-use Rattle.parse_raw.specs.Written.{SpellsLeaf, WritesLeaf}
+use Rattle.definition_page.specs.Read.{read_paragraph}
+use Rattle.parse_laid.specs.Leaves.{AreText}
 use Rattle.parse_leaves.proofs.Lines.{text_begins}
 
 -- three facts of a call that succeeds

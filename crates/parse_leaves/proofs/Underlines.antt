@@ -1,28 +1,10 @@
 -- The underline of a heading, as it is written (CommonMark 4.3).
 use Rattle.std.proofs.Common.{◌≡◌, ℕ, ◌<◌, ◌≤◌, List, [], ◌∷◌, ◌++◌, refl, sym, ap, ◌∙◌, subst, length, get_or, take, drop, arith}
-use Rattle.std.proofs.lemmas.List.{length-take-le, take-append-drop}
+use Rattle.parse_leaves.proofs.Prelude.{all_on, append, AreNext, Around, around_on, bare, bare_end, bytes_of, end_at, end_in, enter_at, EnterCall, entered_on}
+use Rattle.parse_leaves.proofs.Prelude.{exit_at, ExitCall, IsInOrder, IsOnLine, IsWrittenToRest, length-take-le, LineRest, named, named_both, next_parts, Node}
+use Rattle.parse_leaves.proofs.Prelude.{Nodes, on_end, on_line_both, one, rest_of, run, some_on, Standing, standing, StandsAt, take-append-drop, text_in}
+use Rattle.parse_leaves.proofs.Prelude.{ToCall, token_text, TokenCall, tokens, Walk, white_ahead, Within, writes_both, WritesUnderline, written_to}
 use Rattle.engine_events.specs.declared.event.Name.TheVariants as n
-use Rattle.block_starts.specs.View.{rest_of}
-use Rattle.definition_text.specs.Columns.{bare, bytes_of}
-use Rattle.definition_text.specs.Runs.{run}
-use Rattle.event_grammar.specs.References.{named}
-use Rattle.event_grammar.specs.Trees.{Node, Nodes, Around}
-use Rattle.event_meaning.specs.Children.{text_in}
-use Rattle.parse_output.specs.Ends.{end_at, enter_at, exit_at}
-use Rattle.parse_output.specs.Forest.{append, one}
-use Rattle.parse_output.specs.Written.{IsInOrder, end_in}
-use Rattle.parse_output.proofs.Written.{writes_both}
-use Rattle.parse_laid.specs.Places.{LineRest, Within}
-use Rattle.parse_lines.specs.declared.walk.Walk.{Walk}
-use Rattle.parse_lines.specs.Content.{AreNext}
-use Rattle.parse_lines.specs.Ends.{IsWrittenToRest, bare_end, written_to}
-use Rattle.parse_lines.specs.Standing.{Standing, StandsAt, standing}
-use Rattle.parse_strings.proofs.PlainNodes.{named_both}
-use Rattle.parse_strings.proofs.Spelled.{token_text}
-use Rattle.parse_raw.specs.Before.{IsOnLine, tokens}
-use Rattle.parse_raw.specs.Calls.{EnterCall, ExitCall, ToCall, TokenCall}
-use Rattle.parse_leaves.specs.Entered.{WritesUnderline}
-use Rattle.parse_raw.proofs.OnLine.{all_on, around_on, entered_on, next_parts, on_end, on_line_both, some_on, white_ahead}
 use Rattle.parse_leaves.proofs.TextLeaves.{open_both}
 use Rattle.parse_raw.proofs.Tokens.{run_some}
 

@@ -1,14 +1,10 @@
 -- What is ahead on a line of a content, step by step.
-use Rattle.std.specs.Prelude.{◌==◌, if◌then◌else◌}
+use Rattle.parse_lines.proofs.Prelude.{AreNext, End, end_after, end_at, Follows, if◌then◌else◌, index_spot, length-drop, nat_tests, OwesIn, Spot, tab_size}
+use Rattle.parse_lines.proofs.Prelude.{◌==◌}
 use Rattle.std.proofs.Common.{◌≡◌, ℕ, zero, suc, ◌+◌, ◌-◌, ◌≤◌, ◌<◌, false, List, [], ◌∷◌, ◌++◌, inl, inr, refl, sym, ap, ◌∙◌, drop, length, arith}
-use Rattle.std.proofs.lemmas.Bool.Decides.{nat_tests}
-use Rattle.std.proofs.lemmas.List.{length-drop}
-use Rattle.engine_events.specs.Columns.{tab_size}
-use Rattle.parse_output.specs.declared.end.End.{End}
-use Rattle.parse_output.specs.declared.spot.Spot.{Spot}
-use Rattle.parse_output.specs.Ends.{Follows, OwesIn, columns_before, end_at, index_spot}
+use Rattle.parse_output.specs.Ends.{columns_before}
 use Rattle.parse_output.proofs.Ends.{follows_both}
-use Rattle.parse_lines.specs.Content.{AreNext, IsNext, end_after, next_end, next_from}
+use Rattle.parse_lines.specs.Content.{IsNext, next_end, next_from}
 
 not_none : (n : ℕ) → (suc n == 0) ≡ false
 not_none n = grind (arith, nat_tests)

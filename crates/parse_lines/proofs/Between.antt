@@ -1,19 +1,9 @@
 -- The bytes of a text between two rests of a line.
 use Rattle.std.proofs.Common.{◌≡◌, ℕ, ◌+◌, ◌-◌, zero, suc, List, ◌++◌, inl, inr, sym, ap, ◌∙◌, subst, arith, drop, take, length}
 use Rattle.std.proofs.Common.{length-append, append_assoc}
-use Rattle.std.specs.Prelude.{replicate}
-use Rattle.std.specs.List.{prefix_len}
-use Rattle.std.proofs.Math.Seq.{take-append_seam}
-use Rattle.std.proofs.lemmas.List.{drop-drop, take-append-drop}
+use Rattle.parse_lines.proofs.Prelude.{AreNext, bytes_of, drop-drop, End, end_at, end_edge, is_byte, is_tab_column, IsLineOf, prefix_len, replicate, Rest}
+use Rattle.parse_lines.proofs.Prelude.{rest_start, space, take-append-drop, take-append_seam, text_between, whole}
 use Rattle.std.proofs.lemmas.List.Elements.{filter-append}
-use Rattle.definition_text.specs.Ascii.{space}
-use Rattle.definition_text.specs.Columns.{Rest, bytes_of, is_byte, is_tab_column, whole}
-use Rattle.parse_output.specs.declared.end.End.{End}
-use Rattle.parse_output.specs.Ends.{end_at}
-use Rattle.parse_output.specs.Joined.{end_edge, text_between}
-use Rattle.parse_lines.specs.Standing.{IsLineOf}
-use Rattle.parse_lines.specs.Ends.{rest_start}
-use Rattle.parse_lines.specs.Content.{AreNext}
 use Rattle.parse_lines.proofs.Columns.{IsAmong, among, inside, past}
 use Rattle.parse_lines.proofs.Ends.{left_within, start_among}
 use Rattle.parse_lines.proofs.Next.{bytes_end, drop_front, drop_over, end_by_size, left_bytes, left_next}

@@ -1,14 +1,11 @@
 -- Where the columns of a line are among its bytes (CommonMark 2.2).
 use Rattle.std.proofs.Common.{◌≡◌, ℕ, ◌+◌, ◌-◌, ◌<◌, ◌≤◌, suc, zero, true, false, cond, ◌||◌, List, [], ◌∷◌, ◌++◌, eqb, ltb, inl, inr, refl, sym, ap, ◌∙◌}
 use Rattle.std.proofs.Common.{subst, arith, get_or, drop, take, length}
-use Rattle.std.specs.Prelude.{◌⊎◌, replicate}
-use Rattle.std.specs.List.{prefix_len}
-use Rattle.std.proofs.Math.Seq.{drop-nil}
-use Rattle.std.proofs.lemmas.Bool.{cases_Bool, or_parts, cond-true, cond-false, cases_lt, eqb-true, eqb-false, ltb-true, ltb-false}
-use Rattle.engine_events.specs.Columns.{tab_size, column_after, column_past}
-use Rattle.definition_text.specs.Columns.{Rest, codes_from, tab_column, columns_after_tab, is_tab_column, is_white, bare, bytes_of}
-use Rattle.block_starts.specs.Widths.{width}
-use Rattle.text_lines.proofs.Codes.{no_columns, no_bytes, bytes_of_codes}
+use Rattle.parse_lines.proofs.Prelude.{bare, bytes_of, bytes_of_codes, cases_Bool, cases_lt, codes_from, column_after, column_past, columns_after_tab}
+use Rattle.parse_lines.proofs.Prelude.{cond-false, cond-true, drop-nil, eqb-true, is_tab_column, is_white, no_bytes, no_columns, or_parts, prefix_len}
+use Rattle.parse_lines.proofs.Prelude.{replicate, Rest, tab_column, tab_size, width}
+use Rattle.std.specs.Prelude.{◌⊎◌}
+use Rattle.std.proofs.lemmas.Bool.{eqb-false, ltb-true, ltb-false}
 
 -- ---- the codes of the first byte
 

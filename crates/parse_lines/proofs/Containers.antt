@@ -3,19 +3,12 @@ use Rattle.std.proofs.Common.{◌≡◌, ℕ, ◌+◌, ◌-◌, ◌<◌, ◌≤�
 use Rattle.std.proofs.Common.{◌∙◌, subst, arith, get_or, drop, length, ltb, length-append}
 use Rattle.std.specs.Prelude.{is_some, IfSome}
 use Rattle.std.specs.Option.{option_copied}
-use Rattle.std.specs.List.{list_any}
-use Rattle.std.proofs.lemmas.Bool.{or_parts}
-use Rattle.std.proofs.lemmas.List.{drop_more, drop_all, length-map, get_or-map, map-append}
-use Rattle.std.proofs.lemmas.List.Folds.{list_any-append}
+use Rattle.parse_lines.proofs.Prelude.{AreQuotesWithin, CodeContainer, Container, container_view, container_views, drop_all, indent, is_blank, is_quote}
+use Rattle.parse_lines.proofs.Prelude.{length-map, list_any, list_any-append, map-append, or_parts, Rest}
+use Rattle.std.proofs.lemmas.List.{drop_more, get_or-map}
 use borrow.Author.Tests.{ltb-true}
-use Rattle.markdown_options.specs.declared.container.Container.{Container as CodeContainer}
 use Rattle.markdown_options.specs.declared.container.Container.TheVariants as code
-use Rattle.definition_block.specs.Container.{Container}
-use Rattle.block_starts.specs.View.{container_view, container_views}
-use Rattle.definition_text.specs.Columns.{Rest, indent, is_blank}
 use Rattle.block_starts.proofs.MarkLemmas.{indent_blank}
-use Rattle.parse_laid.specs.EmptyRests.{is_quote}
-use Rattle.parse_lines.specs.Standing.{AreQuotesWithin}
 use Rattle.parse_lines.proofs.Prefixes.{none_later}
 
 -- the containers from one on

@@ -1,41 +1,21 @@
 -- A content, from line to line.
-use Rattle.std.specs.Prelude.{◌==◌, if◌then◌else◌, Option, map, replicate, reverse}
+use Rattle.parse_lines.proofs.Prelude.{AreNext, AreTaken, around, Around, AtEnding, BeginsLine, Between, block_codes, BlockLine, bytes_of, cases_Bool}
+use Rattle.parse_lines.proofs.Prelude.{code_byte, cond-false, cond-true, Cons, Constructs, Container, content_end_in, content_from, drop-append_seam, End}
+use Rattle.parse_lines.proofs.Prelude.{end_after, end_at, end_in, ending_bytes, ending_text, ends_line, EndsLine, enter_at, eqb-true, exit_at, flat_text}
+use Rattle.parse_lines.proofs.Prelude.{Follows, HasSameOpen, if◌then◌else◌, is_tab_column, IsApart, IsInLine, IsInOrder, IsRestLine, IsSameText, line_after}
+use Rattle.parse_lines.proofs.Prelude.{line_left, LineEnding, LineRest, lines, list_any, map, Name, nat_tests, Nil, one, Option, or_parts, Output, Place}
+use Rattle.parse_lines.proofs.Prelude.{prefix_len, prefixed, Prefixed, replicate, Rest, rest_of, rest_start, reverse, same_end, same_name, standing, Standing}
+use Rattle.parse_lines.proofs.Prelude.{StandsAt, StandsInContent, Stop, take-append_seam, text_between, true≢false, void_nodes, Walk, whole, Within, Writes}
+use Rattle.parse_lines.proofs.Prelude.{writes_both, writes_joined, written_to, ◌==◌}
 use Rattle.std.proofs.Common.{◌≡◌, ℕ, ◌+◌, ◌-◌, ◌<◌, ◌≤◌, ◌^◌, Bool, true, false, ◌&&◌, List, [], ◌∷◌, ◌++◌, None, Some, eqb, inl, inr, refl, sym, ap, ap₂, ◌∙◌, subst}
 use Rattle.std.proofs.Common.{drop, get_or, take, length, length-append, arith}
-use Rattle.std.specs.List.{list_any, prefix_len}
-use Rattle.std.proofs.Math.Seq.{drop-append_seam, take-append_seam}
-use Rattle.std.proofs.lemmas.Bool.{cases_Bool, cond-true, cond-false, eqb-true, or_parts, true≢false}
-use Rattle.std.proofs.lemmas.Bool.Decides.{nat_tests}
-use Rattle.markdown_options.specs.LineEndings.{ending_bytes}
-use Rattle.markdown_options.specs.declared.configuration.Constructs.{Constructs}
-use Rattle.markdown_options.specs.declared.line_ending.LineEnding.{LineEnding}
 use Rattle.markdown_options.specs.declared.line_ending.LineEnding.TheVariants.{CarriageReturnLineFeed, CarriageReturn, LineFeed}
-use Rattle.definition_text.specs.BlockLines.{BlockLine, last_ending_or}
-use Rattle.definition_text.specs.Columns.{Rest, block_codes, bytes_of, code_byte, is_tab_column, whole}
+use Rattle.definition_text.specs.BlockLines.{last_ending_or}
 use Rattle.markdown_options.specs.declared.beside.Kind.TheVariants.{Whitespace}
-use Rattle.definition_text.specs.Lines.{ends_line, ending_text, lines}
-use Rattle.definition_block.specs.Container.{Container}
-use Rattle.block_starts.specs.View.{rest_of}
-use Rattle.parse_laid.specs.Places.{LineRest, Place, Prefixed, AtEnding, Between, Within, line_left, prefixed}
-use Rattle.parse_laid.specs.Leaves.{AreTaken, IsTextLine}
-use Rattle.engine_events.specs.Names.{same_name}
-use Rattle.engine_events.specs.declared.event.Name.{Name}
+use Rattle.parse_laid.specs.Leaves.{IsTextLine}
 use Rattle.engine_events.specs.declared.event.Name.TheVariants as n
-use Rattle.event_grammar.specs.Trees.{Around, Nil, Cons}
-use Rattle.parse_output.specs.declared.end.End.{End}
-use Rattle.parse_output.specs.declared.output.Output.{Output}
-use Rattle.parse_output.specs.Ends.{Follows, end_at, enter_at, exit_at, same_end}
-use Rattle.parse_output.specs.Forest.{one, void_nodes}
-use Rattle.parse_output.specs.Joined.{flat_text, text_between}
-use Rattle.parse_output.specs.Written.{IsInOrder, Writes, end_in}
-use Rattle.parse_output.proofs.Joined.{writes_joined}
-use Rattle.parse_output.proofs.Written.{writes_both}
-use Rattle.parse_lines.specs.declared.walk.Walk.{Walk}
-use Rattle.parse_lines.specs.Content.{AreNext, content_end_in, end_after}
-use Rattle.parse_lines.specs.Ends.{IsWrittenToRest, WritesEnding, WritesLine, line_after, rest_start, written_to}
-use Rattle.parse_lines.specs.InContent.{BeginsContent, IsApart, IsRestLine, IsSameText, StandsInContent, Stop, WritesEndingIn, content_from}
-use Rattle.parse_lines.specs.Standing.{IsInLine, Standing, StandsAt, around, standing}
-use Rattle.parse_lines.specs.Steps.{BeginsLine, EndsLine, HasSameOpen}
+use Rattle.parse_lines.specs.Ends.{IsWrittenToRest, WritesEnding, WritesLine}
+use Rattle.parse_lines.specs.InContent.{BeginsContent, WritesEndingIn}
 use Rattle.parse_lines.proofs.Ends.{end_to_next}
 use Rattle.parse_lines.proofs.InContent.{both_open, line_and_tail, no_more, tail_from}
 use Rattle.parse_lines.proofs.Next.{drop_over, left_bytes, left_next}

@@ -1,18 +1,8 @@
 -- Bytes of a line that are no white space, by their columns.
 use Rattle.std.proofs.Common.{◌≡◌, ℕ, ◌+◌, ◌-◌, ◌<◌, ◌≤◌, ◌^◌, zero, suc, Bool, false, not, List, [], ◌∷◌, refl, sym, ap, ◌∙◌, subst, arith, drop, take, length}
-use Rattle.std.specs.List.{list_any, prefix_len}
-use Rattle.std.proofs.lemmas.Bool.{cond-true, cond-false, or_parts}
-use Rattle.std.proofs.lemmas.List.{drop-drop}
-use Rattle.engine_events.specs.declared.event.Name.{Name}
+use Rattle.parse_lines.proofs.Prelude.{bytes_of, cond-false, cond-true, drop-drop, End, end_at, end_in, Follows, is_byte, is_tab_column, is_white, IsInOrder}
+use Rattle.parse_lines.proofs.Prelude.{IsLineOf, list_any, Name, or_parts, Output, prefix_len, Rest, rest_start, void_nodes, whole, Writes}
 use Rattle.engine_events.specs.declared.event.Name.TheVariants.{SpaceOrTab}
-use Rattle.definition_text.specs.Columns.{Rest, bytes_of, is_byte, is_tab_column, is_white, whole}
-use Rattle.parse_output.specs.declared.end.End.{End}
-use Rattle.parse_output.specs.declared.output.Output.{Output}
-use Rattle.parse_output.specs.Ends.{Follows, end_at}
-use Rattle.parse_output.specs.Forest.{void_nodes}
-use Rattle.parse_output.specs.Written.{IsInOrder, Writes, end_in}
-use Rattle.parse_lines.specs.Standing.{IsLineOf}
-use Rattle.parse_lines.specs.Ends.{rest_start}
 use Rattle.parse_lines.proofs.Columns.{dark_is_byte, dark_owes_none}
 use Rattle.parse_lines.proofs.ContentLines.{start_owed}
 use Rattle.parse_lines.proofs.Ends.{left_within, line_follows, start_whole}

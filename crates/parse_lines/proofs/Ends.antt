@@ -1,19 +1,10 @@
 -- Where rests of a line begin in its text.
 use Rattle.std.proofs.Common.{◌≡◌, ℕ, ◌+◌, ◌-◌, ◌<◌, ◌≤◌, suc, false, cond, List, [], ◌∷◌, ◌++◌, eqb, inl, inr, refl, sym, ap, ap₂, ◌∙◌, subst, arith, get_or}
 use Rattle.std.proofs.Common.{drop, take, length, length-append}
-use Rattle.std.specs.List.{list_any, prefix_len}
-use Rattle.std.proofs.lemmas.List.{drop_all}
-use Rattle.std.proofs.lemmas.Bool.{cases_Bool, cond-true, cond-false, eqb-true}
-use Rattle.engine_events.specs.Columns.{mark_size, tab_size, column_past}
-use Rattle.definition_text.specs.Columns.{Rest, whole, bytes_of, is_tab_column}
-use Rattle.definition_text.specs.Lines.{ends_line, ending_text}
-use Rattle.parse_output.specs.declared.end.End.{End}
-use Rattle.parse_output.specs.Ends.{Follows, OwesIn, end_at, end_columns, index_spot}
-use Rattle.parse_output.proofs.Ends.{spot_index}
-use Rattle.text_lines.proofs.Codes.{no_columns, bytes_of_codes}
-use Rattle.parse_lines.specs.Standing.{Standing, IsInLine, IsLineOf}
-use Rattle.parse_lines.specs.declared.walk.Walk.{Walk}
-use Rattle.parse_lines.specs.Ends.{IsAfter, IsInLineFrom, rest_start, written_to}
+use Rattle.parse_lines.proofs.Prelude.{bytes_of, bytes_of_codes, cases_Bool, column_past, cond-false, cond-true, drop_all, End, end_at, end_columns}
+use Rattle.parse_lines.proofs.Prelude.{ending_text, ends_line, eqb-true, Follows, index_spot, is_tab_column, IsInLine, IsLineOf, list_any, mark_size}
+use Rattle.parse_lines.proofs.Prelude.{no_columns, OwesIn, prefix_len, Rest, rest_start, spot_index, Standing, tab_size, Walk, whole, written_to}
+use Rattle.parse_lines.specs.Ends.{IsAfter, IsInLineFrom}
 use Rattle.parse_lines.proofs.Columns.{past, inside, onward, IsAmong, among}
 use Rattle.parse_lines.proofs.Spots.{column_in, get_over, get_front}
 

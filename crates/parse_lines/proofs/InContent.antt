@@ -1,37 +1,16 @@
 -- What is written of a content, one after another.
 use Rattle.std.proofs.Common.{◌≡◌, ◌⊎◌, ℕ, ◌+◌, ◌<◌, ◌≤◌, true, false, List, [], ◌∷◌, ◌++◌, None, Some, inl, inr, refl, sym, ap, ap₂, ◌∙◌, subst}
 use Rattle.std.proofs.Common.{length, length-append, arith}
-use Rattle.std.specs.Prelude.{Option, map}
-use Rattle.std.specs.List.{list_any}
-use Rattle.std.proofs.lemmas.Bool.{or_parts, true≢false}
-use Rattle.std.proofs.lemmas.List.{append-nil as append-nil-list}
-use Rattle.std.proofs.lemmas.List.Folds.{list_any-append}
-use Rattle.markdown_options.specs.declared.configuration.Constructs.{Constructs}
-use Rattle.markdown_options.specs.declared.line_ending.LineEnding.{LineEnding}
+use Rattle.parse_lines.proofs.Prelude.{append, append-nil-list, AreJoined, AreNext, AreTaken, around, Around, AtEnding, Between, BlockLine, code_byte}
+use Rattle.parse_lines.proofs.Prelude.{Constructs, Container, content_from, cut, End, end_after, end_at, end_edge, end_in, ending_text, ends_at_start}
+use Rattle.parse_lines.proofs.Prelude.{ends_line, enter_at, EntersInLine, exit_at, ExitsInLine, flat_around, flat_both, flat_text, HasSameOpen, IsRestLine}
+use Rattle.parse_lines.proofs.Prelude.{IsSameText, joined_both, joined_cut, joined_onward, LineEnding, LineRest, lines, list_any, list_any-append, map, Name}
+use Rattle.parse_lines.proofs.Prelude.{Nil, Nodes, Option, or_parts, Place, Prefixed, same_name, Standing, standing, StandsAt, StandsInContent, StandsInLine}
+use Rattle.parse_lines.proofs.Prelude.{Stop, text_between, true≢false, unread, Walk, writes_around, writes_both, writes_none, WritesInLine}
 use Rattle.markdown_options.specs.declared.line_ending.LineEnding.TheVariants.{CarriageReturnLineFeed, CarriageReturn, LineFeed}
-use Rattle.definition_text.specs.BlockLines.{BlockLine}
-use Rattle.definition_text.specs.Columns.{code_byte}
 use Rattle.markdown_options.specs.declared.beside.Kind.TheVariants.{Whitespace}
-use Rattle.definition_text.specs.Lines.{ends_line, ending_text, lines}
-use Rattle.definition_block.specs.Container.{Container}
-use Rattle.engine_events.specs.Names.{same_name}
-use Rattle.engine_events.specs.declared.event.Name.{Name}
 use Rattle.engine_events.specs.declared.event.Name.TheVariants.{BlockQuotePrefix}
-use Rattle.event_grammar.specs.Trees.{Nodes, Around, Nil}
-use Rattle.parse_output.specs.declared.end.End.{End}
-use Rattle.parse_output.specs.Ends.{end_at, enter_at, exit_at}
-use Rattle.parse_output.specs.Forest.{append, cut}
-use Rattle.parse_output.specs.Joined.{AreJoined, end_edge, flat_text, text_between}
-use Rattle.parse_output.specs.Written.{end_in}
-use Rattle.parse_output.proofs.Joined.{flat_around, flat_both, joined_both, joined_cut, joined_onward}
-use Rattle.parse_output.proofs.Written.{writes_around, writes_both, writes_none}
-use Rattle.parse_laid.specs.Places.{LineRest, Place, Prefixed, AtEnding, Between, unread}
-use Rattle.parse_laid.specs.Leaves.{AreTaken}
-use Rattle.parse_lines.specs.declared.walk.Walk.{Walk}
-use Rattle.parse_lines.specs.Content.{AreNext, EntersInLine, ExitsInLine, StandsInLine, WritesInLine, end_after}
-use Rattle.parse_lines.specs.InContent.{EntersInContent, ExitsInContent, IsRestLine, IsSameText, StandsInContent, Stop, WritesInContent, content_from, ends_at_start}
-use Rattle.parse_lines.specs.Standing.{Standing, StandsAt, around, standing}
-use Rattle.parse_lines.specs.Steps.{HasSameOpen}
+use Rattle.parse_lines.specs.InContent.{EntersInContent, ExitsInContent, WritesInContent}
 use Rattle.parse_lines.proofs.Ahead.{after_both, owed_after}
 use Rattle.parse_lines.proofs.SameText.{ends_both, same_both, same_next, same_self}
 

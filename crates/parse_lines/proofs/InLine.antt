@@ -1,21 +1,11 @@
 -- What is written of a line of a content, one after another.
 use Rattle.std.proofs.Common.{◌≡◌, ℕ, ◌+◌, ◌-◌, ◌^◌, ◌<◌, false, List, [], ◌∷◌, ◌++◌, refl, sym, ap, ap₂, subst, ◌∙◌, length, length-append, arith}
 use Rattle.std.proofs.Math.Nat.{sub_self}
-use Rattle.engine_events.specs.Names.{same_name}
-use Rattle.engine_events.specs.declared.event.Name.{Name}
+use Rattle.parse_lines.proofs.Prelude.{append, AreJoined, AreNext, Around, between_both, byte_nodes, content_end_in, cut, data_nodes, edge, End, end_after}
+use Rattle.parse_lines.proofs.Prelude.{end_columns, end_edge, end_in, enter_at, EntersInLine, exit_at, ExitsInLine, flat_around, flat_both, flat_text, Follows}
+use Rattle.parse_lines.proofs.Prelude.{IsInOrder, joined_both, joined_cut, joined_onward, Name, Nil, Nodes, none_between, Output, same_name, spot}
+use Rattle.parse_lines.proofs.Prelude.{StandsInLine, text_between, Walk, Writes, writes_around, writes_both, writes_joined, writes_none, WritesInLine}
 use Rattle.engine_events.specs.declared.event.Name.TheVariants.{BlockQuotePrefix}
-use Rattle.event_grammar.specs.Trees.{Nodes, Around, Nil}
-use Rattle.event_grammar.specs.Points.{edge, spot}
-use Rattle.parse_output.specs.declared.end.End.{End}
-use Rattle.parse_output.specs.declared.output.Output.{Output}
-use Rattle.parse_output.specs.Ends.{Follows, end_columns, enter_at, exit_at}
-use Rattle.parse_output.specs.Forest.{append, byte_nodes, cut, data_nodes}
-use Rattle.parse_output.specs.Joined.{AreJoined, end_edge, flat_text, text_between}
-use Rattle.parse_output.proofs.Joined.{between_both, flat_around, flat_both, joined_both, joined_cut, joined_onward, none_between, writes_joined}
-use Rattle.parse_output.specs.Written.{IsInOrder, Writes, end_in}
-use Rattle.parse_output.proofs.Written.{writes_around, writes_both, writes_none}
-use Rattle.parse_lines.specs.declared.walk.Walk.{Walk}
-use Rattle.parse_lines.specs.Content.{AreNext, EntersInLine, ExitsInLine, StandsInLine, WritesInLine, content_end_in, end_after}
 use Rattle.parse_lines.proofs.Ahead.{after_both, after_more, follows_after, next_after}
 
 no_nodes : (text : List ℕ) (e : End) → Nil ≡ data_nodes text e e

@@ -1,3 +1,4 @@
+mod Prelude
 pub mod Suffixes
 pub mod Prefixes
 pub mod Containers

@@ -1,15 +1,12 @@
 -- A text is its lines, one after another, each with its ending.
 use Rattle.std.proofs.Common.{◌≡◌, ℕ, ◌<◌, List, [], ◌∷◌, ◌++◌, Option, Some, eqb, refl, sym, ap, ◌∙◌, inl, inr, drop, length, arith, append_assoc, Bool}
 use Rattle.std.proofs.Common.{false, ◌||◌, None, ◌+◌, ◌-◌, ap₂, get_or}
-use Rattle.std.proofs.lemmas.Bool.{or_parts}
+use Rattle.parse_lines.proofs.Prelude.{cases_Bool, cond-false, cond-true, ending_text, ends_line, eqb-true, Kind, LineEnding, LineRest, lines, list_any}
+use Rattle.parse_lines.proofs.Prelude.{or_parts, text_line, TextLine, unread}
 use Rattle.parse_lines.proofs.Spots.{get_over}
-use Rattle.std.specs.List.{flat_map, list_any}
-use Rattle.std.proofs.lemmas.Bool.{cases_Bool, cond-true, cond-false, eqb-true}
-use Rattle.markdown_options.specs.declared.line_ending.LineEnding.{LineEnding}
+use Rattle.std.specs.List.{flat_map}
 use Rattle.markdown_options.specs.declared.line_ending.LineEnding.TheVariants.{CarriageReturnLineFeed, CarriageReturn, LineFeed}
-use Rattle.markdown_options.specs.declared.beside.Kind.{Kind}
-use Rattle.definition_text.specs.Lines.{first_of, ends_line, TextLine, text_line, in_first_line, after_return, lines, ending_text}
-use Rattle.parse_laid.specs.Places.{LineRest, unread}
+use Rattle.definition_text.specs.Lines.{first_of, in_first_line, after_return}
 
 -- the bytes of lines with their endings
 abbrev pub joined : List TextLine → List ℕ

@@ -1,27 +1,14 @@
 -- The markers of items and footnote definitions in a line.
 use Rattle.std.proofs.Common.{◌≡◌, ℕ, ◌+◌, ◌-◌, ◌<◌, ◌≤◌, suc, Bool, true, false, ◌&&◌, ◌||◌, not, List, [], ◌∷◌, ◌++◌, None, Some, leb, inl, inr, refl, sym, ap, ap₂, ◌∙◌}
 use Rattle.std.proofs.Common.{subst, arith, drop, take, length, length-append, get_or}
-use Rattle.std.specs.Prelude.{◌==◌, Option}
-use Rattle.std.specs.List.{list_any, prefix_len}
-use Rattle.std.proofs.Math.Seq.{take-append_seam}
-use Rattle.std.proofs.lemmas.Bool.{and_parts, cases_Bool, cond-true, cond-false, eqb-true, or_parts, true≢false}
-use Rattle.std.proofs.lemmas.Bool.Decides.{nat_tests}
-use Rattle.markdown_options.specs.declared.configuration.Constructs.{Constructs}
-use Rattle.markdown_options.specs.declared.beside.Kind.{Kind}
-use Rattle.markdown_options.specs.declared.container.Item.{Item as ItemParts}
-use Rattle.definition_text.specs.Ascii.{right_parenthesis, asterisk, plus, hyphen, dot, colon, left_bracket, right_bracket, caret}
-use Rattle.definition_text.specs.Columns.{Rest, bare, bytes_of, indent, is_byte, is_white}
-use Rattle.definition_text.specs.Content.{Part, closed_by, is_eol, is_space, may_escape}
-use Rattle.definition_text.specs.Indents.{small_indent}
-use Rattle.definition_inline.specs.Label.{ends_label, is_label, label_end}
-use Rattle.definition_block.specs.GfmFootnoteDefinition.{after_bracket, after_open, footnote_mark, footnote_of, footnote_start, is_footnote_label, label_before, with_colon}
-use Rattle.definition_block.specs.Container.{Container, Quote, Item, Footnote}
-use Rattle.definition_block.specs.ContainerLine.{ContainerLine}
-use Rattle.definition_block.specs.ContainerStart.{ContainerStart, container_start}
-use Rattle.definition_block.specs.BlockQuote.{after_byte, quote_prefix}
-use Rattle.definition_block.specs.Containers.{quote_or, footnote_or, starts}
-use Rattle.definition_block.specs.ThematicBreak.{is_break}
-use Rattle.definition_block.specs.ListItem.{Marker, marker_of, is_digit, number_of, bullet, after_number, ordered_marker, marker, gap, is_item, item, item_after, item_start}
+use Rattle.parse_lines.proofs.Prelude.{after_bracket, after_byte, after_number, after_open, and_parts, asterisk, bare, bullet, bytes_of, caret, cases_Bool}
+use Rattle.parse_lines.proofs.Prelude.{closed_by, colon, cond-false, cond-true, Constructs, Container, container_start, ContainerLine, ContainerStart, dot}
+use Rattle.parse_lines.proofs.Prelude.{ends_label, eqb-true, Footnote, footnote_mark, footnote_of, footnote_or, footnote_start, gap, hyphen, indent, is_break}
+use Rattle.parse_lines.proofs.Prelude.{is_byte, is_digit, is_eol, is_footnote_label, is_item, is_space, is_white, item, Item, item_after, item_start}
+use Rattle.parse_lines.proofs.Prelude.{ItemParts, Kind, label_before, label_end, left_bracket, list_any, Marker, marker, marker_of, may_escape, nat_tests}
+use Rattle.parse_lines.proofs.Prelude.{number_of, Option, or_parts, ordered_marker, Part, plus, prefix_len, Quote, quote_or, quote_prefix, Rest, right_bracket}
+use Rattle.parse_lines.proofs.Prelude.{right_parenthesis, small_indent, starts, take-append_seam, true≢false, with_colon, ◌==◌}
+use Rattle.definition_inline.specs.Label.{is_label}
 use Rattle.parse_lines.proofs.Columns.{dark_is_byte}
 use Rattle.parse_lines.proofs.Suffixes.{after_byte_is}
 

@@ -1,22 +1,9 @@
 -- What is left of a line is next in its text.
 use Rattle.std.proofs.Common.{◌≡◌, ℕ, ◌+◌, ◌-◌, ◌<◌, ◌≤◌, suc, zero, List, [], ◌∷◌, ◌++◌, eqb, inl, inr, refl, sym, ap, ◌∙◌, subst, arith, get_or, drop}
 use Rattle.std.proofs.Common.{length, length-append}
-use Rattle.std.specs.Prelude.{replicate}
-use Rattle.std.specs.List.{prefix_len}
-use Rattle.std.proofs.Math.Seq.{drop-nil}
-use Rattle.std.proofs.lemmas.Bool.{cases_Bool, cases_lt, eqb-true}
-use Rattle.std.proofs.lemmas.List.{drop-drop, length-drop, drop_all}
-use Rattle.engine_events.specs.Columns.{tab_size}
-use Rattle.definition_text.specs.Ascii.{space}
-use Rattle.definition_text.specs.Columns.{Rest, codes_from, whole, bytes_of, is_tab_column, tab_column}
-use Rattle.text_lines.proofs.Codes.{no_bytes, bytes_of_codes}
-use Rattle.block_starts.specs.Widths.{width}
-use Rattle.parse_output.specs.declared.end.End.{End}
-use Rattle.parse_output.specs.Ends.{IsInTab, end_at, index_spot}
-use Rattle.parse_output.proofs.Ends.{spot_index}
-use Rattle.parse_lines.specs.Standing.{IsLineOf}
-use Rattle.parse_lines.specs.Ends.{rest_start}
-use Rattle.parse_lines.specs.Content.{AreNext}
+use Rattle.parse_lines.proofs.Prelude.{AreNext, bytes_of, bytes_of_codes, cases_Bool, cases_lt, codes_from, drop-drop, drop-nil, drop_all, End, end_at}
+use Rattle.parse_lines.proofs.Prelude.{eqb-true, index_spot, is_tab_column, IsInTab, IsLineOf, length-drop, no_bytes, prefix_len, replicate, Rest, rest_start}
+use Rattle.parse_lines.proofs.Prelude.{space, spot_index, tab_column, tab_size, whole, width}
 use Rattle.parse_lines.proofs.Suffixes.{IsEnd}
 use Rattle.parse_lines.proofs.Columns.{IsAmong, past, inside, among, codes_first, some_width, drop_columns, drop_past, drop_more_codes, ne_zero, tail_bytes}
 use Rattle.parse_lines.proofs.Spots.{column_in, get_over, get_front}

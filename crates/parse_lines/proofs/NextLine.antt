@@ -1,30 +1,12 @@
 -- From the end of a line of a content through its ending into the next line.
 use Rattle.std.proofs.Common.{◌≡◌, ℕ, zero, suc, ◌+◌, ◌-◌, ◌<◌, Bool, true, false, ◌&&◌, ◌||◌, not, List, [], ◌∷◌, ◌++◌, Some, inl, inr, refl, sym, ap, ap₂}
 use Rattle.std.proofs.Common.{◌∙◌, subst, drop, take, length, length-append, arith, get_or}
-use Rattle.std.specs.Prelude.{Option, map, replicate}
-use Rattle.std.specs.List.{list_all, list_any, prefix_len}
-use Rattle.std.proofs.Math.Bool.{or-true}
-use Rattle.std.proofs.lemmas.Bool.{and_parts, cases_Bool, cond-true, cond-false, or_parts, true≢false}
-use Rattle.std.proofs.lemmas.List.{append-nil as append-nil-list, map-append}
-use Rattle.std.proofs.lemmas.List.Folds.{list_any-append}
-use Rattle.markdown_options.specs.LineEndings.{ending_bytes}
-use Rattle.markdown_options.specs.declared.configuration.Constructs.{Constructs}
-use Rattle.markdown_options.specs.declared.line_ending.LineEnding.{LineEnding}
+use Rattle.parse_lines.proofs.Prelude.{and_parts, append-nil-list, AreTaken, Between, block_codes, BlockLine, bytes_of, cases_Bool, code_byte, cond-false}
+use Rattle.parse_lines.proofs.Prelude.{cond-true, Constructs, Container, content_codes, content_from, End, end_after, end_at, ending_bytes, ends_at_start}
+use Rattle.parse_lines.proofs.Prelude.{ends_line, is_blank, is_byte, is_eol, is_tab_column, is_white, IsApart, IsLineOf, IsRestLine, IsSameText, LineEnding}
+use Rattle.parse_lines.proofs.Prelude.{LineRest, list_all, list_any, list_any-append, map, map-append, Option, or-true, or_parts, Place, prefix_len, prefixed}
+use Rattle.parse_lines.proofs.Prelude.{Prefixed, replicate, Rest, rest_start, space, true≢false, whole}
 use Rattle.markdown_options.specs.declared.line_ending.LineEnding.TheVariants.{CarriageReturnLineFeed, CarriageReturn, LineFeed}
-use Rattle.definition_text.specs.Ascii.{space}
-use Rattle.definition_text.specs.BlockLines.{BlockLine}
-use Rattle.definition_text.specs.Columns.{Rest, block_codes, bytes_of, code_byte, is_blank, is_byte, is_tab_column, is_white, whole}
-use Rattle.definition_text.specs.Content.{content_codes, is_eol}
-use Rattle.definition_text.specs.Lines.{ends_line}
-use Rattle.definition_block.specs.Container.{Container}
-use Rattle.parse_laid.specs.Places.{LineRest, Place, Prefixed, Between, prefixed}
-use Rattle.parse_laid.specs.Leaves.{AreTaken}
-use Rattle.parse_output.specs.declared.end.End.{End}
-use Rattle.parse_output.specs.Ends.{end_at}
-use Rattle.parse_lines.specs.Content.{end_after}
-use Rattle.parse_lines.specs.Ends.{rest_start}
-use Rattle.parse_lines.specs.InContent.{IsApart, IsRestLine, IsSameText, content_from, ends_at_start}
-use Rattle.parse_lines.specs.Standing.{IsLineOf}
 use Rattle.parse_lines.proofs.Ahead.{after_bytes, after_tab}
 use Rattle.parse_lines.proofs.Columns.{IsAmong, among, inside, past}
 use Rattle.parse_lines.proofs.Ends.{start_among}

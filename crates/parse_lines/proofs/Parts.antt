@@ -1,20 +1,11 @@
 -- Parts of a line as contents: the rest of the line comes after them.
 use Rattle.std.proofs.Common.{◌≡◌, ◌<◌, ℕ, ◌+◌, List, [], ◌∷◌, ◌++◌, Option, None, get_or, length, length-append, refl, sym, ap, ap₂, subst, ◌∙◌, false, arith}
-use Rattle.std.specs.List.{list_any}
-use Rattle.markdown_options.specs.declared.beside.Kind.{Kind}
+use Rattle.parse_lines.proofs.Prelude.{AreNext, AtEnding, bytes_of, bytes_of_codes, End, end_after, end_at, end_in, ending_text, ends_line, IsInLine}
+use Rattle.parse_lines.proofs.Prelude.{IsInOrder, Kind, LineEnding, LineRest, lines, list_any, Standing, standing, StandsAt, StandsInContent, TextLine, unread}
+use Rattle.parse_lines.proofs.Prelude.{Walk}
 use Rattle.markdown_options.specs.declared.beside.Kind.TheVariants.{Whitespace}
-use Rattle.markdown_options.specs.declared.line_ending.LineEnding.{LineEnding}
-use Rattle.definition_text.specs.Columns.{bytes_of}
-use Rattle.definition_text.specs.Lines.{TextLine, ending_text, ends_line, lines}
-use Rattle.parse_output.specs.declared.end.End.{End}
-use Rattle.parse_output.specs.Ends.{end_at}
-use Rattle.parse_output.specs.Written.{IsInOrder, end_in}
-use Rattle.parse_laid.specs.Places.{LineRest, AtEnding, unread}
-use Rattle.text_lines.proofs.Codes.{bytes_of_codes}
-use Rattle.parse_lines.specs.declared.walk.Walk.{Walk}
-use Rattle.parse_lines.specs.Content.{AreNext, BeginsLineAfter, end_after}
-use Rattle.parse_lines.specs.InContent.{IsWhole, StandsInContent}
-use Rattle.parse_lines.specs.Standing.{IsInLine, Standing, StandsAt, standing}
+use Rattle.parse_lines.specs.Content.{BeginsLineAfter}
+use Rattle.parse_lines.specs.InContent.{IsWhole}
 use Rattle.parse_lines.proofs.Ahead.{after_bytes, next_after, owes}
 use Rattle.parse_lines.proofs.ContentLines.{content_done}
 use Rattle.parse_lines.proofs.Lines.{joined, lines_joined}

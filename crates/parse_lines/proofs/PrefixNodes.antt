@@ -1,36 +1,19 @@
 -- What is written of the markers of items and footnote definitions.
 use Rattle.std.proofs.Common.{◌≡◌, ℕ, ◌+◌, ◌<◌, ◌^◌, zero, suc, Bool, true, false, ◌&&◌, ◌||◌, List, [], ◌∷◌, ◌++◌, None, Some, inl, inr, refl, sym, ap, ap₂, ◌∙◌, subst}
 use Rattle.std.proofs.Common.{arith, append_assoc, drop, take, length, length-append}
-use Rattle.std.specs.List.{list_any, prefix_len}
-use Rattle.std.specs.Prelude.{◌==◌, Option}
-use Rattle.std.proofs.Math.Seq.{drop-append_seam, take-append_seam}
-use Rattle.std.proofs.lemmas.Bool.{cases_Bool, cond-true, cond-false, or_parts}
-use Rattle.std.proofs.lemmas.List.{drop-drop, append-nil as append-nil-list}
-use Rattle.std.proofs.lemmas.List.Folds.{list_any-append}
-use Rattle.markdown_options.specs.declared.container.Item.{Item as ItemParts}
-use Rattle.engine_events.specs.Names.{same_name}
+use Rattle.parse_lines.proofs.Prelude.{append, append-nil-list, AreJoined, Around, bare, byte_nodes, bytes_of, cases_Bool, cond-false, cond-true, Cons}
+use Rattle.parse_lines.proofs.Prelude.{content_codes, drop-append_seam, drop-drop, End, end_at, end_edge, end_in, enter_at, Enters, exit_at, Exits, flat_void}
+use Rattle.parse_lines.proofs.Prelude.{Follows, gap, indent, is_digit, is_eol, is_space, is_tab_column, is_white, IsInOrder, IsLineOf, ItemParts, list_any}
+use Rattle.parse_lines.proofs.Prelude.{list_any-append, Name, named, named_in, Nil, Node, node_name, Nodes, number_of, one, Option, or_parts, Output}
+use Rattle.parse_lines.proofs.Prelude.{prefix_len, Rest, rest_start, same_end, same_name, take-append_seam, text_between, void_nodes, whole, Writes}
+use Rattle.parse_lines.proofs.Prelude.{writes_around, writes_both, writes_joined, ◌==◌}
 use Rattle.engine_events.specs.declared.event.Event.{Event}
-use Rattle.engine_events.specs.declared.event.Name.{Name}
 use Rattle.engine_events.specs.declared.event.Name.TheVariants as n
-use Rattle.definition_text.specs.Columns.{Rest, bare, bytes_of, indent, is_tab_column, is_white, whole}
-use Rattle.definition_text.specs.Content.{content_codes, is_eol, is_space}
-use Rattle.definition_block.specs.ListItem.{gap, is_digit, number_of}
-use Rattle.event_grammar.specs.InGrammar.{node_name}
-use Rattle.event_grammar.specs.References.{label_text, named, named_in}
-use Rattle.event_grammar.specs.Trees.{Node, Nodes, Around, Nil, Cons}
+use Rattle.event_grammar.specs.References.{label_text}
 use Rattle.event_meaning.specs.Blocks.{label_of}
 use Rattle.event_meaning.specs.Children.{child, inside_of, text_in}
-use Rattle.parse_output.specs.declared.end.End.{End}
-use Rattle.parse_output.specs.declared.output.Output.{Output}
-use Rattle.parse_output.specs.Ends.{Follows, end_at, enter_at, exit_at, same_end}
-use Rattle.parse_output.specs.Forest.{append, byte_nodes, one, void_nodes}
-use Rattle.parse_output.specs.Joined.{AreJoined, end_edge, text_between}
 use Rattle.parse_output.proofs.Forests.{append-assoc}
-use Rattle.parse_output.proofs.Joined.{flat_label, flat_void, writes_joined}
-use Rattle.parse_output.specs.Written.{Enters, Exits, IsInOrder, Writes, end_in}
-use Rattle.parse_output.proofs.Written.{writes_around, writes_both}
-use Rattle.parse_lines.specs.Standing.{IsLineOf}
-use Rattle.parse_lines.specs.Ends.{rest_start}
+use Rattle.parse_output.proofs.Joined.{flat_label}
 use Rattle.parse_lines.specs.Prefixes.{IsFootnoteLabel, IsFootnotePrefix, IsItemPrefix}
 use Rattle.parse_lines.proofs.Between.{rests_between}
 use Rattle.parse_lines.proofs.Columns.{bare_owes_none}

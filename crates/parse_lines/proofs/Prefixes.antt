@@ -1,17 +1,7 @@
 -- The prefixes of open containers are read one after another.
 use Rattle.std.proofs.Common.{◌≡◌, ℕ, ◌+◌, ◌≤◌, suc, zero, false, ◌||◌, List, [], ◌∷◌, None, Some, refl, sym, ap, ◌∙◌, arith, drop, length}
-use Rattle.std.specs.Prelude.{reverse}
-use Rattle.std.specs.List.{fold, list_any}
-use Rattle.std.proofs.lemmas.Bool.{or_parts}
-use Rattle.std.proofs.lemmas.List.{drop_all}
-use Rattle.markdown_options.specs.declared.configuration.Constructs.{Constructs}
-use Rattle.definition_text.specs.Columns.{Rest}
-use Rattle.definition_block.specs.Container.{Container}
-use Rattle.definition_block.specs.ContainerLine.{ContainerLine}
-use Rattle.definition_block.specs.Containers.{continues}
-use Rattle.definition_block.specs.Tree.{beside_in}
-use Rattle.parse_laid.specs.Places.{LineRest, line_rest, Prefixed, InAll, InSome, line_left, going_on, into, prefixed}
-use Rattle.parse_laid.specs.EmptyRests.{is_quote}
+use Rattle.parse_lines.proofs.Prelude.{beside_in, Constructs, Container, ContainerLine, continues, drop_all, fold, going_on, InAll, InSome, into, is_quote}
+use Rattle.parse_lines.proofs.Prelude.{line_left, line_rest, LineRest, list_any, or_parts, prefixed, Prefixed, Rest, reverse}
 use Rattle.parse_laid.proofs.EmptyRests.{nothing_stays_nothing}
 use Rattle.parse_laid.proofs.Outermost.{prefixes_are_in_order}
 

@@ -1,27 +1,16 @@
 -- What is written of prefixes spells nothing.
 use Rattle.std.proofs.Common.{ℕ, List, [], ◌++◌, None, inl, inr, refl, sym, subst, ◌≡◌, ◌∙◌, Bool, true, false, ap, ap₂, eq-eqb, ◌&&◌, ◌||◌}
-use Rattle.std.specs.Prelude.{◌==◌}
+use Rattle.parse_lines.proofs.Prelude.{append, Around, cases_Bool, cond-false, cond-true, Cons, End, end_in, enter_at, Enters, exit_at, Exits, flat_both}
+use Rattle.parse_lines.proofs.Prelude.{flat_text, flat_void, Follows, is_white, IsInOrder, IsQuotePrefix, list_all, Name, named, named_in, Nil, Node}
+use Rattle.parse_lines.proofs.Prelude.{node_name, Nodes, one, or_parts, Output, same_end, same_name, text_between, void_nodes, Writes, writes_around}
+use Rattle.parse_lines.proofs.Prelude.{writes_both, writes_none, WritesQuiet, ◌==◌}
 use Rattle.std.specs.Option.{option_or}
-use Rattle.engine_events.specs.Names.{is_listed, same_name}
-use Rattle.engine_events.specs.declared.event.Name.{Name}
-use Rattle.event_grammar.specs.InGrammar.{kids_of, node_name}
-use Rattle.event_grammar.specs.References.{media_names, named, named_in, own, own_in}
-use Rattle.std.proofs.lemmas.Bool.{cases_Bool, cond-true, cond-false, or_parts}
+use Rattle.engine_events.specs.Names.{is_listed}
+use Rattle.event_grammar.specs.InGrammar.{kids_of}
+use Rattle.event_grammar.specs.References.{media_names, own, own_in}
 use Rattle.engine_events.specs.declared.event.Name.TheVariants.{BlockQuoteMarker, BlockQuotePrefix, SpaceOrTab}
-use Rattle.event_grammar.specs.Trees.{Node, Nodes, Nil, Cons, Around}
-use Rattle.parse_output.specs.declared.end.End.{End}
-use Rattle.parse_output.specs.declared.output.Output.{Output}
-use Rattle.parse_output.specs.Ends.{Follows, enter_at, exit_at, same_end}
-use Rattle.parse_output.specs.Joined.{flat_text, text_between}
-use Rattle.parse_output.proofs.Joined.{flat_both, flat_void}
-use Rattle.std.specs.List.{list_all}
 use Rattle.std.proofs.lemmas.List.Folds.{list_all-append}
-use Rattle.definition_text.specs.Columns.{is_white}
-use Rattle.parse_output.specs.Forest.{append, one, void_nodes}
-use Rattle.parse_output.specs.Written.{Enters, Exits, IsInOrder, Writes, end_in}
-use Rattle.parse_output.proofs.Written.{writes_none, writes_both, writes_around}
-use Rattle.parse_lines.specs.Quiet.{AreOfPrefix, AreQuiet, IsQuotePrefix, quiet_names}
-use Rattle.parse_lines.specs.Ends.{WritesQuiet}
+use Rattle.parse_lines.specs.Quiet.{AreOfPrefix, AreQuiet, quiet_names}
 
 quiet_append : (ns ms : Nodes) → AreQuiet ns → AreQuiet ms → AreQuiet (append ns ms)
 quiet_append Nil ms p q = q

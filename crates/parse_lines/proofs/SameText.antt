@@ -1,20 +1,13 @@
 -- Texts that are the same but for the spaces and tabs at the starts of lines.
 use Rattle.std.proofs.Common.{◌≡◌, ℕ, zero, suc, ◌+◌, ◌-◌, ◌<◌, ◌≤◌, Bool, true, ◌&&◌, ◌||◌, List, [], ◌∷◌, ◌++◌, inl, inr, refl, sym, ap, ap₂, ◌∙◌, subst, drop, take}
 use Rattle.std.proofs.Common.{length, arith}
-use Rattle.std.proofs.Math.Bool.{or-true}
-use Rattle.std.proofs.lemmas.Bool.{cases_Bool, cond-true, cond-false}
-use Rattle.std.proofs.lemmas.Bool.Decides.{nat_tests}
-use Rattle.std.proofs.lemmas.List.Sums.{fold-append}
+use Rattle.parse_lines.proofs.Prelude.{AreNext, between_both, cases_Bool, cond-false, cond-true, edge, End, end_after, end_at, end_columns, end_edge}
+use Rattle.parse_lines.proofs.Prelude.{ends_at_start, fold-append, index_spot, is_eol, is_white, IsInTab, IsSameText, nat_tests, none_between, or-true, spot}
+use Rattle.parse_lines.proofs.Prelude.{text_between}
 use Rattle.engine_events.specs.Columns.{between}
-use Rattle.definition_text.specs.Columns.{is_white}
-use Rattle.definition_text.specs.Content.{at_line_start, is_eol}
-use Rattle.event_grammar.specs.Points.{edge, spot}
-use Rattle.parse_output.specs.declared.end.End.{End}
-use Rattle.parse_output.specs.Ends.{IsInTab, end_at, end_columns, index_spot}
-use Rattle.parse_output.specs.Joined.{end_edge, text_between}
-use Rattle.parse_output.proofs.Joined.{between_both, edges_follow, none_between}
-use Rattle.parse_lines.specs.Content.{AreNext, end_after}
-use Rattle.parse_lines.specs.InContent.{IsSameText, ends_at_start, unindented}
+use Rattle.definition_text.specs.Content.{at_line_start}
+use Rattle.parse_output.proofs.Joined.{edges_follow}
+use Rattle.parse_lines.specs.InContent.{unindented}
 use Rattle.parse_lines.proofs.Ahead.{columns_some, follows_after}
 
 pub ends_both : (start : Bool) (xs ys : List ℕ) → ends_at_start start (xs ++ ys) ≡ ends_at_start (ends_at_start start xs) ys

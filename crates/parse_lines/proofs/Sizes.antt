@@ -1,22 +1,11 @@
 -- A content isn't much longer than its text: a column of a tab is a byte in it.
 use Rattle.std.proofs.Common.{◌≡◌, ℕ, ◌+◌, ◌-◌, ◌*◌, ◌≤◌, zero, suc, List, [], ◌∷◌, ◌++◌, eqb, inl, inr, refl, sym, ap, ◌∙◌, subst, arith, take, length, length-append}
-use Rattle.std.specs.Prelude.{Bool, Option, map, replicate}
-use Rattle.std.specs.List.{filter, prefix_len}
-use Rattle.std.proofs.lemmas.Bool.{cases_Bool, cond-true, cond-false}
-use Rattle.std.proofs.lemmas.List.{length-drop, length-map}
-use Rattle.markdown_options.specs.declared.configuration.Constructs.{Constructs}
-use Rattle.markdown_options.specs.declared.beside.Kind.{Kind}
+use Rattle.parse_lines.proofs.Prelude.{AreTaken, beside_line, Between, block_codes, BlockLine, bytes_of, cases_Bool, code_byte, codes_from, columns_after_tab}
+use Rattle.parse_lines.proofs.Prelude.{cond-false, cond-true, Constructs, Container, content_from, ending_text, filter, is_byte, is_tab_column, IsRestLine}
+use Rattle.parse_lines.proofs.Prelude.{Kind, length-drop, length-map, line_left, line_rest, LineEnding, LineRest, map, Option, Place, prefix_len, prefixed}
+use Rattle.parse_lines.proofs.Prelude.{replicate, Rest, TextLine, unread, whole, width}
+use Rattle.std.specs.Prelude.{Bool}
 use Rattle.markdown_options.specs.declared.beside.Kind.TheVariants.{Whitespace}
-use Rattle.markdown_options.specs.declared.line_ending.LineEnding.{LineEnding}
-use Rattle.definition_text.specs.BlockLines.{BlockLine}
-use Rattle.definition_text.specs.Columns.{Rest, block_codes, columns_after_tab, bytes_of, code_byte, codes_from, is_byte, is_tab_column, whole}
-use Rattle.definition_text.specs.Lines.{TextLine, ending_text}
-use Rattle.definition_block.specs.Container.{Container}
-use Rattle.definition_block.specs.Tree.{beside_line}
-use Rattle.parse_laid.specs.Places.{LineRest, Place, Between, line_left, line_rest, prefixed, unread}
-use Rattle.parse_laid.specs.Leaves.{AreTaken}
-use Rattle.block_starts.specs.Widths.{width}
-use Rattle.parse_lines.specs.InContent.{IsRestLine, content_from}
 use Rattle.parse_lines.proofs.Columns.{codes_first}
 use Rattle.parse_lines.proofs.Lines.{joined}
 use Rattle.parse_lines.proofs.Suffixes.{IsEnd, prefixed_follows}

@@ -1,18 +1,12 @@
 -- The columns of a line's bytes in its text (CommonMark 2.2).
 use Rattle.std.proofs.Common.{◌≡◌, ℕ, ◌+◌, ◌-◌, ◌<◌, ◌≤◌, suc, zero, true, false, List, [], ◌∷◌, ◌++◌, Some, eqb, ltb, refl, sym, ap, ◌∙◌, arith, get_or}
 use Rattle.std.proofs.Common.{drop, take, length, length-append, append_assoc}
-use Rattle.std.specs.List.{fold, list_any}
-use Rattle.std.proofs.lemmas.Bool.{cond-false, le-ltb, or_parts}
-use Rattle.std.proofs.lemmas.List.{append-nil, take-append-drop, length-take-le}
-use Rattle.std.proofs.lemmas.List.Sums.{fold-append}
-use Rattle.engine_events.specs.Columns.{mark_size, column_after, column_past}
-use Rattle.markdown_options.specs.declared.line_ending.LineEnding.{LineEnding}
+use Rattle.parse_lines.proofs.Prelude.{column_after, column_past, cond-false, ending_text, ends_line, fold, fold-append, index_spot, LineEnding, list_any}
+use Rattle.parse_lines.proofs.Prelude.{mark_size, or_parts, Spot, spot_index, take-append-drop}
+use Rattle.std.proofs.lemmas.Bool.{le-ltb}
+use Rattle.std.proofs.lemmas.List.{append-nil, length-take-le}
 use Rattle.markdown_options.specs.declared.line_ending.LineEnding.TheVariants.{CarriageReturnLineFeed, CarriageReturn, LineFeed}
-use Rattle.definition_text.specs.Lines.{ends_line, ending_text}
-use Rattle.parse_output.specs.declared.spot.Spot.{Spot}
 use Rattle.parse_output.specs.Spots.{next_spot, spot, start}
-use Rattle.parse_output.specs.Ends.{index_spot}
-use Rattle.parse_output.proofs.Ends.{spot_index}
 
 take_over : (xs ys : List ℕ) (p : ℕ) → take (length xs + p) (xs ++ ys) ≡ xs ++ take p ys
 take_over [] ys p = let e : 0 + p ≡ p = omega arith in ap (λ (n : ℕ). take n ys) e

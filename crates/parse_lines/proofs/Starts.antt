@@ -1,27 +1,12 @@
 -- What is written where a container starts.
 use Rattle.std.proofs.Common.{◌≡◌, inl, inr, ℕ, ◌+◌, Bool, true, false, List, ◌++◌, Some, refl, sym, ap, ap₂, ◌∙◌, subst, drop, length}
-use Rattle.std.specs.List.{list_all}
-use Rattle.engine_events.specs.declared.event.Name.{Name}
+use Rattle.parse_lines.proofs.Prelude.{around, bare, Constructs, Container, container_start, ContainerStart, End, end_in, ending_text, Enters, Follows}
+use Rattle.parse_lines.proofs.Prelude.{is_white, IsInOrder, IsLineOf, Kind, LineRest, list_all, Name, Nil, Output, Place, Rest, rest_of, rest_start, Standing}
+use Rattle.parse_lines.proofs.Prelude.{standing, StandsAt, starts, text_between, Walk, whole, Within, Writes, WritesQuiet, written_to}
 use Rattle.engine_events.specs.declared.event.Name.TheVariants.{SpaceOrTab}
-use Rattle.markdown_options.specs.declared.beside.Kind.{Kind}
-use Rattle.markdown_options.specs.declared.configuration.Constructs.{Constructs}
-use Rattle.definition_text.specs.Columns.{Rest, bare, is_white, whole}
-use Rattle.definition_text.specs.Lines.{ending_text}
-use Rattle.definition_block.specs.Container.{Container}
-use Rattle.definition_block.specs.ContainerStart.{ContainerStart, container_start}
-use Rattle.definition_block.specs.Containers.{starts}
-use Rattle.block_starts.specs.View.{rest_of}
-use Rattle.event_grammar.specs.Trees.{Nil}
-use Rattle.parse_output.specs.declared.end.End.{End}
-use Rattle.parse_output.specs.declared.output.Output.{Output}
-use Rattle.parse_output.specs.Ends.{Follows}
-use Rattle.parse_output.specs.Joined.{text_between}
-use Rattle.parse_output.specs.Written.{Enters, IsInOrder, Writes, end_in}
-use Rattle.parse_laid.specs.Places.{LineRest, Place, Within, Starts}
-use Rattle.parse_lines.specs.declared.walk.Walk.{Walk}
-use Rattle.parse_lines.specs.Ends.{IsWrittenToStart, WritesMarker, WritesQuiet, WritesStart, WritesStartOf, WritesUpTo, bare_end, rest_start, written_to}
+use Rattle.parse_laid.specs.Places.{Starts}
+use Rattle.parse_lines.specs.Ends.{IsWrittenToStart, WritesMarker, WritesStart, WritesStartOf, WritesUpTo, bare_end}
 use Rattle.parse_lines.specs.Prefixes.{IsPrefixOf}
-use Rattle.parse_lines.specs.Standing.{IsLineOf, Standing, StandsAt, around, standing}
 use Rattle.parse_lines.proofs.Quiet.{no_void, quiet_nothing}
 use Rattle.parse_lines.proofs.Written.{bare_follows, bare_follows_self, bare_start, bare_white}
 

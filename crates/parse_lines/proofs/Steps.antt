@@ -1,28 +1,18 @@
 -- From one place of a text to the next.
 use Rattle.std.proofs.Common.{◌≡◌, ℕ, ◌+◌, ◌-◌, ◌<◌, ◌≤◌, Bool, true, false, List, [], ◌∷◌, ◌++◌, Option, Some, refl, sym, ap, ◌∙◌, subst, drop, length}
 use Rattle.std.proofs.Common.{arith, length-append, append_assoc, get_or, None}
-use Rattle.std.specs.Prelude.{reverse, Result, Ok, Err, OnOk}
-use Rattle.std.specs.List.{list_any}
-use Rattle.std.proofs.Math.Seq.{drop-nil}
+use Rattle.parse_lines.proofs.Prelude.{AreQuotesWithin, around, AtEnding, BeginsLine, beside_in, beside_line, Between, Constructs, Container, container_start}
+use Rattle.parse_lines.proofs.Prelude.{ContainerStart, drop-nil, ending_text, EndsLine, index_spot, is_quote, IsBetween, IsInLine, IsLineOf, Kind, line_left}
+use Rattle.parse_lines.proofs.Prelude.{line_rest, LineEnding, LineRest, lines, list_any, Place, prefixed, Rest, reverse, Standing, StandsAt, starts, StartsOf}
+use Rattle.parse_lines.proofs.Prelude.{text_line, TEXT_MAX, unread, whole, with_rest, Within}
+use Rattle.std.specs.Prelude.{Result, Ok, Err, OnOk}
 use Rattle.std.proofs.lemmas.List.{reverse-append}
-use Rattle.markdown_options.specs.declared.configuration.Constructs.{Constructs}
-use Rattle.definition_block.specs.Container.{Container}
-use Rattle.parse_laid.specs.EmptyRests.{is_quote}
-use Rattle.markdown_options.specs.declared.line_ending.LineEnding.{LineEnding}
 use Rattle.markdown_options.specs.declared.line_ending.LineEnding.TheVariants.{CarriageReturn}
-use Rattle.markdown_options.specs.declared.beside.Kind.{Kind}
 use Rattle.markdown_options.specs.declared.beside.Kind.TheVariants.{Whitespace}
-use Rattle.definition_text.specs.Columns.{Rest, whole}
-use Rattle.definition_text.specs.Lines.{text_line, lines, ending_text}
-use Rattle.definition_block.specs.ContainerStart.{ContainerStart, container_start}
-use Rattle.definition_block.specs.Containers.{starts}
-use Rattle.definition_block.specs.Tree.{beside_in, beside_line}
-use Rattle.parse_laid.specs.Places.{LineRest, line_rest, Place, Between, Within, AtEnding, line_left, prefixed, unread}
-use Rattle.parse_lines.specs.Standing.{Standing, IsLineOf, IsLineStart, IsBetween, IsOver, IsInLine, IsWithin, StandsAt, AreQuotesWithin, TEXT_MAX, around}
-use Rattle.parse_lines.specs.Steps.{with_rest, BeginsAt, BeginsLine, EndsLine, IsBegun, Leaves, PassesLine, ReadsPrefixes, StartsOf}
+use Rattle.parse_lines.specs.Standing.{IsLineStart, IsOver, IsWithin}
+use Rattle.parse_lines.specs.Steps.{BeginsAt, IsBegun, Leaves, PassesLine, ReadsPrefixes}
 use Rattle.parse_lines.proofs.Suffixes.{ends_in, prefixed_follows, starts_end}
 use Rattle.parse_lines.proofs.Containers.{quotes_fewer}
-use Rattle.parse_output.specs.Ends.{index_spot}
 use Rattle.parse_lines.proofs.Spots.{bytes_after, bytes_before, column_after_ending}
 use Rattle.parse_lines.proofs.Lines.{apart_after, apart_line, dark_line, last_line, line_first, some_left}
 

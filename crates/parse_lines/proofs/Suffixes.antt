@@ -1,33 +1,20 @@
 -- What containers leave of a line is its end, from a column on.
 use Rattle.std.proofs.Common.{◌≡◌, ℕ, ◌+◌, Bool, true, false, ◌&&◌, ◌||◌, not, List, [], ◌∷◌, Option, None, Some, eqb, refl, sym, ap, ◌∙◌, inl, inr, drop, take}
 use Rattle.std.proofs.Common.{leb, ap₂}
-use Rattle.std.specs.Prelude.{min, ◌==◌}
-use Rattle.std.specs.List.{list_all, prefix_len}
-use Rattle.definition_text.specs.Ascii.{right_parenthesis, asterisk, plus, hyphen, dot, colon, left_bracket, right_bracket, caret}
-use Rattle.std.proofs.lemmas.Bool.{cases_Bool, cond-true, cond-false, eqb-true, false≢true, leb-true}
-use Rattle.std.proofs.lemmas.List.{drop-drop}
-use Rattle.markdown_options.specs.declared.configuration.Constructs.{Constructs}
-use Rattle.definition_text.specs.Columns.{Rest, bare, indent, is_blank, is_white}
+use Rattle.parse_lines.proofs.Prelude.{after_bracket, after_byte, after_number, after_open, asterisk, bare, bullet, caret, cases_Bool, closed_by, colon}
+use Rattle.parse_lines.proofs.Prelude.{cond-false, cond-true, Constructs, Container, container_line, container_start, ContainerLine, ContainerStart, continues}
+use Rattle.parse_lines.proofs.Prelude.{dot, drop-drop, ends_label, eqb-true, Footnote, footnote_mark, footnote_of, footnote_or, footnote_start, gap, going_on}
+use Rattle.parse_lines.proofs.Prelude.{hyphen, InAll, indent, InSome, into, is_blank, is_break, is_digit, is_footnote_label, is_item, is_quote, is_white, item}
+use Rattle.parse_lines.proofs.Prelude.{Item, item_after, item_start, Kind, label_before, label_end, left_bracket, line_left, LineRest, list_all, Marker}
+use Rattle.parse_lines.proofs.Prelude.{marker, marker_of, may_escape, number_of, ordered_marker, Part, plus, prefix_len, prefixed, Prefixed, Quote, quote_or}
+use Rattle.parse_lines.proofs.Prelude.{quote_prefix, Rest, right_bracket, right_parenthesis, small_indent, starts, with_colon, ◌==◌}
+use Rattle.std.specs.Prelude.{min}
+use Rattle.std.proofs.lemmas.Bool.{false≢true, leb-true}
 use Rattle.parse_lines.proofs.White.{all_prefix, all_take}
-use Rattle.definition_text.specs.Content.{Part, closed_by}
-use Rattle.definition_text.specs.Indents.{outdent, small_indent}
-use Rattle.definition_inline.specs.Label.{label_end, ends_label}
-use Rattle.definition_text.specs.Content.{may_escape}
-use Rattle.definition_block.specs.Container.{Container, Quote, Item, Footnote}
-use Rattle.definition_block.specs.ContainerLine.{ContainerLine, container_line}
-use Rattle.definition_block.specs.ContainerStart.{ContainerStart, container_start}
-use Rattle.definition_block.specs.BlockQuote.{after_byte, after_mark, quote_prefix}
-use Rattle.markdown_options.specs.declared.beside.Kind.{Kind}
+use Rattle.definition_text.specs.Indents.{outdent}
+use Rattle.definition_block.specs.BlockQuote.{after_mark}
 use Rattle.markdown_options.specs.declared.beside.Kind.TheVariants.{Whitespace}
-use Rattle.parse_laid.specs.EmptyRests.{is_quote}
-use Rattle.definition_block.specs.ThematicBreak.{is_break}
-use Rattle.definition_block.specs.ListItem.{Marker, marker_of, is_digit, number_of, bullet, after_number, ordered_marker, marker, gap, is_item, item}
-use Rattle.definition_block.specs.ListItem.{item_after}
-use Rattle.definition_block.specs.ListItem.{item_start, is_inside, item_continues}
-use Rattle.definition_block.specs.GfmFootnoteDefinition.{is_footnote_label, label_before, with_colon, after_open, after_bracket, footnote_mark}
-use Rattle.definition_block.specs.GfmFootnoteDefinition.{footnote_of, footnote_start}
-use Rattle.definition_block.specs.Containers.{continues, quote_or, footnote_or, starts}
-use Rattle.parse_laid.specs.Places.{LineRest, Prefixed, InAll, InSome, line_left, going_on, into, prefixed}
+use Rattle.definition_block.specs.ListItem.{is_inside, item_continues}
 
 -- a rest that is the end of another
 abbrev pub IsEnd : Rest → Rest → Type 0

@@ -1,7 +1,6 @@
 -- Codes that are white space.
 use Rattle.std.proofs.Common.{◌≡◌, ℕ, ◌+◌, ◌≤◌, zero, suc, Bool, true, ◌&&◌, List, [], ◌∷◌, inl, inr, refl, ap, ap₂, ◌∙◌, arith, take}
-use Rattle.std.specs.List.{filter, list_all, prefix_len}
-use Rattle.std.proofs.lemmas.Bool.{and_parts, cases_Bool, cond-true, cond-false}
+use Rattle.parse_lines.proofs.Prelude.{and_parts, cases_Bool, cond-false, cond-true, filter, list_all, prefix_len}
 
 -- codes that pass, and those of them that are bytes
 pub all_filter : (p q : ℕ → Bool) (xs : List ℕ) → list_all p xs ≡ true → list_all p (filter q xs) ≡ true

@@ -1,32 +1,17 @@
 -- What is written of the prefixes of containers.
 use Rattle.std.proofs.Common.{◌≡◌, ℕ, ◌+◌, ◌-◌, ◌^◌, ◌<◌, ◌≤◌, List, ◌∷◌, ◌++◌, Option, Some, true, refl, sym, ap, ap₂, ◌∙◌, subst, arith, drop, take, length, length-append}
-use Rattle.std.proofs.lemmas.List.{drop-drop}
+use Rattle.parse_lines.proofs.Prelude.{bare, bytes_of, Constructs, ContainerLine, drop-drop, End, end_at, end_in, ending_text, Enters, Exits, Follows, indent}
+use Rattle.parse_lines.proofs.Prelude.{is_byte, is_white, IsBetween, IsInLine, IsInOrder, IsLineOf, IsQuotePrefix, LineEnding, LineRest, lines, list_all, Node}
+use Rattle.parse_lines.proofs.Prelude.{one, Output, quote_prefix, Rest, rest_start, Standing, text_between, text_line, TEXT_MAX, void_nodes, whole, Writes}
+use Rattle.parse_lines.proofs.Prelude.{WritesQuiet}
 use Rattle.engine_events.specs.declared.event.Name.TheVariants.{BlockQuoteMarker, BlockQuotePrefix, SpaceOrTab}
-use Rattle.markdown_options.specs.declared.configuration.Constructs.{Constructs}
-use Rattle.std.specs.List.{list_all}
-use Rattle.definition_text.specs.Columns.{Rest, whole, bare, bytes_of, indent, is_byte, is_white}
-use Rattle.parse_output.specs.Joined.{text_between}
 use Rattle.parse_lines.proofs.Between.{rests_between}
 use Rattle.parse_lines.proofs.White.{all_filter, all_prefix}
-use Rattle.definition_block.specs.ContainerLine.{ContainerLine}
-use Rattle.definition_block.specs.BlockQuote.{quote_prefix}
-use Rattle.parse_output.specs.declared.end.End.{End}
-use Rattle.parse_output.specs.declared.output.Output.{Output}
-use Rattle.parse_output.specs.Ends.{Follows, end_at}
-use Rattle.event_grammar.specs.Trees.{Node}
-use Rattle.parse_output.specs.Forest.{one, void_nodes}
-use Rattle.parse_output.specs.Written.{Enters, Exits, IsInOrder, Writes, end_in}
-use Rattle.markdown_options.specs.declared.line_ending.LineEnding.{LineEnding}
-use Rattle.definition_text.specs.Lines.{text_line, lines, ending_text}
-use Rattle.parse_laid.specs.Places.{LineRest}
-use Rattle.parse_lines.specs.Standing.{Standing, IsBetween, IsInLine, IsLineOf, TEXT_MAX}
 use Rattle.parse_lines.proofs.Lines.{some_left}
 use Rattle.parse_lines.proofs.Steps.{line_of}
-use Rattle.parse_lines.specs.Ends.{WritesQuiet, rest_start}
 use Rattle.parse_lines.proofs.Suffixes.{IsAfterWhite, quote_parts}
 use Rattle.parse_lines.proofs.Columns.{bare_owes_none, dark_owes_none}
 use Rattle.parse_lines.proofs.Ends.{line_follows, start_whole, start_line, start_marked, left_within}
-use Rattle.parse_lines.specs.Quiet.{IsQuotePrefix}
 use Rattle.parse_lines.proofs.Quiet.{prefix_marker, prefix_space, quote_node, quiet_space}
 
 module _ (text before content after : List ℕ) (n line_end : ℕ) (start : Rest) where

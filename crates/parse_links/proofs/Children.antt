@@ -1,26 +1,12 @@
 -- Which of some nodes has a name (CommonMark 4.7).
 use Rattle.std.proofs.Common.{◌≡◌, ℕ, false, ◌||◌, List, [], ◌++◌, Option, None, Some, inl, inr, refl, sym, ap, ap₂, ◌∙◌}
-use Rattle.std.proofs.lemmas.Bool.{cases_Bool, cond-false, cond-true, cond_both, or_parts}
-use Rattle.std.proofs.lemmas.Option.{none-some}
-use Rattle.engine_events.specs.Names.{is_listed, same_name}
-use Rattle.engine_events.specs.declared.event.Name.{Name}
+use Rattle.parse_links.proofs.Prelude.{append, bytes_text, cases_Bool, child, cond-false, cond-true, Cons, Constructs, End, Holds, inside_of, is_listed}
+use Rattle.parse_links.proofs.Prelude.{IsQuoted, IsRaw, IsStringNode, IsVoidOf, kids_in, kids_of, Name, named, named_both, Names, Nil, Node, node_name, Nodes}
+use Rattle.parse_links.proofs.Prelude.{none-some, one, or_parts, same_name, same_self, some_nodes, string_of, void_nodes, white_names}
+use Rattle.std.proofs.lemmas.Bool.{cond_both}
 use Rattle.engine_events.specs.declared.event.Name.TheVariants as n
-use Rattle.markdown_options.specs.declared.configuration.Constructs.{Constructs}
-use Rattle.definition_inline.specs.CharacterReference.{Names}
-use Rattle.event_grammar.specs.InGrammar.{kids_of, node_name}
-use Rattle.event_grammar.specs.References.{named}
-use Rattle.event_grammar.specs.Trees.{Node, Nodes, Nil, Cons}
-use Rattle.event_meaning.specs.Children.{child, inside_of, kids_in}
-use Rattle.event_meaning.specs.Strings.{string_of}
-use Rattle.parse_output.specs.declared.end.End.{End}
 use Rattle.parse_output.specs.Ends.{same_end}
-use Rattle.parse_output.specs.Forest.{append, one, void_nodes}
-use Rattle.parse_output.proofs.Marks.{same_self}
-use Rattle.parse_lines.specs.Quiet.{AreQuiet, IsVoidOf}
-use Rattle.parse_strings.specs.Strings.{bytes_text}
-use Rattle.parse_strings.proofs.PlainNodes.{named_both}
-use Rattle.parse_links.specs.Quoted.{Holds, IsQuoted, IsRaw, IsStringNode, some_nodes}
-use Rattle.parse_links.specs.White.{white_names}
+use Rattle.parse_lines.specs.Quiet.{AreQuiet}
 use Rattle.parse_links.proofs.Found.{held_spells, named_around}
 
 -- ---- one after another

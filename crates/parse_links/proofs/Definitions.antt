@@ -1,49 +1,20 @@
 -- What is written of a definition, step by step (CommonMark 4.7).
-use Rattle.std.specs.Option.{option_map, option_or}
+use Rattle.parse_links.proofs.Prelude.{after_ending, after_part, after_spaces, after_white, and_parts, append, append-nil, AreBytes, begins_with_space}
+use Rattle.parse_links.proofs.Prelude.{bytes_text, cases_Bool, child, Code, cond-false, cond-true, Constructs, content_codes, contents_both, contents_none}
+use Rattle.parse_links.proofs.Prelude.{cut_last, destination_at, EndsWithTitle, eqb-true, from_some, Holds, inside_of, is_ascii_byte, is_eol, is_listed}
+use Rattle.parse_links.proofs.Prelude.{IsCharBoundary, IsInner, IsOfBytes, IsQuoted, IsRaw, IsTarget, IsUtf8, IsWhole, kids_in, kids_of, label_at, list_all}
+use Rattle.parse_links.proofs.Prelude.{ltb-true, Name, named, Names, next_line, Nil, Node, node_name, Nodes, none-some, one, option_or, Part, PlaceNames}
+use Rattle.parse_links.proofs.Prelude.{same_name, SpellsEnd, SpellsPlace, StandsInContent, Stop, string_of, string_of_bytes, string_text, title_at}
+use Rattle.parse_links.proofs.Prelude.{title_string, Walk, white_names, words, WritesDestination, WritesInContent, WritesParts, WritesQuoted, WritesWhite}
+use Rattle.std.specs.Option.{option_map}
 use Rattle.std.proofs.Common.{◌≡◌, ℕ, ◌<◌, true, false, eqb, List, [], ◌∷◌, ◌++◌, Option, None, Some, inl, inr, refl, sym, ap, ap₂, subst, ◌∙◌}
 use Rattle.std.proofs.Common.{append_assoc, arith, length}
-use Rattle.std.specs.List.{list_all}
-use Rattle.std.specs.Str.{IsCharBoundary, IsUtf8}
-use Rattle.std.proofs.lemmas.Bool.{and_parts, cases_Bool, cond-false, cond-true, eqb-true, ltb-true}
-use Rattle.std.proofs.lemmas.List.{append-nil}
-use Rattle.std.proofs.lemmas.Option.{none-some}
-use Rattle.markdown_options.specs.declared.configuration.Constructs.{Constructs}
-use Rattle.definition_text.specs.Columns.{Code}
-use Rattle.definition_text.specs.Content.{Part, content_codes, is_eol}
-use Rattle.definition_inline.specs.CharacterReference.{Names}
-use Rattle.definition_inline.specs.Definition.{Definition, definition, definition_with_title, definition_without_title, next_line, next_line_after}
-use Rattle.definition_inline.specs.Destination.{destination_at}
-use Rattle.definition_inline.specs.Label.{label_at}
-use Rattle.definition_inline.specs.LabelMatch.{words}
-use Rattle.definition_inline.specs.Parts.{after_code, after_part}
-use Rattle.definition_inline.specs.Space.{after_ending, after_spaces, after_white, begins_with_space}
-use Rattle.definition_inline.specs.Strings.{string_text}
-use Rattle.definition_inline.specs.Title.{title_at}
-use Rattle.engine_events.specs.Names.{is_listed, same_name}
-use Rattle.engine_events.specs.declared.event.Name.{Name}
+use Rattle.definition_inline.specs.Definition.{Definition, definition, definition_with_title, definition_without_title, next_line_after}
+use Rattle.definition_inline.specs.Parts.{after_code}
 use Rattle.engine_events.specs.declared.event.Name.TheVariants as n
-use Rattle.event_grammar.specs.InGrammar.{kids_of, node_name}
-use Rattle.event_grammar.specs.References.{label_text, named}
-use Rattle.event_grammar.specs.Trees.{Node, Nodes, Nil}
-use Rattle.event_meaning.specs.Children.{child, inside_of, kids_in}
-use Rattle.event_meaning.specs.Strings.{string_of}
-use Rattle.parse_output.specs.Forest.{append, one}
-use Rattle.inline_links.proofs.Splits.{from_some}
-use Rattle.inline_links.proofs.Texts.{AreBytes}
+use Rattle.event_grammar.specs.References.{label_text}
 use Rattle.parse_alike.specs.LabelMatch.{HaveSameWords}
-use Rattle.parse_alike.specs.Strings.{IsOfBytes}
-use Rattle.parse_lines.specs.declared.walk.Walk.{Walk}
-use Rattle.parse_lines.specs.InContent.{IsWhole, StandsInContent, Stop, WritesInContent}
-use Rattle.parse_lines.proofs.InContent.{contents_both, contents_none}
-use Rattle.parse_strings.proofs.OfBytes.{string_of_bytes}
-use Rattle.parse_strings.proofs.Texts.{cut_last}
-use Rattle.parse_strings.specs.Strings.{bytes_text}
-use Rattle.parse_links.specs.Definition.{EndsWithTitle, IsDefinition, IsTarget, SpellsDefinition, SpellsEnd, SpellsPlace, WritesParts, place_of, place_within}
-use Rattle.parse_links.specs.Destination.{IsInner, WritesDestination}
-use Rattle.parse_links.specs.Quoted.{Holds, IsQuoted, IsRaw, WritesQuoted}
-use Rattle.parse_links.specs.Tails.{title_string}
-use Rattle.parse_links.specs.White.{WritesWhite, is_ascii_byte, white_names}
-use Rattle.parse_links.specs.declared.names.Names.{Names as PlaceNames}
+use Rattle.parse_links.specs.Definition.{IsDefinition, SpellsDefinition, place_of, place_within}
 use Rattle.parse_links.proofs.Children.{child_after, child_here, child_next, none_named, quoted_child, quoted_definitions, quoted_string, raw_definitions, raw_string}
 use Rattle.parse_links.proofs.Children.{token_definitions}
 use Rattle.parse_links.proofs.Found.{named_around}

@@ -1,27 +1,13 @@
 -- Where the string of a link or an image is found among nodes (CommonMark 6.3).
-use Rattle.std.specs.Option.{option_or}
+use Rattle.parse_links.proofs.Prelude.{append, append-nil, ArePlain, Around, bytes_text, cond-false, cond-true, Cons, Constructs, false_from_ne_true, Holds}
+use Rattle.parse_links.proofs.Prelude.{inside_of, is_listed, IsQuoted, IsRaw, IsStringNode, IsVoidOf, kids_of, Name, named, named_both, Names, Node, node_name}
+use Rattle.parse_links.proofs.Prelude.{Nodes, one, option_or, own, own_both, same_name, same_self, some_nodes, string_of, tail_names, true≢false}
 use Rattle.std.proofs.Common.{◌≡◌, ℕ, true, false, List, [], ◌++◌, Option, None, Some, refl, sym, ap, ap₂, subst, ◌∙◌}
-use Rattle.std.proofs.lemmas.Bool.{cond-false, cond-true, true≢false, false_from_ne_true}
-use Rattle.std.proofs.lemmas.List.{append-nil}
 use denote.Enum.Bare.{same_true}
-use Rattle.engine_events.specs.Names.{is_listed, same_name}
 use Rattle.engine_events.specs.contracts.event.Name.{the_type}
-use Rattle.engine_events.specs.declared.event.Name.{Name}
 use Rattle.engine_events.specs.declared.event.Name.TheVariants as n
-use Rattle.markdown_options.specs.declared.configuration.Constructs.{Constructs}
-use Rattle.definition_inline.specs.CharacterReference.{Names}
-use Rattle.event_grammar.specs.InGrammar.{kids_of, node_name}
-use Rattle.event_grammar.specs.References.{media_names, named, named_in, own}
-use Rattle.event_grammar.specs.Trees.{Node, Nodes, Around, Cons}
-use Rattle.event_meaning.specs.Children.{inside_of}
-use Rattle.event_meaning.specs.Strings.{string_of}
-use Rattle.parse_output.specs.Forest.{append, one}
-use Rattle.parse_output.proofs.Marks.{same_self}
-use Rattle.parse_lines.specs.Quiet.{IsVoidOf}
-use Rattle.parse_strings.specs.Plain.{ArePlain, tail_names}
-use Rattle.parse_strings.specs.Strings.{bytes_text}
-use Rattle.parse_strings.proofs.PlainNodes.{named_both, own_both, plain_none, plain_one, sought_names}
-use Rattle.parse_links.specs.Quoted.{Holds, IsQuoted, IsRaw, IsStringNode, some_nodes}
+use Rattle.event_grammar.specs.References.{media_names, named_in}
+use Rattle.parse_strings.proofs.PlainNodes.{plain_none, plain_one, sought_names}
 
 -- of what is looked for in a link, these nodes have one string, if it has a node
 pub record FindsString (name : Name) (held : Option Node) (ns : Nodes) : Type 0 where

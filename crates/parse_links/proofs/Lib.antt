@@ -1,3 +1,4 @@
+mod Prelude
 pub mod Written
 pub mod Places
 pub mod Found

@@ -1,24 +1,20 @@
 -- Labels, destinations and titles in bytes: their marks, and what is between and after them (CommonMark 6.3).
 use Rattle.std.proofs.Common.{◌≡◌, ◌⊎◌, ℕ, zero, suc, ◌+◌, ◌<◌, Bool, true, false, cond, ◌||◌, eqb, List, [], ◌∷◌, ◌++◌, Option, None, Some, get_or}
 use Rattle.std.proofs.Common.{inl, inr, refl, sym, ap, ap₂, subst, ◌∙◌, arith, drop, length, length-append, append_assoc}
-use Rattle.std.specs.List.{list_any}
-use Rattle.std.specs.Str.{IsCharBoundary, IsUtf8}
-use Rattle.std.proofs.lemmas.Bool.{cases_Bool, cond-false, cond-true, eqb-true, eqb-false, ltb-true, or_cases, or_from, or_parts}
-use Rattle.std.proofs.lemmas.List.{get_or_at}
-use Rattle.std.proofs.lemmas.Option.{none-some, cond_some}
-use Rattle.std.proofs.lemmas.Str.{IsCharBoundary-before_ascii, IsCharBoundary-end}
-use Rattle.definition_text.specs.Content.{Part, at_line_start, closed_by, content_codes, is_eol, is_space, may_escape, up_to}
-use Rattle.definition_inline.specs.Destination.{angle_end, bare_end, destination_at, ends_angle, ends_bare, if_any, is_control, is_too_deep, open_after}
+use Rattle.parse_links.proofs.Prelude.{AreBytes, begins_ascii, bytes_after, cases_Bool, codes_split, cond-false, cond-true, content_codes, cut_last}
+use Rattle.parse_links.proofs.Prelude.{destination_at, eqb-false, eqb-true, from_some, get_or_at, is_eol, is_space, IsCharBoundary}
+use Rattle.parse_links.proofs.Prelude.{IsCharBoundary-before_ascii, IsMark, IsPlace, IsUtf8, label_at, line_bytes, list_any, ltb-true, none-some, or_from}
+use Rattle.parse_links.proofs.Prelude.{or_parts, Part, plain_code, title_at}
+use Rattle.std.proofs.lemmas.Bool.{or_cases}
+use Rattle.std.proofs.lemmas.Option.{cond_some}
+use Rattle.std.proofs.lemmas.Str.{IsCharBoundary-end}
+use Rattle.definition_text.specs.Content.{at_line_start, closed_by, may_escape, up_to}
+use Rattle.definition_inline.specs.Destination.{angle_end, bare_end, ends_angle, ends_bare, if_any, is_control, is_too_deep, open_after}
 use Rattle.definition_inline.specs.Destination.{unless_empty}
-use Rattle.definition_inline.specs.Label.{if_label, is_label, label_at, label_end}
-use Rattle.definition_inline.specs.Title.{ends_blank_line, ends_title, title_at, title_close, title_end, title_until}
-use Rattle.inline_links.proofs.Splits.{before_is, begins_ascii, from_some, is_ascii_code, destination_whole}
-use Rattle.inline_links.proofs.Texts.{AreBytes}
-use Rattle.inline_leaves.proofs.Codes.{plain_code}
-use Rattle.parse_strings.proofs.Codes.{codes_split, line_bytes, no_ends}
-use Rattle.parse_strings.proofs.Texts.{bytes_after, cut_last}
-use Rattle.parse_links.specs.Destination.{IsPlace}
-use Rattle.parse_links.specs.Quoted.{IsMark}
+use Rattle.definition_inline.specs.Label.{if_label, is_label, label_end}
+use Rattle.definition_inline.specs.Title.{ends_blank_line, ends_title, title_close, title_end, title_until}
+use Rattle.inline_links.proofs.Splits.{before_is, is_ascii_code, destination_whole}
+use Rattle.parse_strings.proofs.Codes.{no_ends}
 
 -- ---- up to a code that closes
 

@@ -1,20 +1,10 @@
 -- What is written of a destination, step by step (CommonMark 6.3).
 use Rattle.std.proofs.Common.{◌≡◌, ◌⊎◌, ℕ, ◌<◌, length, List, [], ◌∷◌, ◌++◌, inl, inr, refl, sym, ap, subst, ◌∙◌, arith, slice_index}
-use Rattle.std.specs.List.{list_any}
-use Rattle.markdown_options.specs.declared.configuration.Constructs.{Constructs}
-use Rattle.definition_text.specs.Lines.{ends_line}
+use Rattle.parse_links.proofs.Prelude.{AreCutApart, Around, Constructs, End, end_in, ends_line, enter_at, EntersInContent, exit_at, ExitsInContent, IsMark}
+use Rattle.parse_links.proofs.Prelude.{IsPlace, list_any, one, Stop, Walk, WritesDestination, WritesInContent, WritesQuoted, WritesRaw}
 use Rattle.definition_inline.specs.CharacterReference as references
-use Rattle.event_grammar.specs.Trees.{Around}
-use Rattle.parse_output.specs.declared.end.End.{End}
-use Rattle.parse_output.specs.Ends.{enter_at, exit_at}
-use Rattle.parse_output.specs.Forest.{one}
-use Rattle.parse_output.specs.Written.{end_in}
-use Rattle.parse_lines.specs.declared.walk.Walk.{Walk}
-use Rattle.parse_lines.specs.InContent.{EntersInContent, ExitsInContent, Stop, WritesInContent}
-use Rattle.parse_strings.specs.Strings.{AreCutApart}
 use Rattle.parse_links.specs.declared.names.Names.{Names}
-use Rattle.parse_links.specs.Destination.{IsPlace, WritesDestination, WritesInner}
-use Rattle.parse_links.specs.Quoted.{IsMark, WritesQuoted, WritesRaw}
+use Rattle.parse_links.specs.Destination.{WritesInner}
 use Rattle.parse_links.proofs.Written.{IsOwn, around_in}
 
 angle_mark : IsMark 60

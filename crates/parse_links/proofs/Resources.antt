@@ -1,50 +1,21 @@
 -- What is written of a resource, step by step (CommonMark 6.3).
-use Rattle.std.specs.Option.{option_or}
+use Rattle.parse_links.proofs.Prelude.{after_part, after_white, and_parts, append, ArePlain, Around, begins_ascii, begins_with_space, boundary_after_byte}
+use Rattle.parse_links.proofs.Prelude.{bytes_text, cases_Bool, Code, cond-false, cond-true, Constructs, content_codes, contents_both, contents_none}
+use Rattle.parse_links.proofs.Prelude.{destination_at, End, end_in, enter_at, EntersInContent, eqb-false, eqb-true, exit_at, ExitsInContent, from_some}
+use Rattle.parse_links.proofs.Prelude.{inside_of, is_ascii_byte, is_eol, is_listed, IsCharBoundary, IsInner, IsOfBytes, IsUtf8, IsWhole, line_bytes, list_all}
+use Rattle.parse_links.proofs.Prelude.{list_any, lt-ltb, ltb-true, Name, named, named_both, Names, Nil, Node, Nodes, none-some, one, option_or, or_left, own}
+use Rattle.parse_links.proofs.Prelude.{own_both, Part, PlaceNames, plain_both, plain_code, resource_inside, same_name, SpellsTarget, SpellsTitle}
+use Rattle.parse_links.proofs.Prelude.{StandsInContent, Stop, string_of, string_of_bytes, string_text, tail_names, title_at, title_string, Walk}
+use Rattle.parse_links.proofs.Prelude.{WritesDestination, WritesInContent, WritesQuoted, WritesTail, WritesWhite}
 use Rattle.std.proofs.Common.{◌≡◌, ◌⊎◌, ℕ, ◌+◌, ◌-◌, ◌*◌, ◌^◌, ◌<◌, Bool, true, false, ◌&&◌, ◌||◌, eqb, ltb, List, [], ◌∷◌, ◌++◌, Option, None, Some, inl}
 use Rattle.std.proofs.Common.{inr, refl}
 use Rattle.std.proofs.Common.{sym, ap, ap₂, subst, ◌∙◌, append_assoc, arith, get_or, length, length-append, slice_index}
 use Rattle.std.specs.Prelude.{IfOk, Result, Ok, Err, is_some}
-use Rattle.std.specs.List.{list_all, list_any}
-use Rattle.std.specs.Str.{IsCharBoundary, IsUtf8}
-use Rattle.std.proofs.lemmas.Bool.{and_parts, cases_Bool, cond-false, cond-true, eqb-true, eqb-false, lt-ltb, ltb-true, ne_eqb, or_left}
-use Rattle.std.proofs.lemmas.Option.{none-some}
-use Rattle.markdown_options.specs.declared.configuration.Constructs.{Constructs}
-use Rattle.definition_text.specs.Columns.{Code}
-use Rattle.definition_text.specs.Content.{Part, content_codes, is_eol}
-use Rattle.definition_inline.specs.CharacterReference.{Names}
-use Rattle.definition_inline.specs.Destination.{destination_at}
-use Rattle.definition_inline.specs.Parts.{after_part}
-use Rattle.definition_inline.specs.Resource.{LinkResource, after_destination, opens_title, resource_at, resource_end, resource_inside}
-use Rattle.definition_inline.specs.Space.{after_white, begins_with_space}
-use Rattle.definition_inline.specs.Strings.{string_text}
-use Rattle.definition_inline.specs.Title.{title_at}
-use Rattle.engine_events.specs.Names.{is_listed, same_name}
-use Rattle.engine_events.specs.declared.event.Name.{Name}
+use Rattle.std.proofs.lemmas.Bool.{ne_eqb}
+use Rattle.definition_inline.specs.Resource.{LinkResource, after_destination, opens_title, resource_at, resource_end}
 use Rattle.engine_events.specs.declared.event.Name.TheVariants as n
-use Rattle.event_grammar.specs.References.{named, own}
-use Rattle.event_grammar.specs.Trees.{Node, Nodes, Around, Nil}
-use Rattle.event_meaning.specs.Children.{inside_of}
-use Rattle.event_meaning.specs.Strings.{string_of}
-use Rattle.parse_output.specs.declared.end.End.{End}
-use Rattle.parse_output.specs.Ends.{enter_at, exit_at}
-use Rattle.parse_output.specs.Forest.{append, one}
-use Rattle.parse_output.specs.Written.{end_in}
-use Rattle.inline_leaves.proofs.Codes.{at_return, boundary_after_byte, plain_code}
-use Rattle.inline_links.proofs.Splits.{begins_ascii, from_some}
-use Rattle.parse_lines.specs.declared.walk.Walk.{Walk}
-use Rattle.parse_lines.specs.InContent.{EntersInContent, ExitsInContent, IsWhole, StandsInContent, Stop, WritesInContent}
-use Rattle.parse_lines.proofs.InContent.{contents_both, contents_none}
-use Rattle.parse_alike.specs.Strings.{IsOfBytes}
-use Rattle.parse_strings.specs.Plain.{ArePlain, tail_names}
-use Rattle.parse_strings.specs.Strings.{bytes_text}
-use Rattle.parse_strings.proofs.PlainNodes.{named_both, own_both, plain_both}
-use Rattle.parse_strings.proofs.Codes.{line_bytes}
-use Rattle.parse_strings.proofs.OfBytes.{string_of_bytes}
-use Rattle.parse_links.specs.Destination.{IsInner, WritesDestination}
-use Rattle.parse_links.specs.Quoted.{WritesQuoted}
-use Rattle.parse_links.specs.Tails.{SpellsResource, SpellsTarget, SpellsTitle, WritesPlace, WritesTail, title_string}
-use Rattle.parse_links.specs.White.{WritesWhite, is_ascii_byte}
-use Rattle.parse_links.specs.declared.names.Names.{Names as PlaceNames}
+use Rattle.inline_leaves.proofs.Codes.{at_return}
+use Rattle.parse_links.specs.Tails.{SpellsResource, WritesPlace}
 use Rattle.parse_links.proofs.Found.{FindsString, IsStringName, IsUnsought, own_around, own_found, named_around, void_plain, finds_around, finds_before}
 use Rattle.parse_links.proofs.Found.{finds_quoted, finds_raw, held_spells}
 use Rattle.parse_links.proofs.Written.{WritesToken, around_in}

@@ -1,38 +1,25 @@
 -- What is written of white space, step by step (CommonMark 6.3).
 use Rattle.std.proofs.Common.{◌≡◌, ℕ, zero, suc, ◌+◌, ◌≤◌, true, false, ◌&&◌, List, [], ◌∷◌, ◌++◌, None, refl, sym, ap, ap₂, subst}
 use Rattle.std.proofs.Common.{◌∙◌, append_assoc, arith, drop, inl, inr, take, length}
-use Rattle.std.specs.List.{list_all}
-use Rattle.std.proofs.lemmas.Bool.{and_from, cases_Bool, cond-false, cond-true, lt-ltb, or_left}
-use Rattle.std.proofs.lemmas.List.{append-nil, take-append-drop}
+use Rattle.parse_links.proofs.Prelude.{after_ending, after_spaces, after_white, append, append-nil, AreBytes, bare, begins_with_eol, cases_Bool, cond-false}
+use Rattle.parse_links.proofs.Prelude.{cond-true, Cons, content_codes, contents_both, End, end_after, end_in, ending_bytes, indent, is_ascii_byte, is_eol}
+use Rattle.parse_links.proofs.Prelude.{is_white, list_all, lt-ltb, one, or_left, plain_both, ReadsEnding, standing, StandsInContent, StandsInLine, Stop}
+use Rattle.parse_links.proofs.Prelude.{take-append-drop, void_nodes, Walk, WritesInContent, WritesInLine, WritesWhite}
+use Rattle.std.proofs.lemmas.Bool.{and_from}
 use Rattle.std.proofs.lemmas.List.Folds.{list_all-append}
 use Rattle.markdown_options.specs.Defaults.{default_constructs}
-use Rattle.markdown_options.specs.LineEndings.{ending_bytes}
 use Rattle.markdown_options.specs.declared.line_ending.LineEnding.{LineEnding}
 use Rattle.markdown_options.specs.declared.line_ending.LineEnding.TheVariants.{CarriageReturnLineFeed, CarriageReturn, LineFeed}
-use Rattle.definition_text.specs.Columns.{bare, indent, is_white}
-use Rattle.definition_text.specs.Content.{content_codes, is_eol, line_ending_code}
-use Rattle.definition_inline.specs.Space.{after_ending, after_spaces, after_white}
-use Rattle.definition_inline.specs.Strings.{begins_with_eol}
+use Rattle.definition_text.specs.Content.{line_ending_code}
 use Rattle.engine_events.specs.declared.event.Name.TheVariants as n
-use Rattle.event_grammar.specs.Trees.{Cons}
-use Rattle.parse_output.specs.declared.end.End.{End}
-use Rattle.parse_output.specs.Forest.{append, one, void_nodes}
-use Rattle.parse_output.specs.Written.{end_in}
-use Rattle.parse_lines.specs.declared.walk.Walk.{Walk}
-use Rattle.parse_lines.specs.Content.{StandsInLine, WritesInLine, end_after}
-use Rattle.parse_lines.specs.InContent.{StandsInContent, Stop, WritesEndingIn, WritesInContent}
-use Rattle.parse_lines.specs.Standing.{standing}
+use Rattle.parse_lines.specs.InContent.{WritesEndingIn}
 use Rattle.parse_lines.proofs.Ahead.{owed_after}
-use Rattle.parse_lines.proofs.InContent.{contents_both}
-use Rattle.inline_leaves.specs.Leaves.{ReadsEnding}
 use Rattle.inline_leaves.specs.declared.line_ending.Ending.{Ending}
 use Rattle.inline_leaves.proofs.Codes.{after_codes}
 use Rattle.inline_leaves.proofs.Endings.{ending_is_eol}
-use Rattle.inline_links.proofs.Texts.{AreBytes}
 use Rattle.parse_strings.proofs.Parts.{owed_indent, void_node, white_in}
-use Rattle.parse_strings.proofs.PlainNodes.{plain_both, plain_quiet, plain_void}
+use Rattle.parse_strings.proofs.PlainNodes.{plain_quiet, plain_void}
 use Rattle.parse_strings.proofs.Texts.{EndingStep, ending_step, told_ascii}
-use Rattle.parse_links.specs.White.{WritesWhite, is_ascii_byte}
 use Rattle.parse_links.proofs.Children.{ending_child, none_both, space_child}
 
 white_ascii : (n : ℕ) (xs : List ℕ) → AreBytes xs → n ≤ indent xs → list_all is_ascii_byte (take n xs) ≡ true

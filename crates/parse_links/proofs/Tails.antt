@@ -2,26 +2,13 @@
 use Rattle.std.proofs.Common.{◌≡◌, ℕ, ◌<◌, Bool, true, false, ◌&&◌, eqb, List, [], ◌∷◌, ◌++◌, Option, None, Some, refl, sym, ap, ap₂, subst, ◌∙◌}
 use Rattle.std.proofs.Common.{arith, drop, length, take}
 use Rattle.std.specs.Prelude.{codes}
-use Rattle.std.specs.List.{list_any}
-use Rattle.std.proofs.lemmas.Bool.{and_parts, cond-false, eqb-true, true≢false, false_from_ne_true}
-use Rattle.std.proofs.lemmas.List.{take-append-drop}
+use Rattle.parse_links.proofs.Prelude.{after_reference, and_parts, Code, codes_split, cond-false, Constructs, content_codes, contents_none, eqb-true}
+use Rattle.parse_links.proofs.Prelude.{false_from_ne_true, HasCodes, Holds, is_collapsed, is_eol, IsMark, IsWhole, label_at, line_bytes, list_any, Names, Nil}
+use Rattle.parse_links.proofs.Prelude.{Node, one, Part, StandsInContent, Stop, take-append-drop, true≢false, Walk, words, WritesQuoted, WritesTail}
 use Rattle.std.proofs.lemmas.Slice.Eq.{bytes_eq-Decides}
-use Rattle.markdown_options.specs.declared.configuration.Constructs.{Constructs}
 use Rattle.definition_text.specs.Bytes.{begins_with}
-use Rattle.definition_text.specs.Columns.{Code}
-use Rattle.definition_text.specs.Content.{Part, content_codes, is_eol}
-use Rattle.definition_inline.specs.CharacterReference.{Names}
-use Rattle.definition_inline.specs.Label.{label_at}
-use Rattle.definition_inline.specs.LabelMatch.{words}
 use Rattle.engine_events.specs.declared.event.Name.TheVariants as n
-use Rattle.event_grammar.specs.Trees.{Node, Nil}
-use Rattle.parse_output.specs.Forest.{one}
-use Rattle.parse_lines.specs.declared.walk.Walk.{Walk}
-use Rattle.parse_lines.specs.InContent.{IsWhole, StandsInContent, Stop}
-use Rattle.parse_lines.proofs.InContent.{contents_none}
-use Rattle.parse_strings.proofs.Codes.{codes_split, line_bytes}
-use Rattle.parse_links.specs.Quoted.{Holds, IsMark, WritesQuoted}
-use Rattle.parse_links.specs.Tails.{HasCodes, HasLabel, IsShortcut, SpellsReference, WritesTail, after_reference, is_collapsed}
+use Rattle.parse_links.specs.Tails.{HasLabel, IsShortcut, SpellsReference}
 use Rattle.parse_links.proofs.Found.{IsStringName, IsUnsought, finds_quoted}
 
 pub left_mark : IsMark 91

@@ -1,36 +1,24 @@
 -- What is written of strings between markers, step by step (CommonMark 4.7 and 6.3).
 use Rattle.std.proofs.Common.{◌≡◌, ℕ, ◌<◌, true, false, ◌&&◌, eqb, List, [], ◌∷◌, ◌++◌, None, Some, inr, refl, sym, ap, subst}
 use Rattle.std.proofs.Common.{◌∙◌, append_assoc, arith, length}
-use Rattle.std.proofs.lemmas.Bool.{and_left, and_parts, cond-false, not-true, or_from, or_parts}
-use Rattle.markdown_options.specs.declared.configuration.Constructs.{Constructs}
-use Rattle.definition_text.specs.Columns.{is_white}
-use Rattle.definition_text.specs.Content.{content_codes, is_eol, is_space}
-use Rattle.definition_text.specs.Lines.{ends_line}
-use Rattle.definition_inline.specs.CharacterReference.{Names}
-use Rattle.definition_inline.specs.LabelMatch.{words}
-use Rattle.engine_events.specs.Names.{same_name}
+use Rattle.parse_links.proofs.Prelude.{and_parts, append, AreCutApart, Around, cond-false, Cons, Constructs, content_codes, contents_both, contents_none, End}
+use Rattle.parse_links.proofs.Prelude.{end_after, end_in, ends_line, enter_at, EntersInContent, exit_at, ExitsInContent, is_eol, is_space, is_white, IsMark}
+use Rattle.parse_links.proofs.Prelude.{IsStringNode, IsVoidOf, IsWhole, Name, Names, Nil, Node, Nodes, one, or_from, or_parts, same_name, some_nodes, standing}
+use Rattle.parse_links.proofs.Prelude.{StandsInContent, StandsInLine, Stop, void_nodes, Walk, words, WritesHeld, WritesInContent, WritesInLine, WritesQuoted}
+use Rattle.parse_links.proofs.Prelude.{WritesRaw}
+use Rattle.std.proofs.lemmas.Bool.{and_left, not-true}
 use Rattle.engine_events.specs.declared.event.Event.{Event}
-use Rattle.engine_events.specs.declared.event.Name.{Name}
 use Rattle.engine_events.specs.declared.event.Name.TheVariants as n
-use Rattle.event_grammar.specs.Trees.{Node, Nodes, Around, Nil, Cons}
-use Rattle.parse_output.specs.declared.end.End.{End}
-use Rattle.parse_output.specs.Ends.{enter_at, exit_at}
-use Rattle.parse_output.specs.Forest.{append, cut, is_nil, one, void_nodes}
+use Rattle.parse_output.specs.Forest.{cut, is_nil}
 use Rattle.parse_output.specs.Joined.{AreJoined, end_edge, flat_text}
-use Rattle.parse_output.specs.Written.{end_in}
 use Rattle.parse_output.proofs.Joined.{flat_label}
-use Rattle.parse_lines.specs.declared.walk.Walk.{Walk}
-use Rattle.parse_lines.specs.Content.{StandsInLine, WritesInLine, end_after}
-use Rattle.parse_lines.specs.InContent.{EntersInContent, ExitsInContent, IsWhole, StandsInContent, Stop, WritesInContent}
-use Rattle.parse_lines.specs.Quiet.{IsVoidOf}
-use Rattle.parse_lines.specs.Standing.{standing}
-use Rattle.parse_lines.proofs.InContent.{contents_around, contents_both, contents_none, line_in_content}
+use Rattle.parse_lines.proofs.InContent.{contents_around, line_in_content}
 use Rattle.parse_strings.specs.References.{token}
-use Rattle.parse_strings.specs.Strings.{AreCutApart, WritesStringIn}
+use Rattle.parse_strings.specs.Strings.{WritesStringIn}
 use Rattle.parse_strings.proofs.SameText.{same_text_words}
 use Rattle.parse_strings.proofs.Spelled.{still_whole, void_one}
 use Rattle.parse_links.specs.declared.quoted.Quoted.{Quoted}
-use Rattle.parse_links.specs.Quoted.{IsMark, IsStringNode, WritesHeld, WritesQuoted, WritesRaw, is_own, some_nodes}
+use Rattle.parse_links.specs.Quoted.{is_own}
 
 -- a name that is neither data nor the prefix of a quote
 pub record IsOwn (name : Name) : Type 0 where

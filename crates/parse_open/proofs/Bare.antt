@@ -1,11 +1,9 @@
 -- Blocks as their rows have them are put into the same lists.
 use Rattle.std.proofs.Common.{◌≡◌, ℕ, Bool, true, false, ◌==◌, refl, sym, ap, ap₂, ◌∙◌}
-use Rattle.std.specs.Prelude.{if◌then◌else◌}
-use Rattle.definition_block.specs.Container.{Quote, Item, Footnote}
-use Rattle.definition_block.specs.Tree.{Block, Leaf, Holds, Items, Ending, Blank, Blocks, Nil, Cons, join, one}
-use Rattle.definition_block.specs.Lists.{after_endings, endings_of, list_items, list_marker, rest_of, item_marker, before_list, put_before, group_items}
-use Rattle.definition_block.specs.Lists.{grouped_block}
-use Rattle.parse_open.specs.Open.{bare_container, bare_block, bare_blocks}
+use Rattle.parse_open.proofs.Prelude.{after_endings, bare_block, bare_blocks, bare_container, before_list, Blank, Block, Blocks, Ending, endings_of, Footnote}
+use Rattle.parse_open.proofs.Prelude.{group_items, grouped_block, Holds, if◌then◌else◌, Item, item_marker, Items, join, Leaf, list_items, list_marker}
+use Rattle.parse_open.proofs.Prelude.{put_before, Quote, rest_of}
+use Rattle.definition_block.specs.Tree.{Nil, Cons, one}
 
 pub bare_join : (xs ys : Blocks) → bare_blocks (join xs ys) ≡ join (bare_blocks xs) (bare_blocks ys)
 bare_join Nil ys = refl

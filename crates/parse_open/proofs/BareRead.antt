@@ -1,20 +1,18 @@
 -- Blocks as their rows have them, put into lists, are read as the blocks are.
 use Rattle.std.proofs.Common.{◌≡◌, ℕ, Bool, true, false, not, ◌==◌, ◌&&◌, ◌||◌, leb, [], ◌++◌, map, refl, sym, ap, ap₂, ◌∙◌, append_assoc, None, Some, suc}
-use Rattle.std.specs.Prelude.{if◌then◌else◌}
-use Rattle.std.proofs.lemmas.Bool.{cond_both, eqb-false, eqb-true}
-use Rattle.std.proofs.lemmas.List.{append-nil, map-append}
-use Rattle.definition_block.specs.Container.{Container, Quote, Item, Footnote}
-use Rattle.definition_block.specs.Definitions.{leaf_definitions, block_definitions, definitions, with_spaces}
-use Rattle.definition_block.specs.Lists.{after_endings, before_list, endings_at_front, endings_of, group_items, grouped_block, has_gap, has_gap_inside}
-use Rattle.definition_block.specs.Lists.{is_loose, is_some_block, item_marker, list_items, list_marker, put_before, rest_of}
-use Rattle.definition_block.specs.Tree.{LeafBlock, Paragraph, Heading, Break, IndentedCode, FencedCode, Html, Table, Definition}
-use Rattle.definition_block.specs.Tree.{Block, Leaf, Holds, Items, Ending, Blank, Blocks, Nil, Cons, join, one, is_ending}
+use Rattle.parse_open.proofs.Prelude.{after_endings, after_leaf, append-nil, bare_block, bare_blocks, bare_container, before_list, Blank, Block}
+use Rattle.parse_open.proofs.Prelude.{block_definitions, Blocks, Break, Container, definitions, Ending, endings_at_front, endings_of, ends_blank, eqb-true}
+use Rattle.parse_open.proofs.Prelude.{FencedCode, Footnote, group_items, grouped_block, has_gap, has_gap_inside, Heading, Holds, Html, if◌then◌else◌}
+use Rattle.parse_open.proofs.Prelude.{in_container, IndentedCode, is_blank_ending, is_ending, is_loose, is_some_block, Item, item_marker, Items, join, Leaf}
+use Rattle.parse_open.proofs.Prelude.{leaf_definitions, LeafBlock, list_items, list_marker, list_number, map-append, next_standing, on_page, Paragraph}
+use Rattle.parse_open.proofs.Prelude.{put_before, Quote, read_blocks, read_container, read_leaf, Reading, rest_of, spaced_leaf, Standing, standing_in, Table}
+use Rattle.std.proofs.lemmas.Bool.{cond_both, eqb-false}
+use Rattle.definition_block.specs.Definitions.{with_spaces}
+use Rattle.definition_block.specs.Tree.{Definition}
+use Rattle.definition_block.specs.Tree.{Nil, Cons, one}
 use Rattle.definition_page.specs.Page as page
-use Rattle.definition_page.specs.Read.{Reading, Standing, after_leaf, ends_blank, in_container, is_blank_ending, list_number, next_standing, on_page}
-use Rattle.definition_page.specs.Read.{read_block, read_blocks, read_container, read_leaf, standing_in}
-use Rattle.block_rows.specs.Rows.{spaced_leaf}
+use Rattle.definition_page.specs.Read.{read_block}
 use Rattle.parse_open.specs.BlockLaws.{BareBlocksReadTheSame}
-use Rattle.parse_open.specs.Open.{bare_container, bare_block, bare_blocks}
 use Rattle.parse_open.proofs.Bare.{bare_groups}
 
 -- ---- looseness

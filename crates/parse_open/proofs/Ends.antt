@@ -1,22 +1,12 @@
 -- Whether blocks and nodes end with the ending of a blank line, after one more.
 use Rattle.std.proofs.Common.{◌≡◌, ◌⊎◌, inl, inr, ℕ, Bool, true, false, List, [], ◌∷◌, refl, sym, ap, ◌∙◌, subst}
-use Rattle.std.proofs.lemmas.Bool.{cases_Bool, true≢false}
+use Rattle.parse_open.proofs.Prelude.{append, AreMute, AreOpen, Around, Block, block_names, Blocks, Cons, ConsBlock, ends_blank, ends_in, ends_in_blank, Event}
+use Rattle.parse_open.proofs.Prelude.{exited, growth, Holder, is_blank_ending, is_listed, join, level, Level, Name, Nil, NoBlock, Node, node_name, Nodes, one}
+use Rattle.parse_open.proofs.Prelude.{one_block, Opened, Part, Reading, same_name, Spells, the_type, true≢false}
+use Rattle.std.proofs.lemmas.Bool.{cases_Bool}
 use denote.Enum.Bare.{same_true}
-use Rattle.engine_events.specs.Names.{same_name, is_listed}
-use Rattle.engine_events.specs.contracts.event.Name.{the_type}
-use Rattle.engine_events.specs.declared.event.Event.{Event}
-use Rattle.engine_events.specs.declared.event.Name.{Name}
 use Rattle.engine_events.specs.declared.event.Name.TheVariants as n
-use Rattle.definition_block.specs.Tree.{Block, Blocks, Nil as NoBlock, Cons as ConsBlock, join, one as one_block}
-use Rattle.definition_page.specs.Read.{Reading, ends_blank, is_blank_ending}
-use Rattle.event_grammar.specs.Grammar.{block_names}
-use Rattle.event_grammar.specs.InGrammar.{node_name}
-use Rattle.event_grammar.specs.Trees.{Growth, Node, Nodes, Part, Around, Nil, Cons, growth}
-use Rattle.event_meaning.specs.Children.{ends_in}
-use Rattle.parse_output.specs.Forest.{append, exited, one}
-use Rattle.parse_open.specs.Open.{Holder, Level, Opened, level}
-use Rattle.parse_open.specs.Fronts.{ends_in_blank}
-use Rattle.parse_open.specs.Levels.{AreMute, AreOpen, Spells}
+use Rattle.event_grammar.specs.Trees.{Growth}
 use Rattle.parse_open.proofs.Steps.{named_other, named_whole}
 
 -- ---- blocks

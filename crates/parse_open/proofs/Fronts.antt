@@ -1,28 +1,16 @@
 -- What is in front of the blocks of a document: a byte order mark, white space, frontmatter.
 use Rattle.std.proofs.Common.{◌≡◌, inl, inr, ℕ, Bool, true, false, List, [], ◌∷◌, ◌++◌, refl, ap, ap₂, ◌∙◌}
-use Rattle.std.specs.Prelude.{if◌then◌else◌}
-use Rattle.markdown_options.specs.LineEndings.{ending_bytes}
-use Rattle.markdown_options.specs.declared.line_ending.LineEnding.{LineEnding}
+use Rattle.parse_open.proofs.Prelude.{append, AreMute, Around, block_of, blocks_from, blocks_of, cut, ending_bytes, ending_of, ends_in, if◌then◌else◌}
+use Rattle.parse_open.proofs.Prelude.{IsEndingNode, IsFront, LineEnding, Name, named, Names, Nil, Node, node_name, Nodes, one, same_name, start_of, text_of}
 use Rattle.markdown_options.specs.declared.line_ending.LineEnding.TheVariants.{CarriageReturnLineFeed, CarriageReturn, LineFeed}
-use Rattle.engine_events.specs.Names.{same_name}
-use Rattle.engine_events.specs.declared.event.Name.{Name}
 use Rattle.engine_events.specs.declared.event.Name.TheVariants as n
 use Rattle.definition_block.specs.Tree as tree
-use Rattle.definition_inline.specs.CharacterReference.{Names}
 use Rattle.definition_page.specs.Page as page
-use Rattle.event_grammar.specs.InGrammar.{node_name}
-use Rattle.event_grammar.specs.References.{named}
-use Rattle.event_grammar.specs.Trees.{Node, Nodes, Around, Nil}
 use Rattle.event_meaning.specs.Blocks as spelled
-use Rattle.event_meaning.specs.Blocks.{block_of, blocks_from, blocks_of, start_of}
-use Rattle.event_meaning.specs.Children.{ends_in, text_of}
-use Rattle.event_meaning.specs.Raw.{ending_of}
 use Rattle.parse_output.specs.declared.end.End.{End}
 use Rattle.parse_output.specs.Ends.{enter_at, exit_at, same_end}
-use Rattle.parse_output.specs.Forest.{append, cut, one, void_nodes}
-use Rattle.parse_open.specs.Fronts.{IsFront, SpellsNothing}
-use Rattle.parse_open.specs.Levels.{AreMute}
-use Rattle.parse_open.specs.Steps.{IsEndingNode}
+use Rattle.parse_output.specs.Forest.{void_nodes}
+use Rattle.parse_open.specs.Fronts.{SpellsNothing}
 use Rattle.parse_open.proofs.Ends.{ends_after, ends_one, mute_ends}
 use Rattle.parse_open.proofs.Nodes.{blocks_both, mute_blocks, mute_named, named_both}
 

@@ -2,18 +2,18 @@
 use Rattle.std.proofs.Common.{◌≡◌, ◌≤◌, ◌<◌, ℕ, zero, suc, ◌+◌, ◌-◌, ◌==◌, Bool, true, false, not, ◌&&◌, ◌||◌, leb, List, [], ◌∷◌, ◌++◌, length, take, drop}
 use Rattle.std.proofs.Common.{get_or}
 use Rattle.std.proofs.Common.{Some, inl, inr, refl, sym, ap, ap₂, ◌∙◌, arith, length-append}
-use Rattle.std.specs.Prelude.{if◌then◌else◌, nat_lt, slice_index}
+use Rattle.parse_open.proofs.Prelude.{eqb-true, false_from_ne_true, if◌then◌else◌, line_at, LineEnding}
+use Rattle.std.specs.Prelude.{nat_lt, slice_index}
 use Rattle.std.specs.List.{list_any}
 use Rattle.std.proofs.Math.Seq.{take-add, take-append-add, take-append_seam, take-suc}
-use Rattle.std.proofs.lemmas.Bool.{and_parts, cases_lt, eqb-true, lt-ltb, ltb-true, or_parts, false_from_ne_true, lt-leb}
+use Rattle.std.proofs.lemmas.Bool.{and_parts, cases_lt, lt-ltb, ltb-true, or_parts, lt-leb}
 use Rattle.std.proofs.lemmas.List.{get_or-append-add, take-append-le}
-use Rattle.markdown_options.specs.declared.line_ending.LineEnding.{LineEnding}
 use Rattle.markdown_options.specs.declared.line_ending.LineEnding.TheVariants.{LineFeed, CarriageReturn, CarriageReturnLineFeed}
 use Rattle.definition_text.specs.Lines.{ending_text}
 use Rattle.definition_text.specs.Lines as text_lines
 use Rattle.engine_events.specs.Columns.{between}
 use Rattle.event_check.specs.Loose.{ends_line, is_apart, is_return, lines_in}
-use Rattle.parse_open.specs.Lines.{LinesAreCounted, line_at}
+use Rattle.parse_open.specs.Lines.{LinesAreCounted}
 
 -- whether the last of these bytes is a CR, or the byte before them where there are none
 abbrev after : Bool → List ℕ → Bool

@@ -1,30 +1,15 @@
 -- What nodes spell, one after another.
 use Rattle.std.proofs.Common.{◌≡◌, inl, inr, ℕ, Bool, true, false, List, [], ◌∷◌, ◌++◌, Some, refl, sym, ap, ap₂, ◌∙◌, subst, map, append_assoc}
-use Rattle.std.specs.Prelude.{if◌then◌else◌}
-use Rattle.std.proofs.lemmas.List.{append-nil, map-append}
-use Rattle.engine_events.specs.Names.{same_name}
-use Rattle.engine_events.specs.declared.event.Name.{Name}
+use Rattle.parse_open.proofs.Prelude.{alike_blocks_compose, append, append-nil, AreBlocksAlike, AreDefinitionsAlike, AreMeanings, AreMute, Around, BeginWith}
+use Rattle.parse_open.proofs.Prelude.{block_definitions, block_of, blocks_from, blocks_of, child, Cons, Definition, definition_of, definitions, followed_by}
+use Rattle.parse_open.proofs.Prelude.{if◌then◌else◌, inside_of, kids_in, map-append, Meaning, Name, named, Names, Nil, Node, node_name, Nodes, one}
+use Rattle.parse_open.proofs.Prelude.{read_blocks, Reading, same_name, Spell, Standing, start_of, text_of}
 use Rattle.engine_events.specs.declared.event.Name.TheVariants as n
-use Rattle.definition_inline.specs.CharacterReference.{Names}
-use Rattle.definition_inline.specs.Definition.{Definition}
-use Rattle.definition_block.specs.Definitions.{block_definitions, definitions}
 use Rattle.definition_block.specs.Tree as tree
-use Rattle.definition_page.specs.InlinePieces.{Meaning}
 use Rattle.definition_page.specs.Page as page
-use Rattle.definition_page.specs.Read.{Reading, Standing, read_blocks}
-use Rattle.event_grammar.specs.InGrammar.{node_name}
-use Rattle.event_grammar.specs.References.{named, named_in}
-use Rattle.event_grammar.specs.Trees.{Node, Nodes, Around, Nil, Cons, followed_by}
-use Rattle.event_meaning.specs.Blocks.{blocks_from, blocks_of, block_of, join, start_of}
-use Rattle.event_meaning.specs.Children.{child, inside_of, kids_in, text_of}
-use Rattle.event_meaning.specs.Spelled.{definition_of}
-use Rattle.parse_output.specs.Forest.{append, one}
+use Rattle.event_grammar.specs.References.{named_in}
+use Rattle.event_meaning.specs.Blocks.{join}
 use Rattle.parse_output.proofs.Marks.{same_self}
-use Rattle.parse_alike.specs.Meanings.{AreMeanings}
-use Rattle.parse_alike.specs.Page.{AreBlocksAlike}
-use Rattle.parse_alike.specs.Targets.{AreDefinitionsAlike}
-use Rattle.parse_alike.proofs.Composed.{alike_blocks_compose}
-use Rattle.parse_open.specs.Levels.{AreMute, BeginWith, Spell}
 
 pub join-nil : (bs : page.Blocks) → join bs page.Nil ≡ bs
 join-nil page.Nil = refl

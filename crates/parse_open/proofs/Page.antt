@@ -1,27 +1,16 @@
 -- The page that all nodes of a text spell.
 use Rattle.std.proofs.Common.{◌≡◌, ◌⊎◌, inl, inr, ℕ, true, List, [], ◌++◌, sym, ap, ◌∙◌, subst, map}
-use Rattle.markdown_options.specs.declared.configuration.ParseOptions.{ParseOptions}
-use Rattle.definition_block.specs.Definitions.{document_targets}
-use Rattle.definition_block.specs.Lists.{group_items}
+use Rattle.parse_open.proofs.Prelude.{AreBlocksAlike, AreDefinitionsAlike, bare_blocks, blocks_of, Definition, definition_of, document_targets, group_items}
+use Rattle.parse_open.proofs.Prelude.{growth, IsFront, IsSpelledPage, Meaning, named, Node, Nodes, opened, ParseOptions, reading, Spells, TextTables}
+use Rattle.parse_open.proofs.Prelude.{without_ending}
 use Rattle.definition_block.specs.Tree as tree
-use Rattle.definition_inline.specs.Definition.{Definition}
-use Rattle.definition_page.specs.InlinePieces.{Meaning}
 use Rattle.definition_page.specs.Page as page
-use Rattle.definition_page.specs.Read.{page_of, reading, without_ending}
-use Rattle.definition_page.specs.TextTables.{TextTables}
+use Rattle.definition_page.specs.Read.{page_of}
 use Rattle.engine_events.specs.declared.event.Name.TheVariants as n
-use Rattle.event_grammar.specs.References.{named}
-use Rattle.event_grammar.specs.Trees.{Node, Nodes, growth}
 use Rattle.event_meaning.specs.Blocks as spelled
-use Rattle.event_meaning.specs.Blocks.{blocks_of}
 use Rattle.event_meaning.specs.Spelled as events
-use Rattle.event_meaning.specs.Spelled.{definition_of}
-use Rattle.parse_alike.specs.Page.{AreBlocksAlike, AreAlikeAfterFront}
-use Rattle.parse_alike.specs.Targets.{AreDefinitionsAlike}
-use Rattle.parse_open.specs.Open.{bare_blocks, opened}
+use Rattle.parse_alike.specs.Page.{AreAlikeAfterFront}
 use Rattle.parse_open.proofs.BareRead.{bare_blocks_read}
-use Rattle.parse_open.specs.Levels.{Spells}
-use Rattle.parse_open.specs.Fronts.{IsFront, IsSpelledPage}
 use Rattle.parse_open.specs.NodeLaws.{PagesAreSpelled}
 use Rattle.parse_open.proofs.Nodes.{blocks_both, named_both}
 

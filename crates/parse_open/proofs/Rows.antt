@@ -1,21 +1,18 @@
 -- The rows of blocks lead to the blocks, put into lists.
 use Rattle.std.proofs.Common.{◌≡◌, ◌≤◌, ℕ, Bool, true, false, ◌==◌, List, [], ◌∷◌, ◌++◌, refl, sym, ap, subst, ◌∙◌, append_assoc}
-use Rattle.std.specs.Prelude.{if◌then◌else◌}
-use Rattle.std.proofs.lemmas.List.{append-nil}
-use Rattle.markdown_options.specs.declared.container.Item.{Item as ItemParts}
-use Rattle.definition_block.specs.Container.{Container, Quote, Item, Footnote}
-use Rattle.definition_block.specs.Lists.{after_endings, list_marker, group_items, has_gap}
-use Rattle.definition_block.specs.Tree.{Block, Leaf, Holds, Items, Ending, Blank, Blocks, Nil, Cons, join, one}
-use Rattle.block_rows.specs.Rows.{BlockRow, Exit, rows_of, spaced_leaf}
+use Rattle.parse_open.proofs.Prelude.{after_endings, append-nil, bare_blocks, Blank, Block, Blocks, Container, Ending, Footnote, group_items, has_gap, Holds}
+use Rattle.parse_open.proofs.Prelude.{if◌then◌else◌, InContainer, InList, is_in_list, Item, ItemParts, Items, join, Leaf, level, Level, list_marker, Opened}
+use Rattle.parse_open.proofs.Prelude.{opened, Place, Quote, spaced_leaf}
+use Rattle.definition_block.specs.Tree.{Nil, Cons, one}
+use Rattle.block_rows.specs.Rows.{BlockRow, Exit, rows_of}
 use Rattle.block_state.proofs.Trees.{join-assoc, join-nil}
-use Rattle.html_looseness.specs.declared.loose.Place.{Place}
 use Rattle.html_looseness.specs.Loose.{PassView, place_at, places_of}
 use Rattle.html_looseness.specs.Printable.{CanBePrinted}
 use Rattle.html_looseness.proofs.Ahead.{ahead_of, after_list, before_item_is, list_ahead, listed, no_marker}
 use Rattle.html_looseness.proofs.BlockPlaces.{blocks_passed, places_within}
 use Rattle.html_looseness.proofs.ListPlaces.{next_marker}
 use Rattle.parse_open.specs.BlockLaws.{RowsLeadToBlocks}
-use Rattle.parse_open.specs.Open.{InContainer, InList, Level, level, Opened, opened, is_in_list, within, bare_item, bare_blocks, item_begun}
+use Rattle.parse_open.specs.Open.{within, bare_item, item_begun}
 use Rattle.parse_open.specs.Open.{container_end}
 use Rattle.parse_open.specs.Open.{list_end, ends_list, LeadTo}
 use Rattle.parse_open.proofs.Bare.{bare_groups, bare_marker}

@@ -1,25 +1,16 @@
 -- Blocks and their nodes are spread alike, and stay so with one more of each.
 use Rattle.std.proofs.Common.{◌≡◌, ◌≤◌, ℕ, suc, ◌+◌, Bool, true, false, not, ◌&&◌, ◌||◌, leb, List, Option, None, Some, length, refl, sym, ap, ap₂, subst, ◌∙◌}
 use Rattle.std.proofs.Common.{arith}
-use Rattle.std.specs.Prelude.{if◌then◌else◌}
+use Rattle.parse_open.proofs.Prelude.{AreSpread, Around, Blank, Block, Blocks, Child, Cons, ConsBlock, Container, Ending, endings_at_front, Event}
+use Rattle.parse_open.proofs.Prelude.{false_from_ne_true, followed_by, has, has_gap, has_gap_inside, has_loose_item, Holds, if◌then◌else◌, is_ending}
+use Rattle.parse_open.proofs.Prelude.{is_loose_item, is_some_block, Items, join, Leaf, line_at, Nil, NoBlock, Node, node_name, Nodes, one_block, same_name}
+use Rattle.parse_open.proofs.Prelude.{spot_of, the_type}
 use Rattle.std.specs.Option.{option_map}
-use Rattle.std.proofs.lemmas.Bool.{false_from_ne_true}
 use denote.Enum.Bare.{same_true}
-use Rattle.definition_block.specs.Container.{Container}
-use Rattle.definition_block.specs.Lists.{endings_at_front, has_gap, has_gap_inside, is_some_block}
-use Rattle.definition_block.specs.Tree.{Block, Leaf, Holds, Items, Ending, Blank, Blocks, Nil as NoBlock, Cons as ConsBlock, is_ending, join, one as one_block}
-use Rattle.engine_events.specs.contracts.event.Name.{the_type}
-use Rattle.engine_events.specs.Names.{same_name}
-use Rattle.engine_events.specs.declared.event.Event.{Event}
 use Rattle.engine_events.specs.declared.event.Name.TheVariants as n
-use Rattle.event_check.specs.Loose.{are_apart, has_loose_item, is_far, is_loose_item}
-use Rattle.event_grammar.specs.Checks.{spot_of}
-use Rattle.event_grammar.specs.InGrammar.{node_name}
-use Rattle.event_grammar.specs.Slots.{has}
-use Rattle.event_grammar.specs.Trees.{Node, Nodes, Around, Nil, Cons, followed_by}
-use Rattle.event_grammar.specs.declared.slot.Child.{Child}
+use Rattle.event_check.specs.Loose.{are_apart, is_far}
 use Rattle.event_grammar.specs.declared.spot.Spot.{Spot}
-use Rattle.parse_open.specs.Lines.{AreSpread, IsSince, SpreadBlocksCompose, last_end, line_at, since}
+use Rattle.parse_open.specs.Lines.{IsSince, SpreadBlocksCompose, last_end, since}
 use Rattle.parse_open.proofs.LineCounts.{far_is}
 
 or_none : (t : Bool) → (t || false) ≡ t

@@ -1,56 +1,37 @@
 -- What is written spells what is open, after one more row.
 use Rattle.std.proofs.Common.{◌≡◌, inl, inr, ◌≤◌, ◌+◌, ℕ, Bool, true, false, List, [], ◌∷◌, ◌++◌, Option, None, Some, refl, sym, ap, ap₂, ◌∙◌, subst, map}
 use Rattle.std.proofs.Common.{length}
-use Rattle.std.specs.Prelude.{if◌then◌else◌, ◌||◌, ◌&&◌}
-use Rattle.std.proofs.lemmas.Bool.{true≢false}
-use Rattle.std.proofs.lemmas.List.{append-nil}
-use Rattle.markdown_options.specs.LineEndings.{ending_bytes}
-use Rattle.markdown_options.specs.declared.line_ending.LineEnding.{LineEnding}
+use Rattle.parse_open.proofs.Prelude.{after_leaf, alike_blocks_compose, append, append-nil, AreBlocksAlike, AreDefinitionsAlike, AreMute, AreOpen, AreSpread}
+use Rattle.parse_open.proofs.Prelude.{Around, BeginWith, Blank, Block, block_names, block_of, Blocks, blocks_from, blocks_of, Break, child, Child, Cons}
+use Rattle.parse_open.proofs.Prelude.{ConsBlock, Container, cut, Definition, definition_of, definitions, Ending, ending_bytes, ending_of, Event, exited}
+use Rattle.parse_open.proofs.Prelude.{FencedCode, Footnote, growth, has, has_gap, has_gap_inside, has_loose_item, Heading, Holder, Holds, Html, if◌then◌else◌}
+use Rattle.parse_open.proofs.Prelude.{in_container, InContainer, IndentedCode, InList, inside_of, is_ending, is_in_list, is_listed, is_loose, is_loose_item}
+use Rattle.parse_open.proofs.Prelude.{IsEndingNode, Item, ItemParts, Items, join, kids_in, Leaf, leaf_definitions, LeafBlock, level, Level, line_at}
+use Rattle.parse_open.proofs.Prelude.{LineEnding, list_number, Meaning, Name, named, next_standing, Nil, NoBlock, Node, node_name, Nodes, on_page, one}
+use Rattle.parse_open.proofs.Prelude.{one_block, Opened, opened, Paragraph, Part, Place, Quote, read_blocks, read_container, read_leaf, Reading, same_name}
+use Rattle.parse_open.proofs.Prelude.{Spell, Spells, spot_of, Standing, standing_in, start_of, Table, text_of, true≢false, without_ending}
+use Rattle.std.specs.Prelude.{◌||◌, ◌&&◌}
 use Rattle.markdown_options.specs.declared.line_ending.LineEnding.TheVariants.{CarriageReturnLineFeed, CarriageReturn, LineFeed}
-use Rattle.markdown_options.specs.declared.container.Item.{Item as ItemParts}
-use Rattle.html_looseness.specs.declared.loose.Place.{Place}
-use Rattle.engine_events.specs.Names.{same_name, is_listed}
-use Rattle.engine_events.specs.declared.event.Event.{Event}
-use Rattle.engine_events.specs.declared.event.Name.{Name}
 use Rattle.engine_events.specs.declared.event.Name.TheVariants as n
-use Rattle.definition_inline.specs.Definition.{Definition}
-use Rattle.definition_block.specs.Container.{Container, Quote, Item, Footnote}
-use Rattle.definition_block.specs.Definitions.{definitions, leaf_definitions}
 use Rattle.definition_block.specs.ListItem.{number_of}
-use Rattle.definition_block.specs.Lists.{has_gap, has_gap_inside, is_loose}
-use Rattle.definition_block.specs.Tree.{LeafBlock, Paragraph, Heading, Break, IndentedCode, FencedCode, Html, Table, Definition as DefinitionLeaf, Block, Leaf}
-use Rattle.definition_block.specs.Tree.{Holds, Items, Ending, Blank, Blocks, Nil as NoBlock, Cons as ConsBlock, join, one as one_block, is_ending}
-use Rattle.definition_page.specs.InlinePieces.{Meaning}
+use Rattle.definition_block.specs.Tree.{Definition as DefinitionLeaf}
 use Rattle.definition_page.specs.Page as page
-use Rattle.definition_page.specs.Read.{Reading, Standing, list_number, read_blocks, read_leaf, read_container, standing_in, next_standing, after_leaf, on_page}
-use Rattle.definition_page.specs.Read.{in_container, without_ending}
-use Rattle.event_check.specs.Loose.{has_loose_item, is_loose_item, is_loose_list}
-use Rattle.event_grammar.specs.declared.slot.Child.{Child}
+use Rattle.event_check.specs.Loose.{is_loose_list}
 use Rattle.event_grammar.specs.declared.slot.Child.TheVariants.{Only, Block as BlockChild}
-use Rattle.event_grammar.specs.Checks.{spot_of}
-use Rattle.event_grammar.specs.Grammar.{block_names}
-use Rattle.event_grammar.specs.InGrammar.{node_name}
-use Rattle.event_grammar.specs.References.{named}
-use Rattle.event_grammar.specs.Slots.{has}
-use Rattle.event_grammar.specs.Trees.{Node, Nodes, Part, Around, Nil, Cons, growth}
 use Rattle.event_meaning.specs.Blocks as spelled
-use Rattle.event_meaning.specs.Blocks.{blocks_from, blocks_of, block_of, footnote_label, start_of}
-use Rattle.event_meaning.specs.Children.{child, inside_of, kids_in, text_in, text_of}
-use Rattle.event_meaning.specs.Raw.{ending_of}
-use Rattle.event_meaning.specs.Spelled.{definition_of}
-use Rattle.parse_output.specs.Forest.{append, bytes_from, is_nil, cut, exited, one}
+use Rattle.event_meaning.specs.Blocks.{footnote_label}
+use Rattle.event_meaning.specs.Children.{text_in}
+use Rattle.parse_output.specs.Forest.{bytes_from, is_nil}
 use Rattle.parse_output.proofs.Forests.{append-assoc, append-nil as append-none}
 use Rattle.parse_alike.specs.Composed.{after_unclosed, ends_unclosed, standing_after}
-use Rattle.parse_alike.specs.Page.{AreBlocksAlike, AreContainersAlike}
-use Rattle.parse_alike.specs.Targets.{AreDefinitionsAlike, AreLabelsAlike}
-use Rattle.parse_alike.proofs.Composed.{alike_blocks_compose}
-use Rattle.parse_open.specs.Lines.{AreSpread, line_at}
-use Rattle.parse_open.specs.Open.{Holder, InContainer, InList, Level, Opened, is_in_list, is_list, level, opened}
+use Rattle.parse_alike.specs.Page.{AreContainersAlike}
+use Rattle.parse_alike.specs.Targets.{AreLabelsAlike}
+use Rattle.parse_open.specs.Open.{is_list}
 use Rattle.parse_open.proofs.Spread.{spread_blocks_compose}
-use Rattle.parse_open.specs.Levels.{AreAt, AreIn, AreMute, AreOpen, BeginWith, HasListStart, HasNumber, HasStart, IsFirstOf, IsNamed, Spell, Spells}
+use Rattle.parse_open.specs.Levels.{AreAt, AreIn, HasListStart, HasNumber, HasStart, IsFirstOf, IsNamed}
 use Rattle.parse_open.specs.Levels.{holder_child, holder_standing, innermost, is_item, list_name, spelled_number, standing_at}
 use Rattle.parse_open.specs.NodeLaws.{LevelsAlwaysGoOn}
-use Rattle.parse_open.specs.Steps.{IsBegun, IsEndingNode, IsNodeOf, IsStartName, LevelsGoOn}
+use Rattle.parse_open.specs.Steps.{IsBegun, IsNodeOf, IsStartName, LevelsGoOn}
 use Rattle.parse_open.proofs.Nodes.{SpellMore, begins_more, first_kids, followed_is, from_start, spell_more, spell_mute}
 
 in_container_only : (h : Holder) → (holder_standing h).top ≡ false

@@ -1,20 +1,12 @@
 -- The events of a text spell its page.
 use Rattle.std.proofs.Common.{◌≡◌, ℕ, false, List, [], refl, sym, ◌∙◌, subst}
-use Rattle.markdown_options.specs.declared.configuration.ParseOptions.{ParseOptions}
-use Rattle.definition_block.specs.Definitions.{document_targets}
-use Rattle.definition_block.specs.Lists.{group_items}
+use Rattle.parse_open.proofs.Prelude.{AreMeanings, bare_blocks, document_targets, ends_blank, ends_in_blank, group_items, growth, IsFront, IsSpelledPage}
+use Rattle.parse_open.proofs.Prelude.{Nodes, opened, ParseOptions, reading, Spells, TextTables}
 use Rattle.definition_page.specs.Page as page
-use Rattle.definition_page.specs.Read.{ends_blank, reading}
-use Rattle.definition_page.specs.TextTables.{TextTables}
-use Rattle.event_grammar.specs.Trees.{Nodes, growth}
 use Rattle.event_meaning.specs.Spelled.{page_of}
-use Rattle.parse_alike.specs.Meanings.{AreMeanings}
 use Rattle.parse_alike.specs.Spelled.{IsPageOfText, meaning_read, meaning_spelled}
 use Rattle.parse_bytewise.proofs.Events.{events_spell_the_same}
-use Rattle.parse_open.specs.Open.{bare_blocks, opened}
 use Rattle.parse_open.proofs.BareRead.{bare_blocks_read}
-use Rattle.parse_open.specs.Fronts.{IsFront, IsSpelledPage, ends_in_blank}
-use Rattle.parse_open.specs.Levels.{Spells}
 use Rattle.parse_open.specs.Texts.{TextsAreSpelled, text_blocks}
 use Rattle.parse_open.proofs.Page.{pages_are_spelled}
 

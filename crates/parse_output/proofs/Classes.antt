@@ -1,13 +1,9 @@
 -- What may be entered in the innermost that is open; and what may stand where lines end, or where a string, a text or blocks may stand.
 use Rattle.std.proofs.Common.{◌≡◌, ◌⊎◌, inl, inr, List, [], ◌∷◌, ◌++◌, Bool, true, false, ◌||◌, refl, sym, subst}
-use Rattle.std.specs.List.{list_all}
-use Rattle.std.proofs.lemmas.Bool.{true≢false, and_from, and_parts}
+use Rattle.parse_output.proofs.Prelude.{and_from, and_parts, Entered, list_all, Mark, Name, same_name, the_type, true≢false}
 use denote.Enum.Bare.{same_true}
-use Rattle.engine_events.specs.contracts.event.Name.{the_type}
-use Rattle.engine_events.specs.Names.{same_name, is_listed}
-use Rattle.engine_events.specs.declared.event.Name.{Name}
+use Rattle.engine_events.specs.Names.{is_listed}
 use Rattle.event_grammar.specs.Grammar.{block_names, string_names, text_names}
-use Rattle.parse_output.specs.Open.{Mark, Entered}
 use Rattle.parse_output.specs.Children.{between_names, has_lines, has_string, has_text, holds_blocks, holds_lines, holds_string, holds_text, may_enter, may_hold}
 
 split : (a b : Bool) → (a || b) ≡ true → (a ≡ true) ⊎ (b ≡ true)

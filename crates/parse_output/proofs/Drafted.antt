@@ -1,13 +1,9 @@
 -- Drafts and more of them: what is open after them, and what may stand in what.
 use Rattle.std.proofs.Common.{◌≡◌, ℕ, zero, suc, List, [], ◌∷◌, ◌++◌, true, refl, sym, ap, ◌∙◌, append_assoc, get_or, set, take, length, ◌+◌, ◌<◌}
-use Rattle.std.specs.List.{fold}
-use Rattle.std.proofs.lemmas.List.{append-nil, take_more}
-use Rattle.std.proofs.lemmas.List.Sums.{fold-append}
-use Rattle.engine_events.specs.declared.event.Name.{Name}
-use Rattle.parse_output.specs.declared.draft.Draft.{Draft}
+use Rattle.parse_output.proofs.Prelude.{closed, Draft, Entered, Exited, fold, fold-append, Mark, marks_of, Name, take_more, then_mark}
+use Rattle.std.proofs.lemmas.List.{append-nil}
 use Rattle.parse_output.specs.declared.draft.Draft.TheVariants as draft
-use Rattle.parse_output.specs.Drafts.{AreChildren, draft_marks, marks_of, unmatched_in}
-use Rattle.parse_output.specs.Open.{Mark, Entered, Exited, closed, then_mark}
+use Rattle.parse_output.specs.Drafts.{AreChildren, draft_marks, unmatched_in}
 use Rattle.parse_output.specs.Children.{are_children, may_enter}
 use Rattle.parse_output.proofs.Marks.{closed_same}
 use Rattle.parse_output.proofs.MoreChildren.{marked_child}

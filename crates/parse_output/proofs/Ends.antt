@@ -1,18 +1,12 @@
 -- Ends of drafts, and the places that they are in a text.
-use Rattle.std.specs.Prelude.{◌==◌, if◌then◌else◌, nat_lt}
+use Rattle.parse_output.proofs.Prelude.{columns_before, End, end_columns, end_place, fold, fold-append, Follows, if◌then◌else◌, index_spot, length-take-le}
+use Rattle.parse_output.proofs.Prelude.{mark_size, next_spot, Place, place, point_at, spot, Spot, spot_at, take-add, ◌==◌}
+use Rattle.std.specs.Prelude.{nat_lt}
 use Rattle.std.proofs.Common.{◌≡◌, ◌≤◌, ◌+◌, ◌-◌, Bool, true, false, ℕ, List, [], ◌∷◌, refl, sym, ap, ap₂, subst, ◌∙◌, take, drop, length, arith}
-use Rattle.std.specs.List.{fold}
-use Rattle.std.proofs.Math.Seq.{take-add}
-use Rattle.std.proofs.lemmas.List.{length-take-le}
-use Rattle.std.proofs.lemmas.List.Sums.{fold-append}
-use Rattle.engine_events.specs.Columns.{column_after, mark_size}
-use Rattle.parse_output.specs.declared.end.End.{End}
-use Rattle.parse_output.specs.declared.spot.Place.{Place}
-use Rattle.parse_output.specs.declared.spot.Spot.{Spot}
-use Rattle.parse_output.specs.Ends.{Follows, OwesIn, columns_before, end_columns, end_place, end_point, index_spot}
+use Rattle.engine_events.specs.Columns.{column_after}
+use Rattle.parse_output.specs.Ends.{OwesIn, end_point}
 use Rattle.engine_events.specs.declared.place.Point.{Point}
-use Rattle.parse_output.specs.Spots.{next_spot, spot, spot_at, start}
-use Rattle.parse_output.specs.Tokens.{place, point_at}
+use Rattle.parse_output.specs.Spots.{start}
 
 one_of : (t u v : Bool) (a b c d : Spot) (i : ℕ) → a.index ≡ i → b.index ≡ i → c.index ≡ i → d.index ≡ i
     → (if t then a else (if u then b else (if v then c else d))).index ≡ i

@@ -1,26 +1,17 @@
 -- What drafts say of a text, and more drafts; and their events as a tree.
-use Rattle.std.specs.Prelude.{◌==◌, if◌then◌else◌}
-use Rattle.std.proofs.Math.Nat.{sub_self}
-use Rattle.std.proofs.lemmas.Bool.{and_parts}
+use Rattle.parse_output.proofs.Prelude.{and_parts, append, append-nil-list, AreInOrder, Around, byte_nodes, Cons, cut, data_nodes, Draft, draft_events}
+use Rattle.parse_output.proofs.Prelude.{drafted, drafted_all, drafts_end, edge, End, end_at, end_columns, end_place, enter_at, Event, exit_at, exited}
+use Rattle.parse_output.proofs.Prelude.{exited_from, first_end, fold, fold-append, Follows, forest, GoesOnward, growth, Growth, if◌then◌else◌, IsData, Name}
+use Rattle.parse_output.proofs.Prelude.{nat_tests, Nil, Nodes, Part, Place, same_end, sub_self, take_more, void_nodes, with_nodes, ◌==◌}
 use Rattle.std.proofs.Common.{◌≡◌, ◌≤◌, ◌<◌, ◌+◌, ◌-◌, ℕ, zero, suc, List, [], ◌∷◌, ◌++◌, refl, sym, ap, subst, ◌∙◌, get_or, set, take, length, map, arith, ap₂, append_assoc, Bool, true, false}
-use Rattle.std.specs.List.{fold}
-use Rattle.std.proofs.lemmas.Bool.Decides.{nat_tests}
-use Rattle.std.proofs.lemmas.List.{append-nil as append-nil-list, take_more}
-use Rattle.std.proofs.lemmas.List.Sums.{fold-append}
-use Rattle.engine_events.specs.declared.event.Event.{Event}
-use Rattle.engine_events.specs.declared.event.Name.{Name}
 use Rattle.engine_events.specs.declared.event.Name.TheVariants as n
-use Rattle.event_grammar.specs.Points.{edge, spot}
-use Rattle.event_grammar.specs.Trees.{Node, Nodes, Around, Nil, Cons, Part, Growth, growth, grown, followed_by, tree}
+use Rattle.event_grammar.specs.Points.{spot}
+use Rattle.event_grammar.specs.Trees.{Node, grown, followed_by, tree}
 use Rattle.event_grammar.specs.Trees.{closed}
-use Rattle.parse_output.specs.declared.draft.Draft.{Draft}
 use Rattle.parse_output.specs.declared.draft.Draft.TheVariants as draft
-use Rattle.parse_output.specs.declared.end.End.{End}
-use Rattle.parse_output.specs.declared.spot.Place.{Place}
-use Rattle.parse_output.specs.Ends.{Follows, end_at, end_columns, end_place, enter_at, exit_at, first_end, same_end}
 use Rattle.parse_output.proofs.Ends.{follows_both, spot_index}
-use Rattle.parse_output.specs.Forest.{append, byte_node, byte_nodes, cut, node_bytewise, bytewise, draft_end, drafts_end, draft_events, drafts_events}
-use Rattle.parse_output.specs.Forest.{GoesOnward, AreInOrder, IsData, data_nodes, void_nodes, with_nodes, entered, exited, exited_from, drafted, drafted_all, forest}
+use Rattle.parse_output.specs.Forest.{byte_node, node_bytewise, bytewise, draft_end, drafts_events}
+use Rattle.parse_output.specs.Forest.{entered}
 
 -- ---- nodes
 

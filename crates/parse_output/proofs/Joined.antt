@@ -1,30 +1,21 @@
 -- Nodes that are written are joined, and their text.
-use Rattle.std.specs.Prelude.{◌==◌, ◌&&◌, if◌then◌else◌}
-use Rattle.std.proofs.Math.Nat.{sub_self}
-use Rattle.std.proofs.Math.Seq.{take-add}
+use Rattle.parse_output.proofs.Prelude.{and-false, and_parts, append, append-nil-list, AreInOrder, Around, between, byte_nodes, Cons, cut, data_nodes, Draft}
+use Rattle.parse_output.proofs.Prelude.{drafted, drafted_all, drafts_end, edge, End, end_at, end_columns, end_in, enter_at, Event, exit_at, exited_from}
+use Rattle.parse_output.proofs.Prelude.{first_end, Follows, forest, forest_in, growth, Growth, if◌then◌else◌, IsInOrder, Name, Nil, Nodes, Output, Part}
+use Rattle.parse_output.proofs.Prelude.{same_end, same_name, sub_self, take-add, void_nodes, Writes, ◌==◌}
+use Rattle.std.specs.Prelude.{◌&&◌}
 use Rattle.std.proofs.Common.{◌≡◌, ◌≤◌, ◌+◌, ◌-◌, ℕ, zero, suc, Bool, true, false, List, [], ◌∷◌, ◌++◌, refl, sym, ap, ap₂, subst, ◌∙◌, take, drop, arith}
 use Rattle.std.proofs.Common.{append_assoc, inl, inr}
-use Rattle.std.proofs.Math.Bool.{and-false}
-use Rattle.std.proofs.lemmas.Bool.{and_parts, cases_Bool, cond-true, cond-false}
-use Rattle.std.proofs.lemmas.List.{append-nil as append-nil-list, drop-drop}
-use Rattle.engine_events.specs.Columns.{between}
-use Rattle.engine_events.specs.Names.{same_name}
-use Rattle.engine_events.specs.declared.event.Event.{Event}
-use Rattle.engine_events.specs.declared.event.Name.{Name}
+use Rattle.std.proofs.lemmas.Bool.{cases_Bool, cond-true, cond-false}
+use Rattle.std.proofs.lemmas.List.{drop-drop}
 use Rattle.engine_events.specs.declared.event.Name.TheVariants as n
 use Rattle.event_grammar.specs.Checks.{spot_of}
-use Rattle.event_grammar.specs.Points.{edge, spot}
+use Rattle.event_grammar.specs.Points.{spot}
 use Rattle.event_grammar.specs.References.{label_text, node_text, nodes_text}
-use Rattle.event_grammar.specs.Trees.{Nodes, Around, Nil, Cons, Part, Growth, growth}
 use Rattle.event_grammar.specs.declared.spot.Spot.{Spot}
-use Rattle.parse_output.specs.declared.draft.Draft.{Draft}
 use Rattle.parse_output.specs.declared.draft.Draft.TheVariants as draft
-use Rattle.parse_output.specs.declared.end.End.{End}
-use Rattle.parse_output.specs.declared.output.Output.{Output}
-use Rattle.parse_output.specs.Ends.{Follows, end_at, end_columns, enter_at, exit_at, first_end, same_end}
-use Rattle.parse_output.specs.Forest.{AreInOrder, append, byte_nodes, bytes_from, cut, data_nodes, drafted, drafted_all, drafts_end, exited_from, forest, is_nil, one, void_nodes}
+use Rattle.parse_output.specs.Forest.{bytes_from, is_nil, one}
 use Rattle.parse_output.specs.Joined.{AreJoined, end_edge, end_spot, flat_text, text_between}
-use Rattle.parse_output.specs.Written.{IsInOrder, Writes, end_in, forest_in}
 use Rattle.parse_output.proofs.Forests.{edges, test_eq}
 
 -- ---- joined nodes

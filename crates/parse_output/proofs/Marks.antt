@@ -1,14 +1,8 @@
 -- Events, and what is open after them.
 use Rattle.std.proofs.Common.{◌≡◌, List, [], ◌∷◌, ◌++◌, true, if◌then◌else◌, refl, ap, ◌∙◌, map}
-use Rattle.std.specs.List.{fold}
-use Rattle.std.proofs.lemmas.List.{map-append}
-use Rattle.std.proofs.lemmas.List.Sums.{fold-append}
+use Rattle.parse_output.proofs.Prelude.{closed, Entered, Event, Exited, fold, fold-append, map-append, Mark, mark_of, Name, same_name, the_type, then_mark}
+use Rattle.parse_output.proofs.Prelude.{unmatched}
 use denote.Enum.Bare.{true_same}
-use Rattle.engine_events.specs.Names.{same_name}
-use Rattle.engine_events.specs.contracts.event.Name.{the_type}
-use Rattle.engine_events.specs.declared.event.Name.{Name}
-use Rattle.engine_events.specs.declared.event.Event.{Event}
-use Rattle.parse_output.specs.Open.{Mark, Entered, Exited, closed, mark_of, then_mark, unmatched}
 
 pub unmatched_append : (es fs : List Event) → unmatched (es ++ fs) ≡ fold then_mark (unmatched es) (map mark_of fs)
 unmatched_append es fs = ap (fold then_mark []) (map-append mark_of es fs) ∙ fold-append then_mark [] (map mark_of es) (map mark_of fs)

@@ -1,11 +1,7 @@
 -- Events that may stand where they do, and more of them.
 use Rattle.std.proofs.Common.{◌≡◌, List, [], ◌∷◌, ◌++◌, true, refl, ap, ◌∙◌, map}
-use Rattle.std.specs.List.{fold}
-use Rattle.std.proofs.lemmas.Bool.{and_from, and_parts}
-use Rattle.std.proofs.lemmas.List.{map-append}
+use Rattle.parse_output.proofs.Prelude.{and_from, and_parts, Entered, Event, Exited, fold, map-append, Mark, mark_of, then_mark, unmatched}
 use Rattle.engine_events.specs.declared.event.Name.TheVariants as n
-use Rattle.engine_events.specs.declared.event.Event.{Event}
-use Rattle.parse_output.specs.Open.{Mark, Entered, Exited, mark_of, then_mark, unmatched}
 use Rattle.parse_output.specs.Children.{HaveChildren, are_children, may_enter, may_follow, may_hold}
 use Rattle.parse_output.proofs.Classes.{enters_in}
 use Rattle.parse_output.proofs.Marks.{marked_one}

@@ -1,16 +1,13 @@
 -- Bytes that take one column each and end no line, passed at once.
-use Rattle.std.specs.Prelude.{◌==◌, if◌then◌else◌}
+use Rattle.parse_output.proofs.Prelude.{and-false, and_parts, ArePlain, between, fold, if◌then◌else◌, is_plain, length-take-le, list_all, mark_size, nat_tests}
+use Rattle.parse_output.proofs.Prelude.{next_spot, prefix_len, spot, Spot, spot_at, true≢false, ◌==◌}
 use Rattle.std.proofs.Common.{◌≡◌, ◌≤◌, ◌<◌, ◌-◌, ◌&&◌, ⊎_elim, ℕ, suc, ◌+◌, Bool, true, false, List, [], ◌∷◌, length, sym, ap, ◌∙◌, arith, drop, take, get_or}
-use Rattle.std.specs.List.{fold, list_all, prefix_len}
-use Rattle.std.proofs.Math.Bool.{and-true, and-false}
+use Rattle.std.proofs.Math.Bool.{and-true}
 use Rattle.std.proofs.Math.ListN.{get_or-eq_default}
-use Rattle.std.proofs.lemmas.Bool.{true≢false, and_parts, cases_lt}
-use Rattle.std.proofs.lemmas.Bool.Decides.{nat_tests}
-use Rattle.std.proofs.lemmas.List.{drop_more, get_or-drop, get_or-take, get_or_default, length-take, length-take-le, length-drop}
+use Rattle.std.proofs.lemmas.Bool.{cases_lt}
+use Rattle.std.proofs.lemmas.List.{drop_more, get_or-drop, get_or-take, get_or_default, length-take, length-drop}
 use Rattle.std.proofs.lemmas.List.Sums.{list_all-from_AllPass, prefix_len_passes}
-use Rattle.engine_events.specs.Columns.{between, mark_size}
-use Rattle.parse_output.specs.Spots.{ArePlain, spot, spot_at, next_spot, is_plain, after_plain}
-use Rattle.parse_output.specs.declared.spot.Spot.{Spot}
+use Rattle.parse_output.specs.Spots.{after_plain}
 
 one_plain : (mark : ℕ) (s : Spot) (b : ℕ) → mark ≤ s.index → is_plain b ≡ true → next_spot mark s b ≡ spot s.line (s.column + 1) (s.index + 1) false
 one_plain mark s b m h = grind (arith, nat_tests)

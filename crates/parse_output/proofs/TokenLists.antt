@@ -1,17 +1,11 @@
 -- Tokens and more tokens.
 use Rattle.std.proofs.Common.{◌≡◌, ℕ, List, [], ◌∷◌, ◌++◌, None, inl, inr, refl, sym, ap, subst, ◌∙◌, append_assoc, length, ◌<◌, take, drop}
-use Rattle.std.proofs.Math.Nat.{lt_irrefl, sub_self}
-use Rattle.std.specs.List.{fold}
-use Rattle.engine_events.specs.Columns.{mark_size}
+use Rattle.parse_output.proofs.Prelude.{ArePlaced, event, Event, fold, IsPlace, IsTold, mark_size, Name, next_spot, place, Place, point_at, Spot, spot_at}
+use Rattle.parse_output.proofs.Prelude.{sub_self}
+use Rattle.std.proofs.Math.Nat.{lt_irrefl}
 use Rattle.engine_events.specs.declared.event.Kind.TheVariants as kind
-use Rattle.engine_events.specs.declared.event.Name.{Name}
-use Rattle.engine_events.specs.declared.event.Event.{Event}
-use Rattle.engine_events.specs.Events.{event}
-use Rattle.parse_output.specs.declared.spot.Place.{Place}
-use Rattle.parse_output.specs.declared.spot.Spot.{Spot}
-use Rattle.parse_output.specs.Spots.{next_spot, spot_at}
-use Rattle.parse_output.specs.Tokens.{Token, Enter, Exit, Void, AreOnward, GoesOn, IsPlace, IsWhole, place, point_at, token_end, token_events, tokens_end, tokens_events}
-use Rattle.parse_output.specs.Placed.{ArePlaced, IsTold, beginning}
+use Rattle.parse_output.specs.Tokens.{Token, Enter, Exit, Void, AreOnward, GoesOn, IsWhole, token_end, token_events, tokens_end, tokens_events}
+use Rattle.parse_output.specs.Placed.{beginning}
 
 pub end-append : (text : List ℕ) (p : Place) (ts us : List Token) → tokens_end text p (ts ++ us) ≡ tokens_end text (tokens_end text p ts) us
 end-append text p [] us = refl

@@ -1,11 +1,8 @@
 -- What is written, step by step.
 use Rattle.std.proofs.Common.{ℕ, List, sym, ap, ◌∙◌}
-use Rattle.engine_events.specs.declared.event.Name.{Name}
-use Rattle.event_grammar.specs.Trees.{Nodes, Around, Nil, growth}
-use Rattle.parse_output.specs.declared.output.Output.{Output}
-use Rattle.parse_output.specs.Ends.{enter_at, exit_at}
-use Rattle.parse_output.specs.Forest.{append, cut, exited, with_nodes}
-use Rattle.parse_output.specs.Written.{Enters, Exits, IsInOrder, Writes, end_in, forest_in}
+use Rattle.parse_output.proofs.Prelude.{append, Around, cut, end_in, enter_at, exit_at, exited, forest_in, growth, IsInOrder, Name, Nil, Nodes, Output}
+use Rattle.parse_output.proofs.Prelude.{with_nodes, Writes}
+use Rattle.parse_output.specs.Written.{Enters, Exits}
 use Rattle.parse_output.proofs.Forests.{append-assoc, append-nil}
 
 module _ {A : Type 0} (text : List ℕ) where

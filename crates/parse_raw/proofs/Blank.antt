@@ -1,34 +1,21 @@
 -- What is written of a blank line, step by step (CommonMark 4.9).
 use Rattle.std.proofs.Common.{◌≡◌, inl, inr, ◌≤◌, ◌+◌, ℕ, suc, ◌-◌, eqb, Bool, false, true, not, List, [], ◌∷◌, ◌++◌, Option, refl, sym, ap, subst, ◌∙◌, drop, length, arith}
 use Rattle.std.specs.Prelude.{if◌then◌else◌}
-use Rattle.std.specs.List.{list_all, prefix_len}
-use Rattle.std.proofs.lemmas.Bool.{and_parts, cases_Bool, cond-false, cond-true, eqb-true, ne_eqb, true≢false}
+use Rattle.parse_raw.proofs.Prelude.{and_parts, append, AreEnding, around, Around, at_ending, AtEnding, Between, bytes_of, cases_Bool, cond-false, cond-true}
+use Rattle.parse_raw.proofs.Prelude.{Cons, cut, End, end_at, end_to_next, ending_text, EndsLine, enter_at, eqb-true, exit_at, Follows, HasSameOpen, is_byte}
+use Rattle.parse_raw.proofs.Prelude.{is_nil, is_tab_column, is_white, IsAfterWhite, IsInOrder, IsLineOf, IsWrittenToRest, left_within, line_after, line_left}
+use Rattle.parse_raw.proofs.Prelude.{LineEnding, LineRest, list_all, Name, ne_eqb, Nil, Nodes, Place, prefix_len, Rest, rest_of, rest_start, rest_to_end}
+use Rattle.parse_raw.proofs.Prelude.{same_end, same_name, space_written, Standing, standing, StandsAt, start_whole, void_nodes, Walk, whole, Within, Writes}
+use Rattle.parse_raw.proofs.Prelude.{writes_both, WritesEnding, WritesQuiet, WritesUpTo, written_to}
+use Rattle.std.proofs.lemmas.Bool.{true≢false}
 use Rattle.std.proofs.lemmas.List.{drop_all}
 use Rattle.std.proofs.Math.Seq.{take-length}
-use Rattle.markdown_options.specs.declared.line_ending.LineEnding.{LineEnding}
-use Rattle.engine_events.specs.Names.{same_name}
-use Rattle.engine_events.specs.declared.event.Name.{Name}
 use Rattle.engine_events.specs.declared.event.Name.TheVariants as n
-use Rattle.definition_text.specs.Columns.{Rest, bytes_of, is_blank, is_byte, is_tab_column, is_white, whole}
-use Rattle.definition_text.specs.Lines.{ending_text}
-use Rattle.block_starts.specs.View.{rest_of}
-use Rattle.event_grammar.specs.Trees.{Growth, Nodes, Around, Nil, Cons}
-use Rattle.parse_output.specs.declared.end.End.{End}
-use Rattle.parse_output.specs.Ends.{Follows, end_at, enter_at, exit_at, same_end}
-use Rattle.parse_output.specs.Forest.{append, cut, is_nil, void_nodes}
-use Rattle.parse_output.specs.Written.{IsInOrder, Writes, forest_in}
-use Rattle.parse_output.proofs.Written.{writes_both}
+use Rattle.definition_text.specs.Columns.{is_blank}
+use Rattle.event_grammar.specs.Trees.{Growth}
+use Rattle.parse_output.specs.Written.{forest_in}
 use Rattle.parse_laid.specs.Laid.{IsBlankLaid}
-use Rattle.parse_laid.specs.Places.{AtEnding, Between, LineRest, Place, Within, line_left}
-use Rattle.parse_lines.specs.declared.walk.Walk.{Walk}
-use Rattle.parse_lines.specs.Ends.{IsWrittenToRest, WritesEnding, WritesQuiet, WritesUpTo, line_after, rest_start, written_to}
-use Rattle.parse_lines.specs.Standing.{IsLineOf, Standing, StandsAt, around, standing}
-use Rattle.parse_lines.specs.Steps.{EndsLine, HasSameOpen}
-use Rattle.parse_lines.proofs.Ends.{end_to_next, left_within, rest_to_end, start_whole}
-use Rattle.parse_lines.proofs.Steps.{at_ending}
-use Rattle.parse_lines.proofs.Suffixes.{IsAfterWhite}
-use Rattle.parse_lines.proofs.Written.{space_written}
-use Rattle.parse_raw.specs.Laid.{AreEnding, WritesBlank}
+use Rattle.parse_raw.specs.Laid.{WritesBlank}
 use Rattle.parse_raw.proofs.Endings.{ending_nodes}
 
 -- ---- white space takes all that is left

@@ -1,47 +1,20 @@
 -- What is written of fenced code and math that a fence closes (CommonMark 4.5).
 use Rattle.std.proofs.Common.{◌≡◌, ◌⊎◌, ℕ, Bool, true, false, List, [], ◌∷◌, ◌++◌, Option, None, Some, refl, sym, ap, ap₂, subst, ◌∙◌, flat_map, length, reverse}
-use Rattle.std.proofs.lemmas.Bool.{cond-true}
-use Rattle.std.proofs.lemmas.List.{append-nil}
-use Rattle.markdown_options.specs.declared.configuration.Constructs.{Constructs}
-use Rattle.markdown_options.specs.declared.line_ending.LineEnding.{LineEnding}
-use Rattle.engine_events.specs.Names.{same_name, is_listed}
-use Rattle.engine_events.specs.declared.event.Name.{Name}
+use Rattle.parse_raw.proofs.Prelude.{append, append-nil, AreBlocksAlike, AreLeavesAlike, AreNames, AreRaw, AreTaken, around, Around, at_ending, AtEnding}
+use Rattle.parse_raw.proofs.Prelude.{Between, block_info, block_names, BlockLine, blocks_of, child, code_parts, cond-true, Cons, Constructs, Container, End}
+use Rattle.parse_raw.proofs.Prelude.{end_at, end_in, end_part, EndPart, enter_at, exit_at, Exits, Fence, fence_name, fence_start, fenced_lines, FencedCode}
+use Rattle.parse_raw.proofs.Prelude.{FenceNames, HasSameOpen, InAll, info_by, info_of, info_text, inside_of, is_listed, IsFenceLine, IsInOrder}
+use Rattle.parse_raw.proofs.Prelude.{IsWrittenToRest, kids_in, kids_of, last_ending_or, line_left, LineEnding, LineRest, math_info, math_start, Meaning, Name}
+use Rattle.parse_raw.proofs.Prelude.{named, Names, Node, node_name, Nodes, one, one_block, PassesLine, Place, prefixed, raw_parts, RawPart, read_leaf, Reading}
+use Rattle.parse_raw.proofs.Prelude.{same_name, standing, Standing, StandsAt, Walk, Within, writes_both, WritesLeaf, WritesNextLine, WritesOpened}
+use Rattle.parse_raw.proofs.Prelude.{WritesOpening, written_to}
 use Rattle.engine_events.specs.declared.event.Name.TheVariants as n
-use Rattle.definition_text.specs.BlockLines.{BlockLine, last_ending_or}
-use Rattle.definition_block.specs.CodeFenced.{Fence, fence_start}
-use Rattle.definition_block.specs.Container.{Container}
-use Rattle.definition_block.specs.MathFlow.{math_info, math_start}
-use Rattle.definition_block.specs.Tree.{FencedCode}
-use Rattle.definition_inline.specs.CharacterReference.{Names}
-use Rattle.definition_page.specs.InlinePieces.{Meaning}
 use Rattle.definition_page.specs.Page as page
-use Rattle.definition_page.specs.Read.{Reading, info_text, read_leaf}
-use Rattle.event_grammar.specs.Grammar.{block_names}
-use Rattle.event_grammar.specs.InGrammar.{kids_of, node_name}
-use Rattle.event_grammar.specs.References.{named}
-use Rattle.event_grammar.specs.Trees.{Node, Nodes, Around, Cons}
-use Rattle.event_meaning.specs.Blocks.{blocks_of, code_fenced_of, info_of, math_flow_of, one as one_block}
-use Rattle.event_meaning.specs.Children.{child, inside_of, kids_in}
-use Rattle.event_meaning.specs.Raw.{End as EndPart, RawPart, fenced_lines, raw_parts}
-use Rattle.parse_output.specs.declared.end.End.{End}
-use Rattle.parse_output.specs.Ends.{end_at, enter_at, exit_at}
-use Rattle.parse_output.specs.Forest.{append, one}
-use Rattle.parse_output.specs.Written.{Exits, IsInOrder, end_in}
-use Rattle.parse_output.proofs.Written.{writes_both}
-use Rattle.parse_alike.specs.Page.{AreBlocksAlike, AreLeavesAlike}
-use Rattle.parse_alike.specs.Raw.{code_parts, end_part}
-use Rattle.parse_laid.specs.Leaves.{AreTaken, IsClosedLaid, IsFenceLine}
-use Rattle.parse_laid.specs.Places.{AtEnding, Between, InAll, IsOn, LineRest, Place, Within, line_left, prefixed}
+use Rattle.event_meaning.specs.Blocks.{code_fenced_of, math_flow_of}
+use Rattle.parse_laid.specs.Leaves.{IsClosedLaid}
+use Rattle.parse_laid.specs.Places.{IsOn}
 use Rattle.parse_laid.proofs.Taken.{after_taken}
-use Rattle.parse_lines.specs.declared.walk.Walk.{Walk}
-use Rattle.parse_lines.specs.Ends.{IsWrittenToRest, WritesNextLine, written_to}
-use Rattle.parse_lines.specs.Standing.{Standing, StandsAt, around, standing}
-use Rattle.parse_lines.specs.Steps.{HasSameOpen, PassesLine}
-use Rattle.parse_lines.proofs.Steps.{at_ending}
-use Rattle.parse_raw.specs.declared.fence_names.FenceNames.{FenceNames}
-use Rattle.parse_raw.specs.FenceParts.{AreNames, WritesClosing, WritesOpened, WritesOpening, block_info, block_name, fence_name, info_by}
-use Rattle.parse_raw.specs.RawLines.{AreRaw}
-use Rattle.parse_raw.specs.Written.{WritesLeaf}
+use Rattle.parse_raw.specs.FenceParts.{WritesClosing, block_name}
 use Rattle.parse_raw.proofs.ClosingFence.{closed_alike, info_read, parts_closed}
 use Rattle.parse_raw.proofs.FencedCode.{closed_leaf, math_string}
 use Rattle.parse_raw.proofs.LeafNodes.{leaf_written}

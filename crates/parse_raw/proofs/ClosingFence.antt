@@ -1,34 +1,14 @@
 -- What is written of fenced code and math that are closed, step by step (CommonMark 4.5).
 use Rattle.std.proofs.Common.{◌≡◌, ℕ, ◌+◌, ◌-◌, ◌^◌, ◌<◌, ◌≤◌, Bool, true, false, ◌&&◌, List, [], ◌∷◌, ◌++◌, Option, Some, refl, sym, ap, subst, ◌∙◌, append_assoc, flat_map, length, arith}
-use Rattle.std.proofs.lemmas.Bool.{cond-false}
-use Rattle.std.proofs.lemmas.List.{append-nil}
-use Rattle.markdown_options.specs.declared.line_ending.LineEnding.{LineEnding}
-use Rattle.engine_events.specs.Names.{same_name}
+use Rattle.parse_raw.proofs.Prelude.{append-nil, AreLeavesAlike, AreNames, Around, at_ending, AtEnding, bare, BlockLine, bytes_of, chunk_name, chunk_parts}
+use Rattle.parse_raw.proofs.Prelude.{code_parts, cond-false, cut, end_at, end_in, end_part, EndPart, enter_at, Enters, exit_at, Exits, fenced_lines}
+use Rattle.parse_raw.proofs.Prelude.{FenceNames, info_by, info_text, is_nil, IsInOrder, IsWrittenToRest, last_ending_or, LineEnding, LineRest, Meaning, named}
+use Rattle.parse_raw.proofs.Prelude.{Node, one, parts_after, raw_lines_are_alike, RawPart, Reading, rest_of, same_name, Standing, standing, StandsAt, Walk}
+use Rattle.parse_raw.proofs.Prelude.{Within, Writes, writes_around, WritesUpTo, written_to}
 use Rattle.engine_events.specs.declared.event.Name.TheVariants as n
-use Rattle.definition_text.specs.BlockLines.{BlockLine, last_ending_or}
-use Rattle.definition_text.specs.Columns.{bare, bytes_of}
-use Rattle.definition_page.specs.InlinePieces.{Meaning}
 use Rattle.definition_page.specs.Page as page
-use Rattle.definition_page.specs.Read.{Reading, code_lines, info_text}
-use Rattle.block_starts.specs.View.{rest_of}
-use Rattle.event_grammar.specs.References.{named}
-use Rattle.event_grammar.specs.Trees.{Node, Around}
-use Rattle.event_meaning.specs.Raw.{End as EndPart, RawPart, fenced_lines}
-use Rattle.parse_output.specs.Ends.{end_at, enter_at, exit_at}
-use Rattle.parse_output.specs.Forest.{cut, is_nil, one}
-use Rattle.parse_output.specs.Written.{Enters, Exits, IsInOrder, Writes, end_in}
-use Rattle.parse_output.proofs.Written.{writes_around}
-use Rattle.parse_alike.specs.Page.{AreLeavesAlike}
-use Rattle.parse_alike.specs.Raw.{code_parts, end_part}
-use Rattle.parse_alike.proofs.Raw.{raw_lines_are_alike}
-use Rattle.parse_laid.specs.Places.{AtEnding, LineRest, Within}
-use Rattle.parse_lines.specs.declared.walk.Walk.{Walk}
-use Rattle.parse_lines.specs.Ends.{IsWrittenToRest, WritesUpTo, written_to}
-use Rattle.parse_lines.specs.Standing.{Standing, StandsAt, standing}
-use Rattle.parse_lines.proofs.Steps.{at_ending}
-use Rattle.parse_raw.specs.declared.fence_names.FenceNames.{FenceNames}
-use Rattle.parse_raw.specs.FenceParts.{AreNames, WritesClosingOf, chunk_name, info_by}
-use Rattle.parse_raw.specs.RawLines.{chunk_parts, parts_after}
+use Rattle.definition_page.specs.Read.{code_lines}
+use Rattle.parse_raw.specs.FenceParts.{WritesClosingOf}
 use Rattle.parse_raw.proofs.FencedCode.{has_some}
 use Rattle.parse_raw.proofs.LeafNodes.{white_written}
 use Rattle.parse_raw.proofs.OpeningFence.{fence_is, sequence_other}

@@ -1,35 +1,16 @@
 -- What is written of indented code, step by step (CommonMark 4.4).
 use Rattle.std.proofs.Common.{◌≡◌, ℕ, ◌+◌, ◌-◌, ◌≤◌, Bool, List, [], ◌∷◌, ◌++◌, inl, refl, sym, ap, subst, ◌∙◌, drop, length, arith}
-use Rattle.std.specs.Prelude.{min}
-use Rattle.std.proofs.lemmas.List.{drop-drop}
-use Rattle.markdown_options.specs.declared.configuration.Constructs.{Constructs}
+use Rattle.parse_raw.proofs.Prelude.{all_prefix, AreTaken, around, at_ending, AtEnding, Between, block_codes, BlockLine, chunk_parts, Constructs, drop-drop}
+use Rattle.parse_raw.proofs.Prelude.{End, end_at, ending_text, EndsAt, Enters, Exits, InAll, indent, InSome, is_white, IsAfterWhite, IsCutLine, IsInOrder}
+use Rattle.parse_raw.proofs.Prelude.{IsLeafLaid, IsLineOf, IsWrittenToRest, last_ending, line_follows, line_left, LineRest, min, Names, outdent, own_lines}
+use Rattle.parse_raw.proofs.Prelude.{Place, Prefixed, raw_lines, raw_lines_are_alike, raw_parts, RawPart, Rest, rest_line, rest_of, rest_start, rest_to_end}
+use Rattle.parse_raw.proofs.Prelude.{space_written, Standing, standing, StandsAt, Walk, whole, Within, WritesCutLines, WritesLeaf, WritesQuiet, WritesUpTo}
+use Rattle.parse_raw.proofs.Prelude.{written_to}
 use Rattle.engine_events.specs.declared.event.Name.TheVariants as n
-use Rattle.definition_text.specs.BlockLines.{BlockLine, last_ending, own_lines}
-use Rattle.definition_text.specs.Columns.{Rest, block_codes, indent, is_white, whole}
-use Rattle.definition_text.specs.Indents.{outdent}
-use Rattle.definition_text.specs.Lines.{ending_text}
-use Rattle.definition_block.specs.Tree.{IndentedCode, rest_line}
-use Rattle.definition_inline.specs.CharacterReference.{Names}
+use Rattle.definition_block.specs.Tree.{IndentedCode}
 use Rattle.definition_page.specs.Page as page
-use Rattle.block_starts.specs.View.{rest_of}
-use Rattle.event_meaning.specs.Raw.{RawPart, raw_lines, raw_parts}
-use Rattle.parse_output.specs.declared.end.End.{End}
-use Rattle.parse_output.specs.Ends.{end_at}
-use Rattle.parse_output.specs.Written.{Enters, Exits, IsInOrder}
 use Rattle.parse_alike.specs.BlockLines.{AreCodeLinesAlike}
-use Rattle.parse_alike.proofs.Raw.{raw_lines_are_alike}
-use Rattle.parse_laid.specs.Leaves.{AreCode, AreTaken, EndsAt, IsCodeLine, IsLeafLaid}
-use Rattle.parse_laid.specs.Places.{AtEnding, Between, InAll, InSome, LineRest, Place, Prefixed, Within, line_left}
-use Rattle.parse_lines.specs.declared.walk.Walk.{Walk}
-use Rattle.parse_lines.specs.Ends.{IsWrittenToRest, WritesQuiet, WritesUpTo, rest_start, written_to}
-use Rattle.parse_lines.specs.Standing.{IsLineOf, Standing, StandsAt, around, standing}
-use Rattle.parse_lines.proofs.Ends.{line_follows, rest_to_end}
-use Rattle.parse_lines.proofs.Steps.{at_ending}
-use Rattle.parse_lines.proofs.Suffixes.{IsAfterWhite}
-use Rattle.parse_lines.proofs.White.{all_prefix}
-use Rattle.parse_lines.proofs.Written.{space_written}
-use Rattle.parse_raw.specs.RawLines.{IsCutLine, WritesCutLines, chunk_parts}
-use Rattle.parse_raw.specs.Written.{WritesLeaf}
+use Rattle.parse_laid.specs.Leaves.{AreCode, IsCodeLine}
 use Rattle.parse_raw.proofs.LeafNodes.{leaf_written}
 use Rattle.parse_raw.proofs.RawBlocks.{WritesFirst, all_written, own_count, taken_as}
 use Rattle.parse_raw.proofs.RawLines.{rest_written}

@@ -1,27 +1,13 @@
 -- The nodes of the ending of a line.
 use Rattle.std.proofs.Common.{◌≡◌, ℕ, ◌+◌, ◌-◌, Bool, true, false, ◌&&◌, List, [], ◌++◌, Option, None, Some, ◌∷◌, eq-eqb, refl, sym, ap, ap₂, subst, ◌∙◌, append_assoc, drop, take, length, length-append, arith}
-use Rattle.std.specs.Prelude.{◌==◌}
+use Rattle.parse_raw.proofs.Prelude.{AreEnding, AreRaw, Around, between, cond-true, end_at, end_part, ending_text, EndPart, ends_in, enter_at, exit_at}
+use Rattle.parse_raw.proofs.Prelude.{IsInLine, LineEnding, Name, nat_tests, Nil, Node, node_name, Nodes, one, raw_part, raw_parts, same_end, same_name}
+use Rattle.parse_raw.proofs.Prelude.{Standing, text_of, void_nodes, ◌==◌}
 use Rattle.std.proofs.Math.Seq.{drop-append_seam, take-append_seam}
-use Rattle.std.proofs.lemmas.Bool.{cond-true}
-use Rattle.std.proofs.lemmas.Bool.Decides.{nat_tests}
 use Rattle.markdown_options.specs.LineEndings.{ending_bytes}
-use Rattle.markdown_options.specs.declared.line_ending.LineEnding.{LineEnding}
 use Rattle.markdown_options.specs.declared.line_ending.LineEnding.TheVariants.{CarriageReturnLineFeed, CarriageReturn, LineFeed}
-use Rattle.engine_events.specs.Columns.{between}
-use Rattle.engine_events.specs.Names.{same_name}
-use Rattle.engine_events.specs.declared.event.Name.{Name}
 use Rattle.engine_events.specs.declared.event.Name.TheVariants as n
-use Rattle.definition_text.specs.Lines.{ending_text}
-use Rattle.event_grammar.specs.InGrammar.{node_name}
-use Rattle.event_meaning.specs.Children.{ends_in, text_of}
-use Rattle.event_grammar.specs.Trees.{Node, Nodes, Around, Nil}
-use Rattle.parse_output.specs.Ends.{end_at, enter_at, exit_at, same_end}
-use Rattle.parse_output.specs.Forest.{one, void_nodes}
-use Rattle.event_meaning.specs.Raw.{End as EndPart, ending_of, raw_part, raw_parts}
-use Rattle.parse_alike.specs.Raw.{end_part}
-use Rattle.parse_lines.specs.Standing.{IsInLine, Standing}
-use Rattle.parse_raw.specs.Laid.{AreEnding}
-use Rattle.parse_raw.specs.RawLines.{AreRaw}
+use Rattle.event_meaning.specs.Raw.{ending_of}
 use Rattle.parse_raw.proofs.Nodes.{raw_none, raw_one, void_cases}
 
 -- where the ending of a line begins and ends in the text

@@ -1,41 +1,18 @@
 -- What is written of a fence, step by step (CommonMark 4.5).
 use Rattle.std.proofs.Common.{◌≡◌, ℕ, suc, ◌+◌, ◌-◌, ◌^◌, ◌<◌, ◌≤◌, Bool, true, false, not, cond, ◌||◌, List, [], ◌∷◌, ◌++◌, Option, None, Some, eqb, inl, inr, refl, sym, ap, ap₂, subst, ◌∙◌}
 use Rattle.std.proofs.Common.{drop, take, get_or, length, length-append, arith}
-use Rattle.std.specs.List.{list_any, position_or_len, suffix_len}
-use Rattle.std.specs.Str.{IsCharBoundary, IsUtf8}
-use Rattle.std.proofs.lemmas.Bool.{cases_Bool, cond-false, cond-true, eqb-true, ne_eqb, or_parts}
-use Rattle.std.proofs.lemmas.List.{append-nil, take-append-drop}
+use Rattle.parse_raw.proofs.Prelude.{after_bytes, append, append-nil, AreNext, AtEnding, cases_Bool, child, cond-false, cond-true, Cons, Constructs, End}
+use Rattle.parse_raw.proofs.Prelude.{end_after, end_at, end_in, ends_line, eqb-true, Follows, indent, info_by, info_of, is_space, is_white, IsBefore}
+use Rattle.parse_raw.proofs.Prelude.{IsCharBoundary, IsPartOf, IsRawName, IsUtf8, LeadsTo, LineEnding, LineRest, list_any, Name, Names, ne_eqb, next_after}
+use Rattle.parse_raw.proofs.Prelude.{Nil, Node, node_name, Nodes, or_parts, position_or_len, prefix_len-le-length, prefix_len_passes, run, same_name, Standing}
+use Rattle.parse_raw.proofs.Prelude.{standing, StandsAt, take-append-drop, trim, void_nodes, Walk, writes_both, writes_none, WritesPart, WritesUpTo}
+use Rattle.parse_raw.proofs.Prelude.{written_to}
+use Rattle.std.specs.List.{suffix_len}
 use Rattle.std.proofs.lemmas.List.Folds.{list_any-append}
-use Rattle.std.proofs.lemmas.List.Sums.{passes_at_first, prefix_len-le-length, prefix_len_passes}
-use Rattle.markdown_options.specs.declared.configuration.Constructs.{Constructs}
-use Rattle.markdown_options.specs.declared.line_ending.LineEnding.{LineEnding}
-use Rattle.engine_events.specs.Names.{same_name}
-use Rattle.engine_events.specs.declared.event.Name.{Name}
+use Rattle.std.proofs.lemmas.List.Sums.{passes_at_first}
 use Rattle.engine_events.specs.declared.event.Name.TheVariants as n
-use Rattle.definition_text.specs.Columns.{indent, is_white, trim}
-use Rattle.definition_text.specs.Content.{is_space}
-use Rattle.definition_text.specs.Lines.{ends_line}
-use Rattle.definition_text.specs.Runs.{run}
-use Rattle.definition_inline.specs.CharacterReference.{Names}
-use Rattle.event_grammar.specs.InGrammar.{node_name}
-use Rattle.event_grammar.specs.Trees.{Node, Nodes, Nil, Cons}
-use Rattle.event_meaning.specs.Blocks.{info_of}
-use Rattle.event_meaning.specs.Children.{child}
-use Rattle.parse_output.specs.declared.end.End.{End}
-use Rattle.parse_output.specs.Ends.{Follows, end_at}
-use Rattle.parse_output.specs.Forest.{append, void_nodes}
-use Rattle.parse_output.specs.Written.{end_in}
-use Rattle.parse_output.proofs.Written.{writes_both, writes_none}
-use Rattle.parse_laid.specs.Places.{AtEnding, LineRest}
 use Rattle.text_bytes.proofs.Ascii.{boundary_after, boundary_before, space_ascii}
-use Rattle.parse_lines.specs.declared.walk.Walk.{Walk}
-use Rattle.parse_lines.specs.Content.{AreNext, end_after}
-use Rattle.parse_lines.specs.Ends.{WritesUpTo, written_to}
-use Rattle.parse_lines.specs.Standing.{Standing, StandsAt, standing}
-use Rattle.parse_lines.proofs.Ahead.{after_bytes, next_after}
-use Rattle.parse_raw.specs.FenceParts.{IsBefore, IsPartOf, LeadsTo, WritesPart, info_by}
 use Rattle.parse_raw.proofs.LeafNodes.{line_in_text}
-use Rattle.parse_raw.specs.RawLines.{IsRawName}
 use Rattle.parse_raw.proofs.Nodes.{child_append, raw_append, raw_none, raw_void, void_cases}
 use Rattle.parse_raw.proofs.Tokens.{index_follows}
 

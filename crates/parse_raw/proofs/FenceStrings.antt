@@ -1,45 +1,23 @@
 -- What is written of a string in a fence: the info of code, or what follows it (CommonMark 4.5).
 use Rattle.std.proofs.Common.{◌≡◌, ℕ, ◌+◌, ◌^◌, ◌<◌, Bool, true, false, ◌&&◌, List, [], ◌∷◌, ◌++◌, Option, None, Some, append_assoc, get_or, inl, refl, sym, ap, subst, ◌∙◌, drop, take, length, arith}
-use Rattle.std.specs.Prelude.{◌==◌}
-use Rattle.std.specs.List.{list_any, position_or_len}
-use Rattle.std.specs.Str.{IsCharBoundary, IsUtf8}
+use Rattle.parse_raw.proofs.Prelude.{append-nil, AreNames, AreNext, Around, AtEnding, cond-false, Constructs, cut, End, end_at, end_in, ends_line, enter_at}
+use Rattle.parse_raw.proofs.Prelude.{exit_at, Exits, FenceNames, indent, info_by, info_in, is_nil, is_space, is_white, IsBefore, IsCharBoundary, IsInOrder}
+use Rattle.parse_raw.proofs.Prelude.{IsPartOf, IsRawName, IsUtf8, LeadsTo, length-take-le, LineEnding, LineRest, list_any, Name, named, Names, nat_tests, Nil}
+use Rattle.parse_raw.proofs.Prelude.{Node, Nodes, one, or_parts, position_or_len, prefix_len-le-length, same_name, Standing, standing, StandsAt, string_text}
+use Rattle.parse_raw.proofs.Prelude.{take-append-drop, Walk, Writes, writes_around, writes_none, WritesPart, WritesUpTo, written_to, ◌==◌}
 use Rattle.std.proofs.lemmas.Str.{IsCharBoundary-start}
-use Rattle.std.proofs.lemmas.List.Sums.{prefix_len-le-length}
-use Rattle.std.proofs.lemmas.Bool.{cond-false, or_parts}
-use Rattle.std.proofs.lemmas.Bool.Decides.{nat_tests}
-use Rattle.std.proofs.lemmas.List.{append-nil, get_or-drop, length-take-le, take-append-drop}
-use Rattle.markdown_options.specs.declared.configuration.Constructs.{Constructs}
-use Rattle.markdown_options.specs.declared.line_ending.LineEnding.{LineEnding}
-use Rattle.engine_events.specs.Names.{same_name}
-use Rattle.engine_events.specs.declared.event.Name.{Name}
+use Rattle.std.proofs.lemmas.List.{get_or-drop}
 use Rattle.engine_events.specs.declared.event.Name.TheVariants as n
-use Rattle.definition_text.specs.Columns.{indent, is_white}
-use Rattle.definition_text.specs.Content.{content_codes, is_space}
-use Rattle.definition_text.specs.Lines.{ends_line}
+use Rattle.definition_text.specs.Content.{content_codes}
 use Rattle.definition_text.proofs.ContentBytes.{IsInLine, codes_in_line}
-use Rattle.definition_inline.specs.CharacterReference.{Names}
-use Rattle.definition_inline.specs.Strings.{string_text}
-use Rattle.event_grammar.specs.References.{named}
 use Rattle.event_meaning.specs.Strings.{string_of}
-use Rattle.event_grammar.specs.Trees.{Node, Nodes, Around, Nil}
-use Rattle.parse_output.specs.declared.end.End.{End}
 use Rattle.parse_output.specs.declared.output.Output.{Output}
-use Rattle.parse_output.specs.Ends.{end_at, enter_at, exit_at}
-use Rattle.parse_output.specs.Forest.{cut, is_nil, one}
-use Rattle.parse_output.specs.Written.{Exits, IsInOrder, Writes, end_in}
-use Rattle.parse_output.proofs.Written.{writes_around, writes_none}
-use Rattle.parse_laid.specs.Places.{AtEnding, LineRest}
-use Rattle.parse_lines.specs.declared.walk.Walk.{Walk}
-use Rattle.parse_lines.specs.Content.{AreNext, BeginsLineHere, EntersInLine, StandsInLine}
-use Rattle.parse_lines.specs.Ends.{WritesUpTo, written_to}
+use Rattle.parse_lines.specs.Content.{BeginsLineHere, EntersInLine, StandsInLine}
 use Rattle.parse_lines.specs.InContent.{IsWhole, StandsInContent, Stop}
-use Rattle.parse_lines.specs.Standing.{Standing, StandsAt, standing}
 use Rattle.parse_lines.proofs.InContent.{line_enters}
 use Rattle.parse_lines.proofs.Parts.{part_begins, part_ends}
 use Rattle.parse_strings.specs.Strings.{AreCutApart, WritesStringIn}
-use Rattle.parse_raw.specs.declared.fence_names.FenceNames.{FenceNames}
-use Rattle.parse_raw.specs.FenceParts.{AreNames, IsBefore, IsPartOf, LeadsTo, WritesPart, info_by, info_in, info_size}
-use Rattle.parse_raw.specs.RawLines.{IsRawName}
+use Rattle.parse_raw.specs.FenceParts.{info_size}
 use Rattle.parse_raw.proofs.FenceParts.{dark_both, info_part, other_part, parts_after, parts_both, parts_none, token_part, white_boundary, word_boundary, word_same}
 use Rattle.parse_raw.proofs.Nodes.{raw_none}
 

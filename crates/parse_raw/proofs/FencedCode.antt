@@ -1,31 +1,18 @@
 -- What fenced code and math spell (CommonMark 4.5).
 use Rattle.std.proofs.Common.{◌≡◌, ◌⊎◌, ℕ, ◌<◌, Bool, true, false, not, cond, ◌&&◌, ◌||◌, leb, is_some, List, [], ◌∷◌, ◌++◌, Option, None, Some, eqb, inl, inr, refl, sym, ap, ap₂, ◌∙◌, get_or, flat_map, map, arith}
-use Rattle.std.specs.List.{list_all}
-use Rattle.std.proofs.lemmas.Bool.{cases_Bool, and_parts, cond-true, cond-false, eqb-true, leb-true}
-use Rattle.std.proofs.lemmas.List.Sums.{prefix_len_passes}
-use Rattle.markdown_options.specs.declared.configuration.Constructs.{Constructs}
-use Rattle.markdown_options.specs.declared.line_ending.LineEnding.{LineEnding}
-use Rattle.engine_events.specs.Names.{same_name}
-use Rattle.engine_events.specs.declared.event.Name.{Name}
+use Rattle.parse_raw.proofs.Prelude.{after_child, after_run, and_parts, append, bare, before_child, BlockLine, bytes_of, cases_Bool, child, chunk, code_byte}
+use Rattle.parse_raw.proofs.Prelude.{code_parts, cond-false, cond-true, Cons, Constructs, end_part, ends_in, eqb-true, Fence, fence_start, fenced_lines}
+use Rattle.parse_raw.proofs.Prelude.{first_word, indent, last_ending_or, LineEnding, list_all, math_info, math_start, Name, Names, Nil, Node, node_name, Nodes}
+use Rattle.parse_raw.proofs.Prelude.{one, prefix_len_passes, raw_lines, raw_parts, Rest, run, same_name, string_text}
+use Rattle.std.proofs.lemmas.Bool.{leb-true}
 use Rattle.engine_events.specs.declared.event.Name.TheVariants as n
-use Rattle.definition_text.specs.BlockLines.{BlockLine, last_ending_or}
-use Rattle.definition_text.specs.Columns.{Rest, bare, bytes_of, code_byte, indent}
 use Rattle.definition_text.specs.Indents.{small_indent}
-use Rattle.definition_text.specs.Runs.{after_run, run}
-use Rattle.definition_block.specs.CodeFenced.{Fence, fence_by, fence_of, fence_start, first_word}
-use Rattle.definition_block.specs.MathFlow.{math_fence_of, math_info, math_start}
-use Rattle.definition_inline.specs.CharacterReference.{Names}
-use Rattle.definition_inline.specs.Strings.{string_text}
+use Rattle.definition_block.specs.CodeFenced.{fence_by, fence_of}
+use Rattle.definition_block.specs.MathFlow.{math_fence_of}
 use Rattle.definition_page.specs.Page as page
-use Rattle.event_grammar.specs.InGrammar.{node_name}
-use Rattle.event_grammar.specs.Trees.{Node, Nodes, Nil, Cons}
 use Rattle.event_meaning.specs.Blocks.{fenced_of}
-use Rattle.event_meaning.specs.Children.{after_child, before_child, child, ends_in}
-use Rattle.event_meaning.specs.Raw.{fenced_lines, raw_lines, raw_parts}
-use Rattle.parse_output.specs.Forest.{append, one}
 use Rattle.parse_output.proofs.Forests.{append-nil}
 use Rattle.parse_alike.specs.BlockLines.{has_lines}
-use Rattle.parse_alike.specs.Raw.{chunk, code_parts, end_part}
 use Rattle.parse_raw.proofs.Nodes.{before_append, before_none, child_append}
 
 -- ---- the page's leaf

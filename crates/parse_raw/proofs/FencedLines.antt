@@ -1,33 +1,13 @@
 -- What is written up to the last line of fenced code or math, step by step (CommonMark 4.5).
 use Rattle.std.proofs.Common.{◌≡◌, ◌⊎◌, ℕ, zero, suc, ◌+◌, ◌-◌, ◌<◌, Bool, true, false, cond, ◌||◌, List, [], ◌∷◌, ◌++◌, Option, Some, eqb, inl, inr, refl, sym, ap, ap₂, subst, ◌∙◌, get_or, drop, length, reverse, arith}
-use Rattle.std.specs.Prelude.{replicate}
-use Rattle.std.specs.List.{list_any}
-use Rattle.std.proofs.lemmas.Bool.{cases_Bool, cond-true, cond-false, or_parts}
-use Rattle.markdown_options.specs.declared.configuration.Constructs.{Constructs}
-use Rattle.engine_events.specs.declared.event.Name.{Name}
-use Rattle.definition_text.specs.BlockLines.{BlockLine}
-use Rattle.definition_text.specs.Columns.{Rest, bare, bytes_of, codes_from, indent, is_byte, tab_column, trim, whole}
-use Rattle.definition_text.specs.Indents.{outdent}
-use Rattle.definition_text.specs.Lines.{ends_line}
-use Rattle.definition_text.specs.Runs.{after_run}
-use Rattle.definition_block.specs.CodeFenced.{Fence, fence_start, first_word}
-use Rattle.definition_block.specs.Container.{Container}
-use Rattle.definition_block.specs.Tree.{rest_line}
-use Rattle.definition_block.specs.MathFlow.{math_info, math_start}
-use Rattle.definition_inline.specs.CharacterReference.{Names}
+use Rattle.parse_raw.proofs.Prelude.{after_run, AreNames, AreNext, AreTaken, around, bare, Between, block_info, BlockLine, bytes_of, cases_Bool, chunk_name}
+use Rattle.parse_raw.proofs.Prelude.{codes_first, cond-false, cond-true, Constructs, Container, end_at, end_in, ends_line, Enters, Fence, fence_start}
+use Rattle.parse_raw.proofs.Prelude.{FenceNames, first_word, InAll, indent, info_by, info_in, InSome, is_byte, IsBefore, IsChunkName, IsCutLine, IsFenceLine}
+use Rattle.parse_raw.proofs.Prelude.{IsInOrder, LineRest, list_any, math_info, math_start, Name, Names, or_parts, outdent, Prefixed, replicate, Rest}
+use Rattle.parse_raw.proofs.Prelude.{rest_line, Standing, standing, StandsAt, tab_column, trim, Walk, whole, Within, WritesCutLines, WritesOpened, written_to}
+use Rattle.definition_text.specs.Columns.{codes_from}
 use Rattle.block_starts.specs.Widths.{width}
-use Rattle.parse_output.specs.Ends.{end_at}
-use Rattle.parse_output.specs.Written.{Enters, IsInOrder, end_in}
-use Rattle.parse_lines.specs.Content.{AreNext}
-use Rattle.parse_laid.specs.Leaves.{AreTaken, IsFenceLine}
-use Rattle.parse_laid.specs.Places.{Between, InAll, InSome, LineRest, Prefixed, Within}
-use Rattle.parse_lines.specs.declared.walk.Walk.{Walk}
-use Rattle.parse_lines.specs.Ends.{written_to}
-use Rattle.parse_lines.specs.Standing.{Standing, StandsAt, around, standing}
-use Rattle.parse_lines.proofs.Columns.{codes_first}
-use Rattle.parse_raw.specs.declared.fence_names.FenceNames.{FenceNames}
-use Rattle.parse_raw.specs.FenceParts.{AreNames, IsBefore, WritesFence, WritesOpened, block_info, chunk_name, info_by, info_in}
-use Rattle.parse_raw.specs.RawLines.{IsChunkName, IsCutLine, WritesCutLines}
+use Rattle.parse_raw.specs.FenceParts.{WritesFence}
 use Rattle.parse_raw.proofs.FencedCode.{fence_facts}
 use Rattle.parse_raw.proofs.OnLine.{WritesWhiteAhead}
 use Rattle.parse_raw.proofs.OpeningFence.{before_entered}

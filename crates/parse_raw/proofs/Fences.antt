@@ -1,10 +1,8 @@
 -- What fences hold, and where code stands.
 use Rattle.std.proofs.Common.{◌≡◌, List, ◌∷◌, true, Option, None, Some, refl}
 use Rattle.std.proofs.lemmas.Bool.{or_right}
-use Rattle.engine_events.specs.Names.{same_name, is_listed}
-use Rattle.engine_events.specs.declared.event.Name.{Name}
+use Rattle.parse_raw.proofs.Prelude.{block_names, is_listed, Name, same_name}
 use Rattle.engine_events.specs.declared.event.Name.TheVariants as n
-use Rattle.event_grammar.specs.Grammar.{block_names}
 use Rattle.parse_output.specs.Open.{Mark, Entered}
 use Rattle.parse_output.specs.Children.{holds_blocks, may_enter}
 use Rattle.parse_output.proofs.Classes.{blocks_may, enters_in}

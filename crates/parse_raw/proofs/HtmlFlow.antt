@@ -1,23 +1,14 @@
 -- What is written of an HTML block, step by step (CommonMark 4.6).
 use Rattle.std.proofs.Common.{◌≡◌, ℕ, ◌-◌, Bool, List, [], ◌∷◌, inl, inr, refl, sym, ap, subst, ◌∙◌, length, arith}
-use Rattle.markdown_options.specs.declared.configuration.Constructs.{Constructs}
+use Rattle.parse_raw.proofs.Prelude.{AreHtmlLinesAlike, AreTaken, around, AtEnding, Between, BlockLine, chunk_parts, Constructs, end_at, EndsAt, Enters, Exits}
+use Rattle.parse_raw.proofs.Prelude.{InAll, InSome, IsCutLine, IsInOrder, IsLeafLaid, IsWrittenToRest, last_ending, line_left, LineRest, Names, own_lines}
+use Rattle.parse_raw.proofs.Prelude.{Place, Prefixed, raw_lines, raw_parts, RawPart, rest_line, rest_start, Standing, standing, StandsAt, Walk, Within}
+use Rattle.parse_raw.proofs.Prelude.{WritesCutLines, WritesLeaf, WritesUpTo, written_to}
 use Rattle.engine_events.specs.declared.event.Name.TheVariants as n
-use Rattle.definition_text.specs.BlockLines.{BlockLine, last_ending, own_lines}
-use Rattle.definition_block.specs.Tree.{Html, rest_line}
-use Rattle.definition_inline.specs.CharacterReference.{Names}
+use Rattle.definition_block.specs.Tree.{Html}
 use Rattle.definition_page.specs.Page as page
-use Rattle.event_meaning.specs.Raw.{RawPart, raw_lines, raw_parts}
-use Rattle.parse_output.specs.Ends.{end_at}
-use Rattle.parse_output.specs.Written.{Enters, Exits, IsInOrder}
-use Rattle.parse_alike.specs.BlockLines.{AreHtmlLinesAlike}
-use Rattle.parse_laid.specs.Leaves.{AreHtml, AreTaken, EndsAt, IsHtmlLine, IsLeafLaid}
-use Rattle.parse_laid.specs.Places.{AtEnding, Between, InAll, InSome, LineRest, Place, Prefixed, Within, line_left}
-use Rattle.parse_lines.specs.declared.walk.Walk.{Walk}
-use Rattle.parse_lines.specs.Ends.{IsWrittenToRest, WritesUpTo, rest_start, written_to}
-use Rattle.parse_lines.specs.Standing.{Standing, StandsAt, around, standing}
+use Rattle.parse_laid.specs.Leaves.{AreHtml, IsHtmlLine}
 use Rattle.parse_lines.proofs.Quiet.{quiet_none}
-use Rattle.parse_raw.specs.RawLines.{IsCutLine, WritesCutLines, chunk_parts}
-use Rattle.parse_raw.specs.Written.{WritesLeaf}
 use Rattle.parse_raw.proofs.LeafNodes.{leaf_written, rest_within}
 use Rattle.parse_raw.proofs.RawBlocks.{WritesFirst, all_written, html_alike, own_count, taken_as}
 use Rattle.parse_raw.proofs.RawLines.{whole_written}

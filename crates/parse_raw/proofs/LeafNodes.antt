@@ -1,41 +1,18 @@
 -- The node of a leaf after white space, step by step.
 use Rattle.std.proofs.Common.{◌≡◌, ℕ, ◌+◌, ◌-◌, ◌≤◌, Bool, true, false, if◌then◌else◌, ◌&&◌, List, [], ◌∷◌, ◌++◌, refl, sym, ap, ap₂, subst, ◌∙◌, drop, length, length-append, map, arith}
-use Rattle.std.proofs.lemmas.Bool.{cond-false}
-use Rattle.std.proofs.lemmas.List.{drop-drop}
-use Rattle.engine_events.specs.Names.{same_name, is_listed}
-use Rattle.engine_events.specs.declared.event.Name.{Name}
+use Rattle.parse_raw.proofs.Prelude.{all_prefix, AreBlocksAlike, AreLeft, Around, at_ending, AtEnding, bare, block_names, blocks_of, bytes_of, cond-false}
+use Rattle.parse_raw.proofs.Prelude.{Constructs, cut, drop-drop, End, end_at, end_in, ending_text, enter_at, Enters, exit_at, Exits, Follows, HasSameOpen}
+use Rattle.parse_raw.proofs.Prelude.{InAll, indent, is_listed, is_nil, is_white, IsAfterWhite, IsInLine, IsInOrder, IsWrittenToRest, left_within, line_left}
+use Rattle.parse_raw.proofs.Prelude.{LineRest, Meaning, Name, named, Names, Node, Nodes, one, one_block, Place, Rest, rest_of, rest_start, rest_to_end}
+use Rattle.parse_raw.proofs.Prelude.{same_name, space_written, Standing, standing, StandsAt, Walk, whole, Within, Writes, writes_around, writes_both}
+use Rattle.parse_raw.proofs.Prelude.{WritesLeaf, WritesQuiet, WritesUpTo, written_to}
 use Rattle.engine_events.specs.declared.event.Name.TheVariants as n
-use Rattle.markdown_options.specs.declared.configuration.Constructs.{Constructs}
-use Rattle.definition_text.specs.Columns.{Rest, bare, bytes_of, indent, is_white, whole}
-use Rattle.definition_text.specs.Lines.{ending_text}
-use Rattle.definition_inline.specs.CharacterReference.{Names}
-use Rattle.definition_page.specs.InlinePieces.{Meaning}
 use Rattle.definition_page.specs.Page as page
-use Rattle.block_starts.specs.View.{rest_of}
-use Rattle.event_grammar.specs.Grammar.{block_names}
-use Rattle.event_grammar.specs.References.{named}
-use Rattle.event_grammar.specs.Trees.{Node, Nodes, Around}
-use Rattle.event_meaning.specs.Blocks.{blocks_of, one as one_block}
 use Rattle.event_meaning.specs.Spelled.{definition_of}
-use Rattle.parse_output.specs.declared.end.End.{End}
-use Rattle.parse_output.specs.Ends.{Follows, end_at, enter_at, exit_at}
-use Rattle.parse_output.specs.Forest.{bytes_from, cut, is_nil, one}
-use Rattle.parse_output.specs.Written.{Enters, Exits, IsInOrder, Writes, end_in}
-use Rattle.parse_output.proofs.Written.{writes_around, writes_both}
-use Rattle.parse_alike.specs.Page.{AreBlocksAlike}
+use Rattle.parse_output.specs.Forest.{bytes_from}
 use Rattle.parse_alike.specs.Targets.{AreDefinitionsAlike}
-use Rattle.parse_laid.specs.Places.{AtEnding, InAll, LineRest, Place, Within, line_left}
-use Rattle.parse_lines.specs.declared.walk.Walk.{Walk}
-use Rattle.parse_lines.specs.Ends.{IsWrittenToRest, WritesQuiet, WritesUpTo, rest_start, written_to}
-use Rattle.parse_lines.specs.Standing.{IsInLine, Standing, StandsAt, standing}
-use Rattle.parse_lines.specs.Steps.{HasSameOpen}
-use Rattle.parse_lines.proofs.Ends.{left_within, rest_to_end}
-use Rattle.parse_lines.proofs.Steps.{at_ending}
-use Rattle.parse_lines.proofs.Suffixes.{IsAfterWhite}
-use Rattle.parse_lines.proofs.White.{all_prefix}
-use Rattle.parse_lines.proofs.Written.{bare_follows, bare_start, space_written}
-use Rattle.parse_raw.specs.Tokens.{AreLeft}
-use Rattle.parse_raw.specs.Written.{SpellsLeaf, WritesLeaf}
+use Rattle.parse_lines.proofs.Written.{bare_follows, bare_start}
+use Rattle.parse_raw.specs.Written.{SpellsLeaf}
 
 -- white space is written up to an index of the line
 pub record WritesWhite {A : Type 0} (text : List ℕ) (old new : Walk A) : Type 0 where

@@ -1,3 +1,4 @@
+mod Prelude
 pub mod Fences
 pub mod Nodes
 pub mod Endings

@@ -1,20 +1,11 @@
 -- Tokens of one line, one after another.
 use Rattle.std.proofs.Common.{◌≡◌, ℕ, suc, ◌+◌, ◌^◌, ◌<◌, ◌≤◌, false, List, [], ◌∷◌, ◌++◌, refl, sym, ap, ◌∙◌, subst, length, arith}
-use Rattle.engine_events.specs.Names.{same_name}
-use Rattle.engine_events.specs.declared.event.Name.{Name}
+use Rattle.parse_raw.proofs.Prelude.{after_bytes, AreNext, End, end_after, end_at, end_in, Follows, Name, next_after, no_void, same_name, standing, tokens}
+use Rattle.parse_raw.proofs.Prelude.{void_nodes, Walk, whole_end, Writes, WritesFirst, WritesUpTo, written_to}
 use Rattle.engine_events.specs.declared.event.Name.TheVariants as n
-use Rattle.parse_output.specs.declared.end.End.{End}
-use Rattle.parse_output.specs.Ends.{Follows, end_at}
-use Rattle.parse_output.specs.Forest.{void_nodes}
-use Rattle.parse_output.specs.Written.{Writes, end_in}
-use Rattle.parse_lines.specs.declared.walk.Walk.{Walk}
-use Rattle.parse_lines.specs.Content.{AreNext, end_after}
-use Rattle.parse_lines.specs.Ends.{WritesUpTo, written_to}
-use Rattle.parse_lines.specs.Standing.{standing}
-use Rattle.parse_lines.proofs.Ahead.{after_bytes, follows_after, next_after}
-use Rattle.parse_lines.proofs.Quiet.{no_void}
-use Rattle.parse_strings.proofs.Spelled.{void_one, whole_end}
-use Rattle.parse_raw.specs.Before.{IsBefore, WritesFirst, tokens}
+use Rattle.parse_lines.proofs.Ahead.{follows_after}
+use Rattle.parse_strings.proofs.Spelled.{void_one}
+use Rattle.parse_raw.specs.Before.{IsBefore}
 
 some_size : (n : ℕ) → 0 < suc n
 some_size n = omega arith

@@ -1,36 +1,17 @@
 -- The lines of frontmatter, and what is written of them (in neither standard).
 use Rattle.std.proofs.Common.{◌≡◌, ℕ, suc, ◌-◌, ◌<◌, ◌≤◌, true, ◌&&◌, List, [], ◌∷◌, ◌++◌, Option, None, Some, eqb, inl, inr, refl, sym, ap, subst, ◌∙◌}
 use Rattle.std.proofs.Common.{drop, get_or, length, reverse, arith}
-use Rattle.std.specs.List.{list_all}
-use Rattle.std.proofs.lemmas.Bool.{cases_Bool, and_parts, cond-true, cond-false, eqb-true}
-use Rattle.std.proofs.lemmas.List.Sums.{prefix_len-le-length}
-use Rattle.markdown_options.specs.declared.configuration.Constructs.{Constructs}
-use Rattle.markdown_options.specs.declared.line_ending.LineEnding.{LineEnding}
+use Rattle.parse_raw.proofs.Prelude.{after_run, and_parts, AreLeft, AreRaw, AreTaken, at_ending, AtEnding, beside_line, Between, BlockLine, bytes_after}
+use Rattle.parse_raw.proofs.Prelude.{bytes_of, cases_Bool, cond-false, cond-true, Constructs, Container, end_at, ending_text, eqb-true, InAll, is_white}
+use Rattle.parse_raw.proofs.Prelude.{IsCutLine, IsInOrder, IsWrittenToRest, LeadsOn, left_within, line_left, line_rest, LineEnding, LineRest, lines, list_all}
+use Rattle.parse_raw.proofs.Prelude.{Nodes, prefix_len-le-length, prefixed, Rest, rest_line, rest_of, rest_start, run, standing, StandsAt, start_whole}
+use Rattle.parse_raw.proofs.Prelude.{TextLine, unread, Walk, whole, Within, Writes, WritesCutLines, WritesLines, written_to}
 use Rattle.markdown_options.specs.declared.beside.Kind.TheVariants.{Whitespace}
 use Rattle.engine_events.specs.declared.event.Name.TheVariants as n
-use Rattle.definition_text.specs.BlockLines.{BlockLine}
-use Rattle.definition_text.specs.Columns.{Rest, bytes_of, is_white, whole}
-use Rattle.definition_text.specs.Lines.{TextLine, ending_text, lines}
-use Rattle.definition_text.specs.Runs.{after_run, run}
-use Rattle.definition_block.specs.Container.{Container}
 use Rattle.definition_block.specs.Frontmatter.{after_frontmatter, after_metadata_fence, is_metadata_fence}
-use Rattle.definition_block.specs.Tree.{beside_line, rest_line}
-use Rattle.parse_laid.specs.Leaves.{AreTaken}
-use Rattle.parse_laid.specs.Places.{AtEnding, Between, InAll, LineRest, Within, line_left, line_rest, prefixed, unread}
 use Rattle.text_lines.proofs.Codes.{bytes_of_codes, no_columns}
 use Rattle.parse_lines.proofs.Lines.{joined, lines_joined}
-use Rattle.parse_lines.proofs.Spots.{bytes_after, bytes_before}
-use Rattle.block_starts.specs.View.{rest_of}
-use Rattle.event_grammar.specs.Trees.{Nodes}
-use Rattle.parse_output.specs.Ends.{end_at}
-use Rattle.parse_output.specs.Written.{IsInOrder, Writes}
-use Rattle.parse_lines.specs.declared.walk.Walk.{Walk}
-use Rattle.parse_lines.specs.Ends.{IsWrittenToRest, rest_start, written_to}
-use Rattle.parse_lines.specs.Standing.{StandsAt, standing}
-use Rattle.parse_lines.proofs.Ends.{left_within, start_whole}
-use Rattle.parse_lines.proofs.Steps.{at_ending}
-use Rattle.parse_raw.specs.RawLines.{AreRaw, IsCutLine, WritesCutLines, WritesLines}
-use Rattle.parse_raw.specs.Tokens.{AreLeft, LeadsOn}
+use Rattle.parse_lines.proofs.Spots.{bytes_before}
 use Rattle.parse_raw.proofs.LeafNodes.{line_in_text}
 use Rattle.parse_raw.proofs.Tokens.{left_none, left_same}
 

@@ -1,41 +1,20 @@
 -- What is written of the lines of a raw block, one after another (CommonMark 4.4 to 4.6).
 use Rattle.std.proofs.Common.{◌≡◌, ℕ, ◌+◌, ◌<◌, Bool, true, false, cond, ◌&&◌, is_some, List, [], ◌∷◌, ◌++◌, Option, None, Some, eqb, inl, inr, refl, sym, ap, ap₂}
 use Rattle.std.proofs.Common.{subst, ◌∙◌, ◌≤◌, append_assoc, drop, length, length-append, length-drop, reverse, arith, Result, Ok, Err}
-use Rattle.std.specs.Prelude.{◌⊎◌, ◌==◌}
-use Rattle.std.specs.List.{list_all}
-use Rattle.std.proofs.lemmas.Bool.{cases_Bool, cond-true, cond-false, false≢true, or_parts, and_parts}
-use Rattle.std.proofs.lemmas.Bool.Decides.{nat_tests}
-use Rattle.std.proofs.lemmas.List.{append-nil}
-use Rattle.markdown_options.specs.declared.configuration.Constructs.{Constructs}
-use Rattle.markdown_options.specs.declared.line_ending.LineEnding.{LineEnding}
+use Rattle.parse_raw.proofs.Prelude.{and_parts, append, append-nil, AreRaw, AreTaken, around, AtEnding, beside_line, Between, block_codes, BlockLine}
+use Rattle.parse_raw.proofs.Prelude.{cases_Bool, chunk_parts, codes_first, cond-false, cond-true, Cons, Constructs, Container, End, end_at, end_part}
+use Rattle.parse_raw.proofs.Prelude.{end_to_next, ends_in, false≢true, Follows, has_codes, HasSameOpen, InAll, is_there, IsChunkName, IsCutLine, IsInOrder}
+use Rattle.parse_raw.proofs.Prelude.{IsWrittenToRest, last_ending_or, line_after, line_left, line_rest, LineEnding, LineRest, lines, list_all, Name, nat_tests}
+use Rattle.parse_raw.proofs.Prelude.{Nil, Nodes, or_parts, parts_after, PassesLine, prefixed, raw_parts, RawPart, Rest, rest_line, Standing, standing}
+use Rattle.parse_raw.proofs.Prelude.{StandsAt, TextLine, unread, void_nodes, Walk, whole, Within, Writes, writes_both, writes_none, WritesCut, WritesCutLines}
+use Rattle.parse_raw.proofs.Prelude.{WritesLines, WritesNextLine, written_to, ◌==◌}
+use Rattle.std.specs.Prelude.{◌⊎◌}
 use Rattle.markdown_options.specs.declared.line_ending.LineEnding.TheVariants.{CarriageReturn, CarriageReturnLineFeed, LineFeed}
 use Rattle.std.specs.Result.{OnOk}
 use Rattle.markdown_options.specs.declared.beside.Kind.TheVariants.{Whitespace}
-use Rattle.engine_events.specs.declared.event.Name.{Name}
 use Rattle.engine_events.specs.declared.event.Name.TheVariants as n
-use Rattle.definition_text.specs.BlockLines.{BlockLine, last_ending_or}
-use Rattle.definition_text.specs.Columns.{Rest, block_codes, whole}
-use Rattle.definition_text.specs.Lines.{TextLine, after_return, first_of, in_first_line, lines, text_line}
-use Rattle.definition_block.specs.Container.{Container}
-use Rattle.definition_block.specs.Tree.{beside_line, rest_line}
-use Rattle.event_grammar.specs.Trees.{Nodes, Nil, Cons}
-use Rattle.event_meaning.specs.Children.{ends_in}
-use Rattle.event_meaning.specs.Raw.{RawPart, raw_parts}
-use Rattle.parse_output.specs.declared.end.End.{End}
-use Rattle.parse_output.specs.Ends.{Follows, end_at}
-use Rattle.parse_output.specs.Forest.{append, void_nodes}
-use Rattle.parse_output.specs.Written.{IsInOrder, Writes}
-use Rattle.parse_output.proofs.Written.{writes_both, writes_none}
-use Rattle.parse_alike.specs.Raw.{end_part, has_codes, is_there}
-use Rattle.parse_laid.specs.Leaves.{AreTaken}
-use Rattle.parse_laid.specs.Places.{AtEnding, Between, InAll, LineRest, Within, line_left, line_rest, prefixed, unread}
-use Rattle.parse_lines.specs.declared.walk.Walk.{Walk}
-use Rattle.parse_lines.specs.Ends.{IsWrittenToRest, WritesNextLine, line_after, written_to}
-use Rattle.parse_lines.specs.Standing.{Standing, StandsAt, around, standing}
-use Rattle.parse_lines.specs.Steps.{HasSameOpen, PassesLine}
-use Rattle.parse_lines.proofs.Columns.{codes_first}
-use Rattle.parse_lines.proofs.Ends.{end_to_next}
-use Rattle.parse_raw.specs.RawLines.{AreRaw, IsChunkName, IsCutLine, WritesCut, WritesCutLine, WritesCutLines, WritesLines, chunk_parts, parts_after}
+use Rattle.definition_text.specs.Lines.{after_return, first_of, in_first_line, text_line}
+use Rattle.parse_raw.specs.RawLines.{WritesCutLine}
 use Rattle.parse_raw.proofs.Endings.{ending_nodes, ending_parts}
 use Rattle.parse_raw.proofs.Nodes.{ends_append, quiet_parts, raw_append, raw_none, raw_parts_append, raw_quiet, raw_void}
 

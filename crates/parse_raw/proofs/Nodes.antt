@@ -1,20 +1,12 @@
 -- Nodes in which there is no definition, and of which none is a fence.
 use Rattle.std.proofs.Common.{◌≡◌, ℕ, Bool, true, false, cond, ◌&&◌, List, [], ◌∷◌, ◌++◌, None, Some, inl, inr, refl, sym, ap, ap₂, subst, ◌∙◌, append_assoc}
-use Rattle.std.proofs.lemmas.Bool.{cases_Bool, cond-true, cond-false}
-use Rattle.engine_events.specs.Names.{same_name}
-use Rattle.engine_events.specs.declared.event.Name.{Name}
+use Rattle.parse_raw.proofs.Prelude.{after_child, append, AreRaw, Around, before_child, cases_Bool, child, cond-false, cond-true, Cons, cut, End, ends_in}
+use Rattle.parse_raw.proofs.Prelude.{enter_at, exit_at, kids_of, Name, named, Nil, Node, node_name, Nodes, one, raw_part, raw_parts, RawPart, same_end}
+use Rattle.parse_raw.proofs.Prelude.{same_name, void_nodes}
 use Rattle.engine_events.specs.declared.event.Name.TheVariants as n
-use Rattle.event_grammar.specs.InGrammar.{kids_of, node_name}
-use Rattle.event_grammar.specs.References.{named, named_in}
-use Rattle.event_grammar.specs.Trees.{Node, Nodes, Around, Nil, Cons}
-use Rattle.event_meaning.specs.Children.{after_child, before_child, child, ends_in}
-use Rattle.event_meaning.specs.Raw.{RawPart, raw_part, raw_parts}
-use Rattle.parse_output.specs.declared.end.End.{End}
-use Rattle.parse_output.specs.Ends.{enter_at, exit_at, same_end}
-use Rattle.parse_output.specs.Forest.{append, cut, one, void_nodes}
+use Rattle.event_grammar.specs.References.{named_in}
 use Rattle.parse_lines.specs.Quiet.{AreOfPrefix, AreQuiet, IsQuiet}
 pub use Rattle.parse_raw.specs.RawLines.{IsRawName}
-use Rattle.parse_raw.specs.RawLines.{AreRaw}
 
 -- ---- one after another
 

@@ -1,31 +1,14 @@
 -- Bytes that are left of a line, and what is written of them.
 use Rattle.std.proofs.Common.{◌≡◌, ℕ, ◌+◌, ◌-◌, ◌^◌, ◌<◌, ◌≤◌, false, List, [], ◌++◌, Option, sym, ap, ◌∙◌, subst, length, length-append, replicate, take, drop, arith}
-use Rattle.std.proofs.lemmas.List.{append-nil, drop-drop, length-take-le, take-append-drop}
-use Rattle.markdown_options.specs.declared.line_ending.LineEnding.{LineEnding}
-use Rattle.engine_events.specs.Names.{same_name}
-use Rattle.engine_events.specs.declared.event.Name.{Name}
+use Rattle.parse_raw.proofs.Prelude.{append, append-nil, AreNext, Around, at_ending, AtEnding, bare, bytes_of, drop-drop, End, end_after, end_at, end_in}
+use Rattle.parse_raw.proofs.Prelude.{ending_text, enter_at, exit_at, indent, IsInOrder, IsWrittenToRest, left_bytes, left_next, length-take-le, LineEnding}
+use Rattle.parse_raw.proofs.Prelude.{LineRest, Name, Nodes, one, Rest, rest_of, rest_start, same_name, space, Standing, standing, StandsAt, start_whole}
+use Rattle.parse_raw.proofs.Prelude.{take-append-drop, tokens, Walk, whole, whole_end, Within, Writes, writes_around, writes_both, WritesFirst, WritesQuiet}
+use Rattle.parse_raw.proofs.Prelude.{WritesUpTo, written_to}
 use Rattle.engine_events.specs.declared.event.Name.TheVariants as n
-use Rattle.definition_text.specs.Ascii.{space}
-use Rattle.definition_text.specs.Columns.{Rest, bare, bytes_of, indent, whole}
-use Rattle.definition_text.specs.Lines.{ending_text}
-use Rattle.event_grammar.specs.Trees.{Nodes, Around}
-use Rattle.parse_output.specs.declared.end.End.{End}
-use Rattle.parse_output.specs.Ends.{end_at, enter_at, exit_at}
-use Rattle.parse_output.specs.Forest.{append, one}
-use Rattle.parse_output.specs.Written.{IsInOrder, Writes, end_in}
-use Rattle.parse_output.proofs.Written.{writes_around, writes_both}
-use Rattle.parse_laid.specs.Places.{LineRest, Within, AtEnding}
-use Rattle.parse_lines.specs.declared.walk.Walk.{Walk}
-use Rattle.parse_lines.specs.Content.{AreNext, end_after}
-use Rattle.parse_lines.specs.Ends.{IsWrittenToRest, WritesQuiet, WritesUpTo, rest_start, written_to}
-use Rattle.parse_lines.specs.Standing.{Standing, StandsAt, TEXT_MAX, standing}
+use Rattle.parse_lines.specs.Standing.{TEXT_MAX}
 use Rattle.parse_lines.proofs.Columns.{bare_owes_none}
-use Rattle.parse_lines.proofs.Ends.{start_whole}
-use Rattle.parse_lines.proofs.Next.{left_bytes, left_next}
-use Rattle.parse_lines.proofs.Steps.{at_ending}
-use Rattle.parse_strings.proofs.Spelled.{whole_end}
-use Rattle.block_starts.specs.View.{rest_of}
-use Rattle.parse_raw.specs.Before.{IsBefore, IsOnLine, WritesFirst, WritesOnLine, tokens}
+use Rattle.parse_raw.specs.Before.{IsBefore, IsOnLine, WritesOnLine}
 use Rattle.parse_raw.specs.Calls.{EnterCall, ExitCall, ToCall, TokenCall}
 use Rattle.parse_raw.proofs.LeafNodes.{cut_one, white_written}
 use Rattle.parse_raw.proofs.LineTokens.{after_first, token_first, up_to_first}

@@ -1,40 +1,15 @@
 -- What is written of fenced code and math that no fence closes (CommonMark 4.5).
 use Rattle.std.proofs.Common.{◌≡◌, ◌⊎◌, ℕ, ◌<◌, Bool, true, false, not, ◌||◌, List, [], ◌∷◌, ◌++◌, Option, None, Some, refl, sym, ap, ap₂, subst, ◌∙◌, flat_map, length, arith}
-use Rattle.std.proofs.lemmas.Bool.{cond-true}
-use Rattle.markdown_options.specs.declared.line_ending.LineEnding.{LineEnding}
-use Rattle.engine_events.specs.Names.{same_name}
-use Rattle.engine_events.specs.declared.event.Name.{Name}
+use Rattle.parse_raw.proofs.Prelude.{AreFencedAlike, AreRaw, AreTaken, around, at_ending, AtEnding, Between, BlockLine, child, chunk_name, code_parts}
+use Rattle.parse_raw.proofs.Prelude.{cond-true, Cons, end_at, end_in, end_part, EndPart, ends_in, Exits, Fence, fence_name, fence_start, fenced_lines}
+use Rattle.parse_raw.proofs.Prelude.{FencedCode, FenceNames, HasSameOpen, info_of, inside_of, IsFenceLine, IsInOrder, IsWrittenToRest, kids_in, kids_of}
+use Rattle.parse_raw.proofs.Prelude.{last_ending_or, line_left, LineEnding, LineRest, math_info, math_start, Name, named, Names, Node, node_name, Nodes, one}
+use Rattle.parse_raw.proofs.Prelude.{own_lines, parts_after, Place, raw_lines_are_alike, raw_parts, RawPart, read_leaf, Reading, same_name, Standing, standing}
+use Rattle.parse_raw.proofs.Prelude.{StandsAt, Walk, Within, writes_both, WritesLeaf, WritesOpened, WritesOpening, written_to}
 use Rattle.engine_events.specs.declared.event.Name.TheVariants as n
-use Rattle.definition_text.specs.BlockLines.{BlockLine, block_line, last_ending_or, own_lines}
-use Rattle.definition_block.specs.CodeFenced.{Fence, fence_start}
-use Rattle.definition_block.specs.MathFlow.{math_info, math_start}
-use Rattle.definition_block.specs.Tree.{FencedCode}
-use Rattle.definition_inline.specs.CharacterReference.{Names}
+use Rattle.definition_text.specs.BlockLines.{block_line}
 use Rattle.definition_page.specs.Page as page
-use Rattle.definition_page.specs.Read.{Reading, read_leaf}
-use Rattle.event_grammar.specs.InGrammar.{kids_of, node_name}
-use Rattle.event_grammar.specs.References.{named}
-use Rattle.event_grammar.specs.Trees.{Node, Nodes, Cons}
-use Rattle.event_meaning.specs.Blocks.{info_of}
-use Rattle.event_meaning.specs.Children.{child, ends_in, inside_of, kids_in}
-use Rattle.event_meaning.specs.Raw.{End as EndPart, RawPart, fenced_lines, raw_parts}
-use Rattle.parse_output.specs.Ends.{end_at}
-use Rattle.parse_output.specs.Forest.{one}
-use Rattle.parse_output.specs.Written.{Exits, IsInOrder, end_in}
-use Rattle.parse_output.proofs.Written.{writes_both}
-use Rattle.parse_alike.specs.Raw.{AreFencedAlike, code_parts, end_part}
-use Rattle.parse_alike.proofs.Raw.{raw_lines_are_alike}
-use Rattle.parse_laid.specs.Leaves.{AreTaken, IsFenceLine, IsUnclosedLaid}
-use Rattle.parse_laid.specs.Places.{AtEnding, Between, LineRest, Place, Within, line_left}
-use Rattle.parse_lines.specs.declared.walk.Walk.{Walk}
-use Rattle.parse_lines.specs.Ends.{IsWrittenToRest, written_to}
-use Rattle.parse_lines.specs.Standing.{Standing, StandsAt, around, standing}
-use Rattle.parse_lines.specs.Steps.{HasSameOpen}
-use Rattle.parse_lines.proofs.Steps.{at_ending}
-use Rattle.parse_raw.specs.declared.fence_names.FenceNames.{FenceNames}
-use Rattle.parse_raw.specs.FenceParts.{WritesOpened, WritesOpening, chunk_name, fence_name}
-use Rattle.parse_raw.specs.RawLines.{AreRaw, parts_after}
-use Rattle.parse_raw.specs.Written.{WritesLeaf}
+use Rattle.parse_laid.specs.Leaves.{IsUnclosedLaid}
 use Rattle.parse_raw.proofs.ClosedCode.{block_alike, block_is, ending_some, found_of, info_found, leaf_of}
 use Rattle.parse_raw.proofs.ClosingFence.{chunk_same}
 use Rattle.parse_raw.proofs.FencedCode.{open_leaf}

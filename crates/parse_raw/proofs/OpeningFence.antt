@@ -1,34 +1,12 @@
 -- What is written of an opening fence, step by step (CommonMark 4.5).
 use Rattle.std.proofs.Common.{◌≡◌, ℕ, ◌+◌, ◌^◌, ◌<◌, Bool, true, false, ◌&&◌, List, [], ◌∷◌, ◌++◌, Option, None, eqb, refl, sym, ap, subst, ◌∙◌, drop, take, length, arith}
-use Rattle.std.specs.List.{list_any}
-use Rattle.std.specs.Str.{IsCharBoundary, IsUtf8}
-use Rattle.std.proofs.lemmas.Bool.{cond-false}
-use Rattle.std.proofs.lemmas.List.{length-take-le, take-append-drop}
-use Rattle.std.proofs.lemmas.List.Sums.{prefix_len-le-length}
-use Rattle.markdown_options.specs.declared.configuration.Constructs.{Constructs}
-use Rattle.markdown_options.specs.declared.line_ending.LineEnding.{LineEnding}
-use Rattle.engine_events.specs.Names.{same_name}
-use Rattle.engine_events.specs.declared.event.Name.{Name}
+use Rattle.parse_raw.proofs.Prelude.{after_run, AreNames, AreNext, Around, AtEnding, cond-false, Constructs, cut, End, end_at, end_in, ends_line, enter_at}
+use Rattle.parse_raw.proofs.Prelude.{Enters, exit_at, Exits, fence_name, FenceNames, indent, info_in, is_nil, is_white, IsBefore, IsCharBoundary, IsInOrder}
+use Rattle.parse_raw.proofs.Prelude.{IsRawName, IsUtf8, LeadsTo, length-take-le, LineEnding, LineRest, list_any, Name, named, Names, Node, one}
+use Rattle.parse_raw.proofs.Prelude.{prefix_len-le-length, run, same_name, Standing, standing, StandsAt, take-append-drop, trim, Walk, Writes, writes_around}
+use Rattle.parse_raw.proofs.Prelude.{WritesUpTo, written_to}
 use Rattle.engine_events.specs.declared.event.Name.TheVariants as n
-use Rattle.definition_text.specs.Columns.{indent, is_white, trim}
-use Rattle.definition_text.specs.Lines.{ends_line}
-use Rattle.definition_text.specs.Runs.{after_run, run}
-use Rattle.definition_inline.specs.CharacterReference.{Names}
-use Rattle.event_grammar.specs.References.{named}
-use Rattle.event_grammar.specs.Trees.{Node, Around}
-use Rattle.parse_output.specs.declared.end.End.{End}
-use Rattle.parse_output.specs.Ends.{end_at, enter_at, exit_at}
-use Rattle.parse_output.specs.Forest.{cut, is_nil, one}
-use Rattle.parse_output.specs.Written.{Enters, Exits, IsInOrder, Writes, end_in}
-use Rattle.parse_output.proofs.Written.{writes_around}
-use Rattle.parse_laid.specs.Places.{AtEnding, LineRest}
-use Rattle.parse_lines.specs.declared.walk.Walk.{Walk}
-use Rattle.parse_lines.specs.Content.{AreNext}
-use Rattle.parse_lines.specs.Ends.{WritesUpTo, written_to}
-use Rattle.parse_lines.specs.Standing.{Standing, StandsAt, standing}
-use Rattle.parse_raw.specs.declared.fence_names.FenceNames.{FenceNames}
-use Rattle.parse_raw.specs.FenceParts.{AreNames, IsBefore, LeadsTo, WritesFenceOf, fence_name, info_in}
-use Rattle.parse_raw.specs.RawLines.{IsRawName}
+use Rattle.parse_raw.specs.FenceParts.{WritesFenceOf}
 use Rattle.parse_raw.proofs.FenceParts.{all_part, dark_both, parts_after, parts_both, run_boundary, token_part, trim_parts}
 
 pub sequence_other : (fence : FenceNames) (math : Bool) → AreNames math fence → (same_name fence.sequence n.CodeFencedFenceInfo ≡ false) × IsRawName fence.sequence

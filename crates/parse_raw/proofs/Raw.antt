@@ -1,30 +1,22 @@
 -- The bytes of nodes in a line, and what they are among the parts of a raw block (CommonMark 4.4 to 4.6).
 use Rattle.std.proofs.Common.{◌≡◌, ℕ, zero, suc, ◌+◌, ◌-◌, ◌<◌, ◌≤◌, Bool, true, false, not, ◌&&◌, ◌||◌, List, [], ◌∷◌, ◌++◌, eqb, ltb, inl, inr, refl}
 use Rattle.std.proofs.Common.{sym, ap, ap₂, subst, ◌∙◌, drop, take, length, length-append, arith, get_or}
-use Rattle.std.specs.Prelude.{◌==◌, replicate}
-use Rattle.std.specs.List.{fold, prefix_len, repeat}
+use Rattle.parse_raw.proofs.Prelude.{append-nil, AreNext, Around, between, bytes_of, cases_Bool, cond-false, cond-true, End, end_after, end_at, enter_at}
+use Rattle.parse_raw.proofs.Prelude.{eqb-true, exit_at, is_tab_column, IsLineOf, left_bytes, left_next, Name, nat_tests, ne_eqb, next_after, Nil, Node}
+use Rattle.parse_raw.proofs.Prelude.{prefix_len, replicate, Rest, rest_start, same_end, space, spaced_text_of, text_of, whole, ◌==◌}
+use Rattle.std.specs.List.{fold, repeat}
 use Rattle.std.proofs.Math.Seq.{drop-nil}
-use Rattle.std.proofs.lemmas.Bool.{cases_Bool, cond-true, cond-false, eqb-true, ltb-true, ltb-false, le-ltb, ne_eqb}
-use Rattle.std.proofs.lemmas.Bool.Decides.{nat_tests}
-use Rattle.std.proofs.lemmas.List.{append-nil, length-replicate}
-use Rattle.engine_events.specs.Columns.{between, column_after, ends_no_line, mark_size, tab_size}
-use Rattle.engine_events.specs.declared.event.Name.{Name}
-use Rattle.definition_text.specs.Ascii.{space}
-use Rattle.definition_text.specs.Columns.{Rest, bytes_of, is_tab_column, whole}
+use Rattle.std.proofs.lemmas.Bool.{ltb-true, ltb-false, le-ltb}
+use Rattle.std.proofs.lemmas.List.{length-replicate}
+use Rattle.engine_events.specs.Columns.{column_after, ends_no_line, mark_size, tab_size}
 use Rattle.event_grammar.specs.Points.{column_at, column_on, edge, spot as cut}
-use Rattle.event_grammar.specs.Trees.{Node, Around, Nil}
-use Rattle.event_meaning.specs.Children.{columns_after, spaced_text_of, text_of}
-use Rattle.parse_output.specs.declared.end.End.{End}
+use Rattle.event_meaning.specs.Children.{columns_after}
 use Rattle.parse_output.specs.declared.spot.Spot.{Spot}
-use Rattle.parse_output.specs.Ends.{end_at, end_columns, enter_at, exit_at, index_spot, same_end}
+use Rattle.parse_output.specs.Ends.{end_columns, index_spot}
 use Rattle.parse_output.specs.Spots.{next_spot, start}
-use Rattle.parse_lines.specs.Content.{AreNext, end_after}
-use Rattle.parse_lines.specs.Ends.{rest_start}
-use Rattle.parse_lines.specs.Standing.{IsLineOf}
-use Rattle.parse_lines.proofs.Ahead.{after_tab, next_after}
+use Rattle.parse_lines.proofs.Ahead.{after_tab}
 use Rattle.parse_lines.proofs.Columns.{IsAmong, among, inside, past}
 use Rattle.parse_lines.proofs.Ends.{start_among}
-use Rattle.parse_lines.proofs.Next.{left_bytes, left_next}
 
 -- ---- columns of a text
 

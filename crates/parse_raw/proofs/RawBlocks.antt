@@ -2,29 +2,12 @@
 use Rattle.std.proofs.Common.{◌≡◌, ℕ, suc, List, [], ◌∷◌, ◌++◌, Option, None, Some, refl, sym, ap, ap₂, subst, ◌∙◌}
 use Rattle.std.proofs.Common.{append_assoc, flat_map, length, reverse}
 use Rattle.std.proofs.lemmas.Grind.{flat_map-append}
-use Rattle.std.proofs.lemmas.List.{append-nil}
-use Rattle.markdown_options.specs.declared.configuration.Constructs.{Constructs}
-use Rattle.markdown_options.specs.declared.line_ending.LineEnding.{LineEnding}
-use Rattle.engine_events.specs.declared.event.Name.{Name}
+use Rattle.parse_raw.proofs.Prelude.{append, append-nil, AreHtmlLinesAlike, AreRaw, AreTaken, around, AtEnding, Between, BlockLine, bytes_of, Chunk}
+use Rattle.parse_raw.proofs.Prelude.{chunk_parts, Code, Constructs, Container, end_at, end_part, EndPart, HasSameOpen, html_chunk, IsChunkName, IsCutLine}
+use Rattle.parse_raw.proofs.Prelude.{last_ending, LineEnding, LineRest, Name, Nodes, own_lines, parts_after, Place, Prefixed, raw_lines, raw_parts, RawPart}
+use Rattle.parse_raw.proofs.Prelude.{Rest, standing, StandsAt, Walk, Writes, writes_both, WritesCutLines, written_to}
 use Rattle.engine_events.specs.declared.event.Name.TheVariants as n
-use Rattle.definition_text.specs.BlockLines.{BlockLine, last_ending, own_lines}
-use Rattle.definition_text.specs.Columns.{Code, Rest, bytes_of}
-use Rattle.definition_block.specs.Container.{Container}
-use Rattle.event_grammar.specs.Trees.{Nodes}
-use Rattle.event_meaning.specs.Raw.{Chunk, End as EndPart, RawPart, raw_lines, raw_parts}
-use Rattle.parse_output.specs.Ends.{end_at}
-use Rattle.parse_output.specs.Forest.{append}
-use Rattle.parse_output.specs.Written.{Writes}
-use Rattle.parse_output.proofs.Written.{writes_both}
-use Rattle.parse_alike.specs.BlockLines.{AreHtmlLinesAlike, HtmlPart, html_end, html_parts, html_text}
-use Rattle.parse_alike.specs.Raw.{end_part}
-use Rattle.parse_laid.specs.Leaves.{AreTaken}
-use Rattle.parse_laid.specs.Places.{AtEnding, Between, LineRest, Place, Prefixed}
-use Rattle.parse_lines.specs.declared.walk.Walk.{Walk}
-use Rattle.parse_lines.specs.Ends.{written_to}
-use Rattle.parse_lines.specs.Standing.{StandsAt, around, standing}
-use Rattle.parse_lines.specs.Steps.{HasSameOpen}
-use Rattle.parse_raw.specs.RawLines.{AreRaw, IsChunkName, IsCutLine, WritesCutLines, chunk_parts, html_chunk, parts_after}
+use Rattle.parse_alike.specs.BlockLines.{HtmlPart, html_end, html_parts, html_text}
 use Rattle.parse_raw.proofs.Nodes.{raw_append, raw_parts_append}
 use Rattle.parse_raw.proofs.RawLines.{bytes_stay}
 

@@ -1,37 +1,15 @@
 -- What is written of the lines of a raw block, step by step (CommonMark 4.4 to 4.6).
 use Rattle.std.proofs.Common.{◌≡◌, ℕ, zero, suc, ◌+◌, ◌-◌, ◌<◌, Bool, true, false, not, cond, List, [], ◌∷◌, ◌++◌, inl, inr, refl, sym, ap, ap₂}
 use Rattle.std.proofs.Common.{subst, ◌∙◌, drop, take, length, map, arith}
-use Rattle.std.specs.Prelude.{min, replicate}
-use Rattle.std.specs.List.{prefix_len}
-use Rattle.std.proofs.lemmas.Bool.{cases_Bool, cond-true, cond-false, eqb-true, false≢true}
-use Rattle.std.proofs.lemmas.List.{drop-drop, length-map}
-use Rattle.engine_events.specs.Names.{same_name}
-use Rattle.engine_events.specs.declared.event.Name.{Name}
+use Rattle.parse_raw.proofs.Prelude.{append, AreRaw, at_ending, AtEnding, block_codes, bytes_of, cases_Bool, Chunk, chunk, chunk_parts, Code, code_byte}
+use Rattle.parse_raw.proofs.Prelude.{cond-false, cond-true, drop-drop, End, end_at, ending_text, ends_in, eqb-true, false≢true, Follows, has_codes, html_chunk}
+use Rattle.parse_raw.proofs.Prelude.{indent, is_tab_column, IsChunkName, IsInOrder, IsLineOf, IsWrittenToRest, left_bytes, line_follows, LineRest, min, Name}
+use Rattle.parse_raw.proofs.Prelude.{Nil, no_void, Node, Nodes, outdent, prefix_len, raw_part, raw_parts, RawPart, replicate, Rest, rest_of, rest_start}
+use Rattle.parse_raw.proofs.Prelude.{rest_to_end, same_end, same_name, space, spaced_text_of, Standing, standing, StandsAt, tab_column, void_nodes, Walk}
+use Rattle.parse_raw.proofs.Prelude.{whole, Within, Writes, writes_both, WritesCut, WritesUpTo, written_to}
+use Rattle.std.proofs.lemmas.List.{length-map}
 use Rattle.engine_events.specs.declared.event.Name.TheVariants as n
-use Rattle.definition_text.specs.Ascii.{space}
-use Rattle.definition_text.specs.Columns.{Code, Rest, block_codes, bytes_of, code_byte, indent, is_tab_column, tab_column, whole}
-use Rattle.definition_text.specs.Indents.{outdent}
-use Rattle.definition_text.specs.Lines.{ending_text}
 use Rattle.text_lines.proofs.Codes.{no_bytes}
-use Rattle.event_grammar.specs.Trees.{Node, Nodes, Nil}
-use Rattle.event_meaning.specs.Children.{ends_in, spaced_text_of}
-use Rattle.event_meaning.specs.Raw.{Chunk, RawPart, raw_part, raw_parts}
-use Rattle.parse_output.specs.declared.end.End.{End}
-use Rattle.parse_output.specs.Ends.{Follows, end_at, same_end}
-use Rattle.parse_output.specs.Forest.{append, void_nodes}
-use Rattle.parse_output.specs.Written.{IsInOrder, Writes}
-use Rattle.parse_output.proofs.Written.{writes_both}
-use Rattle.block_starts.specs.View.{rest_of}
-use Rattle.parse_laid.specs.Places.{AtEnding, LineRest, Within}
-use Rattle.parse_alike.specs.Raw.{chunk, has_codes}
-use Rattle.parse_lines.specs.declared.walk.Walk.{Walk}
-use Rattle.parse_lines.specs.Ends.{IsWrittenToRest, WritesUpTo, rest_start, written_to}
-use Rattle.parse_lines.specs.Standing.{IsLineOf, Standing, StandsAt, standing}
-use Rattle.parse_lines.proofs.Ends.{line_follows, rest_to_end}
-use Rattle.parse_lines.proofs.Next.{left_bytes}
-use Rattle.parse_lines.proofs.Quiet.{no_void}
-use Rattle.parse_lines.proofs.Steps.{at_ending}
-use Rattle.parse_raw.specs.RawLines.{AreRaw, IsChunkName, WritesCut, chunk_parts, html_chunk}
 use Rattle.parse_raw.proofs.Nodes.{IsRawName, ends_append, raw_append, raw_parts_append, raw_void, void_cases}
 use Rattle.parse_raw.proofs.Raw.{rest_bytes, rest_size, void_node}
 

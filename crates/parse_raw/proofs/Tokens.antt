@@ -1,21 +1,10 @@
 -- What is written of the bytes of a line, step by step.
 use Rattle.std.proofs.Common.{◌≡◌, ℕ, ◌+◌, ◌-◌, ◌^◌, ◌<◌, ◌≤◌, Bool, ◌&&◌, List, [], ◌∷◌, ◌++◌, eqb, inl, refl, sym, ap, subst, ◌∙◌, length, get_or, arith}
-use Rattle.std.proofs.lemmas.Bool.{cond-true, cond-false, eq-eqb}
-use Rattle.engine_events.specs.Names.{same_name}
-use Rattle.engine_events.specs.declared.event.Name.{Name}
+use Rattle.parse_raw.proofs.Prelude.{append, AreLeft, Around, cond-false, cond-true, cut, End, end_at, end_in, enter_at, Enters, exit_at, Exits, Follows}
+use Rattle.parse_raw.proofs.Prelude.{is_nil, IsInOrder, LeadsOn, Name, named, Nil, Node, one, run, same_name, Standing, standing, void_nodes, Walk, Writes}
+use Rattle.parse_raw.proofs.Prelude.{writes_around, writes_both, writes_none, WritesUpTo, written_to}
+use Rattle.std.proofs.lemmas.Bool.{eq-eqb}
 use Rattle.engine_events.specs.declared.event.Name.TheVariants as n
-use Rattle.definition_text.specs.Runs.{run}
-use Rattle.event_grammar.specs.References.{named}
-use Rattle.event_grammar.specs.Trees.{Node, Nil, Around}
-use Rattle.parse_output.specs.declared.end.End.{End}
-use Rattle.parse_output.specs.Ends.{Follows, end_at, enter_at, exit_at}
-use Rattle.parse_output.specs.Forest.{append, cut, is_nil, one, void_nodes}
-use Rattle.parse_output.specs.Written.{Enters, Exits, IsInOrder, Writes, end_in}
-use Rattle.parse_output.proofs.Written.{writes_around, writes_both, writes_none}
-use Rattle.parse_lines.specs.declared.walk.Walk.{Walk}
-use Rattle.parse_lines.specs.Ends.{WritesUpTo, written_to}
-use Rattle.parse_lines.specs.Standing.{Standing, standing}
-use Rattle.parse_raw.specs.Tokens.{AreLeft, LeadsOn}
 use Rattle.parse_raw.proofs.Nodes.{IsRawName, raw_append, raw_none, raw_void}
 
 -- an index further on

@@ -1,34 +1,14 @@
 -- What is written of fenced code and math at the top that no fence closes, with the ending of its last line (CommonMark 4.5).
 use Rattle.std.proofs.Common.{◌≡◌, ◌⊎◌, ℕ, ◌-◌, ◌<◌, Bool, true, false, ◌&&◌, List, [], ◌∷◌, ◌++◌, Option, None, Some, inl, inr, refl, sym, ap, ap₂, subst, ◌∙◌, flat_map, length, arith}
-use Rattle.std.specs.List.{list_all}
-use Rattle.std.proofs.lemmas.Bool.{cond-false, false≢true}
-use Rattle.markdown_options.specs.declared.line_ending.LineEnding.{LineEnding}
-use Rattle.engine_events.specs.Names.{same_name}
+use Rattle.parse_raw.proofs.Prelude.{append, AreEnding, AreFencedAlike, Around, Between, BlockLine, code_parts, cond-false, Cons, cut, End, end_at, end_in}
+use Rattle.parse_raw.proofs.Prelude.{end_part, ends_in, EndsLine, enter_at, exit_at, Exits, false≢true, fenced_lines, FencedCode, FenceNames, HasSameOpen}
+use Rattle.parse_raw.proofs.Prelude.{is_nil, is_there, IsInOrder, last_ending_or, LineEnding, LineRest, list_all, named, Nil, Node, Nodes, one, Place}
+use Rattle.parse_raw.proofs.Prelude.{raw_lines_are_alike, raw_parts, RawPart, read_leaf, Reading, same_name, Standing, standing, StandsAt, Walk, Writes}
+use Rattle.parse_raw.proofs.Prelude.{writes_around, writes_both, WritesEnding, WritesOpening, written_to}
 use Rattle.engine_events.specs.declared.event.Name.TheVariants as n
-use Rattle.definition_text.specs.BlockLines.{BlockLine, last_ending_or}
-use Rattle.definition_block.specs.Tree.{FencedCode}
 use Rattle.definition_page.specs.Page as page
-use Rattle.definition_page.specs.Read.{Reading, read_leaf}
-use Rattle.event_grammar.specs.References.{named}
-use Rattle.event_grammar.specs.Trees.{Node, Nodes, Around, Nil, Cons}
-use Rattle.event_meaning.specs.Children.{ends_in}
-use Rattle.event_meaning.specs.Raw.{RawPart, fenced_lines, raw_parts}
-use Rattle.parse_output.specs.declared.end.End.{End}
-use Rattle.parse_output.specs.Ends.{end_at, enter_at, exit_at}
-use Rattle.parse_output.specs.Forest.{append, cut, is_nil, one}
-use Rattle.parse_output.specs.Written.{Exits, IsInOrder, Writes, end_in}
 use Rattle.parse_output.proofs.Forests.{append-nil}
-use Rattle.parse_output.proofs.Written.{writes_around, writes_both}
-use Rattle.parse_alike.specs.Raw.{AreFencedAlike, code_parts, end_part, is_there}
-use Rattle.parse_alike.proofs.Raw.{raw_lines_are_alike}
-use Rattle.parse_laid.specs.Places.{Between, LineRest, Place}
-use Rattle.parse_lines.specs.declared.walk.Walk.{Walk}
-use Rattle.parse_lines.specs.Ends.{WritesEnding, written_to}
-use Rattle.parse_lines.specs.Standing.{Standing, StandsAt, standing}
-use Rattle.parse_lines.specs.Steps.{EndsLine, HasSameOpen}
-use Rattle.parse_raw.specs.declared.fence_names.FenceNames.{FenceNames}
-use Rattle.parse_raw.specs.FenceParts.{WritesOpening}
-use Rattle.parse_raw.specs.Laid.{AreEnding, WritesReadUnclosed, WritesToEnd}
+use Rattle.parse_raw.specs.Laid.{WritesReadUnclosed, WritesToEnd}
 use Rattle.parse_raw.proofs.Blank.{end_written}
 use Rattle.parse_raw.proofs.ClosedCode.{block_alike, block_is, found_of, info_found}
 use Rattle.parse_raw.proofs.ClosingFence.{parts_closed}

@@ -1,11 +1,7 @@
 -- Bytes are cut where their codes are (CommonMark 2.1).
 use Rattle.std.proofs.Common.{◌≡◌, ℕ, Bool, true, false, eqb, List, [], ◌∷◌, ◌++◌, inl, inr, refl, sym, ap, ap₂, ◌∙◌, drop, arith}
-use Rattle.std.specs.List.{list_any}
-use Rattle.std.proofs.lemmas.Bool.{cases_Bool, cond-true, cond-false, eqb-true, eqb-false, ne_eqb, or_from, or_parts, true≢false}
-use Rattle.std.proofs.lemmas.List.{append-nil}
-use Rattle.definition_text.specs.Content.{content_codes, is_eol}
-use Rattle.definition_text.specs.Lines.{ends_line}
-use Rattle.inline_leaves.proofs.Codes.{at_return, plain_code}
+use Rattle.parse_strings.proofs.Prelude.{append-nil, at_return, cases_Bool, cond-false, cond-true, content_codes, ends_line, eqb-false, eqb-true, is_eol}
+use Rattle.parse_strings.proofs.Prelude.{list_any, ne_eqb, or_from, or_parts, plain_code, true≢false}
 
 abbrev pub begins_feed : List ℕ → Bool
 begins_feed [] = false

@@ -1,24 +1,16 @@
 -- What a string of bytes stands for is bytes (CommonMark 2.4 and 2.5).
 use Rattle.std.proofs.Common.{◌≡◌, ◌⊎◌, ℕ, zero, suc, ◌+◌, ◌-◌, ◌<◌, Bool, true, false, cond, ◌&&◌, eqb, leb, List, [], ◌∷◌, Option, None, Some}
 use Rattle.std.proofs.Common.{inl, inr, refl, sym, ap, ap₂, subst, ◌∙◌, arith, length, append-nil}
-use Rattle.std.specs.Char.{is_ascii_punctuation}
-use Rattle.std.specs.List.{flat_map}
-use Rattle.std.proofs.lemmas.Bool.{and_parts, cases_Bool, cond-false, cond_both}
-use Rattle.std.proofs.lemmas.List.Concat.{flat_map-append}
-use Rattle.markdown_options.specs.declared.configuration.Constructs.{Constructs}
-use Rattle.definition_text.specs.Columns.{bare, indent}
-use Rattle.definition_text.specs.Content.{content_codes, is_eol}
+use Rattle.parse_strings.proofs.Prelude.{and_parts, bare, begins_with_eol, bytes_text, cases_Bool, CharacterName, CharacterReference, cond-false, cond_both}
+use Rattle.parse_strings.proofs.Prelude.{Constructs, content_codes, eol_bytes, Escape, escape_at, flat_map, flat_map-append, Found, indent}
+use Rattle.parse_strings.proofs.Prelude.{is_ascii_punctuation, is_eol, leaf, line_end_at, LineEnd, Names, or_else, reference_at, reference_form}
+use Rattle.parse_strings.proofs.Prelude.{reference_leaf, reference_of, reference_text, spaces_at, string_bytes, string_leaf_at, string_parts}
 use Rattle.definition_text.proofs.Each.{Each, each-append}
-use Rattle.definition_inline.specs.CharacterEscape.{escape_at}
-use Rattle.definition_inline.specs.CharacterReference.{CharacterName, CharacterReference, Names, Named, Numbered, reference_at, reference_form}
-use Rattle.definition_inline.specs.CharacterReference.{reference_leaf, reference_of, numbered_text}
-use Rattle.definition_inline.specs.CharacterReference.{reference_text}
-use Rattle.definition_inline.specs.HardBreak.{line_end_at}
-use Rattle.definition_inline.specs.Inline.{Escape, Found, LineEnd, leaf, or_else}
-use Rattle.definition_inline.specs.Strings.{begins_with_eol, eol_bytes, or_byte, spaces_at, string_bytes, string_leaf_at, string_parts}
+use Rattle.definition_inline.specs.CharacterReference.{Named, Numbered}
+use Rattle.definition_inline.specs.CharacterReference.{numbered_text}
+use Rattle.definition_inline.specs.Strings.{or_byte}
 use Rattle.parse_alike.specs.Strings.{HaveTextsOfBytes, IsOfBytes}
 use Rattle.parse_alike.proofs.SpelledStrings.{IsByte, at_byte, each_byte, numbered}
-use Rattle.parse_strings.specs.Strings.{bytes_text}
 use Rattle.parse_strings.proofs.Codes.{alone_codes, feed_codes}
 use Rattle.parse_strings.proofs.Texts.{no_escape, no_reference}
 

@@ -1,41 +1,22 @@
 -- What is written of the parts of a string in a content (CommonMark 2.4 and 2.5).
 use Rattle.std.proofs.Common.{◌≡◌, ℕ, zero, suc, ◌+◌, ◌<◌, ◌≤◌, true, false, ◌||◌, cond, eqb, List, [], ◌∷◌, ◌++◌, inl, inr, refl}
 use Rattle.std.proofs.Common.{sym, ap, ap₂, subst, ◌∙◌, append_assoc, arith, drop, take, length, length-append, Option}
-use Rattle.std.specs.List.{list_any}
-use Rattle.std.specs.Str.{IsCharBoundary, IsUtf8}
-use Rattle.std.proofs.lemmas.Bool.{cases_Bool, cond-true, cond-false, cond_both, or_parts, true≢false}
-use Rattle.std.proofs.lemmas.List.{append-nil, drop_at, length-take-le, take-append-drop}
-use Rattle.std.proofs.lemmas.List.Folds.{list_any-append}
-use Rattle.std.proofs.lemmas.List.Sums.{prefix_len-le-length}
-use Rattle.markdown_options.specs.LineEndings.{ending_bytes}
-use Rattle.markdown_options.specs.declared.configuration.Constructs.{Constructs}
-use Rattle.markdown_options.specs.declared.line_ending.LineEnding.{LineEnding}
+use Rattle.parse_strings.proofs.Prelude.{append, append-nil, AreCutApart, AreNext, ArePlain, AreQuiet, Around, byte_nodes, bytes_text, cases_Bool, cond-false}
+use Rattle.parse_strings.proofs.Prelude.{cond-true, cond_both, Cons, Constructs, data_nodes, drop_at, End, end_after, end_at, end_in, ending_bytes, ends_line}
+use Rattle.parse_strings.proofs.Prelude.{indent, is_eol, is_listed, is_space, is_white, IsCharBoundary, IsUtf8, IsWhole, kids_of, line_in_content, LineEnding}
+use Rattle.parse_strings.proofs.Prelude.{list_any, list_any-append, Name, Names, Nil, Node, node_name, Nodes, one, or_parts, prefix_len-le-length, same_end}
+use Rattle.parse_strings.proofs.Prelude.{StandsInContent, StandsInLine, Stop, string_of, string_part, text_of, true≢false, void_nodes, Walk, WritesInLine}
+use Rattle.parse_strings.proofs.Prelude.{WritesNode, WritesStringFront, WritesStringPart}
+use Rattle.std.proofs.lemmas.List.{length-take-le, take-append-drop}
 use Rattle.markdown_options.specs.declared.line_ending.LineEnding.TheVariants.{CarriageReturnLineFeed, CarriageReturn, LineFeed}
 use Rattle.definition_text.specs.BlockLines.{BlockLine}
-use Rattle.definition_text.specs.Columns.{indent, is_white}
-use Rattle.definition_text.specs.Content.{is_eol, is_space}
-use Rattle.definition_text.specs.Lines.{ends_line}
-use Rattle.definition_inline.specs.CharacterReference.{Names}
-use Rattle.engine_events.specs.Names.{is_listed}
-use Rattle.engine_events.specs.declared.event.Name.{Name}
 use Rattle.engine_events.specs.declared.event.Name.TheVariants as n
-use Rattle.event_grammar.specs.InGrammar.{kids_of, node_name}
-use Rattle.event_grammar.specs.Trees.{Node, Nodes, Around, Nil, Cons}
-use Rattle.event_meaning.specs.Children.{text_of}
-use Rattle.event_meaning.specs.Strings.{string_of, string_part}
-use Rattle.parse_output.specs.declared.end.End.{End}
-use Rattle.parse_output.specs.Ends.{end_at, same_end}
-use Rattle.parse_output.specs.Forest.{append, byte_node, byte_nodes, data_nodes, one, void_nodes}
-use Rattle.parse_output.specs.Written.{end_in}
-use Rattle.parse_lines.specs.declared.walk.Walk.{Walk}
-use Rattle.parse_lines.specs.Content.{AreNext, StandsInLine, WritesInLine, end_after}
-use Rattle.parse_lines.specs.InContent.{IsWhole, StandsInContent, Stop, WritesEndingIn, WritesInContent, content_from}
-use Rattle.parse_lines.specs.Quiet.{AreQuiet}
+use Rattle.parse_output.specs.Forest.{byte_node}
+use Rattle.parse_lines.specs.InContent.{WritesEndingIn, WritesInContent, content_from}
 use Rattle.parse_lines.specs.Standing.{standing}
 use Rattle.parse_lines.proofs.Ahead.{owed_after}
-use Rattle.parse_lines.proofs.InContent.{IsLineAhead, contents_both, contents_none, line_in_content}
-use Rattle.parse_strings.specs.Plain.{ArePlain}
-use Rattle.parse_strings.specs.Strings.{AreCutApart, WritesNode, WritesNodeIn, WritesStringFront, WritesStringIn, WritesStringPart, bytes_text}
+use Rattle.parse_lines.proofs.InContent.{IsLineAhead, contents_both, contents_none}
+use Rattle.parse_strings.specs.Strings.{WritesNodeIn, WritesStringIn}
 use Rattle.parse_strings.proofs.Codes.{begins_feed}
 use Rattle.parse_strings.proofs.PlainNodes.{plain_both, plain_none, plain_one, plain_quiet, plain_void, sought_names}
 use Rattle.parse_strings.proofs.Spelled.{data_string, still_whole, string_append}

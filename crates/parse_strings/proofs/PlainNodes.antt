@@ -1,22 +1,16 @@
 -- Nodes that are plain: one after another, in others, and quiet ones.
 use Rattle.std.proofs.Common.{inl, inr, ◌≡◌, true, false, ◌||◌, List, [], ◌∷◌, ◌++◌, None, refl, sym, ap, ap₂, subst, ◌∙◌, append_assoc, ℕ, Option, Some}
-use Rattle.std.specs.Prelude.{if◌then◌else◌, ◌&&◌}
+use Rattle.parse_strings.proofs.Prelude.{append, ArePlain, AreQuiet, Around, cases_Bool, cond-false, cond_both, Cons, cut, End, enter_at, exit_at}
+use Rattle.parse_strings.proofs.Prelude.{if◌then◌else◌, is_listed, kids_of, Name, Nil, Node, node_name, Nodes, one, or_parts, same_end, same_name, true≢false}
+use Rattle.parse_strings.proofs.Prelude.{void_nodes, ◌&&◌}
 use Rattle.std.specs.Option.{option_or}
-use Rattle.std.proofs.lemmas.Bool.{cases_Bool, cond-false, cond_both, or_parts, true≢false}
 use denote.Enum.Bare.{false_same, same_false, same_true}
-use Rattle.engine_events.specs.Names.{same_name, is_listed}
 use Rattle.engine_events.specs.contracts.event.Name.{the_type}
-use Rattle.engine_events.specs.declared.event.Name.{Name}
 use Rattle.engine_events.specs.declared.event.Name.TheVariants as n
-use Rattle.event_grammar.specs.InGrammar.{kids_of, node_name}
 use Rattle.event_grammar.specs.References.{media_names, named, named_in, own, own_in}
-use Rattle.event_grammar.specs.Trees.{Node, Nodes, Around, Nil, Cons}
-use Rattle.parse_output.specs.declared.end.End.{End}
-use Rattle.parse_output.specs.Ends.{enter_at, exit_at, same_end}
-use Rattle.parse_output.specs.Forest.{append, bytes_from, cut, one, void_nodes}
-use Rattle.parse_lines.specs.Quiet.{AreQuiet}
+use Rattle.parse_output.specs.Forest.{bytes_from}
 use Rattle.parse_lines.proofs.Quiet.{quiet_own, quiet_named}
-use Rattle.parse_strings.specs.Plain.{ArePlain, tail_names}
+use Rattle.parse_strings.specs.Plain.{tail_names}
 
 pub plain_none : ArePlain Nil
 plain_none = record { tails = λ name listed. refl; definitions = refl; columns = refl }

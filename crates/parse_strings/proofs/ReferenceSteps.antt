@@ -1,22 +1,9 @@
 -- A character reference from its `&` to its `;` (CommonMark 2.5).
 use Rattle.std.proofs.Common.{◌≡◌, ◌<◌, ◌+◌, ℕ, false, List, [], ◌∷◌, ◌++◌, refl, ap, subst, ◌∙◌, append_assoc, arith, length}
-use Rattle.std.proofs.lemmas.List.{append-nil}
-use Rattle.engine_events.specs.Names.{is_listed}
-use Rattle.engine_events.specs.declared.event.Name.{Name}
+use Rattle.parse_strings.proofs.Prelude.{append, append-nil, AreMarks, AreNext, ArePlain, Around, cut, End, end_after, end_at, end_in, enter_at, EntersInLine}
+use Rattle.parse_strings.proofs.Prelude.{exit_at, ExitsInLine, is_listed, lines_around, lines_both, mark_nodes, marked_text, Name, Names, Nodes, one}
+use Rattle.parse_strings.proofs.Prelude.{StandsInLine, string_of, token, void_nodes, Walk, WritesInLine, WritesMarks, WritesNode}
 use Rattle.engine_events.specs.declared.event.Name.TheVariants as n
-use Rattle.definition_inline.specs.CharacterReference.{Names}
-use Rattle.event_grammar.specs.Trees.{Nodes, Around}
-use Rattle.parse_output.specs.declared.end.End.{End}
-use Rattle.parse_output.specs.Ends.{end_at, enter_at, exit_at}
-use Rattle.parse_output.specs.Forest.{append, cut, one, void_nodes}
-use Rattle.parse_output.specs.Written.{end_in}
-use Rattle.event_meaning.specs.Strings.{string_of}
-use Rattle.parse_lines.specs.declared.walk.Walk.{Walk}
-use Rattle.parse_lines.specs.Content.{AreNext, EntersInLine, ExitsInLine, StandsInLine, WritesInLine, end_after}
-use Rattle.parse_lines.proofs.InLine.{lines_around, lines_both}
-use Rattle.parse_strings.specs.References.{AreMarks, WritesMarks, mark_nodes, marked_text, token}
-use Rattle.parse_strings.specs.Plain.{ArePlain}
-use Rattle.parse_strings.specs.Strings.{WritesNode}
 use Rattle.parse_strings.proofs.PlainNodes.{plain_both, plain_none, plain_one, sought_names}
 use Rattle.parse_strings.proofs.Spelled.{still_whole, token_text, void_one}
 use Rattle.parse_strings.proofs.Strings.{next_here}

@@ -1,15 +1,9 @@
 -- What is written of a character reference, step by step (CommonMark 2.5).
 use Rattle.std.proofs.Common.{◌≡◌, ◌⊎◌, inl, inr, ◌+◌, ℕ, true, List, [], ◌∷◌, ◌++◌, refl, sym, ap, subst, ◌∙◌, arith, drop, length, slice_index, ◌==◌}
-use Rattle.std.proofs.lemmas.Bool.{true≢false}
+use Rattle.parse_strings.proofs.Prelude.{after_bytes, AreMarks, End, end_after, end_in, is_x, lines_both, mark_nodes, one, StandsInLine, token, true≢false}
+use Rattle.parse_strings.proofs.Prelude.{void_nodes, Walk, WritesInLine, WritesMarks}
 use Rattle.engine_events.specs.declared.event.Name.TheVariants as n
-use Rattle.parse_output.specs.declared.end.End.{End}
-use Rattle.parse_output.specs.Forest.{one, void_nodes}
-use Rattle.parse_output.specs.Written.{end_in}
-use Rattle.parse_lines.specs.declared.walk.Walk.{Walk}
-use Rattle.parse_lines.specs.Content.{StandsInLine, WritesInLine, end_after}
-use Rattle.parse_lines.proofs.Ahead.{after_bytes}
-use Rattle.parse_lines.proofs.InLine.{lines_both, lines_none}
-use Rattle.parse_strings.specs.References.{AreMarks, WritesMarks, is_x, mark_nodes, token}
+use Rattle.parse_lines.proofs.InLine.{lines_none}
 use Rattle.parse_strings.specs.Strings.{StandsInString}
 use Rattle.parse_strings.proofs.Spelled.{still_whole, void_one, whole_end}
 

@@ -1,9 +1,6 @@
 -- The words of a text don't change with the spaces and tabs at the starts of its lines (CommonMark 4.7 and 6.3).
 use Rattle.std.proofs.Common.{◌≡◌, Bool, true, false, ◌||◌, ℕ, List, [], ◌∷◌, ◌++◌, inl, inr, refl, sym, ap, ◌∙◌, append_assoc}
-use Rattle.std.specs.Prelude.{if◌then◌else◌}
-use Rattle.std.proofs.lemmas.Bool.{cases_Bool}
-use Rattle.definition_text.specs.Columns.{is_white}
-use Rattle.definition_text.specs.Content.{content_codes, is_eol, is_space}
+use Rattle.parse_strings.proofs.Prelude.{cases_Bool, content_codes, if◌then◌else◌, is_eol, is_space, is_white}
 use Rattle.definition_inline.specs.LabelMatch.{words}
 use Rattle.inline_labels.proofs.LabelWords.{words-content_codes}
 use Rattle.parse_alike.specs.LabelMatch.{HaveSameWords}

@@ -1,22 +1,11 @@
 -- What nodes of a string spell.
-use Rattle.std.specs.Prelude.{◌==◌, ◌&&◌, if◌then◌else◌}
+use Rattle.parse_strings.proofs.Prelude.{after_bytes, append, AreNext, byte_nodes, Cons, cut, data_nodes, End, end_after, end_at, if◌then◌else◌, kids_of, Name}
+use Rattle.parse_strings.proofs.Prelude.{Names, Nil, node_name, Nodes, one, same_name, string_of, string_part, text_of, token, void_nodes, ◌&&◌}
+use Rattle.std.specs.Prelude.{◌==◌}
 use Rattle.std.proofs.Common.{◌≡◌, ℕ, suc, ◌+◌, ◌-◌, ◌<◌, true, false, List, [], ◌∷◌, ◌++◌, refl, sym, ap, subst, ◌∙◌, append_assoc, drop, take, length, arith}
 use Rattle.std.proofs.lemmas.Bool.Decides.{nat_tests}
 use Rattle.engine_events.specs.Columns.{between}
-use Rattle.engine_events.specs.Names.{same_name}
-use Rattle.engine_events.specs.declared.event.Name.{Name}
 use Rattle.engine_events.specs.declared.event.Name.TheVariants as n
-use Rattle.definition_inline.specs.CharacterReference.{Names}
-use Rattle.event_grammar.specs.InGrammar.{node_name, kids_of}
-use Rattle.event_grammar.specs.Trees.{Nodes, Nil, Cons}
-use Rattle.parse_output.specs.declared.end.End.{End}
-use Rattle.parse_output.specs.Ends.{end_at}
-use Rattle.parse_output.specs.Forest.{append, byte_nodes, cut, data_nodes, one, void_nodes}
-use Rattle.event_meaning.specs.Children.{text_of}
-use Rattle.event_meaning.specs.Strings.{string_of, string_part}
-use Rattle.parse_lines.specs.Content.{AreNext, end_after}
-use Rattle.parse_strings.specs.References.{token}
-use Rattle.parse_lines.proofs.Ahead.{after_bytes}
 
 -- an end at which no tab owes columns
 pub whole_end : (e : End) → e.owed ≡ 0 → e ≡ end_at e.index 0

@@ -1,18 +1,9 @@
 -- What is written of a string, step by step (CommonMark 2.4 and 2.5).
 use Rattle.std.proofs.Common.{◌≡◌, ℕ, List, [], ◌∷◌, ◌++◌, refl, sym, ap, ap₂, subst, ◌∙◌, arith}
 use Rattle.engine_events.specs.declared.event.Name.TheVariants as n
-use Rattle.definition_inline.specs.CharacterReference.{Names}
-use Rattle.event_grammar.specs.Trees.{Nodes, Around}
-use Rattle.parse_output.specs.declared.end.End.{End}
-use Rattle.parse_output.specs.Ends.{end_at, enter_at, exit_at}
-use Rattle.parse_output.specs.Forest.{append, cut, one, void_nodes}
-use Rattle.parse_output.specs.Written.{end_in}
-use Rattle.event_meaning.specs.Strings.{string_of}
-use Rattle.parse_lines.specs.declared.walk.Walk.{Walk}
-use Rattle.parse_lines.specs.Content.{AreNext, EntersInLine, ExitsInLine, StandsInLine, WritesInLine, end_after}
-use Rattle.parse_lines.proofs.InLine.{lines_around, lines_both}
-use Rattle.parse_strings.specs.Strings.{WritesNode}
-use Rattle.parse_strings.specs.References.{token}
+use Rattle.parse_strings.proofs.Prelude.{append, AreNext, Around, cut, End, end_after, end_at, end_in, enter_at, EntersInLine, exit_at, ExitsInLine}
+use Rattle.parse_strings.proofs.Prelude.{lines_around, lines_both, Names, Nodes, one, StandsInLine, string_of, token, void_nodes, Walk, WritesInLine}
+use Rattle.parse_strings.proofs.Prelude.{WritesNode}
 use Rattle.parse_strings.proofs.PlainNodes.{plain_both, plain_one, plain_void}
 use Rattle.parse_strings.proofs.Spelled.{still_whole, token_text, void_one, whole_end}
 

@@ -3,44 +3,39 @@ use Rattle.std.proofs.Common.{◌≡◌, ◌⊎◌, ℕ, zero, suc, ◌+◌, ◌
 use Rattle.std.proofs.Common.{Option, None, Some, is_some, get_or, length, length-append, take, drop, unwrap_or, inl, inr, refl, sym, ap, ap₂, subst, ◌∙◌}
 use Rattle.std.proofs.Common.{arith}
 use Rattle.std.proofs.Common.{append_assoc}
-use Rattle.std.specs.Char.{is_ascii_alphanumeric, is_ascii_digit, is_ascii_hexdigit, is_ascii_punctuation}
+use Rattle.parse_strings.proofs.Prelude.{and_parts, append-nil, AreBytes, AreMarks, at_return, bare, begins_with_eol, cases_Bool, CharacterName}
+use Rattle.parse_strings.proofs.Prelude.{CharacterReference, cond-false, cond-true, Constructs, content_codes, drop_at, ending_bytes, ends_line, eol_bytes}
+use Rattle.parse_strings.proofs.Prelude.{eqb-false, eqb-true, Escape, escape_at, flat_map, flat_map-append, Found, indent, is_ascii_punctuation, is_eol}
+use Rattle.parse_strings.proofs.Prelude.{is_ink, is_white, IsCharBoundary, IsUtf8, leaf, line_end_at, LineEnd, LineEnding, list_any, list_any-append}
+use Rattle.parse_strings.proofs.Prelude.{marked_text, Names, ne_eqb, or_else, or_from, or_parts, parts_of, plain_code, prefix_len, prefix_len-le-length}
+use Rattle.parse_strings.proofs.Prelude.{reference_at, reference_form, reference_leaf, reference_of, reference_text, spaces_at, string_bytes, string_leaf_at}
+use Rattle.parse_strings.proofs.Prelude.{string_parts, true≢false}
+use Rattle.std.specs.Char.{is_ascii_alphanumeric, is_ascii_digit, is_ascii_hexdigit}
 use Rattle.std.specs.Option.{MatchOption}
-use Rattle.std.specs.List.{flat_map, list_all, list_any, prefix_len}
-use Rattle.std.specs.Str.{IsCharBoundary, IsUtf8}
-use Rattle.std.proofs.lemmas.Bool.{cases_Bool, cases_lt, cond-true, cond-false, and_left, and_right, and_parts, eqb-true, eqb-false, ne_eqb, true≢false}
-use Rattle.std.proofs.lemmas.Bool.{le-leb, not-true, not-false, or_from, or_left, or_parts, agree_below_at, ltb-true, false_from_ne_true}
-use Rattle.std.proofs.lemmas.List.{append-nil, drop_at, get_or_at, get_or-drop, length-drop}
-use Rattle.std.proofs.lemmas.List.Concat.{flat_map-append}
-use Rattle.std.proofs.lemmas.List.Folds.{list_any-append}
-use Rattle.std.proofs.lemmas.List.Sums.{prefix_len_passes, prefix_len_stops, prefix_len-le-length}
+use Rattle.std.specs.List.{list_all}
+use Rattle.std.proofs.lemmas.Bool.{cases_lt, and_left, and_right}
+use Rattle.std.proofs.lemmas.Bool.{le-leb, not-true, not-false, or_left, agree_below_at, ltb-true, false_from_ne_true}
+use Rattle.std.proofs.lemmas.List.{get_or_at, get_or-drop, length-drop}
+use Rattle.std.proofs.lemmas.List.Sums.{prefix_len_passes, prefix_len_stops}
 use Rattle.std.proofs.lemmas.Str.{IsCharBoundary-before_ascii, IsCharBoundary-end}
-use Rattle.markdown_options.specs.declared.configuration.Constructs.{Constructs}
-use Rattle.definition_text.specs.Columns.{bare, indent, is_white}
-use Rattle.markdown_options.specs.LineEndings.{ending_bytes}
-use Rattle.markdown_options.specs.declared.line_ending.LineEnding.{LineEnding}
 use Rattle.markdown_options.specs.declared.line_ending.LineEnding.TheVariants.{CarriageReturnLineFeed, CarriageReturn, LineFeed}
-use Rattle.definition_text.specs.Content.{content_codes, is_eol, line_ending_code}
-use Rattle.definition_text.specs.Lines.{ends_line}
-use Rattle.definition_inline.specs.CharacterEscape.{escape_at}
-use Rattle.definition_inline.specs.CharacterReference.{CharacterName, CharacterReference, Names, reference_after, reference_at, reference_form}
-use Rattle.definition_inline.specs.CharacterReference.{reference_leaf, reference_of, reference_text}
-use Rattle.definition_inline.specs.HardBreak.{line_end_at}
-use Rattle.definition_inline.specs.Inline.{Character, Escape, Found, InlineLeaf, LineEnd, leaf, or_else}
-use Rattle.definition_inline.specs.Strings.{begins_with_eol, eol_bytes, spaces_at, string_bytes, string_leaf_at, string_parts, string_text}
+use Rattle.definition_text.specs.Content.{line_ending_code}
+use Rattle.definition_inline.specs.CharacterReference.{reference_after}
+use Rattle.definition_inline.specs.Inline.{Character, InlineLeaf}
+use Rattle.definition_inline.specs.Strings.{string_text}
 use Rattle.definition_inline.proofs.Scanning.{string_byte, string_step}
 use Rattle.inline_references.specs.Grammar.{IsWritten, name as by_name, digits as by_digits, lower_x, upper_x}
 use Rattle.inline_references.proofs.Written.{read_is_written}
 use Rattle.event_meaning.specs.Strings.{is_told}
-use Rattle.inline_leaves.specs.Leaves.{IsAfter, ReadsEnding, found_leaf, parts_of, size_before}
+use Rattle.inline_leaves.specs.Leaves.{IsAfter, ReadsEnding, found_leaf, size_before}
 use Rattle.inline_leaves.specs.declared.leaf.Leaf.{Leaf}
 use Rattle.inline_leaves.specs.declared.line_ending.Ending.{Ending}
-use Rattle.inline_leaves.proofs.Codes.{after_codes, at_return, boundary_after_byte, plain_code, prefix_codes}
+use Rattle.inline_leaves.proofs.Codes.{after_codes, boundary_after_byte, prefix_codes}
 use Rattle.inline_leaves.proofs.Endings.{ending_is_eol}
 use Rattle.inline_links.specs.Texts.{code_text}
-use Rattle.inline_links.proofs.Texts.{AreBytes, bytes_back}
-use Rattle.parse_strings.specs.References.{AreMarks, marked_text}
+use Rattle.inline_links.proofs.Texts.{bytes_back}
 use Rattle.parse_lines.specs.InContent.{IsApart}
-use Rattle.parse_strings.specs.Strings.{NoLeaf, is_ink}
+use Rattle.parse_strings.specs.Strings.{NoLeaf}
 use Rattle.parse_strings.proofs.Codes.{alone_codes, begins_feed, codes_split, feed_codes, line_bytes, no_ends}
 
 -- ---- codes that end no line

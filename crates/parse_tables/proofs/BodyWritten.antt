@@ -1,28 +1,13 @@
 -- The head and the body of a table are written.
 use Rattle.std.proofs.Common.{◌≡◌, ℕ, List, [], ◌∷◌, ◌++◌, Option, reverse, refl, sym, ap, ap₂, subst, ◌∙◌}
-use Rattle.std.proofs.lemmas.List.{append-nil}
-use Rattle.markdown_options.specs.declared.configuration.Constructs.{Constructs}
-use Rattle.markdown_options.specs.declared.line_ending.LineEnding.{LineEnding}
-use Rattle.definition_text.specs.BlockLines.{BlockLine, last_ending_or}
-use Rattle.definition_block.specs.Container.{Container}
-use Rattle.definition_page.specs.Read.{Reading}
+use Rattle.parse_tables.proofs.Prelude.{append, append-nil, AreRowNodes, AreTaken, around, Around, Between, BlockLine, Constructs, Container, end_in, enter_at}
+use Rattle.parse_tables.proofs.Prelude.{exit_at, HasSameOpen, HoldSame, InAll, InSome, IsBefore, IsOn, IsRowLine, IsWrittenToRest, last_ending_or, LineEnding}
+use Rattle.parse_tables.proofs.Prelude.{LineRest, Nil, Nodes, one, PassesLine, Place, prefixed, Prefixed, Reading, rest_start, Standing, standing, StandsAt}
+use Rattle.parse_tables.proofs.Prelude.{Walk, Within, Writes, writes_both, WritesBodyHere, WritesDelimiterRow, WritesFirstRows, WritesFirstRowsHere}
+use Rattle.parse_tables.proofs.Prelude.{WritesHeadHere, WritesNextLine, WritesRowHere, WritesTo}
 use Rattle.engine_events.specs.declared.event.Name.TheVariants as n
-use Rattle.event_grammar.specs.Trees.{Around, Nil, Nodes}
-use Rattle.parse_output.specs.Ends.{enter_at, exit_at}
-use Rattle.parse_output.specs.Forest.{append, one}
-use Rattle.parse_output.specs.Written.{Writes, end_in}
-use Rattle.parse_output.proofs.Written.{writes_both}
-use Rattle.parse_laid.specs.Leaves.{AreTaken, IsRowLine}
-use Rattle.parse_laid.specs.Places.{Between, InAll, InSome, IsOn, LineRest, Place, Prefixed, Within, prefixed}
-use Rattle.parse_lines.specs.declared.walk.Walk.{Walk}
-use Rattle.parse_lines.specs.Ends.{IsWrittenToRest, WritesNextLine, rest_start}
-use Rattle.parse_lines.specs.Standing.{Standing, StandsAt, around, standing}
-use Rattle.parse_lines.specs.Steps.{HasSameOpen, PassesLine}
-use Rattle.parse_tables.specs.Before.{IsBefore, WritesTo}
-use Rattle.parse_tables.specs.Columns.{WritesDelimiterRow}
 use Rattle.parse_tables.proofs.Steps.{IsEntered, IsExited, before_none, open_both}
-use Rattle.parse_tables.specs.Rows.{AreRowNodes, HoldSame, WritesFirstRows, WritesFirstRowsHere, WritesRowHere}
-use Rattle.parse_tables.specs.Tables.{WritesBody, WritesBodyHere, WritesHeadHere}
+use Rattle.parse_tables.specs.Tables.{WritesBody}
 use Rattle.parse_tables.proofs.RowsWritten.{around_line, next_begun, on_next, same_row}
 
 -- ---- after an event is entered

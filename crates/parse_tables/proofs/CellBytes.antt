@@ -1,18 +1,11 @@
 -- The cells of a line are among its bytes, one after another.
 use Rattle.std.proofs.Common.{◌≡◌, ◌⊎◌, ℕ, zero, suc, ◌+◌, ◌<◌, ◌==◌, Bool, true, false, not, ◌&&◌, List, [], ◌∷◌, ◌++◌, drop, length, get_or, replicate, inl, inr, refl, sym, ap, ap₂, subst, ◌∙◌, arith, eqb}
 use Rattle.std.proofs.Common.{append_assoc}
-use Rattle.std.specs.Prelude.{if◌then◌else◌, slice_index}
-use Rattle.std.specs.List.{list_all, prefix_len}
-use Rattle.std.proofs.lemmas.Bool.{and_parts, cases_Bool, cond-false, cond-true, cond_both, eqb-true, true≢false}
-use Rattle.std.proofs.lemmas.List.{append-nil}
-use Rattle.std.proofs.lemmas.List.Elements.{filter-append}
-use Rattle.markdown_options.specs.declared.beside.Kind.{Kind}
+use Rattle.parse_tables.proofs.Prelude.{after_first_bar, all_filter, and_parts, append-nil, AreCellsOf, bytes_of, cases_Bool, Cell, cell, cells, cond-false}
+use Rattle.parse_tables.proofs.Prelude.{cond-true, cond_both, eqb-true, filter-append, if◌then◌else◌, in_first_cell, is_bar, is_blank, is_byte, is_tab_column}
+use Rattle.parse_tables.proofs.Prelude.{is_white, Kind, list_all, may_escape, parts, prefix_len, slice_index, true≢false, without_blank_first}
+use Rattle.parse_tables.proofs.Prelude.{without_blank_last}
 use Rattle.markdown_options.specs.declared.beside.Kind.TheVariants.{Punctuation, Whitespace}
-use Rattle.definition_text.specs.Columns.{bytes_of, is_blank, is_byte, is_tab_column, is_white}
-use Rattle.definition_text.specs.Content.{may_escape}
-use Rattle.definition_block.specs.GfmTable.{Cell, cell, cells, in_first_cell, is_bar, parts, without_blank_first, without_blank_last}
-use Rattle.parse_lines.proofs.White.{all_filter}
-use Rattle.parse_tables.specs.LineCells.{AreCellsOf, after_first_bar}
 
 -- ---- parts of a line
 

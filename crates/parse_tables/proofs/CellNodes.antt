@@ -1,29 +1,12 @@
 -- The nodes of a row of a table: the cells among them, and what is not among them.
 use Rattle.std.proofs.Common.{◌≡◌, true, false, List, [], ◌∷◌, ◌++◌, map, ℕ, inl, inr, refl, sym, ap, ap₂, subst, ◌∙◌}
-use Rattle.std.specs.List.{AllZip}
-use Rattle.std.proofs.lemmas.Bool.{cases_Bool, cond-false, cond-true}
-use Rattle.std.proofs.lemmas.List.{append-nil, map-append}
-use Rattle.definition_block.specs.GfmTable.{Cell}
+use Rattle.parse_tables.proofs.Prelude.{AllZip, append, append-nil, AreMeanings, ArePartsAlike, Around, cases_Bool, Cell, cell_of, children, cond-false}
+use Rattle.parse_tables.proofs.Prelude.{cond-true, Cons, End, enter_at, exit_at, map-append, Meaning, Name, named_both, Nil, Node, node_name, Nodes, one}
+use Rattle.parse_tables.proofs.Prelude.{read_cell, Reading, same_name, SpellCells, void_cases, void_nodes}
 use Rattle.definition_inline.specs.Inline.{Inlines}
-use Rattle.definition_page.specs.InlinePieces.{Meaning}
-use Rattle.definition_page.specs.Read.{Reading, read_cell}
-use Rattle.engine_events.specs.Names.{same_name}
-use Rattle.engine_events.specs.declared.event.Name.{Name}
 use Rattle.engine_events.specs.declared.event.Name.TheVariants as n
-use Rattle.event_grammar.specs.InGrammar.{node_name}
-use Rattle.event_grammar.specs.Trees.{Node, Nodes, Around, Nil, Cons}
-use Rattle.event_meaning.specs.Children.{children}
-use Rattle.event_meaning.specs.GfmTable.{cell_of}
-use Rattle.parse_output.specs.declared.end.End.{End}
-use Rattle.parse_output.specs.Ends.{enter_at, exit_at}
-use Rattle.parse_output.specs.Forest.{append, one, void_nodes}
-use Rattle.parse_strings.proofs.PlainNodes.{named_both}
-use Rattle.parse_alike.specs.Inline.{ArePartsAlike}
-use Rattle.parse_alike.specs.Meanings.{AreMeanings}
-use Rattle.parse_raw.proofs.Nodes.{void_cases}
 use Rattle.parse_tables.specs.Before.{AreInRow}
 use Rattle.parse_tables.proofs.ColumnNodes.{named_void}
-use Rattle.parse_tables.specs.Cells.{SpellCells}
 
 -- ---- children of a name
 

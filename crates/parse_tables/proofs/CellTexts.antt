@@ -1,40 +1,17 @@
 -- The text of a cell.
 use Rattle.std.proofs.Common.{◌≡◌, ◌<◌, ◌≤◌, ℕ, zero, suc, ◌+◌, Bool, false, ◌||◌, List, [], ◌∷◌, ◌++◌, Option, None, drop, get_or, map, replicate, refl, sym, ap, ap₂, subst, ◌∙◌, arith, eqb}
-use Rattle.std.specs.List.{list_any, prefix_len}
-use Rattle.std.proofs.lemmas.Bool.{cond-false, ne_eqb, or_parts}
-use Rattle.std.proofs.lemmas.List.{append-nil, get_or-drop}
-use Rattle.markdown_options.specs.declared.beside.Kind.{Kind}
-use Rattle.markdown_options.specs.declared.line_ending.LineEnding.{LineEnding}
-use Rattle.definition_text.specs.BlockLines.{BlockLine, block_line, own_lines}
-use Rattle.definition_text.specs.Columns.{code_byte, is_white}
-use Rattle.definition_text.specs.Content.{content_text}
-use Rattle.definition_text.specs.InlineCode.{inline_content, with_kinds}
-use Rattle.definition_text.specs.Lines.{ends_line}
+use Rattle.parse_tables.proofs.Prelude.{append-nil, AreContentLines, AreNext, ArePartsAlike, Around, BeginsLineAfter, block_line, BlockLine, cell, code_byte}
+use Rattle.parse_tables.proofs.Prelude.{cond-false, content_text, context_of, end_at, end_in, ends_line, enter_at, EntersInLine, exit_at, ExitsInLine}
+use Rattle.parse_tables.proofs.Prelude.{get_or-drop, inline_content, is_white, IsBefore, Kind, LineEnding, LineRest, list_any, ne_eqb, Node, one, or_parts}
+use Rattle.parse_tables.proofs.Prelude.{own_lines, prefix_len, read_content, Reading, standing, StandsInContent, StandsInLine, Walk, with_kinds, WritesContent}
+use Rattle.parse_tables.proofs.Prelude.{WritesInCell, WritesInContent}
 use Rattle.text_pieces.specs.ParagraphLines.{HaveNoEnding}
-use Rattle.parse_output.specs.Ends.{end_at}
-use Rattle.parse_output.specs.Written.{end_in}
-use Rattle.parse_laid.specs.Places.{LineRest}
-use Rattle.parse_lines.specs.declared.walk.Walk.{Walk}
-use Rattle.parse_lines.specs.Content.{AreNext}
-use Rattle.definition_block.specs.GfmTable.{cell}
 use Rattle.definition_inline.specs.Scan.{inlines}
-use Rattle.definition_page.specs.Read.{Reading, context_of}
 use Rattle.engine_events.specs.declared.event.Name.TheVariants as n
-use Rattle.event_grammar.specs.Trees.{Around, Node}
 use Rattle.event_meaning.specs.Texts.{inlines_of}
-use Rattle.parse_output.specs.Ends.{enter_at, exit_at}
-use Rattle.parse_output.specs.Forest.{one}
-use Rattle.inline_content.specs.Lines.{AreContentLines}
-use Rattle.parse_alike.specs.Inline.{ArePartsAlike}
 use Rattle.parse_alike.proofs.Composed.{alike_parts_compose}
-use Rattle.parse_lines.specs.Content.{BeginsLineAfter, EntersInLine, ExitsInLine, StandsInLine}
-use Rattle.parse_lines.specs.InContent.{StandsInContent, WritesInContent}
-use Rattle.parse_lines.specs.Standing.{standing}
-use Rattle.parse_leaves.specs.Texts.{WritesContent, read_content}
-use Rattle.parse_tables.specs.Before.{IsBefore}
 use Rattle.parse_tables.proofs.Parts.{part_entered, part_left, stop_before}
 use Rattle.parse_tables.proofs.Steps.{dark_front}
-use Rattle.parse_tables.specs.Cells.{WritesInCell}
 
 -- the line of a cell: columns of a tab, and bytes
 abbrev pub cell_line : ℕ → List ℕ → Option LineEnding → Kind → BlockLine

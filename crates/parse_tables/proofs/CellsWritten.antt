@@ -1,40 +1,22 @@
 -- The cells of a row are written, each with the bar after it.
 use Rattle.std.proofs.Common.{◌≡◌, ℕ, zero, suc, ◌+◌, ◌<◌, Bool, true, false, List, [], ◌∷◌, ◌++◌, Option, None, Some, drop, get_or, length, length-take, map, replicate, take, inl, inr, refl, sym, ap, ap₂, subst, ◌∙◌, arith, append_assoc, eq-eqb, eqb}
-use Rattle.std.specs.Prelude.{slice_index, OnOk, Result, Ok, Err, ◌^◌}
-use Rattle.std.specs.List.{list_all, prefix_len}
-use Rattle.std.proofs.lemmas.Bool.{and_parts, cases_Bool, cond-false, cond-true, cond_both, ne_eqb}
-use Rattle.std.proofs.lemmas.List.{append-nil, drop-drop, get_or-drop, take-append-drop}
-use Rattle.std.proofs.lemmas.List.Sums.{prefix_len-le-length}
-use Rattle.markdown_options.specs.declared.beside.Kind.{Kind}
+use Rattle.parse_tables.proofs.Prelude.{after_first_bar, and_parts, append, append-nil, AreCellsOf, ArePartsAlike, Around, bytes_of, cases_Bool, Cell}
+use Rattle.parse_tables.proofs.Prelude.{code_byte, cond-false, cond-true, cond_both, Constructs, context_of, drop-drop, end_at, end_in, enter_at, Err, exit_at}
+use Rattle.parse_tables.proofs.Prelude.{get_or-drop, is_blank, is_white, IsBefore, Kind, LineEnding, LineRest, list_all, Name, ne_eqb, Nil, Node, Ok, one}
+use Rattle.parse_tables.proofs.Prelude.{OnOk, piece_bytes, prefix_len, prefix_len-le-length, read_cell, Reading, Result, slice_index, standing, tab_column}
+use Rattle.parse_tables.proofs.Prelude.{take-append-drop, void_cases, void_nodes, Walk, with_kinds, WritesFirstBar, WritesFirstCellsHere, WritesInCell}
+use Rattle.parse_tables.proofs.Prelude.{WritesInCellHere, WritesTo, WritesUpTo, written_to}
+use Rattle.std.specs.Prelude.{◌^◌}
 use Rattle.markdown_options.specs.declared.beside.Kind.TheVariants.{Punctuation}
-use Rattle.markdown_options.specs.declared.configuration.Constructs.{Constructs}
-use Rattle.markdown_options.specs.declared.line_ending.LineEnding.{LineEnding}
-use Rattle.definition_text.specs.Columns.{bytes_of, code_byte, is_blank, is_white, tab_column}
-use Rattle.definition_text.specs.InlineCode.{InlineCode, first_kind, inline_code, next_kind, with_kinds}
-use Rattle.definition_block.specs.GfmTable.{Cell}
+use Rattle.definition_text.specs.InlineCode.{InlineCode, first_kind, inline_code, next_kind}
 use Rattle.definition_inline.specs.GfmAutolinkLiteral.{linked_literals, with_literals}
 use Rattle.definition_inline.specs.Inline as inline
 use Rattle.definition_inline.specs.Scan.{inlines_from, without_indent}
 use Rattle.definition_page.specs.GfmTable.{in_cell}
-use Rattle.definition_page.specs.Read.{Reading, context_of, read_cell}
-use Rattle.engine_events.specs.declared.event.Name.{Name}
 use Rattle.engine_events.specs.declared.event.Name.TheVariants as n
-use Rattle.event_grammar.specs.Trees.{Around, Nil, Node}
 use Rattle.event_meaning.specs.Texts.{text_within}
-use Rattle.parse_output.specs.Ends.{end_at, enter_at, exit_at}
-use Rattle.parse_output.specs.Forest.{append, one, void_nodes}
-use Rattle.parse_output.specs.Written.{end_in}
-use Rattle.parse_alike.specs.Inline.{ArePartsAlike}
-use Rattle.parse_laid.specs.Places.{LineRest}
-use Rattle.parse_lines.specs.declared.walk.Walk.{Walk}
-use Rattle.parse_lines.specs.Ends.{WritesUpTo, written_to}
-use Rattle.parse_lines.specs.Standing.{standing}
-use Rattle.parse_raw.proofs.Nodes.{void_cases}
-use Rattle.parse_leaves.proofs.RowLeaves.{piece_bytes}
-use Rattle.parse_tables.specs.Before.{IsBefore, WritesTo}
-use Rattle.parse_tables.specs.LineCells.{AreCellsOf, after_first_bar}
 use Rattle.parse_tables.proofs.Steps.{IsEntered, IsExited, IsToken, around_written, before_both, before_none, token_written}
-use Rattle.parse_tables.specs.Cells.{WritesCell, WritesCellHere, WritesFirstBar, WritesFirstCells, WritesFirstCellsHere, WritesInCell, WritesInCellHere}
+use Rattle.parse_tables.specs.Cells.{WritesCell, WritesCellHere, WritesFirstCells}
 use Rattle.parse_tables.proofs.CellNodes.{children_both, children_void, in_row_both, in_row_none, in_row_void, spell_after, spell_both, spell_one}
 
 -- ---- a cell of white space has no text

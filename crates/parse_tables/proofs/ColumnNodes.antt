@@ -1,25 +1,16 @@
 -- The nodes of delimiters say how columns are aligned.
 use Rattle.std.proofs.Common.{◌≡◌, ◌<◌, ℕ, zero, suc, ◌+◌, Bool, true, false, List, [], ◌∷◌, ◌++◌, map, length, replicate, refl, sym, ap, ap₂, subst, ◌∙◌, arith, eqb, get_or}
-use Rattle.std.specs.Prelude.{not, ◌&&◌, drop, if◌then◌else◌}
-use Rattle.std.proofs.lemmas.Bool.{and_parts, cond-false, cond_both, not-true}
-use Rattle.definition_text.specs.Runs.{run}
-use Rattle.definition_block.specs.GfmTable.{alignment}
-use Rattle.engine_events.specs.Names.{same_name}
+use Rattle.parse_tables.proofs.Prelude.{AlignKind, alignment, and_parts, append, Around, begins_other, colon_if, cond-false, cond_both, Cons, cut, End, end_at}
+use Rattle.parse_tables.proofs.Prelude.{enter_at, exit_at, if◌then◌else◌, Name, named, named_both, Nil, Node, Nodes, one, run, same_end, same_name}
+use Rattle.parse_tables.proofs.Prelude.{value_align, void_nodes}
+use Rattle.std.specs.Prelude.{not, ◌&&◌, drop}
+use Rattle.std.proofs.lemmas.Bool.{not-true}
 use Rattle.engine_events.specs.declared.event.Event.{Event}
-use Rattle.engine_events.specs.declared.event.Name.{Name}
 use Rattle.engine_events.specs.declared.event.Name.TheVariants as n
-use Rattle.event_check.specs.Align.{align_of, mark, marks, marks_in, value_align}
+use Rattle.event_check.specs.Align.{align_of, mark, marks, marks_in}
 use Rattle.event_check.specs.declared.align.Marks.{Marks}
-use Rattle.event_grammar.specs.References.{named}
-use Rattle.event_grammar.specs.Trees.{Around, Cons, Nil, Node, Nodes}
-use Rattle.parse_output.specs.declared.end.End.{End}
-use Rattle.parse_output.specs.Ends.{end_at, enter_at, exit_at, same_end}
-use Rattle.parse_output.specs.Forest.{append, cut, one, void_nodes}
 use Rattle.parse_lines.proofs.ContentLines.{void_is}
 use Rattle.parse_lines.proofs.Quiet.{no_void}
-use Rattle.markdown_options.specs.declared.align_kind.AlignKind.{AlignKind}
-use Rattle.parse_strings.proofs.PlainNodes.{named_both}
-use Rattle.parse_tables.specs.Delimiters.{begins_other, colon_if}
 
 -- ---- runs
 

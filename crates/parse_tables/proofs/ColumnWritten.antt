@@ -1,18 +1,8 @@
 -- A delimiter is written part by part.
 use Rattle.std.proofs.Common.{◌≡◌, ◌<◌, ℕ, suc, ◌+◌, ◌-◌, ◌^◌, Bool, true, List, [], ◌∷◌, ◌++◌, drop, length, length-append, replicate, min, refl, sym, ap, ap₂, subst, ◌∙◌, arith}
-use Rattle.std.proofs.lemmas.List.{length-replicate}
-use Rattle.definition_text.specs.Runs.{run}
-use Rattle.definition_block.specs.GfmTable.{alignment}
+use Rattle.parse_tables.proofs.Prelude.{alignment, append, Around, colon_if, End, end_at, end_in, enter_at, exit_at, IsBefore, length-replicate, Nodes, one}
+use Rattle.parse_tables.proofs.Prelude.{run, void_nodes, Walk, WritesColumnHere, WritesTo}
 use Rattle.engine_events.specs.declared.event.Name.TheVariants as n
-use Rattle.event_grammar.specs.Trees.{Around, Nodes}
-use Rattle.parse_output.specs.declared.end.End.{End}
-use Rattle.parse_output.specs.Ends.{end_at, enter_at, exit_at}
-use Rattle.parse_output.specs.Forest.{append, one, void_nodes}
-use Rattle.parse_output.specs.Written.{end_in}
-use Rattle.parse_lines.specs.declared.walk.Walk.{Walk}
-use Rattle.parse_tables.specs.Before.{IsBefore, WritesTo}
-use Rattle.parse_tables.specs.Columns.{WritesColumnHere}
-use Rattle.parse_tables.specs.Delimiters.{colon_if}
 use Rattle.parse_tables.proofs.ColumnNodes.{column_aligns, column_definitions, column_end, column_kids, column_node, runs_of, value_node}
 use Rattle.parse_tables.proofs.Steps.{IsEntered, IsExited, IsToken, around_written, before_both, entered_before, place_fits, token_written}
 

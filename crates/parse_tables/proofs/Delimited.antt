@@ -1,24 +1,21 @@
 -- The bytes of a row of delimiters are bars, white space and delimiters.
 use Rattle.std.proofs.Common.{◌≡◌, ◌⊎◌, ℕ, zero, suc, ◌+◌, ◌-◌, ◌<◌, ◌≤◌, ◌==◌, Bool, true, false, not, ◌&&◌, List, [], ◌∷◌, ◌++◌, Option, None, Some, drop, take, length, get_or, replicate, inl, inr, refl, sym, ap, ap₂, subst, ◌∙◌, arith, eqb, append_assoc, length-drop}
-use Rattle.std.specs.Prelude.{if◌then◌else◌, codes, reverse}
-use Rattle.std.specs.List.{list_all, list_any, prefix_len, suffix_len}
+use Rattle.parse_tables.proofs.Prelude.{AlignKind, alignment, alignments_of, all_prefix, and_alignment, and_parts, append-nil, AreDelimiters, bar}
+use Rattle.parse_tables.proofs.Prelude.{begins_other, cases_Bool, Cell, cell, cells, colon_if, column, column_delimiter, cond-false, cond-true, cond_both}
+use Rattle.parse_tables.proofs.Prelude.{delimiters, eqb-true, if◌then◌else◌, in_first_cell, is_bar, is_bar_or_colon, is_blank, is_white, Kind, list_all}
+use Rattle.parse_tables.proofs.Prelude.{list_any, may_escape, ne_eqb, none, parts, prefix_len, run, some_alignments, suffix_len, take-append-drop, trim}
+use Rattle.parse_tables.proofs.Prelude.{true≢false, white, without_blank_first, without_blank_last}
+use Rattle.std.specs.Prelude.{codes, reverse}
 use Rattle.std.specs.Option.{option_map}
-use Rattle.std.proofs.lemmas.Bool.{and_parts, cases_Bool, cond-false, cond-true, cond_both, eqb-true, ne_eqb, true≢false}
-use Rattle.std.proofs.lemmas.List.{append-nil, get_or-reverse, take-append-drop}
+use Rattle.std.proofs.lemmas.List.{get_or-reverse}
 use Rattle.std.proofs.Common.{get_or-drop}
 use Rattle.std.proofs.lemmas.List.Sums.{list_all-from_AllPass, prefix_len_passes, suffix_len-le-length}
 use Rattle.std.proofs.lemmas.Slice.Eq.{bytes_eq-Decides}
-use Rattle.markdown_options.specs.declared.align_kind.AlignKind.{AlignKind}
-use Rattle.markdown_options.specs.declared.beside.Kind.{Kind}
 use Rattle.markdown_options.specs.declared.beside.Kind.TheVariants.{Punctuation, Whitespace}
 use Rattle.definition_text.specs.Bytes.{begins_with}
-use Rattle.definition_text.specs.Columns.{is_blank, is_white, trim}
-use Rattle.definition_text.specs.Content.{may_escape}
-use Rattle.definition_text.specs.Runs.{after_run, run}
-use Rattle.definition_block.specs.GfmTable.{Cell, after_dashes, alignment, alignments_of, and_alignment, cell, cells, column_delimiter, delimiters, in_first_cell, is_bar}
-use Rattle.definition_block.specs.GfmTable.{is_bar_or_colon, parts, right_colon, some_alignments, without_blank_first, without_blank_last}
-use Rattle.parse_lines.proofs.White.{all_prefix}
-use Rattle.parse_tables.specs.Delimiters.{AreDelimiters, none, bar, white, column, begins_other, colon_if}
+use Rattle.definition_text.specs.Runs.{after_run}
+use Rattle.definition_block.specs.GfmTable.{after_dashes}
+use Rattle.definition_block.specs.GfmTable.{right_colon}
 
 -- ---- a line as its parts
 

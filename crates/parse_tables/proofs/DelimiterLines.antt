@@ -1,20 +1,13 @@
 -- The columns of a row of delimiters, by the line of the block and by its bytes after white space.
 use Rattle.std.proofs.Common.{◌≡◌, ℕ, suc, ◌-◌, Bool, true, false, ◌&&◌, ◌||◌, List, [], ◌∷◌, ◌++◌, Option, None, Some, drop, inl, inr, length, take, refl, sym, ap, ap₂, ◌∙◌, arith, eqb}
-use Rattle.std.specs.Prelude.{if◌then◌else◌}
-use Rattle.std.specs.List.{list_all, list_any, prefix_len, suffix_len}
-use Rattle.std.proofs.lemmas.Bool.{and_parts, cases_Bool, cond-false, cond-true, eqb-true, or_from, true≢false}
-use Rattle.std.proofs.lemmas.List.{take-append-drop}
-use Rattle.std.proofs.lemmas.List.Elements.{filter-append}
-use Rattle.markdown_options.specs.declared.align_kind.AlignKind.{AlignKind}
-use Rattle.markdown_options.specs.declared.configuration.Constructs.{Constructs}
-use Rattle.markdown_options.specs.declared.beside.Kind.{Kind}
+use Rattle.parse_tables.proofs.Prelude.{AlignKind, alignments_of, all_filter, all_prefix, and_alignment, and_parts, bare, block_codes, bytes_of, cases_Bool}
+use Rattle.parse_tables.proofs.Prelude.{Cell, cell, cells, column_delimiter, cond-false, cond-true, Constructs, delimiters, eqb-true, filter-append}
+use Rattle.parse_tables.proofs.Prelude.{if◌then◌else◌, in_first_cell, is_bar, is_bar_or_colon, is_blank, is_byte, is_tab_column, is_white, Kind, list_all}
+use Rattle.parse_tables.proofs.Prelude.{list_any, may_escape, or_from, parts, prefix_len, Rest, some_alignments, suffix_len, take-append-drop, trim}
+use Rattle.parse_tables.proofs.Prelude.{true≢false, without_blank_first, without_blank_last}
 use Rattle.markdown_options.specs.declared.beside.Kind.TheVariants.{Whitespace}
-use Rattle.definition_text.specs.Columns.{Rest, bare, block_codes, bytes_of, is_blank, is_byte, is_tab_column, is_white, trim}
-use Rattle.definition_text.specs.Content.{may_escape}
 use Rattle.definition_text.specs.Indents.{small_indent}
-use Rattle.definition_block.specs.GfmTable.{Cell, alignments_of, and_alignment, cell, cells, column_delimiter, delimiter_row, delimiters, in_first_cell, is_bar, is_bar_or_colon}
-use Rattle.definition_block.specs.GfmTable.{parts, some_alignments, without_blank_first, without_blank_last}
-use Rattle.parse_lines.proofs.White.{all_filter, all_prefix}
+use Rattle.definition_block.specs.GfmTable.{delimiter_row}
 
 -- ---- white space in front
 

@@ -1,21 +1,13 @@
 -- Where a line is begun, what is left of it is ahead.
 use Rattle.std.proofs.Common.{◌≡◌, ℕ, zero, suc, ◌+◌, ◌-◌, ◌≤◌, List, [], ◌∷◌, ◌++◌, Option, drop, length, length-append, replicate, refl, sym, ap, ap₂, subst, ◌∙◌, arith, false}
-use Rattle.std.specs.List.{list_any, prefix_len}
-use Rattle.std.proofs.lemmas.List.{drop-drop, length-replicate}
+use Rattle.parse_tables.proofs.Prelude.{after_bytes, AreNext, AtEnding, bare, bytes_of, drop-drop, End, end_after, end_at, end_in, ends_line, Follows}
+use Rattle.parse_tables.proofs.Prelude.{follows_after, is_tab_column, IsBefore, IsInOrder, IsWrittenToRest, length-replicate, LineRest, list_any, next_after}
+use Rattle.parse_tables.proofs.Prelude.{prefix_len, Rest, rest_start, Standing, standing, StandsAt, void_nodes, Walk, Within, Writes, WritesTo, WritesUpTo}
+use Rattle.parse_tables.proofs.Prelude.{written_to}
 use Rattle.definition_text.specs.Ascii.{space}
-use Rattle.definition_text.specs.Lines.{ends_line}
-use Rattle.definition_text.specs.Columns.{Rest, bare, bytes_of, indent, is_tab_column, whole}
+use Rattle.definition_text.specs.Columns.{indent, whole}
 use Rattle.engine_events.specs.declared.event.Name.TheVariants.{SpaceOrTab}
-use Rattle.parse_output.specs.declared.end.End.{End}
-use Rattle.parse_output.specs.Ends.{Follows, end_at}
-use Rattle.parse_output.specs.Forest.{void_nodes}
-use Rattle.parse_output.specs.Written.{IsInOrder, Writes, end_in}
-use Rattle.parse_laid.specs.Places.{LineRest, AtEnding, Within}
-use Rattle.parse_lines.specs.declared.walk.Walk.{Walk}
-use Rattle.parse_lines.specs.Content.{AreNext, end_after}
-use Rattle.parse_lines.specs.Ends.{IsWrittenToRest, WritesUpTo, rest_start, written_to}
-use Rattle.parse_lines.specs.Standing.{Standing, StandsAt, standing}
-use Rattle.parse_lines.proofs.Ahead.{after_both, after_bytes, follows_after, next_after, owed_after}
+use Rattle.parse_lines.proofs.Ahead.{after_both, owed_after}
 use Rattle.parse_lines.proofs.Columns.{bare_owes_none}
 use Rattle.parse_lines.proofs.ContentLines.{start_owed}
 use Rattle.parse_lines.proofs.Ends.{left_within, start_whole}
@@ -23,7 +15,6 @@ use Rattle.parse_lines.proofs.Next.{left_bytes, left_next}
 use Rattle.parse_lines.proofs.NextLine.{left_dark, left_to_end}
 use Rattle.parse_lines.proofs.Steps.{at_ending}
 use Rattle.parse_lines.proofs.Written.{bare_follows, bare_start}
-use Rattle.parse_tables.specs.Before.{IsBefore, WritesTo}
 use Rattle.parse_tables.proofs.Steps.{dark_after, same_open}
 
 -- the place after so many spaces of these, which are as many as a tab owes

@@ -1,24 +1,12 @@
 -- A part of a line in an event, written as a content.
 use Rattle.std.proofs.Common.{◌≡◌, ◌<◌, ℕ, ◌+◌, Bool, false, List, [], ◌∷◌, ◌++◌, Option, length, refl, sym, ap, ap₂, subst, ◌∙◌, arith}
-use Rattle.std.specs.List.{list_any}
-use Rattle.std.proofs.lemmas.Bool.{or_parts}
-use Rattle.markdown_options.specs.declared.line_ending.LineEnding.{LineEnding}
-use Rattle.definition_text.specs.Lines.{ends_line}
-use Rattle.engine_events.specs.declared.event.Name.{Name}
-use Rattle.event_grammar.specs.Trees.{Around, Nodes}
-use Rattle.parse_output.specs.Ends.{enter_at, exit_at}
-use Rattle.parse_output.specs.Forest.{cut}
-use Rattle.parse_output.specs.Written.{Enters, Writes, end_in}
+use Rattle.parse_tables.proofs.Prelude.{Around, AtEnding, BeginsLineAfter, cut, end_in, ends_line, enter_at, Enters, EntersInLine, exit_at, ExitsInLine}
+use Rattle.parse_tables.proofs.Prelude.{IsBefore, LineEnding, LineRest, list_any, Name, Nodes, or_parts, standing, StandsInContent, StandsInLine, Walk, Writes}
+use Rattle.parse_tables.proofs.Prelude.{writes_around, WritesInContent, WritesTo}
 use Rattle.parse_output.specs.declared.output.Output.{Output}
-use Rattle.parse_output.proofs.Written.{writes_around}
-use Rattle.parse_laid.specs.Places.{LineRest, AtEnding}
-use Rattle.parse_lines.specs.declared.walk.Walk.{Walk}
-use Rattle.parse_lines.specs.Content.{BeginsLineAfter, EntersInLine, ExitsInLine, StandsInLine}
-use Rattle.parse_lines.specs.InContent.{EntersInContent, ExitsInContent, StandsInContent, Stop, WritesInContent}
-use Rattle.parse_lines.specs.Standing.{standing}
+use Rattle.parse_lines.specs.InContent.{EntersInContent, ExitsInContent, Stop}
 use Rattle.parse_lines.proofs.InContent.{line_enters, line_exits}
 use Rattle.parse_lines.proofs.Parts.{part_begins, part_ends}
-use Rattle.parse_tables.specs.Before.{IsBefore, WritesTo}
 use Rattle.parse_tables.proofs.Steps.{dark_after, dark_front, open_both}
 
 -- where a part of a line ends

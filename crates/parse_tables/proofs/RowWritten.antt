@@ -1,34 +1,17 @@
 -- A row of delimiters is written part by part.
 use Rattle.std.proofs.Common.{◌≡◌, ◌<◌, ◌≤◌, ℕ, zero, suc, ◌+◌, ◌-◌, ◌^◌, max, Bool, true, false, not, ◌&&◌, ◌||◌, List, [], ◌∷◌, ◌++◌, drop, take, length, map, replicate, get_or, Option, refl, sym, ap, ap₂, subst, ◌∙◌, arith, eqb, inl, inr, append_assoc}
-use Rattle.std.specs.Prelude.{IfOk, OnOk, Result, Ok, Err, Some, slice_index}
-use Rattle.std.specs.List.{list_all, prefix_len}
-use Rattle.std.proofs.lemmas.Bool.{cond-true, cond_both, false_from_ne_true, true≢false}
-use Rattle.std.proofs.lemmas.List.{append-nil, length-take, map-append, take-append-drop}
-use Rattle.std.proofs.lemmas.List.Sums.{prefix_len-le-length}
-use Rattle.markdown_options.specs.declared.align_kind.AlignKind.{AlignKind}
-use Rattle.markdown_options.specs.declared.line_ending.LineEnding.{LineEnding}
-use Rattle.definition_text.specs.Columns.{Rest, bare, bytes_of, is_white}
-use Rattle.definition_block.specs.GfmTable.{alignment, delimiters}
-use Rattle.engine_events.specs.Names.{same_name}
-use Rattle.engine_events.specs.declared.event.Name.{Name}
+use Rattle.parse_tables.proofs.Prelude.{AlignKind, alignment, append, append-nil, AreDelimiters, AreQuiet, Around, bar, bare, begins_other, bytes_of, colon_if}
+use Rattle.parse_tables.proofs.Prelude.{column, cond-true, cond_both, cut, delimiters, End, end_at, end_in, enter_at, Err, exit_at, Exits, is_white, IsBefore}
+use Rattle.parse_tables.proofs.Prelude.{IsInOrder, IsWrittenToRest, LineEnding, LineRest, list_all, map-append, Name, named, named_both, Nil, Node, Nodes}
+use Rattle.parse_tables.proofs.Prelude.{none, Ok, one, OnOk, prefix_len, prefix_len-le-length, Rest, Result, same_end, same_name, slice_index, standing}
+use Rattle.parse_tables.proofs.Prelude.{StandsAt, take-append-drop, true≢false, value_align, void_nodes, Walk, white, Within, WritesColumnHere}
+use Rattle.parse_tables.proofs.Prelude.{WritesDelimiterRow, WritesTo, WritesUpTo, written_to}
+use Rattle.std.specs.Prelude.{IfOk, Some}
+use Rattle.std.proofs.lemmas.Bool.{false_from_ne_true}
+use Rattle.std.proofs.lemmas.List.{length-take}
 use Rattle.engine_events.specs.declared.event.Name.TheVariants as n
-use Rattle.event_check.specs.Align.{value_align}
-use Rattle.event_grammar.specs.References.{named}
-use Rattle.event_grammar.specs.Trees.{Around, Node, Nodes, Nil}
-use Rattle.parse_output.specs.declared.end.End.{End}
-use Rattle.parse_output.specs.Ends.{end_at, enter_at, exit_at, same_end}
-use Rattle.parse_output.specs.Forest.{append, cut, one, void_nodes}
-use Rattle.parse_output.specs.Written.{Exits, IsInOrder, end_in}
-use Rattle.parse_laid.specs.Places.{LineRest, Within}
-use Rattle.parse_lines.specs.declared.walk.Walk.{Walk}
 use Rattle.block_starts.specs.View.{rest_of}
-use Rattle.parse_lines.specs.Ends.{IsWrittenToRest, WritesUpTo, written_to}
-use Rattle.parse_lines.specs.Quiet.{AreQuiet}
-use Rattle.parse_lines.specs.Standing.{StandsAt, standing}
-use Rattle.parse_strings.proofs.PlainNodes.{named_both}
-use Rattle.parse_tables.specs.Before.{IsBefore, WritesTo}
-use Rattle.parse_tables.specs.Columns.{WritesColumn, WritesColumnHere, WritesColumns, WritesDelimiterRow, WritesDelimiters, WritesPart, WritesPartHere}
-use Rattle.parse_tables.specs.Delimiters.{AreDelimiters, none, bar, white, column, begins_other, colon_if}
+use Rattle.parse_tables.specs.Columns.{WritesColumn, WritesColumns, WritesDelimiters, WritesPart, WritesPartHere}
 use Rattle.parse_tables.proofs.ColumnNodes.{named_void}
 use Rattle.parse_tables.proofs.Delimited.{row_delimited}
 use Rattle.parse_tables.proofs.LineStarts.{before_bare}

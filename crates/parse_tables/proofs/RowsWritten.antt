@@ -1,45 +1,22 @@
 -- The rows of a table are written, each on a line.
 use Rattle.std.proofs.Common.{◌≡◌, ℕ, ◌+◌, ◌-◌, ◌<◌, not, List, [], ◌∷◌, ◌++◌, Option, length, get_or, replicate, reverse, suc, take, inl, inr, refl, sym, ap, ap₂, subst, ◌∙◌, arith, append_assoc}
-use Rattle.std.specs.List.{prefix_len}
-use Rattle.std.proofs.lemmas.Bool.{cases_Bool, cond-false, cond-true}
-use Rattle.std.proofs.lemmas.List.{append-nil}
-use Rattle.std.proofs.lemmas.List.Elements.{filter-append}
-use Rattle.markdown_options.specs.declared.configuration.Constructs.{Constructs}
-use Rattle.markdown_options.specs.declared.line_ending.LineEnding.{LineEnding}
-use Rattle.definition_text.specs.BlockLines.{BlockLine, last_ending_or}
-use Rattle.definition_text.specs.Columns.{Rest, block_codes, bytes_of, is_byte, is_tab_column, tab_column}
-use Rattle.definition_block.specs.Container.{Container}
-use Rattle.definition_block.specs.GfmTable.{Cell, cells, line_cells}
-use Rattle.definition_page.specs.Read.{Reading}
-use Rattle.engine_events.specs.declared.event.Name.{Name}
+use Rattle.parse_tables.proofs.Prelude.{after_first_bar, append, append-nil, AreCellsOf, AreEnding, AreOnNextLine, AreQuiet, AreRowNodes, AreTaken, around}
+use Rattle.parse_tables.proofs.Prelude.{Around, Between, block_codes, BlockLine, bytes_of, cases_Bool, Cell, cells, cond-false, cond-true, Cons, Constructs}
+use Rattle.parse_tables.proofs.Prelude.{Container, cut, End, end_at, end_in, enter_at, exit_at, filter-append, Follows, HasSameOpen, HoldSame, HoldsSame}
+use Rattle.parse_tables.proofs.Prelude.{InAll, InSome, is_byte, is_tab_column, IsBefore, IsInOrder, IsOn, IsRowLine, IsRowNode, IsWrittenToRest, kids_of}
+use Rattle.parse_tables.proofs.Prelude.{last_ending_or, line_cells, line_left, LineEnding, LineRest, Name, named, Nil, Node, Nodes, one, PassesLine}
+use Rattle.parse_tables.proofs.Prelude.{piece_bytes, prefix_len, prefixed, Prefixed, Reading, Rest, rest_start, SpellCells, standing, Standing, StandsAt}
+use Rattle.parse_tables.proofs.Prelude.{tab_column, void_nodes, Walk, Within, Writes, writes_around, writes_both, WritesFirstBar, WritesFirstCellsHere}
+use Rattle.parse_tables.proofs.Prelude.{WritesFirstRows, WritesFirstRowsHere, WritesNextLine, WritesRowHere, WritesTo, WritesUpTo, written_to}
 use Rattle.engine_events.specs.declared.event.Name.TheVariants as n
-use Rattle.event_grammar.specs.InGrammar.{kids_of}
-use Rattle.event_grammar.specs.References.{named}
-use Rattle.event_grammar.specs.Trees.{Around, Cons, Nil, Node, Nodes}
-use Rattle.parse_output.specs.declared.end.End.{End}
-use Rattle.parse_output.specs.Ends.{Follows, end_at, enter_at, exit_at}
-use Rattle.parse_output.specs.Forest.{append, cut, one, void_nodes}
-use Rattle.parse_output.specs.Written.{IsInOrder, Writes, end_in}
 use Rattle.parse_output.proofs.Forests.{append-assoc as nodes_assoc}
-use Rattle.parse_output.proofs.Written.{writes_around, writes_both}
-use Rattle.parse_laid.specs.Leaves.{AreTaken, IsRowLine}
-use Rattle.parse_laid.specs.Places.{Between, InAll, InSome, IsOn, LineRest, Prefixed, Within, line_left, prefixed}
-use Rattle.parse_lines.specs.declared.walk.Walk.{Walk}
-use Rattle.parse_lines.specs.Ends.{IsWrittenToRest, WritesNextLine, WritesUpTo, line_after, rest_start, written_to}
-use Rattle.parse_lines.specs.Quiet.{AreQuiet}
-use Rattle.parse_lines.specs.Standing.{Standing, StandsAt, around, standing}
-use Rattle.parse_lines.specs.Steps.{HasSameOpen, PassesLine}
+use Rattle.parse_lines.specs.Ends.{line_after}
 use Rattle.parse_lines.proofs.Ends.{end_to_next}
-use Rattle.parse_raw.specs.Laid.{AreEnding}
 use Rattle.parse_raw.proofs.Endings.{ending_nodes}
-use Rattle.parse_leaves.proofs.RowLeaves.{piece_bytes}
-use Rattle.parse_tables.specs.Before.{IsBefore, WritesTo}
-use Rattle.parse_tables.specs.LineCells.{AreCellsOf, after_first_bar}
 use Rattle.parse_tables.proofs.CellBytes.{AreLineCodes, cells_are}
 use Rattle.parse_tables.proofs.LineStarts.{before_rest}
 use Rattle.parse_tables.proofs.Steps.{IsEntered, IsExited, before_after, before_both, before_none, before_token, open_both, same_open}
-use Rattle.parse_tables.specs.Cells.{SpellCells, WritesFirstBar, WritesFirstCellsHere}
-use Rattle.parse_tables.specs.Rows.{AreOnNextLine, AreRowNodes, HoldSame, HoldsSame, IsRowNode, WritesFirstRows, WritesFirstRowsHere, WritesNextRowHere, WritesRowHere}
+use Rattle.parse_tables.specs.Rows.{WritesNextRowHere}
 use Rattle.parse_tables.proofs.CellNodes.{children_void, in_row_both, in_row_void, spell_after, spell_before}
 
 -- ---- the bytes of a line

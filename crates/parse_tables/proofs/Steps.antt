@@ -1,25 +1,11 @@
 -- One step after another in a line.
 use Rattle.std.proofs.Common.{◌≡◌, ◌<◌, ◌≤◌, ℕ, ◌+◌, ◌^◌, List, [], ◌∷◌, ◌++◌, Option, length, length-append, refl, sym, ap, ap₂, subst, ◌∙◌, arith, false}
-use Rattle.std.specs.List.{list_any}
-use Rattle.std.proofs.lemmas.Bool.{or_from, or_parts}
-use Rattle.markdown_options.specs.declared.line_ending.LineEnding.{LineEnding}
-use Rattle.definition_text.specs.Lines.{ends_line}
-use Rattle.engine_events.specs.declared.event.Name.{Name}
-use Rattle.event_grammar.specs.Trees.{Around, Nil, Nodes}
-use Rattle.parse_output.specs.declared.end.End.{End}
-use Rattle.parse_output.specs.Ends.{Follows, end_at, enter_at, exit_at}
-use Rattle.parse_output.specs.Forest.{append, cut, void_nodes}
-use Rattle.parse_output.specs.Written.{Enters, Exits, IsInOrder, end_in}
-use Rattle.parse_output.proofs.Written.{writes_around, writes_both, writes_none}
-use Rattle.parse_laid.specs.Places.{LineRest, AtEnding}
-use Rattle.parse_lines.specs.declared.walk.Walk.{Walk}
-use Rattle.parse_lines.specs.Content.{AreNext, end_after}
-use Rattle.parse_lines.specs.Ends.{WritesUpTo, written_to}
-use Rattle.parse_lines.specs.Standing.{Standing, StandsAt, standing}
-use Rattle.parse_lines.specs.Steps.{HasSameOpen}
-use Rattle.parse_lines.proofs.Ahead.{after_bytes, follows_after, next_after}
+use Rattle.parse_tables.proofs.Prelude.{after_bytes, append, AreNext, Around, AtEnding, cut, End, end_after, end_at, end_in, ends_line, enter_at, Enters}
+use Rattle.parse_tables.proofs.Prelude.{exit_at, Exits, Follows, follows_after, HasSameOpen, IsBefore, IsInOrder, LineEnding, LineRest, list_any, Name}
+use Rattle.parse_tables.proofs.Prelude.{next_after, Nil, Nodes, or_from, or_parts, Standing, standing, StandsAt, void_nodes, Walk, writes_around, writes_both}
+use Rattle.parse_tables.proofs.Prelude.{WritesTo, WritesUpTo, written_to}
+use Rattle.parse_output.proofs.Written.{writes_none}
 use Rattle.parse_lines.proofs.Parts.{line_size}
-use Rattle.parse_tables.specs.Before.{IsBefore, WritesTo}
 
 pub dark_after : (front line : List ℕ) → list_any ends_line (front ++ line) ≡ false → list_any ends_line line ≡ false
 dark_after [] line h = h

@@ -1,40 +1,26 @@
 -- What the nodes of a table spell (GFM 4.10).
 use Rattle.std.proofs.Common.{◌≡◌, ℕ, true, false, List, [], ◌∷◌, ◌++◌, Option, None, Some, drop, is_some, map, inl, inr, refl, sym, ap, ap₂, subst, ◌∙◌}
-use Rattle.std.specs.Prelude.{if◌then◌else◌, unwrap_or}
-use Rattle.std.specs.List.{AllZip}
-use Rattle.std.proofs.lemmas.Bool.{cases_Bool, cond-false, cond-true}
-use Rattle.std.proofs.lemmas.List.{append-nil, map-append}
-use Rattle.markdown_options.specs.declared.align_kind.AlignKind.{AlignKind}
-use Rattle.markdown_options.specs.declared.line_ending.LineEnding.{LineEnding}
+use Rattle.parse_tables.proofs.Prelude.{AlignKind, AllZip, append, append-nil, AreBody, AreEnding, AreMeanings, AreOnNextLine, ArePartsAlike, AreQuiet}
+use Rattle.parse_tables.proofs.Prelude.{AreRowNodes, AreTablesAlike, Around, BlockLine, cases_Bool, cell_of, children, cond-false, cond-true, Cons, delimiters}
+use Rattle.parse_tables.proofs.Prelude.{if◌then◌else◌, IsHeadNode, IsRowNode, kids_of, line_cells, LineEnding, map-append, Meaning, Name, named, named_both}
+use Rattle.parse_tables.proofs.Prelude.{Nil, Node, node_name, Nodes, one, own_lines, read_cell, read_table, Reading, same_name, table_of, value_align}
+use Rattle.std.specs.Prelude.{unwrap_or}
 use Rattle.markdown_options.specs.declared.line_ending.LineEnding.TheVariants.{CarriageReturnLineFeed, CarriageReturn, LineFeed}
 use Rattle.markdown_options.specs.LineEndings.{ending_bytes}
-use Rattle.definition_text.specs.BlockLines.{BlockLine, own_lines}
-use Rattle.definition_block.specs.GfmTable.{delimiters, line_cells}
 use Rattle.definition_inline.specs.CharacterReference.{Names}
 use Rattle.definition_page.specs.GfmTable.{TableRow, delimiter_line, line_aligns}
-use Rattle.definition_page.specs.InlinePieces.{Meaning}
-use Rattle.definition_page.specs.Read.{Reading, ending_list, read_cell, read_row, read_table}
-use Rattle.engine_events.specs.Names.{is_listed, same_name}
-use Rattle.engine_events.specs.declared.event.Name.{Name}
+use Rattle.definition_page.specs.Read.{ending_list, read_row}
+use Rattle.engine_events.specs.Names.{is_listed}
 use Rattle.engine_events.specs.declared.event.Name.TheVariants as n
-use Rattle.event_check.specs.Align.{table_align, value_align}
-use Rattle.event_grammar.specs.InGrammar.{kids_of, node_name}
-use Rattle.event_grammar.specs.References.{named, named_in}
-use Rattle.event_grammar.specs.Trees.{Node, Nodes, Around, Nil, Cons}
-use Rattle.event_meaning.specs.Children.{after_child, before_child, child, children, inside_of, kids_in, text_of}
-use Rattle.event_meaning.specs.GfmTable.{cell_of, endings_before_row, endings_in, row_of, rows_of, table_of}
+use Rattle.event_check.specs.Align.{table_align}
+use Rattle.event_grammar.specs.References.{named_in}
+use Rattle.event_meaning.specs.Children.{after_child, before_child, child, inside_of, kids_in, text_of}
+use Rattle.event_meaning.specs.GfmTable.{endings_before_row, endings_in, row_of, rows_of}
 use Rattle.event_meaning.specs.Raw.{ending_of}
-use Rattle.parse_output.specs.Forest.{append, one}
-use Rattle.parse_strings.proofs.PlainNodes.{named_both}
-use Rattle.parse_lines.specs.Quiet.{AreQuiet, IsQuiet, quiet_names}
+use Rattle.parse_lines.specs.Quiet.{IsQuiet, quiet_names}
 use Rattle.parse_lines.proofs.Quiet.{quiet_named}
-use Rattle.parse_alike.specs.Inline.{ArePartsAlike}
-use Rattle.parse_alike.specs.GfmTable.{AreRowsAlike, AreTablesAlike}
-use Rattle.parse_alike.specs.Meanings.{AreMeanings}
-use Rattle.parse_raw.specs.Laid.{AreEnding}
+use Rattle.parse_alike.specs.GfmTable.{AreRowsAlike}
 use Rattle.parse_raw.proofs.Nodes.{before_append, child_append}
-use Rattle.parse_tables.specs.Rows.{AreOnNextLine, AreRowNodes, IsRowNode}
-use Rattle.parse_tables.specs.Tables.{AreBody, IsHeadNode}
 use Rattle.parse_tables.proofs.CellNodes.{children_both, children_first, children_other}
 
 -- ---- the first child of a name

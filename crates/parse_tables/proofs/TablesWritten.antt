@@ -1,37 +1,20 @@
 -- A table is written (GFM 4.10).
 use Rattle.std.proofs.Common.{◌≡◌, ℕ, zero, suc, ◌-◌, ◌<◌, ◌≤◌, Bool, List, [], ◌∷◌, Option, None, Some, drop, get_or, length, take, refl, sym, ap, ap₂, subst, ◌∙◌, arith}
-use Rattle.markdown_options.specs.declared.align_kind.AlignKind.{AlignKind}
-use Rattle.markdown_options.specs.declared.line_ending.LineEnding.{LineEnding}
-use Rattle.definition_text.specs.BlockLines.{BlockLine, block_line, last_ending, last_ending_or, own_lines}
-use Rattle.definition_text.specs.Columns.{bare, block_codes, bytes_of}
-use Rattle.definition_block.specs.GfmTable.{delimiters}
-use Rattle.definition_block.specs.Tree.{Table, rest_line}
+use Rattle.parse_tables.proofs.Prelude.{AlignKind, append, AreBody, AreTablesAlike, AreTaken, around, Around, AtEnding, bare, Between, block_codes, block_line}
+use Rattle.parse_tables.proofs.Prelude.{BlockLine, bytes_of, delimiters, End, end_at, end_in, enter_at, exit_at, HoldSame, HoldsSame, InAll, IsHeadNode}
+use Rattle.parse_tables.proofs.Prelude.{IsInOrder, IsOn, IsRowLine, IsWrittenToRest, last_ending_or, line_left, LineEnding, LineRest, named, Nil, Node, one}
+use Rattle.parse_tables.proofs.Prelude.{own_lines, Piece, piece_line, piece_lines, Place, prefixed, Prefixed, read_table, Reading, standing, StandsAt, Table}
+use Rattle.parse_tables.proofs.Prelude.{table_of, Walk, Within, WritesBodyHere, WritesHeadHere, WritesReadLeaf, written_to}
+use Rattle.definition_text.specs.BlockLines.{last_ending}
+use Rattle.definition_block.specs.Tree.{rest_line}
 use Rattle.definition_page.specs.Page as page
-use Rattle.definition_page.specs.Read.{Reading, read_table}
 use Rattle.engine_events.specs.declared.event.Name.TheVariants as n
-use Rattle.event_grammar.specs.References.{named}
-use Rattle.event_grammar.specs.Trees.{Around, Nil, Node}
-use Rattle.event_meaning.specs.GfmTable.{table_of}
-use Rattle.parse_output.specs.declared.end.End.{End}
-use Rattle.parse_output.specs.Ends.{end_at, enter_at, exit_at}
-use Rattle.parse_output.specs.Forest.{append, one}
-use Rattle.parse_output.specs.Written.{IsInOrder, end_in}
-use Rattle.parse_alike.specs.GfmTable.{AreTablesAlike}
-use Rattle.parse_laid.specs.Leaves.{AreTable, AreTaken, EndsAt, IsRowLine}
-use Rattle.parse_laid.specs.Places.{AtEnding, Between, InAll, IsOn, LineRest, Place, Prefixed, Within, line_left, prefixed}
-use Rattle.text_pieces.specs.declared.piece.Piece.{Piece}
-use Rattle.text_pieces.specs.Pieces.{piece_line, piece_lines}
-use Rattle.parse_lines.specs.declared.walk.Walk.{Walk}
-use Rattle.parse_lines.specs.Ends.{IsWrittenToRest, written_to}
-use Rattle.parse_lines.specs.Standing.{StandsAt, around, standing}
-use Rattle.parse_raw.specs.Reads.{WritesReadLeaf}
+use Rattle.parse_laid.specs.Leaves.{AreTable, EndsAt}
 use Rattle.parse_raw.specs.Written.{WritesLeaf}
 use Rattle.parse_raw.proofs.LeafNodes.{rest_within}
 use Rattle.parse_leaves.proofs.RowLeaves.{own_size}
 use Rattle.parse_leaves.proofs.TextLeaves.{none_alike}
 use Rattle.parse_tables.proofs.Steps.{IsEntered, IsExited, open_both}
-use Rattle.parse_tables.specs.Rows.{HoldSame, HoldsSame}
-use Rattle.parse_tables.specs.Tables.{AreBody, IsHeadNode, WritesBodyHere, WritesHeadHere}
 use Rattle.parse_tables.proofs.BodyWritten.{entered_open, entered_stands, entered_written, same_prefixed, same_taken}
 use Rattle.parse_tables.proofs.DelimiterLines.{line_delimiters, row_delimiters}
 use Rattle.parse_tables.proofs.RowsWritten.{around_line, lines_both, same_row}

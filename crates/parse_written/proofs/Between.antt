@@ -1,14 +1,10 @@
 -- Tokens and parts between two places of a content.
 use Rattle.std.proofs.Common.{◌≡◌, ℕ, true, false, List, [], ◌∷◌, ◌++◌, drop, take, replicate, refl, sym, subst, arith}
-use Rattle.markdown_options.specs.declared.configuration.ParseOptions.{ParseOptions}
-use Rattle.definition_text.specs.Content.{is_eol}
-use Rattle.definition_text.specs.InlineCode.{InlineCode, codes_of}
-use Rattle.definition_inline.specs.Attention.{Run, is_marker, run_size, has_span_size}
-use Rattle.definition_inline.specs.Inline.{Target, InlineLeaf, Data, Literal, Inline, Leaf, Inlines, Nil, followed_by}
-use Rattle.definition_inline.specs.Scan.{InlineContext}
-use Rattle.definition_inline.specs.Spans.{Token, Item, Delimiters}
-use Rattle.parse_written.specs.Written.{AreCodes, AreSpaces, IsLeafWritten, linked_start, EndsLinked, call_codes, IsWritten, AsLeaf, AsSpan, AsLinked, AsCall}
-use Rattle.parse_written.specs.Written.{AreWritten, Nothing, Spaces, More}
+use Rattle.parse_written.proofs.Prelude.{AreCodes, AreSpaces, AreWritten, AsCall, AsLeaf, AsLinked, AsSpan, codes_of, Data, Delimiters, EndsLinked}
+use Rattle.parse_written.proofs.Prelude.{followed_by, has_span_size, Inline, InlineCode, InlineContext, InlineLeaf, Inlines, is_eol, is_marker, IsLeafWritten}
+use Rattle.parse_written.proofs.Prelude.{IsWritten, Item, Leaf, linked_start, Literal, More, Nil, Nothing, ParseOptions, Run, run_size, Spaces, Token}
+use Rattle.definition_inline.specs.Inline.{Target}
+use Rattle.parse_written.specs.Written.{call_codes}
 use Rattle.parse_written.proofs.Codes.{codes_both, codes_dropped}
 
 -- a run as long as it goes, which may open a span only if its size is that of one

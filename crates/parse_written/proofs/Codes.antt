@@ -1,13 +1,9 @@
 -- Codes between two places of a content.
 use Rattle.std.proofs.Common.{inl, inr, ◌≡◌, ℕ, zero, suc, ◌+◌, ◌-◌, List, [], ◌∷◌, ◌++◌, refl, sym, ap, ◌∙◌, length, take, drop, replicate, arith, subst}
-use Rattle.std.specs.Prelude.{◌==◌}
-use Rattle.std.proofs.lemmas.Bool.{cases_Bool, cond-true, cond-false, eqb-true, eq-eqb}
-use Rattle.std.proofs.lemmas.List.{length-append, replicate-append-replicate}
-use Rattle.std.proofs.Math.Seq.{take-append_seam}
-use Rattle.definition_text.specs.Content.{text_before}
-use Rattle.definition_text.specs.InlineCode.{InlineCode, codes_of}
-use Rattle.definition_inline.specs.Attention.{run_size}
-use Rattle.parse_written.specs.Written.{AreCodes}
+use Rattle.parse_written.proofs.Prelude.{AreCodes, cases_Bool, codes_of, cond-false, cond-true, eqb-true, InlineCode, length-append, run_size}
+use Rattle.parse_written.proofs.Prelude.{take-append_seam, text_before, ◌==◌}
+use Rattle.std.proofs.lemmas.Bool.{eq-eqb}
+use Rattle.std.proofs.lemmas.List.{replicate-append-replicate}
 
 pub codes_both : (xs ys : List ℕ) (a b c : List InlineCode) → AreCodes xs a b → AreCodes ys b c → AreCodes (xs ++ ys) a c
 codes_both [] ys a b c p q = subst (λ k. AreCodes ys k c) (sym p) q

@@ -1,10 +1,8 @@
 -- Inline structure is written in its content.
 use Rattle.std.proofs.Common.{[]}
-use Rattle.std.proofs.lemmas.Bool.{cond_both}
-use Rattle.definition_inline.specs.GfmAutolinkLiteral.{with_literals}
-use Rattle.definition_inline.specs.Scan.{spans_from, without_indent}
+use Rattle.parse_written.proofs.Prelude.{AreWritten, cond_both, spans_from, with_literals}
+use Rattle.definition_inline.specs.Scan.{without_indent}
 use Rattle.parse_written.specs.Laws.{WrittenLaw, WrittenFromLaw}
-use Rattle.parse_written.specs.Written.{AreWritten}
 use Rattle.parse_written.proofs.GfmAutolinkLiteral.{literals_read}
 use Rattle.parse_written.proofs.LinkedLiterals.{literals_written}
 use Rattle.parse_written.proofs.Scanned.{scan_written}

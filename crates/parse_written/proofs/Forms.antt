@@ -1,38 +1,25 @@
 -- The leaf that the definition finds has its form there.
 use Rattle.std.proofs.Common.{inl, inr, ◌≡◌, ℕ, zero, suc, ◌+◌, ◌-◌, ◌<◌, Bool, true, false, cond, not, ◌&&◌, ◌||◌, List, [], ◌∷◌, ◌++◌, map, Option, None}
 use Rattle.std.proofs.Common.{Some, length, take, drop, replicate, refl, sym, ap, ◌∙◌, subst, arith, append_assoc}
-use Rattle.std.specs.Prelude.{◌==◌, nat_le, codes}
-use Rattle.std.specs.Char.{is_ascii_digit, is_ascii_hexdigit, is_ascii_alphanumeric, is_ascii_punctuation}
-use Rattle.std.specs.List.{prefix_len, take_while, list_all}
-use Rattle.std.proofs.Math.Seq.{take-append_seam}
-use Rattle.std.proofs.lemmas.Bool.{cases_Bool, both_ways, cond_both, cond-true, cond-false, eqb-true, leb-true, and_parts, true≢false}
-use Rattle.std.proofs.lemmas.List.{length-append, take-append-drop, drop-drop}
-use Rattle.definition_text.specs.Bytes.{begins_with, after_all}
-use Rattle.definition_text.specs.Columns.{is_white, indent, bare}
-use Rattle.definition_text.specs.Content.{Part, part, text_before, up_to, is_eol}
-use Rattle.definition_text.specs.InlineCode.{InlineCode, codes_of}
-use Rattle.definition_text.specs.Runs.{run, after_run}
-use Rattle.definition_text.proofs.Each.{Each, WhereSome, each-append}
-use Rattle.definition_inline.specs.Attention.{run_size}
-use Rattle.definition_inline.specs.Autolink.{is_scheme_byte, is_uri_byte, is_email_byte, is_domain_byte, begins_with_scheme, after_uri, uri_end, domain_end}
-use Rattle.definition_inline.specs.Autolink.{email_end, closed_autolink, autolink_after, autolink_at}
-use Rattle.definition_inline.specs.CharacterEscape.{escape_at}
-use Rattle.definition_inline.specs.CharacterReference.{CharacterReference, character_reference, before_semicolon, part_to_semicolon, reference_by_number}
-use Rattle.definition_inline.specs.CharacterReference.{reference_by_name, number_reference, reference_after, reference_form, reference_text, reference_leaf}
-use Rattle.definition_inline.specs.CharacterReference.{reference_of, reference_at}
-use Rattle.definition_inline.specs.CodeText.{run_of, raw_part, raw_leaf, raw_at, code_text, code_text_at}
-use Rattle.definition_inline.specs.GfmAutolinkLiteral.{literal_at}
-use Rattle.definition_inline.specs.HardBreak.{ends_here, line_end_at, escaped_break_at, is_trailing_break, line_spaces_at}
-use Rattle.definition_inline.specs.HtmlText.{html_byte, html_end, html_leaf, html_text_at}
-use Rattle.definition_inline.specs.Inline.{InlineLeaf, Data, Literal, Escape, Character, Code, Math, Autolink, Html, EscapedBreak, TrailingBreak, LineEnd}
-use Rattle.definition_inline.specs.Inline.{TaskCheck, Found, leaf, or_else}
-use Rattle.definition_inline.specs.MathText.{may_open_math, math_text_at}
-use Rattle.definition_inline.specs.Scan.{InlineContext, leaf_at, leaf_here}
+use Rattle.parse_written.proofs.Prelude.{after_all, after_run, and_parts, AreCodes, Autolink, autolink_after, autolink_at, bare, begins_with, both_ways}
+use Rattle.parse_written.proofs.Prelude.{cases_Bool, Character, CharacterReference, closed_autolink, Code, code_text, code_text_at, codes, codes_of}
+use Rattle.parse_written.proofs.Prelude.{cond-false, cond-true, cond_both, Data, drop-codes_of, drop-drop, Each, each-append, email_end, EndNoLine, ends_here}
+use Rattle.parse_written.proofs.Prelude.{eqb-true, Escape, escape_at, escaped_break_at, EscapedBreak, Found, Html, html_byte, html_end, html_leaf}
+use Rattle.parse_written.proofs.Prelude.{html_text_at, indent, InlineCode, InlineContext, InlineLeaf, is_ascii_punctuation, is_eol, is_trailing_break}
+use Rattle.parse_written.proofs.Prelude.{is_white, IsFound, leaf, leaf_at, leaf_here, length-append, line_end_at, line_spaces_at, LineEnd, Literal, literal_at}
+use Rattle.parse_written.proofs.Prelude.{Math, math_text_at, may_open_math, nat_le, or_else, part, Part, prefix_len, raw_at, raw_leaf, raw_part}
+use Rattle.parse_written.proofs.Prelude.{reference_after, reference_at, reference_form, reference_leaf, reference_of, reference_text, run, run_of, run_size}
+use Rattle.parse_written.proofs.Prelude.{take-append-drop, take-append_seam, text_before, TrailingBreak, true≢false, up_to, uri_end, WhereSome, ◌==◌}
+use Rattle.std.specs.Char.{is_ascii_digit, is_ascii_hexdigit, is_ascii_alphanumeric}
+use Rattle.std.specs.List.{take_while, list_all}
+use Rattle.std.proofs.lemmas.Bool.{leb-true}
+use Rattle.definition_inline.specs.Autolink.{is_scheme_byte, is_uri_byte, is_email_byte, is_domain_byte, begins_with_scheme, after_uri, domain_end}
+use Rattle.definition_inline.specs.CharacterReference.{character_reference, before_semicolon, part_to_semicolon, reference_by_number}
+use Rattle.definition_inline.specs.CharacterReference.{reference_by_name, number_reference}
+use Rattle.definition_inline.specs.Inline.{TaskCheck}
 use Rattle.definition_inline.proofs.GfmAutolinkLiteral.{any_literal}
-use Rattle.definition_inline.proofs.Scanning.{drop-codes_of}
 use Rattle.parse_written.specs.Laws.{LeafLaw}
 use Rattle.parse_written.specs.Leaves.{Lacks, IsReference, IsRaw, HasForm}
-use Rattle.parse_written.specs.Written.{AreCodes, EndNoLine, IsFound}
 use Rattle.parse_written.proofs.Codes.{codes_dropped, run_marks}
 use Rattle.parse_written.proofs.HtmlEnds.{EndsWith, html_closed, html_closes}
 use Rattle.parse_written.proofs.Leaves.{is_its_text, codes_of_take}

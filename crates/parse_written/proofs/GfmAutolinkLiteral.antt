@@ -1,24 +1,17 @@
 -- Literals are read as their texts, and those of a tree are written where their bytes are.
 use Rattle.std.proofs.Common.{◌<◌, ◌≡◌, ℕ, zero, suc, ◌+◌, ◌≤◌, Bool, true, false, cond, not, ◌&&◌, ◌||◌, List, [], ◌∷◌, ◌++◌, Option, None, Some}
 use Rattle.std.proofs.Common.{length, take, drop, reverse, refl, sym, ap, ◌∙◌, subst, arith, append_assoc}
-use Rattle.std.specs.Prelude.{codes}
+use Rattle.parse_written.proofs.Prelude.{and_parts, AreCodes, AsLeaf, bytes_eq-Decides, codes, codes_of, common_steps, cond_both, drop-codes_of, drop-drop}
+use Rattle.parse_written.proofs.Prelude.{EndNoLine, Found, InlineCode, InlineContext, is_eol, is_white, leaf, Leaf, leaf_tokens, Literal, literal_at}
+use Rattle.parse_written.proofs.Prelude.{LiteralKind, reverse-append, reverse-reverse, where_passed, WhereSome}
 use Rattle.std.specs.Char.{to_ascii_lowercase}
-use Rattle.std.proofs.lemmas.Bool.{cond_both, and_parts, or_parts}
-use Rattle.std.proofs.lemmas.Grind.{common_steps}
-use Rattle.std.proofs.lemmas.List.{drop-drop, reverse-append, reverse-reverse}
-use Rattle.std.proofs.lemmas.Slice.Eq.{bytes_eq-Decides}
+use Rattle.std.proofs.lemmas.Bool.{or_parts}
 use Rattle.definition_text.specs.Bytes.{lower}
-use Rattle.definition_text.specs.Columns.{is_white}
-use Rattle.definition_text.specs.Content.{is_eol, is_space}
-use Rattle.definition_text.specs.InlineCode.{InlineCode, codes_of}
-use Rattle.definition_text.proofs.Each.{WhereSome, where_passed}
+use Rattle.definition_text.specs.Content.{is_space}
 use Rattle.definition_inline.specs.GfmAutolinkLiteral.{LiteralStart, literal_start, or_start, www_start, protocol_start, begins_caselessly, may_precede_www}
 use Rattle.definition_inline.specs.GfmAutolinkLiteral.{may_precede_protocol, literal_start_at, ends_literal, literal_run, is_cut, cut_more, without_tail}
-use Rattle.definition_inline.specs.GfmAutolinkLiteral.{literal_name, literal_after, literal_at}
-use Rattle.definition_inline.specs.Inline.{LiteralKind, Www, Protocol, Literal, Leaf, Found, leaf}
-use Rattle.definition_inline.specs.Scan.{InlineContext, leaf_tokens}
-use Rattle.definition_inline.proofs.Scanning.{drop-codes_of}
-use Rattle.parse_written.specs.Written.{AreCodes, EndNoLine, AsLeaf}
+use Rattle.definition_inline.specs.GfmAutolinkLiteral.{literal_name, literal_after}
+use Rattle.definition_inline.specs.Inline.{Www, Protocol}
 use Rattle.parse_written.proofs.Between.{AreRead, one_part}
 use Rattle.parse_written.proofs.Codes.{codes_both, codes_dropped}
 use Rattle.parse_written.proofs.Leaves.{codes_of_take, LiteralsRead}

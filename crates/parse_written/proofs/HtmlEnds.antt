@@ -1,18 +1,16 @@
 -- Raw HTML ends with `>` (CommonMark 6.6).
 use Rattle.std.proofs.Common.{◌≡◌, ℕ, zero, suc, Bool, true, cond, eqb, List, [], ◌∷◌, ◌++◌, Option, None, Some, refl, sym, ap, ◌∙◌, append_assoc, length, drop, take, map, ◌-◌, arith}
-use Rattle.std.specs.Prelude.{codes, ◌==◌}
-use Rattle.std.specs.List.{prefix_len}
+use Rattle.parse_written.proofs.Prelude.{after_all, and_parts, begins_with, codes, cond_both, eqb-true, html_byte, html_end, length-append, prefix_len}
+use Rattle.parse_written.proofs.Prelude.{take-append_seam, WhereSome, ◌==◌}
 use Rattle.std.specs.Option.{option_or}
-use Rattle.std.proofs.Math.Seq.{take-append_seam}
 use Rattle.std.proofs.lemmas.Bool.Decides.{nat_tests}
-use Rattle.std.proofs.lemmas.List.{length-append, length-map}
-use Rattle.std.proofs.lemmas.Bool.{cond_both, and_parts, eqb-true, false≢true}
-use Rattle.definition_text.specs.Bytes.{after_all, begins_with, without_slash}
-use Rattle.definition_text.proofs.Each.{WhereSome}
+use Rattle.std.proofs.lemmas.List.{length-map}
+use Rattle.std.proofs.lemmas.Bool.{false≢true}
+use Rattle.definition_text.specs.Bytes.{without_slash}
 use Rattle.definition_inline.specs.HtmlTags.{then_part, is_tag_space, tag_space, is_tag_name_byte, after_tag_name, begins_attribute, is_attribute_byte}
 use Rattle.definition_inline.specs.HtmlTags.{is_unquoted, quoted_value, unquoted_value, value, value_or, specification, attribute, has_attribute, attributes}
 use Rattle.definition_inline.specs.HtmlTags.{tag_end, open_end, closing_end, open_rest, closing_rest, open_tag, closing_tag}
-use Rattle.definition_inline.specs.HtmlText.{html_byte, after_text, comment_rest, comment, instruction, declaration, cdata, html_end}
+use Rattle.definition_inline.specs.HtmlText.{after_text, comment_rest, comment, instruction, declaration, cdata}
 
 -- what bytes end with
 pub record EndsWith (bytes rest : List ℕ) : Type 0 where

@@ -1,14 +1,11 @@
 -- What is written as a tree is written from left to right.
 use Rattle.std.proofs.Common.{inl, inr, ◌≡◌, Bool, true, false, List, [], ◌∷◌, ◌++◌, refl, sym, ap, ◌∙◌, subst, append_assoc}
-use Rattle.std.proofs.lemmas.Bool.{both_ways}
-use Rattle.std.proofs.lemmas.List.{append-nil}
-use Rattle.definition_text.specs.InlineCode.{InlineCode, codes_of}
-use Rattle.definition_inline.specs.HardBreak.{ends_here}
-use Rattle.definition_inline.specs.Inline.{InlineLeaf, Data, Literal, LineEnd, LinkedKind, Link, Image, Inlines}
-use Rattle.definition_inline.specs.Scan.{InlineContext}
+use Rattle.parse_written.proofs.Prelude.{append-nil, AreCodes, AreSpaces, AreWritten, AsCall, AsLeaf, AsLinked, AsSpan, both_ways, codes_of, Data, ends_here}
+use Rattle.parse_written.proofs.Prelude.{Image, InlineCode, InlineContext, InlineLeaf, Inlines, IsLeafWritten, LineEnd, Link, linked_start, Literal, More}
+use Rattle.parse_written.proofs.Prelude.{Nothing, Spaces}
+use Rattle.definition_inline.specs.Inline.{LinkedKind}
 use Rattle.parse_written.specs.Laid.{Step, Holds, EntersSpan, EntersLinked, Leaves, HoldsCall, steps_of, Open, OpenSpan, OpenLinked, AreLaid}
 use Rattle.parse_written.specs.Laws.{LaidLaw}
-use Rattle.parse_written.specs.Written.{AreCodes, AreSpaces, IsLeafWritten, linked_start, AsLeaf, AsSpan, AsLinked, AsCall, AreWritten, Nothing, Spaces, More}
 use Rattle.parse_written.proofs.LineEnds.{spaces_end, spaces_first, line_end_found, codes_first, text_first, start_first, end_first}
 
 -- a start, what is in it, its end, and what follows

@@ -1,27 +1,14 @@
 -- Each construct that holds no other is read as its tokens.
 use Rattle.std.proofs.Common.{inl, inr, ◌≡◌, ℕ, zero, suc, ◌+◌, ◌-◌, Bool, true, false, cond, ◌&&◌, List, [], ◌∷◌, map, Option, None, Some, length, take}
 use Rattle.std.proofs.Common.{drop, refl, sym, ap, ◌∙◌, subst, arith}
-use Rattle.std.specs.Prelude.{◌==◌, nat_le}
-use Rattle.std.proofs.lemmas.Bool.{cases_Bool, both_ways, cond_both, cond-true, eqb-true}
-use Rattle.markdown_options.specs.declared.configuration.Constructs.{Constructs}
-use Rattle.definition_text.specs.Columns.{indent, bare}
-use Rattle.definition_text.specs.Content.{Part, text_before, up_to, is_eol}
-use Rattle.definition_text.specs.InlineCode.{InlineCode, codes_of}
-use Rattle.definition_text.specs.Runs.{run, after_run}
-use Rattle.definition_text.proofs.Each.{WhereSome, where_passed}
-use Rattle.definition_inline.specs.Autolink.{uri_end, email_end, closed_autolink, autolink_after, autolink_at}
-use Rattle.definition_inline.specs.CharacterEscape.{escape_at}
-use Rattle.definition_inline.specs.CharacterReference.{Names, CharacterReference, reference_form, reference_text, reference_leaf, reference_of, reference_at}
-use Rattle.definition_inline.specs.CodeText.{run_of, raw_part, raw_leaf, raw_at, code_text, code_text_at}
-use Rattle.definition_inline.specs.GfmAutolinkLiteral.{literal_at}
-use Rattle.definition_inline.specs.HardBreak.{ends_here, line_end_at, escaped_break_at, is_trailing_break, line_spaces_at}
-use Rattle.definition_inline.specs.HtmlText.{html_byte, html_end, html_leaf, html_text_at}
-use Rattle.definition_inline.specs.Inline.{InlineLeaf, Data, Literal, Escape, Character, Code, Math, Autolink, Html, EscapedBreak, TrailingBreak, LineEnd}
-use Rattle.definition_inline.specs.Inline.{Leaf, Found, leaf, or_else}
-use Rattle.definition_inline.specs.MathText.{may_open_math, math_text_at}
-use Rattle.definition_inline.specs.Scan.{InlineContext, leaf_at, leaf_here, leaf_tokens}
-use Rattle.definition_inline.specs.Spans.{Item}
-use Rattle.parse_written.specs.Written.{AreCodes, EndNoLine, IsFound, IsLeafWritten, AsLeaf}
+use Rattle.parse_written.proofs.Prelude.{after_run, AreCodes, AsLeaf, Autolink, autolink_after, autolink_at, bare, both_ways, cases_Bool, Character}
+use Rattle.parse_written.proofs.Prelude.{CharacterReference, closed_autolink, Code, code_text, code_text_at, codes_of, cond-true, cond_both, Constructs, Data}
+use Rattle.parse_written.proofs.Prelude.{email_end, EndNoLine, ends_here, eqb-true, Escape, escape_at, escaped_break_at, EscapedBreak, Found, Html, html_byte}
+use Rattle.parse_written.proofs.Prelude.{html_end, html_leaf, html_text_at, indent, InlineCode, InlineContext, InlineLeaf, is_eol, is_trailing_break, IsFound}
+use Rattle.parse_written.proofs.Prelude.{IsLeafWritten, Item, Leaf, leaf, leaf_at, leaf_here, leaf_tokens, line_end_at, line_spaces_at, LineEnd, Literal}
+use Rattle.parse_written.proofs.Prelude.{literal_at, Math, math_text_at, may_open_math, Names, nat_le, or_else, Part, raw_at, raw_leaf, raw_part, reference_at}
+use Rattle.parse_written.proofs.Prelude.{reference_form, reference_leaf, reference_of, reference_text, run, run_of, text_before, TrailingBreak, up_to, uri_end}
+use Rattle.parse_written.proofs.Prelude.{where_passed, WhereSome, ◌==◌}
 use Rattle.parse_written.proofs.Codes.{codes_dropped}
 use Rattle.parse_written.proofs.Between.{byte_written, AreRead, NoTokens, SomeSpaces, OnePart, one_part}
 

@@ -1,33 +1,16 @@
 -- What stands at the end of a line: its ending alone.
 use Rattle.std.proofs.Common.{inl, inr, ◌≡◌, ℕ, zero, suc, ◌+◌, ◌<◌, Bool, true, false, cond, not, ◌&&◌, List, [], ◌∷◌, map, Option, None, Some, take}
 use Rattle.std.proofs.Common.{drop, replicate, refl, sym, ap, ◌∙◌, subst, arith}
-use Rattle.std.specs.Prelude.{◌==◌, nat_le, codes}
-use Rattle.std.specs.Char.{is_ascii_punctuation}
+use Rattle.parse_written.proofs.Prelude.{and_parts, AreCodes, AreSpaces, autolink_after, autolink_at, bare, both_ways, cases_Bool, code_text_at, codes}
+use Rattle.parse_written.proofs.Prelude.{codes_of, common_steps, cond-false, cond-true, cond_both, Constructs, drop-codes_of, Emphasis, ends_here, eqb-true}
+use Rattle.parse_written.proofs.Prelude.{Escape, escape_at, escaped_break_at, EscapedBreak, Found, here_fits, html_byte, html_end, html_leaf, html_text_at}
+use Rattle.parse_written.proofs.Prelude.{indent, InlineCode, InlineContext, InlineLeaf, is_ascii_punctuation, is_eol, is_marker, is_trailing_break, is_white}
+use Rattle.parse_written.proofs.Prelude.{IsFound, IsSequence, leaf, leaf_at, leaf_here, line_spaces_at, LineEnd, literal_at, math_text_at, may_open_math}
+use Rattle.parse_written.proofs.Prelude.{Names, nat_le, of_marker, or_else, ParseOptions, raw_at, raw_leaf, reference_after, reference_at, reference_of, run}
+use Rattle.parse_written.proofs.Prelude.{run_of, SpanKind, StartsSpan, Strong, TrailingBreak, up_to, WhereSome, ◌==◌}
 use Rattle.std.specs.Str.{bytes_eq}
-use Rattle.std.proofs.lemmas.Bool.{cases_Bool, cond_both, cond-true, cond-false, and_parts, both_ways, eqb-true}
-use Rattle.std.proofs.lemmas.Grind.{common_steps}
-use Rattle.markdown_options.specs.declared.configuration.Constructs.{Constructs}
-use Rattle.markdown_options.specs.declared.configuration.ParseOptions.{ParseOptions}
-use Rattle.definition_text.specs.Columns.{is_white, indent, bare}
-use Rattle.definition_text.specs.Content.{is_eol, up_to}
-use Rattle.definition_text.specs.InlineCode.{InlineCode, codes_of}
-use Rattle.definition_text.specs.Runs.{run}
-use Rattle.definition_text.proofs.Each.{WhereSome}
-use Rattle.definition_inline.specs.Attention.{is_marker}
-use Rattle.definition_inline.specs.Autolink.{autolink_after, autolink_at}
-use Rattle.definition_inline.specs.CharacterEscape.{escape_at}
-use Rattle.definition_inline.specs.CharacterReference.{Names, reference_after, reference_of, reference_at}
-use Rattle.definition_inline.specs.CodeText.{run_of, raw_leaf, raw_at, code_text_at}
-use Rattle.definition_inline.specs.GfmAutolinkLiteral.{literal_at}
-use Rattle.definition_inline.specs.HardBreak.{ends_here, ends_inner_line, escaped_break_at, is_trailing_break, line_spaces_at}
-use Rattle.definition_inline.specs.HtmlText.{html_byte, html_end, html_leaf, html_text_at}
-use Rattle.definition_inline.specs.Inline.{InlineLeaf, Escape, EscapedBreak, TrailingBreak, LineEnd, Found, leaf, or_else, SpanKind, Emphasis, Strong}
-use Rattle.definition_inline.specs.MathText.{may_open_math, math_text_at}
-use Rattle.definition_inline.specs.Scan.{InlineContext, leaf_at, leaf_here}
-use Rattle.definition_inline.proofs.InlineSizes.{here_fits}
-use Rattle.definition_inline.proofs.Markers.{of_marker}
-use Rattle.definition_inline.proofs.Scanning.{drop-codes_of}
-use Rattle.parse_written.specs.Written.{AreCodes, IsText, AreSpaces, IsFound, IsSequence, StartsSpan}
+use Rattle.definition_inline.specs.HardBreak.{ends_inner_line}
+use Rattle.parse_written.specs.Written.{IsText}
 
 -- ---- spaces stand before the end of a line
 

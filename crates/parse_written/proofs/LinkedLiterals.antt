@@ -1,16 +1,12 @@
 -- A tree with its literals is written where the tree without them is.
 use Rattle.std.proofs.Common.{◌≡◌, ℕ, zero, suc, ◌-◌, true, List, [], ◌∷◌, ◌++◌, map, Option, None, Some, length, take, drop, refl, sym}
 use Rattle.std.proofs.Common.{◌<◌, arith, ap, ◌∙◌, subst, append_assoc}
-use Rattle.std.specs.Prelude.{◌==◌}
-use Rattle.std.proofs.lemmas.Bool.{cond_both, both_ways, eqb-true}
-use Rattle.std.proofs.lemmas.List.{append-nil, length-append, take-append-drop}
-use Rattle.definition_text.specs.InlineCode.{InlineCode, codes_of}
+use Rattle.parse_written.proofs.Prelude.{append-nil, AreCodes, AreWritten, AsCall, AsLeaf, AsLinked, AsSpan, both_ways, codes_of, cond_both, Data, EndNoLine}
+use Rattle.parse_written.proofs.Prelude.{ends_here, eqb-true, Image, InlineCode, InlineContext, InlineLeaf, Inlines, IsLeafWritten, Leaf, length-append, Link}
+use Rattle.parse_written.proofs.Prelude.{Literal, LiteralKind, More, Nil, Nothing, Spaces, Span, take-append-drop, with_literals, ◌==◌}
 use Rattle.definition_inline.specs.GfmAutolinkLiteral.{Address, address_at, address_parts, address_or_text, parts_from, with_addresses, parts_before}
-use Rattle.definition_inline.specs.GfmAutolinkLiteral.{leaf_without, without_literals, addresses_before, with_literals}
-use Rattle.definition_inline.specs.HardBreak.{ends_here}
-use Rattle.definition_inline.specs.Inline.{LiteralKind, InlineLeaf, Data, Literal, Leaf, Span, Linked, Link, Image, Call, Inlines, Nil, Cons}
-use Rattle.definition_inline.specs.Scan.{InlineContext}
-use Rattle.parse_written.specs.Written.{AreCodes, EndNoLine, IsLeafWritten, AsLeaf, AsSpan, AsLinked, AsCall, AreWritten, Nothing, Spaces, More}
+use Rattle.definition_inline.specs.GfmAutolinkLiteral.{leaf_without, without_literals, addresses_before}
+use Rattle.definition_inline.specs.Inline.{Linked, Call, Cons}
 use Rattle.parse_written.proofs.Codes.{codes_both, codes_split}
 use Rattle.parse_written.proofs.GfmAutolinkLiteral.{inline_both, inline_front, inline_back}
 use Rattle.parse_written.proofs.LineEnds.{spaces_end, text_first}

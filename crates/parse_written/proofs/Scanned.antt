@@ -1,30 +1,18 @@
 -- What a scan has read stands in the content, up to where it has come.
 use Rattle.std.proofs.Common.{inl, inr, ◌≡◌, ℕ, zero, suc, ◌+◌, ◌-◌, ◌<◌, Bool, true, false, cond, ◌&&◌, List, [], ◌∷◌, ◌++◌, Option, None, Some, length}
 use Rattle.std.proofs.Common.{take, drop, fold, refl, sym, ap, ◌∙◌, subst, arith}
-use Rattle.std.specs.Prelude.{◌==◌, codes}
+use Rattle.parse_written.proofs.Prelude.{and_parts, AreCodes, AreWritten, AsCall, AsLinked, begins_with, bytes_eq-Decides, codes, codes_of, common_steps}
+use Rattle.parse_written.proofs.Prelude.{cond_both, Constructs, Data, Delimiters, drop-codes_of, EndsLinked, eqb-true, Found, has_span_size, here_fits}
+use Rattle.parse_written.proofs.Prelude.{InlineCode, InlineContext, is_eol, is_marker, Item, Leaf, leaf_here, leaf_tokens, linked_start, LinkTail, of_marker}
+use Rattle.parse_written.proofs.Prelude.{or_cases, ParseOptions, Run, run_size, spans_from, text_before, Token, WhereSome, with_spans, ◌==◌}
 use Rattle.std.specs.Option.{option_map}
-use Rattle.std.proofs.lemmas.Bool.{cond_both, and_parts, or_cases, eqb-true}
-use Rattle.std.proofs.lemmas.Grind.{common_steps}
-use Rattle.std.proofs.lemmas.Slice.Eq.{bytes_eq-Decides}
-use Rattle.markdown_options.specs.declared.configuration.Constructs.{Constructs}
-use Rattle.markdown_options.specs.declared.configuration.ParseOptions.{ParseOptions}
-use Rattle.definition_text.specs.Bytes.{begins_with}
-use Rattle.definition_text.specs.Content.{text_before, is_eol}
-use Rattle.definition_text.specs.InlineCode.{InlineCode, codes_of}
-use Rattle.definition_text.proofs.Each.{WhereSome}
-use Rattle.definition_inline.specs.Attention.{Run, run_at, run_size, is_marker, has_span_size}
+use Rattle.definition_inline.specs.Attention.{run_at}
 use Rattle.definition_inline.specs.GfmLabelStartFootnote.{starts_call, called_label, call_or_link}
-use Rattle.definition_inline.specs.Inline.{Leaf, Data, Found}
-use Rattle.definition_inline.specs.LabelEnd.{LinkTail, label_end_at, LinkOrCall, Leads, Calls, link_or_image}
-use Rattle.definition_inline.specs.Scan.{InlineContext, leaf_here, leaf_tokens, LabelStart, LinkStart, ImageStart, starts_image, starts_link, label_start_at}
+use Rattle.definition_inline.specs.LabelEnd.{label_end_at, LinkOrCall, Leads, Calls, link_or_image}
+use Rattle.definition_inline.specs.Scan.{LabelStart, LinkStart, ImageStart, starts_image, starts_link, label_start_at}
 use Rattle.definition_inline.specs.Scan.{start_bytes, start_more, start_tokens, may_form, started_kind, formed_part, Text, text, OpenLabel, Reading, reading}
 use Rattle.definition_inline.specs.Scan.{with_plain_start, Step, Next, data_step, ended_step, formed_at, ended_by, label_end_step, last_step, label_step}
-use Rattle.definition_inline.specs.Scan.{run_step, leaf_step, step, and_then, scan, whole_text, spans_from}
-use Rattle.definition_inline.specs.Spans.{Token, Item, Delimiters, with_spans}
-use Rattle.definition_inline.proofs.InlineSizes.{here_fits}
-use Rattle.definition_inline.proofs.Markers.{of_marker}
-use Rattle.definition_inline.proofs.Scanning.{drop-codes_of}
-use Rattle.parse_written.specs.Written.{AreCodes, linked_start, EndsLinked, AsLinked, AsCall, AreWritten}
+use Rattle.definition_inline.specs.Scan.{run_step, leaf_step, step, and_then, scan, whole_text}
 use Rattle.parse_written.proofs.Codes.{codes_both, codes_dropped, text_between, size_of_one, run_marks, run_stops}
 use Rattle.parse_written.proofs.Between.{byte_written, IsRunBetween, AreRead, NoTokens, OneRun, reads_both, one_part, token_codes}
 use Rattle.parse_written.proofs.Leaves.{codes_of_take, bytes_read, LiteralsRead, leaf_read, bare_inline}

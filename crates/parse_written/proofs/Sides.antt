@@ -1,13 +1,10 @@
 -- Both runs of a pair have one byte, and a pair of `~` or `=` takes all of both.
 use Rattle.std.proofs.Common.{inl, inr, ◌≡◌, ℕ, ◌+◌, ◌<◌, List, [], ◌∷◌, true, ◌||◌, sym, ap, ◌∙◌, arith, subst}
-use Rattle.std.specs.Prelude.{◌==◌, ◌⊎◌}
-use Rattle.std.proofs.lemmas.Grind.{common_steps}
-use Rattle.std.proofs.lemmas.Bool.{cases_Bool, cond-true, cond-false, or_cases, eqb-true}
-use Rattle.markdown_options.specs.declared.configuration.ParseOptions.{ParseOptions}
-use Rattle.definition_text.proofs.Each.{Each}
-use Rattle.definition_inline.specs.Attention.{Run, is_marker, is_whole, has_span_size}
-use Rattle.definition_inline.specs.Pairing.{Pair, OpenRun, is_eligible, taken_by, pairs}
-use Rattle.definition_inline.specs.NextPair.{run_by_place, taken_at, total_taken, left_at, IsNextPair, AreNext, NoMore, NextIs}
+use Rattle.parse_written.proofs.Prelude.{cases_Bool, common_steps, cond-false, cond-true, Each, eqb-true, has_span_size, is_marker, is_whole, or_cases, Pair}
+use Rattle.parse_written.proofs.Prelude.{pairs, ParseOptions, Run, run_by_place, ◌==◌}
+use Rattle.std.specs.Prelude.{◌⊎◌}
+use Rattle.definition_inline.specs.Pairing.{OpenRun, is_eligible, taken_by}
+use Rattle.definition_inline.specs.NextPair.{taken_at, total_taken, left_at, IsNextPair, AreNext, NoMore, NextIs}
 use Rattle.definition_inline.proofs.NextPair.{are_next}
 
 -- ---- two runs that may go together

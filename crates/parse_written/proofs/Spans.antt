@@ -1,28 +1,22 @@
 -- A container is written as its tokens are read: each byte of a run is one of a sequence, or text.
 use Rattle.std.proofs.Common.{inl, inr, ◌≡◌, ℕ, zero, suc, ◌+◌, ◌-◌, ◌<◌, ◌≤◌, List, [], ◌∷◌, ◌++◌, Bool, true, map, refl, sym, ap, ◌∙◌, length, reverse}
 use Rattle.std.proofs.Common.{replicate, arith, subst, append_assoc, false}
-use Rattle.std.proofs.lemmas.Grind.{common_steps}
-use Rattle.std.specs.Prelude.{◌==◌, if◌then◌else◌}
+use Rattle.parse_written.proofs.Prelude.{AreCodes, AreWritten, AsSpan, both_ways, cases_Bool, common_steps, cond-false, cond-true, Data, Delimiters, Each}
+use Rattle.parse_written.proofs.Prelude.{each-append, Emphasis, eqb-true, followed_by, Inline, InlineCode, InlineContext, Inlines, is_eol, is_whole}
+use Rattle.parse_written.proofs.Prelude.{IsSequence, IsWritten, Leaf, length-append, Nil, Nothing, Pair, pairs, reverse-append, reverse-reverse, Run}
+use Rattle.parse_written.proofs.Prelude.{run_by_place, run_size, Span, SpanKind, StartsSpan, Strong, Token, with_spans, ◌==◌}
+use Rattle.std.specs.Prelude.{if◌then◌else◌}
 use Rattle.std.specs.List.{filter, fold}
-use Rattle.std.proofs.lemmas.Bool.{cases_Bool, cond-true, cond-false, eqb-true, both_ways}
 use Rattle.std.proofs.lemmas.Bool.Decides.{eqb_tells}
-use Rattle.std.proofs.lemmas.List.{reverse-append, reverse-reverse, length-append}
 use Rattle.std.proofs.lemmas.List.Sums.{fold-append, sum_by-cons, sum_by_push}
 use Rattle.std.proofs.Math.Seq.{get_or-append_seam}
-use Rattle.definition_text.specs.Content.{is_eol}
-use Rattle.definition_text.specs.InlineCode.{InlineCode}
-use Rattle.definition_text.proofs.Each.{Each, each-append}
-use Rattle.definition_inline.specs.Attention.{Run, run_size, is_whole}
 use Rattle.definition_inline.specs.GfmStrikethrough.{is_tilde}
 use Rattle.definition_inline.specs.Mark.{is_equals}
-use Rattle.definition_inline.specs.Inline.{Inline, Leaf, Data, Span, SpanKind, Emphasis, Strong, Strikethrough, Mark, Inlines, Nil, followed_by}
-use Rattle.definition_inline.specs.NextPair.{no_run, run_by_place}
-use Rattle.definition_inline.specs.Pairing.{Pair, pairs}
-use Rattle.definition_inline.specs.Scan.{InlineContext}
+use Rattle.definition_inline.specs.Inline.{Strikethrough, Mark}
+use Rattle.definition_inline.specs.NextPair.{no_run}
 use Rattle.definition_inline.specs.SpanRows.{SpanRow, Holds, Opens, Closes, bytes_taken, run_rows, rows_from, OpenSpan, Nest, nest, leave, nest_row}
-use Rattle.definition_inline.specs.Spans.{Token, Delimiters, runs_of, span_of, with_spans}
+use Rattle.definition_inline.specs.Spans.{runs_of, span_of}
 use Rattle.definition_inline.proofs.SpanRows.{spans_by_rows}
-use Rattle.parse_written.specs.Written.{AreCodes, IsSequence, StartsSpan, IsWritten, AsSpan, AreWritten, Nothing}
 use Rattle.parse_written.proofs.Codes.{marks_split, size_of_marks}
 use Rattle.parse_written.proofs.Between.{IsRunBetween, AreRead, NoTokens, SomeSpaces, OnePart, OneRun, byte_written, followed, spaced}
 use Rattle.definition_inline.proofs.PairsNested.{IsPair, AreNested, pairs_nested, is_open, is_around, closes_at, opens_at, closing, opening, none_open}

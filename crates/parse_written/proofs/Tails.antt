@@ -1,28 +1,20 @@
 -- What follows the `]` of a link or an image has its form there.
 use Rattle.std.proofs.Common.{◌≡◌, ℕ, ◌-◌, Bool, true, false, cond, ◌&&◌, List, [], ◌∷◌, ◌++◌, Option, None, Some}
 use Rattle.std.proofs.Common.{length, take, drop, refl, sym, ap, ◌∙◌, subst, arith, append_assoc}
-use Rattle.std.specs.Prelude.{◌==◌, codes}
-use Rattle.std.specs.List.{prefix_len}
-use Rattle.std.proofs.lemmas.Bool.{cond_both, eqb-true, and_parts, true≢false}
-use Rattle.std.proofs.lemmas.List.{length-append, take-append-drop}
-use Rattle.definition_text.specs.Bytes.{begins_with}
-use Rattle.definition_text.specs.Columns.{is_white}
-use Rattle.definition_text.specs.Content.{Part, part, text_before, up_to, closed_by, is_eol, may_escape, at_line_start}
-use Rattle.definition_text.specs.InlineCode.{InlineCode, codes_of}
-use Rattle.definition_text.proofs.Each.{WhereSome}
+use Rattle.parse_written.proofs.Prelude.{and_parts, AreCodes, begins_with, codes, codes_of, cond_both, eqb-true, InlineCode, InlineContext, is_eol, is_white}
+use Rattle.parse_written.proofs.Prelude.{length-append, LinkTail, Part, part, prefix_len, take-append-drop, text_before, true≢false, up_to, WhereSome, ◌==◌}
+use Rattle.definition_text.specs.Content.{closed_by, may_escape, at_line_start}
 use Rattle.definition_inline.specs.Destination.{ends_angle, angle_end, open_after, is_too_deep, ends_bare, bare_end, unless_empty, if_any, destination_at}
 use Rattle.definition_inline.specs.Inline.{Reference}
 use Rattle.definition_inline.specs.Label.{ends_label, label_end, is_label, if_label, label_at}
-use Rattle.definition_inline.specs.LabelEnd.{LinkTail, link_tail, is_label_text, by_text, by_label, by_resource}
+use Rattle.definition_inline.specs.LabelEnd.{link_tail, is_label_text, by_text, by_label, by_resource}
 use Rattle.definition_inline.specs.Parts.{after_part}
 use Rattle.definition_inline.specs.Resource.{LinkResource, resource_end, opens_title, after_destination, resource_inside, resource_at}
-use Rattle.definition_inline.specs.Scan.{InlineContext}
 use Rattle.definition_inline.specs.Space.{after_spaces, after_ending, after_white, begins_with_space}
 use Rattle.definition_inline.specs.Title.{ends_title, ends_blank_line, title_end, title_close, title_until, title_at}
 use Rattle.parse_written.specs.Laws.{TailLaw}
 use Rattle.parse_written.specs.Tails.{IsDestination, InBrackets, Bare, IsTitle, EndsResource, IsInside, Empty, Leading, IsResource, HasTail, AsResource, AsLabel}
 use Rattle.parse_written.specs.Tails.{AsText}
-use Rattle.parse_written.specs.Written.{AreCodes}
 use Rattle.parse_written.proofs.Forms.{front_codes, text_of_parts}
 
 -- ---- a text up to the code that closes it

@@ -1,17 +1,10 @@
 -- The bytes of autolinks by the states and by the definition.
 use Rattle.std.proofs.Common.{◌≡◌, ◌∙◌, ℕ, ◌<◌, ◌≤◌, Bool, true, false, not, nat_le, nat_lt, ◌==◌, ◌&&◌, ◌||◌, if◌then◌else◌, List, [], ◌∷◌, inl, inr, refl}
 use Rattle.std.proofs.Common.{sym, ap, arith}
-use Rattle.std.proofs.lemmas.Bool.{agree_below_at, and_parts, and_right, cases_lt, eqb-false, eqb-true, le-leb, le-ltb, lt-leb, lt-ltb, ltb-true, ne_eqb}
-use Rattle.std.proofs.lemmas.Bool.{or_cases, or_from, or_parts}
-use Rattle.std.specs.Prelude.{codes}
-use Rattle.std.specs.Char.{is_ascii_alphanumeric}
-use Rattle.std.specs.Int.{is_in_range}
-use Rattle.std.specs.List.{list_all, list_any}
-use Rattle.definition_text.specs.Columns.{code_byte}
-use Rattle.definition_text.specs.Content.{is_eol}
-use Rattle.definition_inline.specs.Autolink.{is_email_byte, is_scheme_byte, is_uri_byte}
-use Rattle.state_codes.specs.Codes.{is_code, text_byte}
-use Rattle.state_html.specs.Autolink.{ends_url, is_atext}
+use Rattle.state_verdicts.proofs.Prelude.{and_parts, and_right, cases_lt, code_byte, codes, ends_url, eqb-false, eqb-true, is_ascii_alphanumeric, is_atext}
+use Rattle.state_verdicts.proofs.Prelude.{is_code, is_email_byte, is_eol, is_in_range, is_scheme_byte, is_uri_byte, le-leb, le-ltb, list_all, list_any, lt-leb}
+use Rattle.state_verdicts.proofs.Prelude.{lt-ltb, ltb-true, ne_eqb, or_cases, or_from, or_parts, text_byte}
+use Rattle.std.proofs.lemmas.Bool.{agree_below_at}
 use Rattle.state_verdicts.proofs.AutolinkStates.{is_scheme}
 
 -- ---- names of emails

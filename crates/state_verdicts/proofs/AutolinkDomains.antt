@@ -1,13 +1,10 @@
 -- A domain, byte by byte, is what the definition calls one.
 use Rattle.std.proofs.Common.{◌≡◌, ◌∙◌, ℕ, suc, ◌+◌, ◌-◌, ◌<◌, ◌≤◌, Bool, true, false, not, nat_le, nat_lt, ◌==◌, ◌&&◌, ◌||◌, if◌then◌else◌, List, [], ◌∷◌}
 use Rattle.std.proofs.Common.{length, Option, Some, None, slice_index, inl, inr, refl, sym, ap, arith}
-use Rattle.std.proofs.lemmas.Bool.{and_left, and_right, cases_Bool, eqb-true, le-leb, lt-leb, ltb-false, ltb-true, or_from}
-use Rattle.std.proofs.lemmas.Bool.{or_left}
+use Rattle.state_verdicts.proofs.Prelude.{after_all, and_left, and_right, cases_Bool, domain_end, eqb-true, is_ascii_alphanumeric, is_domain, is_domain_byte}
+use Rattle.state_verdicts.proofs.Prelude.{le-leb, list_all, lt-leb, ltb-false, ltb-true, or_from, or_left, take_while}
 use Rattle.std.proofs.lemmas.List.Sums.{take_while-cons}
-use Rattle.std.specs.Char.{is_ascii_alphanumeric}
-use Rattle.std.specs.List.{list_all, take_while}
-use Rattle.definition_text.specs.Bytes.{after_all}
-use Rattle.definition_inline.specs.Autolink.{between_dots, domain_end, in_first, is_domain, is_domain_byte, is_domain_label}
+use Rattle.definition_inline.specs.Autolink.{between_dots, in_first, is_domain_label}
 use Rattle.state_verdicts.proofs.ReferenceValues.{apart}
 use Rattle.state_verdicts.proofs.Stretches.{rest_more, rest_none}
 

@@ -1,32 +1,16 @@
 -- The states of autolinks read what the definition calls one, and nothing else.
 use Rattle.std.proofs.Common.{◌≡◌, ◌∙◌, ℕ, ◌+◌, ◌<◌, ◌≤◌, Bool, true, false, not, nat_lt, ◌==◌, ◌&&◌, if◌then◌else◌, List, [], ◌∷◌, ◌++◌, Option, Some, None}
 use Rattle.std.proofs.Common.{inl, inr, refl, sym, ap, subst, arith, append_assoc}
-use Rattle.std.proofs.lemmas.Bool.{and_parts, cases_Bool, eqb-true, ltb-true}
-use Rattle.std.specs.Char.{is_ascii_alphabetic, is_ascii_alphanumeric}
-use Rattle.std.specs.List.{list_all}
-use Rattle.definition_text.specs.Bytes.{is_letter}
-use Rattle.definition_inline.specs.Autolink.{autolink_after, is_email_byte, is_scheme_byte, is_uri_byte}
-use Rattle.definition_inline.specs.Inline.{Found}
-use Rattle.engine_events.specs.Events.{event}
-use Rattle.engine_events.specs.declared.event.Event.{Event}
+use Rattle.state_verdicts.proofs.Prelude.{AddressVerdict, and_parts, as_byte, autolink_after, byte, cases_Bool, Config, Context, ends-nok, ends-ok, ends_url}
+use Rattle.state_verdicts.proofs.Prelude.{eqb-true, event, Event, feed, Found, InlineName, Inlines, is_ascii_alphabetic, is_ascii_alphanumeric, is_atext}
+use Rattle.state_verdicts.proofs.Prelude.{is_code, is_email_byte, is_feed, is_letter, is_scheme_byte, is_uri_byte, KeptState, list_all, ltb-true, more, next}
+use Rattle.state_verdicts.proofs.Prelude.{nothing, past_byte, plain, Point, retry, Sees, State, tab, Text, text_byte, with_byte}
 use Rattle.engine_events.specs.declared.event.Kind.TheVariants.{Enter, Exit}
 use Rattle.engine_events.specs.declared.event.Name.TheVariants as names
-use Rattle.engine_events.specs.declared.place.Point.{Point}
-use Rattle.engine_events.specs.declared.state.Inline.{Inline as InlineName}
 use Rattle.engine_events.specs.declared.state.Inline.TheVariants as state_inline
 use Rattle.engine_events.specs.declared.state.Name.TheVariants.{Inline}
-use Rattle.engine_events.specs.declared.state.State.{State}
 use Rattle.engine_events.specs.declared.state.State.TheVariants as states
-use Rattle.markdown_engine.specs.Context.{Context}
-use Rattle.markdown_engine.specs.KeptState.{KeptState}
-use Rattle.markdown_engine.specs.Machine.{past_byte, plain}
-use Rattle.markdown_engine.specs.Reading.{Config, ends-nok, ends-ok, feed, with_byte}
-use Rattle.markdown_engine.specs.VirtualText.{Text, as_byte, is_feed}
-use Rattle.state_html.specs.Autolink.{ends_url, is_atext}
-use Rattle.state_table.specs.Words.{more, next, retry}
-use Rattle.state_inline.specs.declared.inlines.Inlines.{Inlines}
-use Rattle.state_codes.specs.Codes.{Sees, byte, is_code, nothing, tab, text_byte}
-use Rattle.state_verdicts.specs.Autolink.{AddressVerdict, AutolinkVerdict, autolink_events}
+use Rattle.state_verdicts.specs.Autolink.{AutolinkVerdict, autolink_events}
 use Rattle.state_verdicts.specs.Verdicts.{Reads}
 use Rattle.state_verdicts.proofs.AutolinkBytes.{name_byte, scheme_byte, uri_byte}
 use Rattle.state_verdicts.proofs.AutolinkDomains.{Place, domain_read, past_greater, size_at, starting, within}

@@ -1,18 +1,11 @@
 -- What the states of autolinks do at each byte.
 use Rattle.std.proofs.Common.{◌≡◌, ℕ, Bool, nat_lt, ◌==◌, ◌||◌, if◌then◌else◌, List, Option, Some, None, refl}
-use Rattle.std.specs.Char.{is_ascii_alphabetic, is_ascii_alphanumeric}
+use Rattle.state_verdicts.proofs.Prelude.{Config, Context, Effect, ends_url, InlineName, Inlines, is_ascii_alphabetic, is_ascii_alphanumeric, is_atext, more}
+use Rattle.state_verdicts.proofs.Prelude.{next, past_byte, plain, retry, run, with_enter, with_exit}
 use Rattle.engine_events.specs.declared.event.Name.TheVariants as names
-use Rattle.engine_events.specs.declared.state.Inline.{Inline as InlineName}
 use Rattle.engine_events.specs.declared.state.Inline.TheVariants as state_inline
 use Rattle.engine_events.specs.declared.state.Name.TheVariants.{Inline}
 use Rattle.engine_events.specs.declared.state.State.TheVariants as states
-use Rattle.markdown_engine.specs.Context.{Context}
-use Rattle.markdown_engine.specs.Machine.{past_byte, plain, with_enter, with_exit}
-use Rattle.markdown_engine.specs.Reading.{Config, Effect}
-use Rattle.engine_programs.specs.Bodies.{run}
-use Rattle.state_html.specs.Autolink.{ends_url, is_atext}
-use Rattle.state_table.specs.Words.{more, next, retry}
-use Rattle.state_inline.specs.declared.inlines.Inlines.{Inlines}
 use Rattle.state_inline.specs.Inlines.{bodies}
 
 -- over the `<`

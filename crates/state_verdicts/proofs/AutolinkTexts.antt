@@ -1,19 +1,17 @@
 -- An autolink, byte by byte, is what the definition calls one.
 use Rattle.std.proofs.Common.{◌≡◌, ◌∙◌, ℕ, suc, ◌+◌, ◌-◌, ◌≤◌, Bool, true, false, nat_le, nat_lt, ◌==◌, ◌&&◌, ◌||◌, if◌then◌else◌, List, [], ◌∷◌, length}
 use Rattle.std.proofs.Common.{take, drop, Option, Some, None, inl, inr, refl, sym, ap, subst, arith}
-use Rattle.std.proofs.lemmas.Bool.{and_from, and_left, and_parts, and_right, cases_Bool, eq-eqb, eqb-true, le-leb, lt-leb, ltb-false, ltb-true, ne_eqb}
-use Rattle.std.proofs.lemmas.Bool.{or_cases, or_left, or_right}
-use Rattle.std.proofs.lemmas.List.{drop-drop, length-drop, length-take-le}
-use Rattle.std.proofs.lemmas.List.Sums.{prefix_len-le-length}
-use Rattle.std.specs.Prelude.{codes}
-use Rattle.std.specs.Char.{is_ascii_alphanumeric}
-use Rattle.std.specs.Int.{is_in_range}
-use Rattle.std.specs.List.{list_any, prefix_len, take_while}
-use Rattle.definition_text.specs.Bytes.{after_all, begins_with, is_letter}
+use Rattle.state_verdicts.proofs.Prelude.{after_all, and_from, and_left, and_parts, and_right, autolink_after, cases_Bool, codes, domain_end, drop-drop}
+use Rattle.state_verdicts.proofs.Prelude.{eq-eqb, eqb-true, Found, InlineLeaf, is_ascii_alphanumeric, is_domain, is_domain_byte, is_email_byte, is_in_range}
+use Rattle.state_verdicts.proofs.Prelude.{is_letter, is_scheme_byte, is_uri_byte, le-leb, leaf, length-drop, list_any, lt-leb, ltb-false, ltb-true, ne_eqb}
+use Rattle.state_verdicts.proofs.Prelude.{or_cases, or_left, prefix_len, prefix_len-le-length, take_while}
+use Rattle.std.proofs.lemmas.Bool.{or_right}
+use Rattle.std.proofs.lemmas.List.{length-take-le}
+use Rattle.definition_text.specs.Bytes.{begins_with}
 use Rattle.definition_text.specs.Content.{text_before}
-use Rattle.definition_inline.specs.Autolink.{after_uri, autolink_after, begins_with_scheme, closed_autolink, domain_end, email_end, is_domain, is_domain_byte}
-use Rattle.definition_inline.specs.Autolink.{is_email_byte, is_scheme_byte, is_uri_byte, uri_end}
-use Rattle.definition_inline.specs.Inline.{Autolink, InlineLeaf, Found, leaf, or_else}
+use Rattle.definition_inline.specs.Autolink.{after_uri, begins_with_scheme, closed_autolink, email_end}
+use Rattle.definition_inline.specs.Autolink.{uri_end}
+use Rattle.definition_inline.specs.Inline.{Autolink, or_else}
 use Rattle.state_verdicts.proofs.AutolinkDomains.{closed, domain_found, domain_read, past_greater, starting}
 use Rattle.state_verdicts.proofs.ReferenceValues.{apart}
 use Rattle.state_verdicts.proofs.Runs.{IsRest}

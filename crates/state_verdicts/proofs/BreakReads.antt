@@ -1,25 +1,16 @@
 -- The states of a hard break by a backslash read what the definition calls one, and nothing else.
 use Rattle.std.proofs.Common.{◌≡◌, ◌∙◌, ℕ, Bool, true, false, ◌==◌, ◌&&◌, if◌then◌else◌, List, [], ◌∷◌, Option, Some, None, refl, sym, subst, append_assoc}
-use Rattle.std.proofs.lemmas.Bool.{not-true}
-use Rattle.definition_text.specs.Content.{is_eol}
-use Rattle.definition_inline.specs.HardBreak.{escaped_break_at}
-use Rattle.definition_inline.specs.Inline.{EscapedBreak, Found, leaf}
+use Rattle.state_verdicts.proofs.Prelude.{as_byte, break_events, byte, Config, Context, Effect, ends-nok, ends-ok, ends_apart, escaped_break_at, Found}
+use Rattle.state_verdicts.proofs.Prelude.{Inlines, is_eol, leaf, LeavesEvents, not-true, nothing, past_byte, plain, Point, run, Sees, tab, Text, text_byte}
+use Rattle.state_verdicts.proofs.Prelude.{Verdict, VirtualByte, with_byte, with_enter, with_exit}
+use Rattle.definition_inline.specs.Inline.{EscapedBreak}
 use Rattle.engine_events.specs.declared.event.Name.TheVariants as names
-use Rattle.engine_events.specs.declared.place.Point.{Point}
 use Rattle.engine_events.specs.declared.state.Inline.TheVariants as state_inline
 use Rattle.engine_events.specs.declared.state.Name.TheVariants.{Inline}
 use Rattle.engine_events.specs.declared.state.State.TheVariants as states
-use Rattle.markdown_engine.specs.declared.virtual_text.VirtualByte.{VirtualByte}
-use Rattle.markdown_engine.specs.Context.{Context}
-use Rattle.markdown_engine.specs.Machine.{past_byte, plain, with_enter, with_exit}
-use Rattle.markdown_engine.specs.Reading.{Config, Effect, ends-ok, ends-nok, with_byte}
-use Rattle.markdown_engine.specs.VirtualText.{Text, as_byte}
-use Rattle.engine_programs.specs.Bodies.{run}
-use Rattle.state_inline.specs.declared.inlines.Inlines.{Inlines}
 use Rattle.state_inline.specs.Inlines.{bodies}
-use Rattle.state_verdicts.specs.HardBreakEscape.{BreakVerdict, break_events, ends_apart}
-use Rattle.state_codes.specs.Codes.{Sees, byte, nothing, tab, text_byte}
-use Rattle.state_verdicts.specs.Verdicts.{LeavesEvents, Reads, Verdict}
+use Rattle.state_verdicts.specs.HardBreakEscape.{BreakVerdict}
+use Rattle.state_verdicts.specs.Verdicts.{Reads}
 use Rattle.state_verdicts.proofs.Turns.{RunsOn, on_next, on_retry}
 use Rattle.state_verdicts.proofs.Seen.{seen_feed}
 

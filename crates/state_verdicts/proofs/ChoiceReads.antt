@@ -1,27 +1,14 @@
 -- A choice comes to what its attempt comes to, and then to what reading on from there does.
 use Rattle.std.proofs.Common.{◌≡◌, ℕ, Bool, true, false, List, Option, Some, None, sym, subst}
-use Rattle.definition_inline.specs.Inline.{Found}
-use Rattle.engine_events.specs.declared.event.Event.{Event}
-use Rattle.engine_events.specs.declared.place.Point.{Point}
-use Rattle.engine_events.specs.declared.state.Inline.{Inline as InlineName}
+use Rattle.state_verdicts.proofs.Prelude.{AddressVerdict, Chooses, Config, Context, Effect, Event, feed, Found, GoesOn, hand_on, InlineName, Inlines, plain}
+use Rattle.state_verdicts.proofs.Prelude.{Point, ReferenceVerdict, run, SpanNames, SpanVerdict, State, Text, tries, Verdict, VirtualByte, with_byte}
 use Rattle.engine_events.specs.declared.state.Inline.TheVariants as state_inline
 use Rattle.engine_events.specs.declared.state.Name.TheVariants.{Inline}
-use Rattle.engine_events.specs.declared.state.State.{State}
 use Rattle.engine_events.specs.declared.state.State.TheVariants as states
-use Rattle.markdown_engine.specs.declared.virtual_text.VirtualByte.{VirtualByte}
-use Rattle.markdown_engine.specs.Context.{Context}
-use Rattle.markdown_engine.specs.Machine.{plain, tries}
-use Rattle.markdown_engine.specs.Reading.{Config, Effect, feed, first, hand_on, next, second, with_byte}
+use Rattle.markdown_engine.specs.Reading.{first, next, second}
 use Rattle.markdown_engine.specs.ReadingLaws.{one_outcome}
-use Rattle.markdown_engine.specs.VirtualText.{Text}
-use Rattle.engine_programs.specs.Bodies.{run}
-use Rattle.state_inline.specs.declared.inlines.Inlines.{Inlines}
 use Rattle.state_inline.specs.Inlines.{bodies}
-use Rattle.state_verdicts.specs.Autolink.{AddressVerdict}
-use Rattle.state_verdicts.specs.CharacterReference.{ReferenceVerdict}
-use Rattle.state_verdicts.specs.Choices.{Chooses, GoesOn}
-use Rattle.state_verdicts.specs.RawText.{SpanNames, SpanVerdict}
-use Rattle.state_verdicts.specs.Verdicts.{Comes, Reads, Verdict}
+use Rattle.state_verdicts.specs.Verdicts.{Comes, Reads}
 use Rattle.state_verdicts.proofs.Turns.{RunsOn, on_next}
 
 module _ {T : Type 0} (texts : List ℕ → Option (List ℕ)) (is_punctuation : ℕ → Bool) (x : Context T) (text : Text) where

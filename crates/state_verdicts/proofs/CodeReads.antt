@@ -1,25 +1,15 @@
 -- Code spans and math are spans of their byte.
 use Rattle.std.proofs.Common.{◌≡◌, ◌∙◌, ℕ, suc, Bool, true, false, not, ◌==◌, ◌&&◌, ◌||◌, if◌then◌else◌, ◌∷◌, List, Option, Some, None, refl, sym, ap, subst}
-use Rattle.definition_text.specs.Runs.{run as run_length}
-use Rattle.definition_inline.specs.CodeText.{raw_at}
+use Rattle.state_verdicts.proofs.Prelude.{as_byte, at_byte, begins_run, Config, Context, Inlines, next, of_span, plain, Point, raw_at, retry, run, run_length}
+use Rattle.state_verdicts.proofs.Prelude.{SpanVerdict, Text, with_byte}
 use Rattle.definition_inline.specs.MathText.{may_open_math}
-use Rattle.engine_events.specs.declared.place.Point.{Point}
 use Rattle.engine_events.specs.declared.state.Inline.TheVariants as state_inline
 use Rattle.engine_events.specs.declared.state.Name.TheVariants.{Inline}
 use Rattle.engine_events.specs.declared.state.State.TheVariants as states
-use Rattle.markdown_engine.specs.Context.{Context}
-use Rattle.markdown_engine.specs.Machine.{plain}
-use Rattle.markdown_engine.specs.Reading.{Config, with_byte}
-use Rattle.markdown_engine.specs.VirtualText.{Text, as_byte}
-use Rattle.engine_programs.specs.Bodies.{run}
-use Rattle.state_table.specs.Words.{next, retry}
-use Rattle.state_leaves.specs.RawText.{begins_run}
-use Rattle.state_inline.specs.declared.inlines.Inlines.{Inlines}
 use Rattle.state_inline.specs.Inlines.{bodies}
 use Rattle.state_verdicts.specs.CodeText.{CodeTextVerdict, code_names}
 use Rattle.state_verdicts.specs.MathText.{MathTextVerdict, math_names}
-use Rattle.state_verdicts.specs.RawText.{SpanVerdict, of_span}
-use Rattle.state_verdicts.specs.Verdicts.{Reads, at_byte}
+use Rattle.state_verdicts.specs.Verdicts.{Reads}
 use Rattle.state_verdicts.proofs.RawStates
 use Rattle.state_verdicts.proofs.SpanReads.{full_run, refused, span_verdict}
 

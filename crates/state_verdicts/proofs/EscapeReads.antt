@@ -1,24 +1,16 @@
 -- The states of an escape read what the definition calls one, and nothing else.
 use Rattle.std.proofs.Common.{◌≡◌, ◌∙◌, ℕ, Bool, true, false, ◌==◌, ◌&&◌, if◌then◌else◌, List, [], ◌∷◌, Option, Some, None, refl, append_assoc}
-use Rattle.std.specs.Char.{is_ascii_punctuation}
-use Rattle.definition_inline.specs.CharacterEscape.{escape_at}
-use Rattle.definition_inline.specs.Inline.{Escape, Found, leaf}
+use Rattle.state_verdicts.proofs.Prelude.{as_byte, byte, Config, Context, Effect, ends-nok, ends-ok, escape_at, escape_events, Found, Inlines}
+use Rattle.state_verdicts.proofs.Prelude.{is_ascii_punctuation, leaf, LeavesEvents, nothing, past_byte, plain, Point, run, Sees, tab, Text, text_byte, Verdict}
+use Rattle.state_verdicts.proofs.Prelude.{VirtualByte, with_byte, with_enter, with_exit}
+use Rattle.definition_inline.specs.Inline.{Escape}
 use Rattle.engine_events.specs.declared.event.Name.TheVariants as names
-use Rattle.engine_events.specs.declared.place.Point.{Point}
 use Rattle.engine_events.specs.declared.state.Inline.TheVariants as state_inline
 use Rattle.engine_events.specs.declared.state.Name.TheVariants.{Inline}
 use Rattle.engine_events.specs.declared.state.State.TheVariants as states
-use Rattle.markdown_engine.specs.declared.virtual_text.VirtualByte.{VirtualByte}
-use Rattle.markdown_engine.specs.Context.{Context}
-use Rattle.markdown_engine.specs.Machine.{past_byte, plain, with_enter, with_exit}
-use Rattle.markdown_engine.specs.Reading.{Config, Effect, ends-ok, ends-nok, with_byte}
-use Rattle.markdown_engine.specs.VirtualText.{Text, as_byte}
-use Rattle.engine_programs.specs.Bodies.{run}
-use Rattle.state_inline.specs.declared.inlines.Inlines.{Inlines}
 use Rattle.state_inline.specs.Inlines.{bodies}
-use Rattle.state_verdicts.specs.CharacterEscape.{EscapeVerdict, escape_events}
-use Rattle.state_codes.specs.Codes.{Sees, byte, nothing, tab, text_byte}
-use Rattle.state_verdicts.specs.Verdicts.{LeavesEvents, Reads, Verdict}
+use Rattle.state_verdicts.specs.CharacterEscape.{EscapeVerdict}
+use Rattle.state_verdicts.specs.Verdicts.{Reads}
 use Rattle.state_verdicts.proofs.Turns.{RunsOn, on_next, on_retry}
 use Rattle.state_verdicts.proofs.Seen.{no_feed, seen_punctuation}
 

@@ -1,3 +1,4 @@
+mod Prelude
 pub mod Turns
 pub mod Seen
 pub mod EscapeReads

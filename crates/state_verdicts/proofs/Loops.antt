@@ -1,18 +1,10 @@
 -- States that go on over a stretch of bytes.
 use Rattle.std.proofs.Common.{◌≡◌, ◌∙◌, ℕ, ◌+◌, ◌<◌, ◌≤◌, ◌⊎◌, Bool, true, false, List, Option, Some, None, inl, inr, refl, ap, subst, arith}
-use Rattle.std.proofs.lemmas.Bool.{cases_lt}
-use Rattle.engine_events.specs.declared.place.Point.{Point}
-use Rattle.engine_events.specs.declared.state.Name.{Name}
+use Rattle.state_verdicts.proofs.Prelude.{as_byte, byte_of, cases_lt, Config, Context, ended, feed, has, Inlines, longer, Name, plain, Point, run, Stretch}
+use Rattle.state_verdicts.proofs.Prelude.{Text, VirtualByte}
 use Rattle.engine_events.specs.declared.state.State.TheVariants as states
-use Rattle.markdown_engine.specs.declared.virtual_text.VirtualByte.{VirtualByte}
-use Rattle.markdown_engine.specs.Context.{Context}
-use Rattle.markdown_engine.specs.Machine.{plain}
-use Rattle.markdown_engine.specs.Reading.{Config, byte_of, feed, next, place_after, retry}
-use Rattle.markdown_engine.specs.VirtualText.{Text, as_byte}
-use Rattle.engine_programs.specs.Bodies.{has, run}
-use Rattle.state_inline.specs.declared.inlines.Inlines.{Inlines}
+use Rattle.markdown_engine.specs.Reading.{next, place_after, retry}
 use Rattle.state_inline.specs.Inlines.{bodies}
-use Rattle.state_verdicts.specs.Stretch.{Stretch, ended, longer}
 use Rattle.state_verdicts.specs.Verdicts.{Reads}
 use Rattle.state_verdicts.proofs.Turns.{on_retry}
 

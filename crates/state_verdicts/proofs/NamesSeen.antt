@@ -1,22 +1,14 @@
 -- A name of letters and digits stands in the bytes as it stands in the codes.
 use Rattle.std.proofs.Common.{◌≡◌, ◌∙◌, ℕ, zero, suc, ◌+◌, ◌-◌, ◌<◌, ◌≤◌, Bool, true, false, ◌==◌, ◌&&◌, ◌||◌, if◌then◌else◌, List, [], ◌∷◌, length, take, drop}
 use Rattle.std.proofs.Common.{get_or, is_some, Option, Some, None, inl, inr, refl, sym, ap, subst, arith}
-use Rattle.std.proofs.lemmas.Bool.{and_parts, cases_lt, le-leb, leb-true, or_cases}
+use Rattle.state_verdicts.proofs.Prelude.{and_parts, as_byte, byte, cases_lt, code_byte, ended, is_ascii_alphanumeric, is_eol, is_in_range, is_name, le-leb}
+use Rattle.state_verdicts.proofs.Prelude.{leb-true, longer, nothing, or_cases, Point, Sees, Shows, Stretch, tab, Text, text_byte, VirtualByte}
 use Rattle.std.proofs.lemmas.List.{drop_more, get_or_past}
 use Rattle.std.proofs.lemmas.Str.{IsUtf8-from_ascii, is_utf8-from_IsUtf8}
-use Rattle.std.specs.Char.{is_ascii_alphanumeric}
-use Rattle.std.specs.Int.{is_in_range}
 use Rattle.std.specs.Str.{IsAscii}
-use Rattle.definition_text.specs.Columns.{code_byte}
-use Rattle.definition_text.specs.Content.{is_eol}
-use Rattle.engine_events.specs.declared.place.Point.{Point}
 use Rattle.engine_events.specs.Columns.{between}
-use Rattle.markdown_engine.specs.declared.virtual_text.VirtualByte.{VirtualByte}
-use Rattle.markdown_engine.specs.VirtualText.{Text, as_byte}
-use Rattle.state_leaves.specs.CharacterReference.{has_text, is_name}
-use Rattle.state_codes.specs.Codes.{Sees, byte, nothing, tab, text_byte}
-use Rattle.state_codes.specs.TextBytes.{Shows, StandsAt}
-use Rattle.state_verdicts.specs.Stretch.{Stretch, ended, longer}
+use Rattle.state_leaves.specs.CharacterReference.{has_text}
+use Rattle.state_codes.specs.TextBytes.{StandsAt}
 
 -- what lies in a range lies between these
 in_range : (a z b : ℕ) → 0 < a → z < 128 → is_in_range a z b ≡ true → (0 < b) × (b < 128)

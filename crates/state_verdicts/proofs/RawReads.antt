@@ -1,36 +1,17 @@
 -- The states of code and math read what the definition calls a span, and nothing else.
 use Rattle.std.proofs.Common.{◌≡◌, ◌∙◌, ℕ, suc, zero, ◌+◌, ◌-◌, ◌^◌, ◌<◌, ◌≤◌, min, Bool, true, false, not, ◌==◌, ◌||◌, if◌then◌else◌, List, [], ◌∷◌, ◌++◌}
 use Rattle.std.proofs.Common.{length, drop, Option, Some, None, inl, inr, refl, sym, ap, subst, arith, append_assoc}
-use Rattle.std.proofs.lemmas.Bool.{cases_Bool, eq-eqb, eqb-false, eqb-true, ne_eqb, not-true, or_from, or_parts}
-use Rattle.std.proofs.lemmas.List.{length-drop}
-use Rattle.std.specs.List.{prefix_len}
-use Rattle.definition_text.specs.Content.{is_eol}
-use Rattle.definition_text.specs.Runs.{after_run}
-use Rattle.definition_text.specs.Runs.{run as run_length}
-use Rattle.definition_inline.specs.CodeText.{run_of}
-use Rattle.engine_events.specs.Events.{event}
-use Rattle.engine_events.specs.declared.event.Event.{Event}
+use Rattle.state_verdicts.proofs.Prelude.{after_run, as_byte, byte, cases_Bool, Config, Context, ends-nok, ends-ok, eq-eqb, eqb-false, eqb-true, event, Event}
+use Rattle.state_verdicts.proofs.Prelude.{EventName, feed, has, Inlines, is_eol, is_feed, is_other, KeptState, length-drop, longer, more, ne_eqb, next}
+use Rattle.state_verdicts.proofs.Prelude.{not-true, nothing, or_from, or_parts, past_byte, Pieces, plain, Point, prefix_len, retry, run_body, run_length}
+use Rattle.state_verdicts.proofs.Prelude.{run_of, Sees, SpanNames, spanning, State, Stretch, tab, Text, text_byte, with_enter, with_exit}
 use Rattle.engine_events.specs.declared.event.Kind.TheVariants.{Enter, Exit}
-use Rattle.engine_events.specs.declared.event.Name.{Name as EventName}
 use Rattle.engine_events.specs.declared.event.Name.TheVariants as names
-use Rattle.engine_events.specs.declared.place.Point.{Point}
 use Rattle.engine_events.specs.declared.state.Inline.TheVariants as state_inline
 use Rattle.engine_events.specs.declared.state.Name.TheVariants.{Inline}
-use Rattle.engine_events.specs.declared.state.State.{State}
 use Rattle.engine_events.specs.declared.state.State.TheVariants as states
-use Rattle.markdown_engine.specs.Context.{Context}
-use Rattle.markdown_engine.specs.KeptState.{KeptState}
-use Rattle.markdown_engine.specs.Machine.{past_byte, plain, with_enter, with_exit}
-use Rattle.markdown_engine.specs.Reading.{Config, ends-nok, ends-ok, feed}
-use Rattle.markdown_engine.specs.VirtualText.{Text, as_byte, is_feed}
-use Rattle.engine_programs.specs.Bodies.{has}
-use Rattle.engine_programs.specs.Bodies.{run as run_body}
 use Rattle.state_inline.specs.Inlines.{bodies}
-use Rattle.state_table.specs.Words.{more, next, retry}
-use Rattle.state_inline.specs.declared.inlines.Inlines.{Inlines}
-use Rattle.state_codes.specs.Codes.{Sees, byte, nothing, tab, text_byte}
-use Rattle.state_verdicts.specs.RawText.{Pieces, SpanNames, closing, ending, is_other, others, run, spanning}
-use Rattle.state_verdicts.specs.Stretch.{Stretch, longer}
+use Rattle.state_verdicts.specs.RawText.{closing, ending, others, run}
 use Rattle.state_verdicts.specs.Verdicts.{Reads}
 use Rattle.state_verdicts.proofs.Loops.{At, Over, byte_at, end_at, fed, goes_to, over, stays_to, still_at, stops}
 use Rattle.state_verdicts.proofs.RawStates

@@ -5,14 +5,9 @@ use Rattle.engine_events.specs.declared.event.Name.TheVariants as names
 use Rattle.engine_events.specs.declared.state.Inline.TheVariants as state_inline
 use Rattle.engine_events.specs.declared.state.Name.TheVariants.{Inline}
 use Rattle.engine_events.specs.declared.state.State.TheVariants as states
-use Rattle.markdown_engine.specs.Context.{Context}
-use Rattle.markdown_engine.specs.Machine.{past_byte, plain, with_enter, with_exit}
-use Rattle.markdown_engine.specs.Reading.{Config}
-use Rattle.engine_programs.specs.Bodies.{has, run}
-use Rattle.state_table.specs.Words.{more, next, retry}
-use Rattle.state_inline.specs.declared.inlines.Inlines.{Inlines}
+use Rattle.state_verdicts.proofs.Prelude.{Config, Context, has, Inlines, is_other, more, next, past_byte, plain, retry, run, SpanNames, spanning, with_enter}
+use Rattle.state_verdicts.proofs.Prelude.{with_exit}
 use Rattle.state_inline.specs.Inlines.{bodies}
-use Rattle.state_verdicts.specs.RawText.{SpanNames, is_other, spanning}
 
 -- over a line ending
 abbrev pub line_over : Config Inlines → Config Inlines

@@ -1,38 +1,21 @@
 -- The states of character references read what the definition calls one, and nothing else.
 use Rattle.std.proofs.Common.{◌≡◌, ◌∙◌, ℕ, ◌+◌, ◌-◌, ◌<◌, ◌≤◌, Bool, true, false, nat_le, ◌==◌, ◌&&◌, ◌||◌, if◌then◌else◌, List, [], ◌∷◌, ◌++◌, length, take}
 use Rattle.std.proofs.Common.{drop, is_some, Option, Some, None, inl, inr, refl, sym, ap, subst, arith, append_assoc}
-use Rattle.std.proofs.lemmas.Bool.{cases_Bool, eqb-true, lt-ltb}
-use Rattle.std.specs.Char.{is_ascii_alphanumeric, is_ascii_digit, is_ascii_hexdigit}
-use Rattle.std.specs.List.{prefix_len}
-use Rattle.definition_text.specs.Content.{Part}
-use Rattle.definition_inline.specs.CharacterReference.{before_semicolon, reference_by_name, reference_by_number, numbered_text, number_of, number_reference}
-use Rattle.definition_inline.specs.CharacterReference.{reference_after, reference_leaf, reference_of, part_to_semicolon}
-use Rattle.definition_inline.specs.Inline.{InlineLeaf, Character, Found, leaf}
-use Rattle.engine_events.specs.Events.{event}
-use Rattle.engine_events.specs.declared.event.Event.{Event}
+use Rattle.state_verdicts.proofs.Prelude.{as_byte, before_semicolon, byte, cases_Bool, Config, Context, ends-nok, eqb-true, event, Event, feed, Found}
+use Rattle.state_verdicts.proofs.Prelude.{InlineLeaf, InlineName, Inlines, is_ascii_alphanumeric, is_ascii_digit, is_ascii_hexdigit, is_feed, is_known}
+use Rattle.state_verdicts.proofs.Prelude.{is_name, KeptState, leaf, longer, lt-ltb, nothing, Part, part_to_semicolon, plain, Point, prefix_len}
+use Rattle.state_verdicts.proofs.Prelude.{ReferenceVerdict, referring, retry, run, Sees, Shows, State, Stretch, tab, Text, text_byte, with_byte}
+use Rattle.definition_inline.specs.CharacterReference.{reference_by_name, reference_by_number, numbered_text, number_of, number_reference}
+use Rattle.definition_inline.specs.CharacterReference.{reference_after, reference_leaf, reference_of}
+use Rattle.definition_inline.specs.Inline.{Character}
 use Rattle.engine_events.specs.declared.event.Kind.TheVariants.{Enter, Exit}
 use Rattle.engine_events.specs.declared.event.Name.TheVariants as names
-use Rattle.engine_events.specs.declared.place.Point.{Point}
-use Rattle.engine_events.specs.declared.state.Inline.{Inline as InlineName}
 use Rattle.engine_events.specs.declared.state.Inline.TheVariants as state_inline
 use Rattle.engine_events.specs.declared.state.Name.TheVariants.{Inline}
-use Rattle.engine_events.specs.declared.state.State.{State}
 use Rattle.engine_events.specs.declared.state.State.TheVariants as states
-use Rattle.markdown_engine.specs.Context.{Context}
-use Rattle.markdown_engine.specs.KeptState.{KeptState}
-use Rattle.markdown_engine.specs.Machine.{plain}
-use Rattle.markdown_engine.specs.Reading.{Config, ends-nok, feed, with_byte}
-use Rattle.markdown_engine.specs.VirtualText.{Text, as_byte, is_feed}
-use Rattle.engine_programs.specs.Bodies.{run}
-use Rattle.state_leaves.specs.CharacterReference.{is_known, is_name}
-use Rattle.state_table.specs.Words.{retry}
-use Rattle.state_inline.specs.declared.inlines.Inlines.{Inlines}
 use Rattle.state_inline.specs.Inlines.{bodies}
-use Rattle.state_codes.specs.Codes.{Sees, byte, nothing, tab, text_byte}
-use Rattle.state_codes.specs.TextBytes.{Shows}
-use Rattle.state_verdicts.specs.CharacterReference.{CharacterReferenceVerdict, IsReference, ReferenceVerdict, decimal, hexadecimal, referring}
+use Rattle.state_verdicts.specs.CharacterReference.{CharacterReferenceVerdict, IsReference, decimal, hexadecimal}
 use Rattle.state_verdicts.specs.CharacterReference.{named as by_name}
-use Rattle.state_verdicts.specs.Stretch.{Stretch, longer}
 use Rattle.state_verdicts.specs.Verdicts.{Reads}
 use Rattle.state_verdicts.proofs.Loops.{At, byte_at, end_at, fed, goes_to}
 use Rattle.state_verdicts.proofs.NamesSeen.{word, word_known}

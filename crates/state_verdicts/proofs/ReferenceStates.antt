@@ -1,19 +1,12 @@
 -- What the states of character references do at each byte.
 use Rattle.std.proofs.Common.{◌≡◌, ℕ, Bool, false, ◌==◌, ◌&&◌, ◌||◌, if◌then◌else◌, List, Option, Some, None, refl}
-use Rattle.std.specs.Char.{is_ascii_alphanumeric, is_ascii_digit}
+use Rattle.state_verdicts.proofs.Prelude.{Config, Context, goes_on, Inlines, is_ascii_alphanumeric, is_ascii_digit, is_value_known, more, next, past_byte}
+use Rattle.state_verdicts.proofs.Prelude.{plain, referring, run, with_enter, with_exit}
 use Rattle.engine_events.specs.declared.event.Name.TheVariants as names
 use Rattle.engine_events.specs.declared.state.Inline.TheVariants as state_inline
 use Rattle.engine_events.specs.declared.state.Name.TheVariants.{Inline}
 use Rattle.engine_events.specs.declared.state.State.TheVariants as states
-use Rattle.markdown_engine.specs.Context.{Context}
-use Rattle.markdown_engine.specs.Machine.{past_byte, plain, with_enter, with_exit}
-use Rattle.markdown_engine.specs.Reading.{Config}
-use Rattle.engine_programs.specs.Bodies.{run}
-use Rattle.state_leaves.specs.CharacterReference.{goes_on, is_value_known}
-use Rattle.state_table.specs.Words.{more, next}
-use Rattle.state_inline.specs.declared.inlines.Inlines.{Inlines}
 use Rattle.state_inline.specs.Inlines.{bodies}
-use Rattle.state_verdicts.specs.CharacterReference.{referring}
 
 -- over the `&`
 abbrev pub reference_begun : Config Inlines → Config Inlines

@@ -1,33 +1,18 @@
 -- The state of a reference's value reads what the definition calls a value and its `;`.
 use Rattle.std.proofs.Common.{◌≡◌, ◌∙◌, ℕ, suc, ◌+◌, ◌-◌, ◌<◌, ◌≤◌, Bool, true, false, not, nat_le, nat_lt, ◌==◌, ◌&&◌, ◌||◌, if◌then◌else◌, List, [], ◌∷◌}
 use Rattle.std.proofs.Common.{◌++◌, length, take, drop, Option, Some, None, inl, inr, refl, sym, ap, subst, arith}
-use Rattle.std.proofs.lemmas.Bool.{and_from, and_left, and_right, cases_Bool, cases_lt, eqb-true, le-leb, lt-leb, lt-ltb, le-ltb, ne_eqb}
-use Rattle.std.proofs.lemmas.List.{drop-drop, length-drop}
-use Rattle.std.specs.Char.{is_ascii_alphanumeric, is_ascii_digit, is_ascii_hexdigit}
-use Rattle.std.specs.List.{prefix_len}
-use Rattle.definition_text.specs.Content.{Part, part}
-use Rattle.definition_inline.specs.CharacterReference.{before_semicolon, part_to_semicolon}
-use Rattle.engine_events.specs.Events.{event}
-use Rattle.engine_events.specs.declared.event.Event.{Event}
+use Rattle.state_verdicts.proofs.Prelude.{and_from, and_left, and_right, as_byte, before_semicolon, byte, byte_of, cases_Bool, cases_lt, Config, Context}
+use Rattle.state_verdicts.proofs.Prelude.{drop-drop, Effect, ends-nok, ends-ok, eqb-true, event, Event, feed, goes_on, has, Inlines, is_ascii_alphanumeric}
+use Rattle.state_verdicts.proofs.Prelude.{is_ascii_digit, is_ascii_hexdigit, is_feed, is_known, is_name, is_value_known, KeptState, le-leb, le-ltb}
+use Rattle.state_verdicts.proofs.Prelude.{length-drop, lt-leb, lt-ltb, more, ne_eqb, next, nothing, Part, part_to_semicolon, plain, Point, prefix_len}
+use Rattle.state_verdicts.proofs.Prelude.{referring, retry, run, Sees, Stretch, tab, Text, text_byte}
+use Rattle.definition_text.specs.Content.{part}
 use Rattle.engine_events.specs.declared.event.Kind.TheVariants.{Enter, Exit}
 use Rattle.engine_events.specs.declared.event.Name.TheVariants as names
-use Rattle.engine_events.specs.declared.place.Point.{Point}
 use Rattle.engine_events.specs.declared.state.Inline.TheVariants as state_inline
 use Rattle.engine_events.specs.declared.state.Name.TheVariants.{Inline}
 use Rattle.engine_events.specs.declared.state.State.TheVariants as states
-use Rattle.markdown_engine.specs.Context.{Context}
-use Rattle.markdown_engine.specs.KeptState.{KeptState}
-use Rattle.markdown_engine.specs.Machine.{plain}
-use Rattle.markdown_engine.specs.Reading.{Config, Effect, byte_of, ends-nok, ends-ok, feed}
-use Rattle.markdown_engine.specs.VirtualText.{Text, as_byte, is_feed}
-use Rattle.engine_programs.specs.Bodies.{has, run}
-use Rattle.state_leaves.specs.CharacterReference.{goes_on, is_known, is_name, is_value_known}
-use Rattle.state_table.specs.Words.{more, next, retry}
-use Rattle.state_inline.specs.declared.inlines.Inlines.{Inlines}
 use Rattle.state_inline.specs.Inlines.{bodies}
-use Rattle.state_codes.specs.Codes.{Sees, byte, nothing, tab, text_byte}
-use Rattle.state_verdicts.specs.CharacterReference.{referring}
-use Rattle.state_verdicts.specs.Stretch.{Stretch}
 use Rattle.state_verdicts.specs.Verdicts.{Reads}
 use Rattle.state_verdicts.proofs.Loops.{At, StretchEnd, byte_at, end_at, over_capped, stops}
 use Rattle.state_verdicts.proofs.ReferenceStates

@@ -1,10 +1,8 @@
 -- Where a run of exactly so many of a code is found.
 use Rattle.std.proofs.Common.{◌≡◌, ◌∙◌, ℕ, suc, ◌+◌, ◌<◌, ◌≤◌, Bool, true, false, not, ◌&&◌, ◌==◌, if◌then◌else◌, List, [], ◌∷◌, length, drop, Option, Some}
 use Rattle.std.proofs.Common.{None, inl, inr, refl, sym, ap, arith}
-use Rattle.std.proofs.lemmas.Bool.{cases_Bool, ne_eqb}
-use Rattle.std.specs.List.{prefix_len}
-use Rattle.definition_text.specs.Runs.{run, after_run}
-use Rattle.definition_inline.specs.CodeText.{run_of}
+use Rattle.state_verdicts.proofs.Prelude.{after_run, cases_Bool, ne_eqb, prefix_len, run_of}
+use Rattle.definition_text.specs.Runs.{run}
 use Rattle.state_verdicts.proofs.Stretches.{rest_more, rest_none}
 
 module _ (m n : ℕ) (some : 0 < n) where

@@ -1,10 +1,6 @@
 -- What is known of a code by the byte by which it is seen.
 use Rattle.std.proofs.Common.{◌≡◌, ◌∙◌, ℕ, Bool, true, false, ◌==◌, ◌||◌, if◌then◌else◌, inl, inr, refl, sym, ap}
-use Rattle.std.proofs.lemmas.Bool.{eqb-true, or_cases, or_parts}
-use Rattle.std.specs.Char.{is_ascii_punctuation}
-use Rattle.definition_text.specs.Columns.{code_byte}
-use Rattle.definition_text.specs.Content.{is_eol}
-use Rattle.state_codes.specs.Codes.{text_byte}
+use Rattle.state_verdicts.proofs.Prelude.{code_byte, eqb-true, is_ascii_punctuation, is_eol, or_cases, or_parts, text_byte}
 
 -- a sort that has a column of a tab just where it has a space has a byte exactly if it has the code, line endings aside
 column_by : (is : ℕ → Bool) (c : ℕ) (b : Bool) → is 32 ≡ is 256 → (c == 256) ≡ b → is (if b then 32 else c) ≡ is c

@@ -1,33 +1,20 @@
 -- An attempt at code or math reads a span where the definition has one, and nothing else.
 use Rattle.std.proofs.Common.{◌≡◌, ◌∙◌, ℕ, suc, ◌+◌, ◌-◌, ◌^◌, ◌<◌, ◌≤◌, min, Bool, true, false, not, ◌==◌, ◌&&◌, if◌then◌else◌, List, [], ◌∷◌, ◌++◌, length}
 use Rattle.std.proofs.Common.{drop, take, Option, Some, None, refl, sym, ap, subst, arith, append_assoc}
-use Rattle.std.proofs.lemmas.Bool.{eq-eqb, eqb-true, ne_eqb}
-use Rattle.std.proofs.lemmas.List.{drop-drop, length-drop, length-take}
-use Rattle.definition_text.specs.Content.{is_eol, up_to}
-use Rattle.definition_text.specs.Runs.{after_run}
-use Rattle.definition_text.specs.Runs.{run as run_length}
-use Rattle.definition_inline.specs.CodeText.{code_text, raw_at, raw_leaf, raw_part, run_of}
-use Rattle.definition_inline.specs.Inline.{Code, Found, Math, leaf}
-use Rattle.engine_events.specs.Events.{event}
-use Rattle.engine_events.specs.declared.event.Event.{Event}
+use Rattle.state_verdicts.proofs.Prelude.{after_run, as_byte, begins_run, byte, Config, Context, drop-drop, ends-nok, eq-eqb, eqb-true, event, Event, feed}
+use Rattle.state_verdicts.proofs.Prelude.{Found, has, Inlines, is_eol, is_feed, KeptState, leaf, length-drop, more, ne_eqb, next, nothing, of_span, Pieces}
+use Rattle.state_verdicts.proofs.Prelude.{plain, Point, raw_at, retry, run_body, run_length, run_of, Sees, SpanNames, spanning, SpanVerdict, tab, Text}
+use Rattle.state_verdicts.proofs.Prelude.{text_byte, with_byte, with_exit}
+use Rattle.std.proofs.lemmas.List.{length-take}
+use Rattle.definition_text.specs.Content.{up_to}
+use Rattle.definition_inline.specs.CodeText.{code_text, raw_leaf, raw_part}
+use Rattle.definition_inline.specs.Inline.{Code, Math}
 use Rattle.engine_events.specs.declared.event.Kind.TheVariants.{Enter, Exit}
-use Rattle.engine_events.specs.declared.place.Point.{Point}
 use Rattle.engine_events.specs.declared.state.Inline.TheVariants as state_inline
 use Rattle.engine_events.specs.declared.state.Name.TheVariants.{Inline}
 use Rattle.engine_events.specs.declared.state.State.TheVariants as states
-use Rattle.markdown_engine.specs.Context.{Context}
-use Rattle.markdown_engine.specs.KeptState.{KeptState}
-use Rattle.markdown_engine.specs.Machine.{plain, with_exit}
-use Rattle.markdown_engine.specs.Reading.{Config, ends-nok, feed, with_byte}
-use Rattle.markdown_engine.specs.VirtualText.{Text, as_byte, is_feed}
-use Rattle.engine_programs.specs.Bodies.{has}
-use Rattle.engine_programs.specs.Bodies.{run as run_body}
-use Rattle.state_table.specs.Words.{more, next, retry}
-use Rattle.state_leaves.specs.RawText.{begins_run}
-use Rattle.state_inline.specs.declared.inlines.Inlines.{Inlines}
 use Rattle.state_inline.specs.Inlines.{bodies}
-use Rattle.state_codes.specs.Codes.{Sees, byte, nothing, tab, text_byte}
-use Rattle.state_verdicts.specs.RawText.{Pieces, SpanNames, SpanVerdict, is_text, of_span, spanning}
+use Rattle.state_verdicts.specs.RawText.{is_text}
 use Rattle.state_verdicts.specs.Verdicts.{Reads}
 use Rattle.state_verdicts.proofs.Loops.{Over, byte_at, end_at, fed, goes_to, over, stays_to, still_at, stops}
 use Rattle.state_verdicts.proofs.RawReads.{GoesToRun, Here, Outcome, exits, goes, stop_sort}

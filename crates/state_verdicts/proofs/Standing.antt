@@ -1,15 +1,7 @@
 -- What stands while an attempt is read: its events so far, and what is kept.
 use Rattle.std.proofs.Common.{◌≡◌, ◌∙◌, Bool, false, if◌then◌else◌, List, [], ◌∷◌, ◌++◌, None, ap}
-use Rattle.engine_events.specs.Events.{event}
-use Rattle.engine_events.specs.declared.event.Event.{Event}
+use Rattle.state_verdicts.proofs.Prelude.{Config, event, Event, EventName, feed, Inlines, is_feed, KeptState, past_byte, Point, Text, with_enter, with_exit}
 use Rattle.engine_events.specs.declared.event.Kind.TheVariants.{Enter, Exit}
-use Rattle.engine_events.specs.declared.event.Name.{Name as EventName}
-use Rattle.engine_events.specs.declared.place.Point.{Point}
-use Rattle.markdown_engine.specs.KeptState.{KeptState}
-use Rattle.markdown_engine.specs.Machine.{past_byte, with_enter, with_exit}
-use Rattle.markdown_engine.specs.Reading.{Config, feed}
-use Rattle.markdown_engine.specs.VirtualText.{Text, is_feed}
-use Rattle.state_inline.specs.declared.inlines.Inlines.{Inlines}
 
 module _ (text : Text) (c0 : Config Inlines) where
   -- these events stand, and this is kept

@@ -1,16 +1,9 @@
 -- Codes of one sort are seen as bytes of that sort.
 use Rattle.std.proofs.Common.{◌≡◌, ◌∙◌, ℕ, suc, ◌+◌, Bool, true, false, ◌==◌, if◌then◌else◌, List, [], ◌∷◌, drop, Some, None, inl, inr, refl, sym, ap, subst}
 use Rattle.std.proofs.Common.{arith}
-use Rattle.std.proofs.lemmas.Bool.{cases_Bool, ne_eqb}
-use Rattle.std.specs.List.{prefix_len}
-use Rattle.definition_text.specs.Columns.{code_byte}
-use Rattle.definition_text.specs.Content.{is_eol}
-use Rattle.engine_events.specs.declared.place.Point.{Point}
-use Rattle.markdown_engine.specs.Reading.{byte_of}
-use Rattle.markdown_engine.specs.VirtualText.{Text, as_byte}
-use Rattle.engine_programs.specs.Bodies.{has}
-use Rattle.state_codes.specs.Codes.{Fills, Sees, byte, column, full, nothing, tab, text_byte}
-use Rattle.state_verdicts.specs.Stretch.{Stretch, ended, longer}
+use Rattle.state_verdicts.proofs.Prelude.{as_byte, byte, byte_of, cases_Bool, code_byte, ended, has, is_eol, longer, ne_eqb, nothing, Point, prefix_len, Sees}
+use Rattle.state_verdicts.proofs.Prelude.{Stretch, tab, Text, text_byte}
+use Rattle.state_codes.specs.Codes.{Fills, column, full}
 use Rattle.state_verdicts.proofs.Seen.{seen_column}
 
 drop_next : (k c : ℕ) (cs : List ℕ) → drop (1 + k) (c ∷ cs) ≡ drop k cs

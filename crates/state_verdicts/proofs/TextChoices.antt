@@ -1,31 +1,18 @@
 -- Before each part of a text the construct is attempted that its byte may begin.
 use Rattle.std.proofs.Common.{◌≡◌, ◌∙◌, ℕ, Bool, true, false, List, ◌∷◌, Option, None, Some, refl, ap, subst}
 use Rattle.definition_text.specs.Ascii.{ampersand, backslash, backtick, dollar, less_than}
-use Rattle.definition_inline.specs.CharacterEscape.{escape_at}
-use Rattle.definition_inline.specs.HardBreak.{escaped_break_at}
-use Rattle.definition_inline.specs.Inline.{Found}
-use Rattle.engine_events.specs.declared.place.Point.{Point}
-use Rattle.engine_events.specs.declared.state.Inline.{Inline as InlineName}
+use Rattle.state_verdicts.proofs.Prelude.{as_byte, at_byte, break_events, byte_at, Chooses, Config, Context, ends_apart, escape_at, escape_events}
+use Rattle.state_verdicts.proofs.Prelude.{escaped_break_at, Found, GoesOn, hand_on, InlineName, Inlines, next, Point, retry, run, Sees, Text, tries, Verdict}
 use Rattle.engine_events.specs.declared.state.Inline.TheVariants as state_inline
 use Rattle.engine_events.specs.declared.state.Name.TheVariants.{Inline}
-use Rattle.markdown_engine.specs.Context.{Context}
-use Rattle.markdown_engine.specs.Machine.{tries}
-use Rattle.markdown_engine.specs.Reading.{Config, hand_on}
-use Rattle.markdown_engine.specs.VirtualText.{Text, as_byte}
-use Rattle.engine_programs.specs.Bodies.{run}
-use Rattle.state_table.specs.Words.{next, retry}
-use Rattle.state_inline.specs.declared.inlines.Inlines.{Inlines}
 use Rattle.state_inline.specs.Inlines.{bodies}
-use Rattle.state_codes.specs.Codes.{Sees}
 use Rattle.state_verdicts.specs.Autolink.{AutolinkChoice}
-use Rattle.state_verdicts.specs.CharacterEscape.{EscapeChoice, escape_events}
+use Rattle.state_verdicts.specs.CharacterEscape.{EscapeChoice}
 use Rattle.state_verdicts.specs.CharacterReference.{CharacterReferenceChoice}
-use Rattle.state_verdicts.specs.Choices.{Chooses, GoesOn, byte_at}
 use Rattle.state_verdicts.specs.CodeText.{CodeTextChoice}
-use Rattle.state_verdicts.specs.HardBreakEscape.{BreakChoice, break_events, ends_apart}
+use Rattle.state_verdicts.specs.HardBreakEscape.{BreakChoice}
 use Rattle.state_verdicts.specs.MathText.{MathTextChoice}
 use Rattle.state_verdicts.specs.Text.{BackslashChoice}
-use Rattle.state_verdicts.specs.Verdicts.{Verdict, at_byte}
 use Rattle.state_verdicts.proofs.AutolinkReads.{autolink_verdict}
 use Rattle.state_verdicts.proofs.BreakReads.{break_verdict}
 use Rattle.state_verdicts.proofs.ChoiceReads.{and_on, choice, of_autolink, of_leaf, of_reference, of_span}

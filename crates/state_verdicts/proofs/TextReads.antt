@@ -1,21 +1,12 @@
 -- Before a part that begins with another byte, and at the text's end.
 use Rattle.std.proofs.Common.{◌≡◌, ℕ, Bool, true, false, ◌==◌, List, [], ◌∷◌, Option, Some, None, refl}
-use Rattle.std.proofs.lemmas.Bool.{or_parts}
-use Rattle.std.specs.List.{list_any}
-use Rattle.engine_events.specs.declared.place.Point.{Point}
+use Rattle.state_verdicts.proofs.Prelude.{as_byte, byte_at, Config, Context, ends-ok, Inlines, list_any, or_parts, plain, Point, retry, run, Text, with_byte}
 use Rattle.engine_events.specs.declared.resolve.Name.TheVariants as resolvers
 use Rattle.engine_events.specs.declared.state.Inline.TheVariants as state_inline
 use Rattle.engine_events.specs.declared.state.Name.TheVariants.{Inline}
 use Rattle.engine_events.specs.declared.state.State.TheVariants as states
-use Rattle.markdown_engine.specs.Context.{Context}
-use Rattle.markdown_engine.specs.Machine.{plain, to_run_last}
-use Rattle.markdown_engine.specs.Reading.{Config, ends-ok, with_byte}
-use Rattle.markdown_engine.specs.VirtualText.{Text, as_byte}
-use Rattle.engine_programs.specs.Bodies.{run}
-use Rattle.state_table.specs.Words.{retry}
-use Rattle.state_inline.specs.declared.inlines.Inlines.{Inlines}
+use Rattle.markdown_engine.specs.Machine.{to_run_last}
 use Rattle.state_inline.specs.Inlines.{bodies}
-use Rattle.state_verdicts.specs.Choices.{byte_at}
 use Rattle.state_verdicts.specs.Text.{ChoiceLaw, DataChoice, TextEndVerdict, first_bytes}
 use Rattle.state_verdicts.proofs.ChoiceReads.{choice, go_on}
 use Rattle.state_verdicts.proofs.Turns.{on_next}

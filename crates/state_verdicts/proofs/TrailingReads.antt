@@ -1,21 +1,20 @@
 -- Spaces and tabs at the end of data become what the definition has there.
 use Rattle.std.proofs.Common.{◌≡◌, ◌∙◌, ℕ, suc, zero, ◌+◌, ◌-◌, ◌<◌, ◌≤◌, Bool, true, false, not, nat_le, nat_lt, ◌==◌, ◌&&◌, if◌then◌else◌, is_some}
 use Rattle.std.proofs.Common.{List, [], ◌∷◌, ◌++◌, length, take, drop, reverse, slice_get, Option, Some, None, inl, inr, refl, sym, ap, arith}
-use Rattle.std.proofs.lemmas.Bool.{and_from, and_left, and_parts, and_right, cases_Bool, cases_lt, eq-eqb, eqb-true, leb-false, leb-true, ne_eqb, not-true}
-use Rattle.std.proofs.lemmas.List.{drop-drop, length-drop, length-reverse, reverse-append}
+use Rattle.state_verdicts.proofs.Prelude.{and_from, and_left, and_parts, and_right, cases_Bool, cases_lt, drop-drop, eq-eqb, eqb-true, Event, Found, is_eol}
+use Rattle.state_verdicts.proofs.Prelude.{leaf, leb-true, length-drop, list_all, ne_eqb, not-true, Point, prefix_len, prefix_len-le-length}
+use Rattle.std.proofs.lemmas.Bool.{leb-false}
+use Rattle.std.proofs.lemmas.List.{length-reverse, reverse-append}
 use Rattle.std.proofs.lemmas.List.Folds.{prefix_len-append}
-use Rattle.std.proofs.lemmas.List.Sums.{prefix_len-le-length, suffix_len-le-length}
-use Rattle.std.specs.List.{list_all, prefix_len, suffix_len}
+use Rattle.std.proofs.lemmas.List.Sums.{suffix_len-le-length}
+use Rattle.std.specs.List.{suffix_len}
 use Rattle.markdown_options.specs.declared.configuration.Constructs.{Constructs}
 use Rattle.definition_text.specs.Columns.{bare, indent, is_white}
-use Rattle.definition_text.specs.Content.{is_eol}
 use Rattle.definition_inline.specs.HardBreak.{ends_here, ends_inner_line, is_trailing_break, line_spaces_at}
-use Rattle.definition_inline.specs.Inline.{Found, TrailingBreak, leaf}
+use Rattle.definition_inline.specs.Inline.{TrailingBreak}
 use Rattle.engine_edits.specs.Edits.{EditAt, with_edit}
-use Rattle.engine_events.specs.declared.event.Event.{Event}
 use Rattle.engine_events.specs.declared.event.Kind.TheVariants.{Enter, Exit}
 use Rattle.engine_events.specs.declared.event.Name.TheVariants as names
-use Rattle.engine_events.specs.declared.place.Point.{Point}
 use Rattle.state_edits_data.specs.Data.{is_data}
 use Rattle.state_edits_data.specs.Each.{around, around_if, data_part, place_at, place_past}
 use Rattle.state_edits_data.specs.Whitespace.{are_spaces, begins, ends, head_size, is_line, is_space, may_break, part_edit, tail_name, tail_size, trimmed_data}

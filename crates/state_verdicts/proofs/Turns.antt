@@ -1,13 +1,9 @@
 -- Reading by the states of texts, turn by turn.
 use Rattle.std.proofs.Common.{◌≡◌, ℕ, Bool, List, Option, sym, subst}
-use Rattle.engine_events.specs.declared.state.Name.{Name}
+use Rattle.state_verdicts.proofs.Prelude.{Config, Context, Effect, Inlines, Name, run, Text, VirtualByte, with_byte}
 use Rattle.engine_events.specs.declared.state.State.TheVariants as states
-use Rattle.markdown_engine.specs.declared.virtual_text.VirtualByte.{VirtualByte}
-use Rattle.markdown_engine.specs.Context.{Context}
-use Rattle.markdown_engine.specs.Reading.{Config, Effect, Runs, next, retry, with_byte}
-use Rattle.markdown_engine.specs.VirtualText.{Text}
-use Rattle.engine_programs.specs.Bodies.{run, step_by}
-use Rattle.state_inline.specs.declared.inlines.Inlines.{Inlines}
+use Rattle.markdown_engine.specs.Reading.{Runs, next, retry}
+use Rattle.engine_programs.specs.Bodies.{step_by}
 use Rattle.state_inline.specs.Inlines.{bodies}
 use Rattle.state_verdicts.specs.Verdicts.{Reads}
 

@@ -1,6 +1,6 @@
 use Rattle.std.proofs.Common.{sym, ap, ◌∙◌, ◌+◌, false, arith}
 use Rattle.std.proofs.lemmas.List.{take_rest}
-use Rattle.block_cells.specs.GfmTable.{bar_at}
+use Rattle.block_cells.proofs.Prelude.{bar_at}
 use Rattle.block_cells.proofs.Bars.{bar_from, no_bar, bar_first, bar_room}
 use Rattle.block_cells.proofs.gfm_table.bar_place.Goals as goal
 use Rattle.block_cells.proofs.gfm_table.bar_place.Goals.{else-place-bytes-via-then-place-bytes+else-bytes-place-eq92, else-place-bytes-via-else-place-bytes}

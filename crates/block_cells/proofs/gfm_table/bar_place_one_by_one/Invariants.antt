@@ -1,5 +1,5 @@
 use Rattle.std.proofs.Common.{◌≡◌, ◌+◌, drop, false}
-use Rattle.block_cells.specs.GfmTable.{bar_at}
+use Rattle.block_cells.proofs.Prelude.{bar_at}
 use Rattle.block_cells.proofs.gfm_table.bar_place_one_by_one.Given as goal
 
 -- no bar so far divides cells

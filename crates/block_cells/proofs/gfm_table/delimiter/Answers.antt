@@ -1,6 +1,6 @@
 use lib.Utf8.{encode}
 use Rattle.std.proofs.Common.{sym, ◌∙◌}
-use Rattle.std.proofs.lemmas.Bool.{cond-false}
+use Rattle.block_cells.proofs.Prelude.{cond-false}
 use Rattle.block_cells.proofs.Delimiters.{no_colon}
 use Rattle.block_cells.proofs.gfm_table.delimiter.Goals as goal
 

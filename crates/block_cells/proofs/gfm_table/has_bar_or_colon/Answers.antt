@@ -1,6 +1,5 @@
 use Rattle.std.proofs.Common.{sym, ap, ◌∙◌}
-use Rattle.std.specs.List.{list_any}
-use Rattle.definition_block.specs.GfmTable.{is_bar_or_colon}
+use Rattle.block_cells.proofs.Prelude.{is_bar_or_colon, list_any}
 use Rattle.block_cells.proofs.Columns.{any_columns}
 use Rattle.block_cells.proofs.gfm_table.has_bar_or_colon.Goals as goal
 

@@ -1,7 +1,5 @@
 use Rattle.std.proofs.Common.{◌≡◌, eqb, length}
-use Rattle.definition_block.specs.GfmTable.{cells}
-use Rattle.text_pieces.specs.Pieces.{piece_line}
-use Rattle.block_cells.specs.GfmTable.{cells_left}
+use Rattle.block_cells.proofs.Prelude.{cells, cells_left, piece_line}
 use Rattle.block_cells.proofs.gfm_table.has_cells.Given as goal
 
 -- so many cells are missing as are left

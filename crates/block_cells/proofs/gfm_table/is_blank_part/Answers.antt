@@ -1,5 +1,5 @@
 use Rattle.std.proofs.Common.{sym, ap, ◌∙◌}
-use Rattle.definition_text.specs.Columns.{is_blank}
+use Rattle.block_cells.proofs.Prelude.{is_blank}
 use Rattle.block_cells.proofs.Columns.{blank_columns}
 use Rattle.block_cells.proofs.gfm_table.is_blank_part.Goals as goal
 

@@ -1,9 +1,6 @@
 use Rattle.std.proofs.Common.{sym, ap, ◌∙◌, length, get_or, arith}
 use Rattle.std.proofs.lemmas.Bool.{le-ltb}
-use Rattle.std.proofs.lemmas.List.{drop_more, drop_all}
-use Rattle.std.specs.List.{prefix_len}
-use Rattle.definition_text.specs.Columns.{is_white}
-use Rattle.block_cells.specs.GfmTable.{begins_delimiters, begins_row}
+use Rattle.block_cells.proofs.Prelude.{begins_delimiters, begins_row, drop_all, drop_more, is_white, prefix_len}
 use Rattle.block_cells.proofs.Columns.{bare_columns}
 use Rattle.block_cells.proofs.gfm_table.may_be_delimiters.Goals as goal
 

@@ -1,12 +1,7 @@
 use Rattle.std.proofs.Common.{◌≡◌, ◌++◌, [], None, sym, ap, ◌∙◌}
-use Rattle.std.specs.Prelude.{unwrap_or}
-use Rattle.std.specs.List.{list_any}
-use Rattle.std.specs.Option.{option_map}
-use Rattle.std.proofs.lemmas.Bool.{cond-false}
+use Rattle.block_cells.proofs.Prelude.{alignments_of, cell_view, cells, cells_left, column_delimiter, cond-false, delimiters, is_bar_or_colon, list_any}
+use Rattle.block_cells.proofs.Prelude.{option_map, piece_line, unwrap_or}
 use Rattle.markdown_options.specs.declared.beside.Kind.TheVariants.{Whitespace}
-use Rattle.definition_block.specs.GfmTable.{cells, column_delimiter, alignments_of, delimiters, is_bar_or_colon}
-use Rattle.text_pieces.specs.Pieces.{piece_line}
-use Rattle.block_cells.specs.GfmTable.{cell_view, cells_left}
 use Rattle.block_cells.proofs.Columns.{trimmed_columns}
 use Rattle.block_cells.proofs.Delimiters.{one_more, no_more, no_row}
 use Rattle.block_cells.proofs.Starts.{no_delimiters}

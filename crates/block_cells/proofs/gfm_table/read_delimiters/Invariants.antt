@@ -1,9 +1,6 @@
 use Rattle.std.proofs.Common.{◌≡◌, ◌++◌, length}
-use Rattle.std.specs.Option.{option_map}
+use Rattle.block_cells.proofs.Prelude.{alignments_of, cells, cells_left, option_map, piece_line}
 use Rattle.markdown_options.specs.declared.beside.Kind.TheVariants.{Whitespace}
-use Rattle.definition_block.specs.GfmTable.{cells, alignments_of}
-use Rattle.text_pieces.specs.Pieces.{piece_line}
-use Rattle.block_cells.specs.GfmTable.{cells_left}
 use Rattle.block_cells.proofs.gfm_table.read_delimiters.Given as goal
 
 -- all cells so far are delimiters

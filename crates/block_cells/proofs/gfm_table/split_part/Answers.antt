@@ -1,8 +1,6 @@
 use Rattle.std.proofs.Common.{◌≡◌, ◌+◌, ◌-◌, suc, ◌∷◌, [], false, sym, ap, ◌∙◌, subst, drop, take, arith}
-use Rattle.std.specs.Str.{IsCharBoundary, IsUtf8}
+use Rattle.block_cells.proofs.Prelude.{bar_at, cell, IsCharBoundary, IsUtf8, parts}
 use Rattle.markdown_options.specs.declared.beside.Kind.TheVariants.{Whitespace, Punctuation}
-use Rattle.definition_block.specs.GfmTable.{cell, parts}
-use Rattle.block_cells.specs.GfmTable.{bar_at}
 use Rattle.block_cells.proofs.Parts.{boundary_bar, boundary_after_bar, with_bar, without_bar, after_columns, same_cell}
 use Rattle.block_cells.proofs.gfm_table.split_part.Goals as goal
 

@@ -1,14 +1,8 @@
 use Rattle.std.proofs.Common.{◌≡◌, ◌-◌, length, drop, sym, ap, ◌∙◌, subst, refl, arith}
 use Rattle.std.specs.Prelude.{MatchOption, None}
-use Rattle.std.proofs.lemmas.List.{length-map}
-use Rattle.definition_text.specs.BlockLines.{own_lines}
-use Rattle.definition_text.specs.Content.{content_of, content_text}
-use Rattle.definition_inline.specs.Definition.{definition_at}
-use Rattle.text_pieces.specs.ParagraphLines.{AreLines}
-use Rattle.text_pieces.specs.Pieces.{piece_line, piece_lines}
+use Rattle.block_definitions.proofs.Prelude.{AreBytes, AreLines, content_of, content_text, definition_at, EndsAt, length-map, own_lines, piece_line}
+use Rattle.block_definitions.proofs.Prelude.{piece_lines}
 use Rattle.inline_links.specs.View.{definition_of}
-use Rattle.block_definitions.specs.Ends.{EndsAt}
-use Rattle.inline_links.proofs.Texts.{AreBytes}
 use Rattle.block_definitions.proofs.Codes.{later_bytes}
 use Rattle.block_definitions.proofs.Ends.{not_found, ended}
 use Rattle.block_definitions.proofs.front.first_definition.Goals as goal

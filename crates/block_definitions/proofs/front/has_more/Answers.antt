@@ -1,14 +1,8 @@
 use Rattle.std.proofs.Common.{◌≡◌, ◌-◌, ℕ, ltb, List, None, length, drop, take, sym, ap, ◌∙◌, subst, arith}
-use Rattle.std.proofs.lemmas.List.{length-map, take_rest}
+use Rattle.block_definitions.proofs.Prelude.{AreLines, BlockLine, content_of, content_text, cut_most, definition_at, DefinitionCut, EndsAt, is_some_line}
+use Rattle.block_definitions.proofs.Prelude.{length-map, own_lines, piece_line, piece_lines}
+use Rattle.std.proofs.lemmas.List.{take_rest}
 use Rattle.text_pieces.proofs.Pieces.{lines_from}
-use Rattle.definition_text.specs.BlockLines.{BlockLine, own_lines}
-use Rattle.definition_text.specs.Content.{content_of, content_text}
-use Rattle.definition_block.specs.Definitions.{DefinitionCut, cut_most}
-use Rattle.definition_inline.specs.Definition.{definition_at}
-use Rattle.text_pieces.specs.ParagraphLines.{AreLines}
-use Rattle.definition_block.specs.Tree.{is_some_line}
-use Rattle.text_pieces.specs.Pieces.{piece_line, piece_lines}
-use Rattle.block_definitions.specs.Ends.{EndsAt}
 use Rattle.block_definitions.proofs.Cuts.{cut_none, left_after, some_left}
 use Rattle.block_definitions.proofs.front.has_more.Goals as goal
 

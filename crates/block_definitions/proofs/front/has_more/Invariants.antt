@@ -1,7 +1,5 @@
 use Rattle.std.proofs.Common.{◌≡◌, ◌≤◌, ◌-◌, length}
-use Rattle.text_pieces.specs.ParagraphLines.{AreLines}
-use Rattle.text_pieces.specs.Pieces.{piece_lines}
-use Rattle.definition_text.specs.Content.{content_text}
+use Rattle.block_definitions.proofs.Prelude.{AreLines, content_text, piece_lines}
 use Rattle.block_definitions.proofs.Cuts.{LeftOver}
 use Rattle.block_definitions.proofs.front.has_more.Given as goal
 

@@ -1,8 +1,7 @@
 use Rattle.std.proofs.Common.{◌≡◌, suc, take, ap, arith, inl, inr}
 use Rattle.std.proofs.lemmas.Bool.{cases_lt}
-use Rattle.text_pieces.specs.Pieces.{piece_lines}
+use Rattle.block_definitions.proofs.Prelude.{piece_lines, total}
 use Rattle.text_pieces.proofs.Pieces.{no_piece}
-use Rattle.block_definitions.specs.Contents.{total}
 use Rattle.block_definitions.proofs.Splits.{total_more, total_grows}
 use Rattle.block_definitions.proofs.front.lines_within.Goals as goal
 

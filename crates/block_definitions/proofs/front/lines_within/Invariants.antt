@@ -1,6 +1,5 @@
 use Rattle.std.proofs.Common.{◌≡◌, ◌≤◌, ◌<◌, ◌-◌, ℕ, suc, length, take}
-use Rattle.text_pieces.specs.Pieces.{piece_lines}
-use Rattle.block_definitions.specs.Contents.{total}
+use Rattle.block_definitions.proofs.Prelude.{piece_lines, total}
 use Rattle.block_definitions.proofs.front.lines_within.Given as goal
 
 -- what the lines so far leave; there are no more of them than are asked for

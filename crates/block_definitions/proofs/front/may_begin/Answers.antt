@@ -1,7 +1,5 @@
 use Rattle.std.proofs.Common.{List, ℕ, sym, ap, ◌∙◌}
-use Rattle.definition_text.specs.Content.{content_codes}
-use Rattle.definition_inline.specs.Space.{after_spaces}
-use Rattle.block_definitions.specs.Contents.{begins_label}
+use Rattle.block_definitions.proofs.Prelude.{after_spaces, begins_label, content_codes}
 use Rattle.block_definitions.proofs.Starts.{may_begin_not, first_begins}
 use Rattle.block_definitions.proofs.front.may_begin.Goals as goal
 

@@ -1,7 +1,5 @@
 use Rattle.std.proofs.Common.{◌≡◌, ◌-◌, ◌<◌, length, Some, sym, ap, ◌∙◌, arith}
-use Rattle.std.specs.List.{slice_get}
-use Rattle.std.proofs.lemmas.Option.{slice_get_within, get_or_from_slice_get}
-use Rattle.text_pieces.specs.declared.piece.Piece.{Piece}
+use Rattle.block_leaves.proofs.Prelude.{get_or_from_slice_get, Piece, slice_get, slice_get_within}
 use Rattle.text_pieces.proofs.OwnLines.{last_piece_ending}
 use Rattle.block_leaves.proofs.definition.last_ending.Goals as goal
 

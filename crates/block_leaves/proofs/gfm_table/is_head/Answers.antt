@@ -1,9 +1,5 @@
 use Rattle.std.proofs.Common.{◌≡◌, ◌-◌, ◌<◌, ◌==◌, length, Some, sym, ap, ◌∙◌, arith}
-use Rattle.std.specs.List.{slice_get}
-use Rattle.std.proofs.lemmas.Option.{slice_get_within, get_or_from_slice_get}
-use Rattle.definition_block.specs.GfmTable.{line_cells}
-use Rattle.text_pieces.specs.declared.piece.Piece.{Piece}
-use Rattle.text_pieces.specs.Pieces.{piece_line}
+use Rattle.block_leaves.proofs.Prelude.{get_or_from_slice_get, line_cells, Piece, piece_line, slice_get, slice_get_within}
 use Rattle.block_leaves.proofs.GfmTableLemmas.{last_is_head}
 use Rattle.block_leaves.proofs.gfm_table.is_head.Goals as goal
 

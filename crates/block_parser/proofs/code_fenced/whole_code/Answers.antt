@@ -1,9 +1,5 @@
 use Rattle.std.proofs.Common.{◌<◌, length, get_or, ℕ, sym, ap, ◌∙◌, subst, take, rules, arith}
-use Rattle.std.specs.Str.{IsUtf8}
-use Rattle.std.proofs.lemmas.Bool.{eqb-false, eqb-true}
-use Rattle.definition_text.specs.Lines.{text_line}
-use Rattle.block_starts.specs.CodeFenced.{fence_view}
-use Rattle.block_parser.specs.Fences.{IsWholeCode}
+use Rattle.block_parser.proofs.Prelude.{eqb-false, eqb-true, fence_view, IsUtf8, IsWholeCode, text_line}
 use Rattle.block_parser.proofs.FencedLines.{code_boundary, code_ends, code_more, code_none, code_unclosed}
 use Rattle.block_parser.proofs.PlainLines.{shorter_after}
 use Rattle.block_parser.proofs.code_fenced.whole_code.Goals as goal

@@ -1,7 +1,7 @@
 use Rattle.std.proofs.Common.{◌≤◌, length}
 use denote.Text.{Utf8}
 use denote.Shadow.{shadow}
-use Rattle.block_starts.specs.CodeFenced.{fence_view}
+use Rattle.block_parser.proofs.Prelude.{fence_view}
 use Rattle.block_parser.proofs.FencedLines.{CodeSoFar}
 use Rattle.block_parser.proofs.code_fenced.whole_code.Given as goal
 

@@ -1,13 +1,8 @@
 use Rattle.std.proofs.Common.{◌≡◌, ◌++◌, [], List, ℕ, ◌<◌, ◌∙◌, ap, sym, refl, get_or, length, rules, arith}
-use Rattle.std.specs.Str.{IsUtf8}
-use Rattle.std.proofs.lemmas.Bool.{eqb-true}
-use Rattle.std.proofs.lemmas.List.{append-nil, nil_from_length}
-use Rattle.definition_text.specs.Lines.{TextLine, lines}
-use Rattle.block_rows.specs.declared.row.Row.{Row}
-use Rattle.definition_block.specs.Tree.{steps, empty_tree, join, close, blocks_at_end}
-use Rattle.block_rows.specs.Rows.{rows_of, rows_value, value_with}
-use Rattle.text_pieces.specs.Pieces.{piece_lines}
-use Rattle.block_rows.proofs.OpenLines.{open_lines}
+use Rattle.block_parser.proofs.Prelude.{append-nil, close, empty_tree, eqb-true, IsUtf8, join, lines, nil_from_length, open_lines, piece_lines, Row, rows_of}
+use Rattle.block_parser.proofs.Prelude.{steps, TextLine}
+use Rattle.definition_block.specs.Tree.{blocks_at_end}
+use Rattle.block_rows.specs.Rows.{rows_value, value_with}
 use Rattle.block_parser.proofs.Read.{keeps_lines, read_more}
 use Rattle.block_state.proofs.Written.{settled}
 use Rattle.block_parser.proofs.parser.child_rows.Goals as goal

@@ -1,5 +1,5 @@
 use Rattle.std.proofs.Common.{◌∙◌, eqb, sym, ap}
-use Rattle.block_starts.specs.View.{rest_of}
+use Rattle.block_parser.proofs.Prelude.{rest_of}
 use Rattle.block_parser.proofs.Quotes as quotes
 use Rattle.block_parser.proofs.parser.is_empty.Goals as goal
 

@@ -1,8 +1,5 @@
 use Rattle.std.proofs.Common.{◌-◌, ◌<◌, length, ap, sym, ◌∙◌, arith}
-use Rattle.std.proofs.lemmas.List.{get_or-map}
-use Rattle.definition_block.specs.Container.{Quote}
-use Rattle.block_starts.specs.View.{container_view, container_views}
-use Rattle.block_parser.specs.Quotes.{is_quote}
+use Rattle.block_parser.proofs.Prelude.{container_view, container_views, get_or-map, is_quote, Quote}
 use Rattle.block_parser.proofs.Closing as closing
 use Rattle.block_parser.proofs.Quotes as quotes
 use Rattle.block_parser.proofs.parser.quotes_end.Goals as goal

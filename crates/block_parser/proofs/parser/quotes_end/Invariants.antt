@@ -1,6 +1,5 @@
 use Rattle.std.proofs.Common.{◌≤◌, length}
-use Rattle.block_starts.specs.View.{container_views}
-use Rattle.block_parser.specs.Quotes.{NoQuoteFrom}
+use Rattle.block_parser.proofs.Prelude.{container_views, NoQuoteFrom}
 use Rattle.block_parser.proofs.parser.quotes_end.Given as goal
 
 -- no quote stands behind

@@ -1,15 +1,8 @@
 use Rattle.std.proofs.Common.{◌≡◌, ◌+◌, ◌-◌, ◌++◌, ◌∷◌, [], List, sym, ap, ◌∙◌, take, drop, get_or, arith, length, subst}
-use Rattle.std.specs.List.{flat_map}
-use Rattle.std.proofs.lemmas.List.{append-nil, take_rest, take_all}
-use Rattle.std.proofs.lemmas.List.Concat.{flat_map-append}
-use Rattle.block_rows.specs.declared.row.Row.{Row}
+use Rattle.block_targets.proofs.Prelude.{append-nil, BlockLine, BlockRow, flat_map, flat_map-append, HasContents, left_more, piece_line, piece_lines, Row}
+use Rattle.block_targets.proofs.Prelude.{row_definitions, row_size, row_value, rows_value, RowsValue, shown_more, take_all, take_rest, taken_more}
 use Rattle.block_rows.specs.declared.row.Row.TheVariants.{Paragraph}
-use Rattle.definition_text.specs.BlockLines.{BlockLine}
-use Rattle.block_rows.specs.Rows.{BlockRow, RowsValue, row_definitions, row_value, rows_value, row_size}
-use Rattle.text_pieces.specs.Pieces.{piece_lines, piece_line}
 use Rattle.block_rows.proofs.DefinitionRows.{definitions_of}
-use Rattle.block_rows.proofs.RowSteps.{shown_more, taken_more, left_more}
-use Rattle.block_targets.specs.Read.{HasContents}
 use Rattle.block_targets.proofs.NoDefinition.{no_definitions}
 use Rattle.block_targets.proofs.contents.definition_contents.Goals as goal
 

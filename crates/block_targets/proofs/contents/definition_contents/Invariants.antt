@@ -1,8 +1,5 @@
 use Rattle.std.proofs.Common.{◌≡◌, ◌≤◌, ◌+◌, length, take, drop}
-use Rattle.std.specs.List.{flat_map}
-use Rattle.block_rows.specs.Rows.{rows_size, row_definitions, rows_value}
-use Rattle.text_pieces.specs.Pieces.{piece_lines}
-use Rattle.block_targets.specs.Read.{HasContents}
+use Rattle.block_targets.proofs.Prelude.{flat_map, HasContents, piece_lines, row_definitions, rows_size, rows_value}
 use Rattle.block_targets.proofs.contents.definition_contents.Given as goal
 
 -- the definitions of the rows so far are there, and the others take their lines from those that are left

@@ -1,9 +1,6 @@
 use Rattle.std.proofs.Common.{◌++◌, ◌∷◌, [], sym, ap, ◌∙◌, subst, take}
-use Rattle.std.specs.Prelude.{map}
-use Rattle.std.proofs.lemmas.List.{map_more, take_all}
-use Rattle.definition_text.specs.Content.{content_codes}
-use Rattle.definition_inline.specs.Definition.{definition_at}
-use Rattle.block_targets.specs.Read.{HasDefinitions, alone, read_on}
+use Rattle.block_targets.proofs.Prelude.{alone, content_codes, definition_at, HasDefinitions, map, read_on, take_all}
+use Rattle.std.proofs.lemmas.List.{map_more}
 use Rattle.block_targets.proofs.definitions.document_definitions.Goals as goal
 
 pub loop-text-preserved : goal.loop-text-preserved

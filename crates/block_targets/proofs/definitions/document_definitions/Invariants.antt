@@ -1,6 +1,5 @@
 use Rattle.std.proofs.Common.{take}
-use Rattle.std.specs.Prelude.{map}
-use Rattle.block_targets.specs.Read.{HasDefinitions, read_on}
+use Rattle.block_targets.proofs.Prelude.{HasDefinitions, map, read_on}
 use Rattle.block_targets.proofs.definitions.document_definitions.Given as goal
 
 -- the contents so far are read

@@ -1,15 +1,10 @@
 use Rattle.std.proofs.Common.{◌≡◌, ◌+◌, ◌-◌, ◌++◌, ◌∷◌, [], List, true, sym, ap, ◌∙◌, take, drop, get_or, arith, length, subst}
 use Rattle.std.proofs.lemmas.Bool.{and_parts}
-use Rattle.std.proofs.lemmas.List.{take_rest, take_all}
+use Rattle.block_targets.proofs.Prelude.{are_bare_rows, BlockLine, BlockRow, fold-append, HasLabelsSoFar, is_bare_row, labels_so_far, left_more, note_row}
+use Rattle.block_targets.proofs.Prelude.{note_rows, nothing_noted, piece_line, piece_lines, Row, row_size, row_value, rows_value, RowsValue, shown_more}
+use Rattle.block_targets.proofs.Prelude.{take_all, take_rest, taken_more}
 use Rattle.std.proofs.lemmas.List.Folds.{list_all-append}
-use Rattle.std.proofs.lemmas.List.Sums.{fold-append}
-use Rattle.block_rows.specs.declared.row.Row.{Row}
 use Rattle.block_rows.specs.declared.row.Row.TheVariants.{Paragraph}
-use Rattle.definition_text.specs.BlockLines.{BlockLine}
-use Rattle.block_rows.specs.Rows.{BlockRow, RowsValue, row_value, rows_value, row_size}
-use Rattle.text_pieces.specs.Pieces.{piece_lines, piece_line}
-use Rattle.block_rows.proofs.RowSteps.{shown_more, taken_more, left_more}
-use Rattle.block_targets.specs.GfmFootnoteDefinition.{HasLabelsSoFar, are_bare_rows, is_bare_row, labels_so_far, note_row, note_rows, nothing_noted}
 use Rattle.block_targets.proofs.Notes.{notes_of}
 use Rattle.block_targets.proofs.NoFootnote.{no_footnotes}
 use Rattle.block_targets.proofs.gfm_footnote_definition.document_footnotes.Goals as goal

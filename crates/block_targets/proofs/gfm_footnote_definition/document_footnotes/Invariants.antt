@@ -1,7 +1,5 @@
 use Rattle.std.proofs.Common.{◌≡◌, ◌≤◌, ◌+◌, length, take, drop, true}
-use Rattle.block_rows.specs.Rows.{rows_size, rows_value}
-use Rattle.text_pieces.specs.Pieces.{piece_lines}
-use Rattle.block_targets.specs.GfmFootnoteDefinition.{HasLabelsSoFar, are_bare_rows, note_rows}
+use Rattle.block_targets.proofs.Prelude.{are_bare_rows, HasLabelsSoFar, note_rows, piece_lines, rows_size, rows_value}
 use Rattle.block_targets.proofs.gfm_footnote_definition.document_footnotes.Given as goal
 
 -- the footnote definitions of the rows so far are there, and the others take their lines from those that are left

@@ -1,6 +1,5 @@
 use Rattle.std.proofs.Common.{◌≡◌, take}
-use Rattle.std.specs.Prelude.{min}
-use Rattle.definition_block.specs.ListItem.{number_of}
+use Rattle.compile_html.proofs.Prelude.{min, number_of}
 use Rattle.compile_written.proofs.Numbers.{greatest}
 use Rattle.compile_html.proofs.list.number_of.Given as goal
 

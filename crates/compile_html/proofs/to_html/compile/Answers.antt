@@ -1,9 +1,6 @@
 use Rattle.std.proofs.Common.{◌≡◌, ℕ, List, string_bytes, sym, ap, ◌∙◌, subst}
-use Rattle.engine_events.specs.declared.event.Event.{Event}
-use Rattle.event_check.specs.Matches.{MatchesGrammar}
+use Rattle.compile_html.proofs.Prelude.{Event, HasOneReading, MatchesGrammar, safe_events_law}
 use Rattle.event_meaning.specs.Spelled.{html_of_events}
-use Rattle.laws_safe_page.specs.SafeHtml.{HasOneReading}
-use Rattle.compile_safe_page.proofs.SafeHtml.{safe_events_law}
 use Rattle.compile_html.proofs.to_html.compile.Goals as goal
 
 pub returns-clause-page : goal.returns-clause-page

@@ -1,18 +1,11 @@
 use Rattle.std.proofs.Common.{◌≡◌, ℕ, true, List, map, string_bytes, refl, sym, ap, ◌∙◌, subst}
-use Rattle.engine_events.specs.declared.event.Event.{Event}
+use Rattle.compile_html.proofs.Prelude.{blocks_of, checked_nodes, Event, events_of, HasOneReading, Nodes, page_of, PlacesFit, safe_events_law, spot, tree}
 use Rattle.engine_events.specs.declared.event.Name.TheVariants as n
 use Rattle.inline_labels.specs.Table.{HasLabels}
 use Rattle.inline_links.specs.View.{link_texts_view}
-use Rattle.event_grammar.specs.InGrammar.{PlacesFit}
-use Rattle.event_grammar.specs.Points.{spot}
 use Rattle.event_grammar.specs.References.{named}
-use Rattle.event_grammar.specs.Trees.{Nodes, events_of, tree}
-use Rattle.event_meaning.specs.Blocks.{blocks_of}
-use Rattle.event_meaning.specs.Spelled.{definition_of, footnotes, html_of_nodes, meaning_of, page_of}
+use Rattle.event_meaning.specs.Spelled.{definition_of, footnotes, html_of_nodes, meaning_of}
 use Rattle.compile_written.specs.Definition.{HasDefinitions}
-use Rattle.compile_written.proofs.CheckedNodes.{checked_nodes}
-use Rattle.laws_safe_page.specs.SafeHtml.{HasOneReading}
-use Rattle.compile_safe_page.proofs.SafeHtml.{safe_events_law}
 use Rattle.compile_html.proofs.Checked.{checked_sound, checked_lists, checked_numbers}
 use Rattle.compile_html.proofs.Tree.{tree_is}
 use Rattle.compile_html.proofs.to_html.compile_checked.Goals as goal

@@ -1,8 +1,5 @@
 use Rattle.std.proofs.Common.{◌≡◌, ℕ, List, Option, Some, sym, ap, ◌∙◌, unwrap_or, drop}
-use Rattle.std.specs.List.{position_or_len}
-use Rattle.markdown_options.specs.declared.line_ending.LineEnding.{LineEnding}
-use Rattle.definition_text.specs.Lines.{first_line, without_mark}
-use Rattle.text_search.specs.Pairs.{is_of_pair}
+use Rattle.compile_html.proofs.Prelude.{first_line, is_of_pair, LineEnding, position_or_len, without_mark}
 use Rattle.compile_html.proofs.Endings.{ends, first_ending, ending_here, none_here, feed_at, both_at, alone_at, last_at}
 use Rattle.compile_html.proofs.to_html.default_ending.Goals as goal
 use Rattle.compile_html.proofs.to_html.default_ending.Goals.{else-end-bytes-2-via-then-end-bytes-2+else-bytes-end-eq10-2, else-end-bytes-2-via-else-end-bytes-2}

@@ -1,28 +1,17 @@
 use Rattle.std.proofs.Common.{◌≡◌, ℕ, Bool, true, false, not, List, None, [], ◌∷◌, ◌++◌, reverse, string_bytes, unwrap_or, refl, sym, ap, ◌∙◌, subst}
 use Rattle.std.specs.Result.{IfOk}
-use Rattle.std.specs.List.{fold}
-use Rattle.std.specs.declared.vec.Vec.{Vec}
+use Rattle.compile_html.proofs.Prelude.{blocks_of, children_pieces, ending_bytes, ends_in, Event, first_line, fold, Frame, fresh_unless, GoesOn, in_bytes}
+use Rattle.compile_html.proofs.Prelude.{layout_after, LayoutState, left_pieces, LineEnding, loose_lists, page_after, page_of, page_view, Piece, Printer, Vec}
+use Rattle.compile_html.proofs.Prelude.{without_mark}
 use Rattle.std.proofs.lemmas.List.{append-nil}
-use Rattle.markdown_options.specs.declared.line_ending.LineEnding.{LineEnding}
 use Rattle.markdown_options.specs.declared.configuration.CompileOptions.{CompileOptions}
-use Rattle.markdown_options.specs.LineEndings.{ending_bytes}
-use Rattle.engine_events.specs.declared.event.Event.{Event}
-use Rattle.definition_page.specs.BlockPieces.{fresh_unless, children_pieces, at_top, document_pieces}
-use Rattle.definition_page.specs.Pieces.{Piece}
-use Rattle.html_bytes.specs.Layout.{LayoutState, lay, nothing_laid, with_footnotes}
-use Rattle.html_bytes.specs.Pieces.{in_bytes}
+use Rattle.definition_page.specs.BlockPieces.{at_top, document_pieces}
+use Rattle.html_bytes.specs.Layout.{lay, nothing_laid, with_footnotes}
 use Rattle.html_bytes.proofs.SamePage.{page_same}
 use Rattle.html_bytes.proofs.SameText.{pieces_same}
-use Rattle.html_leaves.specs.Prints.{layout_after, page_view}
-use Rattle.definition_text.specs.Lines.{first_line, without_mark}
-use Rattle.event_meaning.specs.Blocks.{blocks_of}
-use Rattle.event_meaning.specs.Spelled.{default_ending, page_of}
-use Rattle.event_meaning.specs.Children.{ends_in}
+use Rattle.event_meaning.specs.Spelled.{default_ending}
 use Rattle.engine_events.specs.declared.event.Name.TheVariants.{BlankLineEnding}
-use Rattle.event_meaning.specs.Left.{Frame, whole_document, left_pieces}
-use Rattle.compile_written.specs.List.{loose_lists}
-use Rattle.compile_html.specs.Going.{page_after, GoesOn}
-use Rattle.compile_html.specs.declared.printer.Printer.{Printer}
+use Rattle.event_meaning.specs.Left.{whole_document}
 use Rattle.compile_html.proofs.Going.{laid_by, no_false}
 use Rattle.compile_html.proofs.to_html.print.Goals as goal
 

@@ -1,6 +1,5 @@
 use Rattle.std.proofs.Common.{sym, ap, is_some}
-use Rattle.event_grammar.specs.Trees.{Nodes, events_of}
-use Rattle.event_meaning.specs.Children.{child, after_child, before_child}
+use Rattle.compile_raw.proofs.Prelude.{after_child, before_child, child, events_of, Nodes}
 use Rattle.compile_raw.proofs.Children.{first_none}
 use Rattle.compile_raw.proofs.Pieces.{after_nodes}
 use Rattle.compile_raw.proofs.code_fenced.between_fences.Goals as goal

@@ -1,8 +1,5 @@
 use Rattle.std.proofs.Common.{◌≡◌, codes, sym, ap, ◌∙◌, subst}
-use Rattle.std.specs.Result.{OnOk}
-use Rattle.definition_text.specs.Encode.{encode}
-use Rattle.html_bytes.specs.Layout.{LayoutState}
-use Rattle.html_leaves.specs.Prints.{page_view, with_bytes}
+use Rattle.compile_raw.proofs.Prelude.{encode, LayoutState, OnOk, page_view, with_bytes}
 use Rattle.compile_raw.proofs.FencedLaid.{class_laid}
 use Rattle.compile_raw.proofs.code_fenced.push_class.Goals as goal
 

@@ -1,17 +1,7 @@
 use Rattle.std.proofs.Common.{◌≡◌, ◌&&◌, ◌||◌, not, Bool, false, is_some, sym, ap, ◌∙◌, subst}
-use Rattle.std.specs.Result.{OnOk}
+use Rattle.compile_raw.proofs.Prelude.{after_child, before_child, child, ending_bytes, ends_in, fenced_end, fenced_lines, FencedCode, in_bytes, info_of}
+use Rattle.compile_raw.proofs.Prelude.{kids_in, layout_after, LayoutState, leaf_block_pieces, LineEnding, OnOk, page_view, raw_parts}
 use Rattle.engine_events.specs.declared.event.Name.TheVariants as n
-use Rattle.markdown_options.specs.LineEndings.{ending_bytes}
-use Rattle.markdown_options.specs.declared.line_ending.LineEnding.{LineEnding}
-use Rattle.definition_page.specs.BlockPieces.{leaf_block_pieces}
-use Rattle.definition_page.specs.Page.{FencedCode}
-use Rattle.event_meaning.specs.Blocks.{info_of}
-use Rattle.event_meaning.specs.Children.{child, kids_in, after_child, before_child, ends_in}
-use Rattle.event_meaning.specs.Raw.{raw_parts, fenced_lines}
-use Rattle.html_bytes.specs.Layout.{LayoutState}
-use Rattle.html_bytes.specs.Pieces.{in_bytes}
-use Rattle.html_leaves.specs.Prints.{page_view, layout_after}
-use Rattle.compile_raw.specs.Raw.{fenced_end}
 use Rattle.compile_raw.proofs.FencedLaid.{fenced_laid}
 use Rattle.compile_raw.proofs.Sound.{kids_sound}
 use Rattle.compile_raw.proofs.code_fenced.push_code_fenced.Goals as goal

@@ -1,14 +1,6 @@
 use Rattle.std.proofs.Common.{◌≡◌, sym, ap, ◌∙◌, codes, subst}
-use Rattle.std.specs.List.{flat_map}
-use Rattle.std.specs.Result.{OnOk}
+use Rattle.compile_raw.proofs.Prelude.{attribute_bytes, child, ending_bytes, flat_map, info_attributes, info_of, LayoutState, OnOk, page_view, with_bytes}
 use Rattle.engine_events.specs.declared.event.Name.TheVariants as n
-use Rattle.markdown_options.specs.LineEndings.{ending_bytes}
-use Rattle.definition_page.specs.BlockPieces.{info_attributes}
-use Rattle.definition_page.specs.Tags.{attribute_bytes}
-use Rattle.event_meaning.specs.Blocks.{info_of}
-use Rattle.event_meaning.specs.Children.{child}
-use Rattle.html_bytes.specs.Layout.{LayoutState}
-use Rattle.html_leaves.specs.Prints.{page_view, with_bytes}
 use Rattle.compile_raw.proofs.FencedLaid.{tags_laid}
 use Rattle.compile_raw.proofs.code_fenced.push_code_tags.Goals as goal
 

@@ -1,13 +1,7 @@
 use Rattle.std.proofs.Common.{◌≡◌, ◌&&◌, ◌||◌, not, Bool, false, is_some, sym, ap, ◌∙◌, subst}
-use Rattle.std.specs.Result.{OnOk}
-use Rattle.markdown_options.specs.LineEndings.{ending_bytes}
-use Rattle.markdown_options.specs.declared.line_ending.LineEnding.{LineEnding}
+use Rattle.compile_raw.proofs.Prelude.{after_child, before_child, child, ending_bytes, ends_in, fenced_close, fenced_lines, layout_after, LayoutState}
+use Rattle.compile_raw.proofs.Prelude.{LineEnding, OnOk, page_view, raw_parts}
 use Rattle.engine_events.specs.declared.event.Name.TheVariants as n
-use Rattle.event_meaning.specs.Children.{child, after_child, before_child, ends_in}
-use Rattle.event_meaning.specs.Raw.{raw_parts, fenced_lines}
-use Rattle.html_bytes.specs.Layout.{LayoutState}
-use Rattle.html_leaves.specs.Prints.{layout_after, page_view}
-use Rattle.compile_raw.specs.Raw.{fenced_close}
 use Rattle.compile_raw.proofs.FencedLaid.{laid, end_laid}
 use Rattle.compile_raw.proofs.Sound.{after_sound, before_sound}
 use Rattle.compile_raw.proofs.code_fenced.push_fenced.Goals as goal

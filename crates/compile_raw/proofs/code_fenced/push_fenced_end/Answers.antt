@@ -1,10 +1,5 @@
 use Rattle.std.proofs.Common.{◌≡◌, Bool, codes, sym, ap, ◌∙◌, subst}
-use Rattle.std.specs.Result.{OnOk}
-use Rattle.markdown_options.specs.LineEndings.{ending_bytes}
-use Rattle.markdown_options.specs.declared.line_ending.LineEnding.{LineEnding}
-use Rattle.html_bytes.specs.Layout.{LayoutState}
-use Rattle.html_leaves.specs.Prints.{layout_after, page_view, with_fresh}
-use Rattle.compile_raw.specs.Raw.{fenced_close}
+use Rattle.compile_raw.proofs.Prelude.{ending_bytes, fenced_close, layout_after, LayoutState, LineEnding, OnOk, page_view, with_fresh}
 use Rattle.compile_raw.proofs.code_fenced.push_fenced_end.Goals as goal
 
 pub returns-then-closed-clause-printed : goal.returns-then-closed-clause-printed

@@ -1,11 +1,5 @@
 use Rattle.std.proofs.Common.{◌≡◌, ◌&&◌, ◌||◌, Bool, true, ap, ◌∙◌, subst}
-use Rattle.std.specs.Result.{OnOk}
-use Rattle.markdown_options.specs.LineEndings.{ending_bytes}
-use Rattle.markdown_options.specs.declared.line_ending.LineEnding.{LineEnding}
-use Rattle.event_meaning.specs.Raw.{raw_parts}
-use Rattle.html_bytes.specs.Layout.{LayoutState}
-use Rattle.html_leaves.specs.Prints.{page_view}
-use Rattle.compile_raw.specs.Raw.{has_any, last_end, lines_behind}
+use Rattle.compile_raw.proofs.Prelude.{ending_bytes, has_any, last_end, LayoutState, LineEnding, lines_behind, OnOk, page_view, raw_parts}
 use Rattle.compile_raw.proofs.FencedLaid.{ended}
 use Rattle.compile_raw.proofs.code_fenced.push_fenced_lines.Goals as goal
 

@@ -1,16 +1,8 @@
 use Rattle.std.proofs.Common.{◌≡◌, ◌++◌, ℕ, List, [], Option, Some, sym, ap, ◌∙◌, subst}
-use Rattle.std.specs.List.{flat_map}
-use Rattle.std.specs.Result.{OnOk}
-use Rattle.std.proofs.lemmas.List.{append-nil}
-use Rattle.definition_page.specs.BlockPieces.{info_attributes}
-use Rattle.definition_page.specs.Tags.{attribute_bytes}
-use Rattle.event_grammar.specs.InGrammar.{kids_of}
-use Rattle.event_grammar.specs.Trees.{Node}
+use Rattle.compile_raw.proofs.Prelude.{append-nil, attribute_bytes, flat_map, info_attributes, info_of, kids_of, Node, OnOk, page_view, with_bytes}
 use Rattle.engine_events.specs.declared.event.Name.TheVariants as n
-use Rattle.event_meaning.specs.Blocks.{info_of}
 use Rattle.event_meaning.specs.Strings.{string_of}
 use Rattle.compile_written.specs.Within.{AreWithin}
-use Rattle.html_leaves.specs.Prints.{page_view, with_bytes}
 use Rattle.compile_raw.proofs.Pieces.{inside_read}
 use Rattle.compile_raw.proofs.Sound.{child_sound}
 use Rattle.compile_raw.proofs.code_fenced.push_info.Goals as goal

@@ -1,5 +1,5 @@
 use Rattle.std.proofs.Common.{sym, ap, ◌∙◌}
-use Rattle.event_grammar.specs.Trees.{events_of}
+use Rattle.compile_raw.proofs.Prelude.{events_of}
 use Rattle.compile_raw.proofs.Children.{no_child_before}
 use Rattle.compile_raw.proofs.code_fenced.up_to_fence.Goals as goal
 

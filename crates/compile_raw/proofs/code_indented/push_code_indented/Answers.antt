@@ -1,11 +1,5 @@
 use Rattle.std.proofs.Common.{◌≡◌, sym, ap, ◌∙◌, subst, codes}
-use Rattle.std.specs.Result.{OnOk}
-use Rattle.markdown_options.specs.declared.line_ending.LineEnding.{LineEnding}
-use Rattle.markdown_options.specs.LineEndings.{ending_bytes}
-use Rattle.event_meaning.specs.Raw.{raw_lines, raw_parts}
-use Rattle.html_bytes.specs.Layout.{LayoutState}
-use Rattle.html_leaves.specs.CodeLines.{code_of}
-use Rattle.html_leaves.specs.Prints.{page_view, with_bytes, with_tag}
+use Rattle.compile_raw.proofs.Prelude.{code_of, ending_bytes, LayoutState, LineEnding, OnOk, page_view, raw_lines, raw_parts, with_bytes, with_tag}
 use Rattle.html_leaves.proofs.LeafLaid.{indented_laid}
 use Rattle.compile_raw.proofs.code_indented.push_code_indented.Goals as goal
 

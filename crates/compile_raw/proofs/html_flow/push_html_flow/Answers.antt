@@ -1,11 +1,5 @@
 use Rattle.std.proofs.Common.{◌≡◌, sym, ap, ◌∙◌, subst}
-use Rattle.std.specs.Result.{OnOk}
-use Rattle.markdown_options.specs.declared.configuration.CompileOptions.{CompileOptions}
-use Rattle.markdown_options.specs.LineEndings.{ending_bytes}
-use Rattle.event_meaning.specs.Raw.{raw_lines, raw_parts}
-use Rattle.html_bytes.specs.Layout.{LayoutState}
-use Rattle.html_leaves.specs.CodeLines.{html_of}
-use Rattle.html_leaves.specs.Prints.{page_view, with_bytes, with_fresh}
+use Rattle.compile_raw.proofs.Prelude.{CompileOptions, ending_bytes, html_of, LayoutState, OnOk, page_view, raw_lines, raw_parts, with_bytes, with_fresh}
 use Rattle.html_leaves.proofs.LeafLaid.{html_laid}
 use Rattle.compile_raw.proofs.html_flow.push_html_flow.Goals as goal
 

@@ -1,9 +1,5 @@
 use Rattle.std.proofs.Common.{ℕ, List, refl, sym, ◌∙◌}
-use Rattle.markdown_options.specs.LineEndings.{ending_bytes}
-use Rattle.event_grammar.specs.Trees.{Nodes, Nil, Cons, AreNodes}
-use Rattle.event_meaning.specs.GfmTable.{endings_in}
-use Rattle.html_leaves.specs.Prints.{page_view}
-use Rattle.compile_raw.specs.Endings.{endings_bytes}
+use Rattle.compile_raw.proofs.Prelude.{AreNodes, Cons, ending_bytes, endings_bytes, endings_in, Nil, Nodes, page_view}
 use Rattle.compile_raw.proofs.Endings.{endings_laid, first_endings}
 use Rattle.compile_raw.proofs.RawWalk.{one_printed, none_left, first_are}
 use Rattle.compile_raw.proofs.line_ending.push_endings.Goals as goal

@@ -1,9 +1,5 @@
 use Rattle.std.proofs.Common.{◌≡◌, length}
-use Rattle.definition_inline.specs.CharacterReference.{Names}
-use Rattle.event_grammar.specs.Trees.{Nodes, AreNodes, events_of}
-use Rattle.event_meaning.specs.GfmTable.{endings_in}
-use Rattle.html_leaves.specs.Prints.{KeepsEnding, page_view}
-use Rattle.compile_raw.specs.Endings.{endings_bytes}
+use Rattle.compile_raw.proofs.Prelude.{AreNodes, endings_bytes, endings_in, events_of, KeepsEnding, Names, Nodes, page_view}
 use Rattle.compile_raw.proofs.RawWalk.{Walked}
 use Rattle.compile_raw.proofs.line_ending.push_endings.Given as goal
 

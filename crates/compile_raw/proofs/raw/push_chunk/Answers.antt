@@ -1,7 +1,5 @@
 use Rattle.std.proofs.Common.{◌≡◌, ◌<◌, ◌++◌, ℕ, List, string_bytes, get_or, sym, ap, ◌∙◌, subst, append_assoc, arith}
-use Rattle.std.specs.Prelude.{replicate}
-use Rattle.std.specs.Result.{OnOk}
-use Rattle.definition_text.specs.Encode.{encode}
+use Rattle.compile_raw.proofs.Prelude.{encode, OnOk, replicate}
 use Rattle.compile_raw.proofs.RawLaid.{chunk_said}
 use Rattle.compile_raw.proofs.raw.push_chunk.Goals as goal
 

@@ -1,6 +1,5 @@
 use Rattle.std.proofs.Common.{◌∙◌, sym, subst}
-use Rattle.html_leaves.specs.Prints.{page_view}
-use Rattle.compile_raw.specs.declared.raw.Passed.{Passed}
+use Rattle.compile_raw.proofs.Prelude.{page_view, Passed}
 use Rattle.compile_raw.proofs.RawWalk.{CodeWalked, one_code, code_first}
 use Rattle.compile_raw.proofs.raw.push_code.Goals as goal
 

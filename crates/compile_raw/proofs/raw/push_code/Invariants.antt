@@ -1,8 +1,6 @@
 use Rattle.std.proofs.Common.{◌≡◌, length}
-use Rattle.event_grammar.specs.Trees.{Nodes, events_of}
-use Rattle.html_leaves.specs.Prints.{KeepsEnding, page_view}
+use Rattle.compile_raw.proofs.Prelude.{AreSound, events_of, KeepsEnding, Nodes, page_view}
 use Rattle.compile_rows.specs.Columns.{AreCounted}
-use Rattle.compile_raw.specs.Sound.{AreSound}
 use Rattle.compile_raw.proofs.RawWalk.{CodeWalked}
 use Rattle.compile_raw.proofs.raw.push_code.Given as goal
 

@@ -1,17 +1,10 @@
 use Rattle.std.proofs.Common.{◌≡◌, ◌∷◌, [], List, ℕ, sym, ap, ◌∙◌, subst, string_bytes}
-use Rattle.std.specs.Result.{OnOk}
-use Rattle.engine_events.specs.Names.{same_name}
-use Rattle.engine_events.specs.declared.event.Name.{Name}
+use Rattle.compile_raw.proofs.Prelude.{Chunk, html_of, Name, node_name, OnOk, page_view, raw_lines, raw_part, RawPart, same_name, valid, with_bytes}
 use Rattle.engine_events.specs.declared.event.Name.TheVariants as n
-use Rattle.event_grammar.specs.InGrammar.{node_name}
 use Rattle.compile_levels.proofs.ChildLaw.{reads_name}
-use Rattle.event_meaning.specs.Raw.{RawPart, Chunk, raw_lines, raw_part}
 use Rattle.html_bytes.specs.Layout.{with_text}
 use Rattle.html_footnotes.specs.Output.{output_view}
 use Rattle.html_leaves.proofs.Laid.{text_laid}
-use Rattle.html_leaves.specs.CodeLines.{html_of}
-use Rattle.html_leaves.specs.Prints.{page_view, with_bytes}
-use Rattle.compile_written.specs.Strings.{valid}
 use Rattle.compile_raw.proofs.Pieces.{valid_text}
 use Rattle.compile_raw.proofs.RawParts.{html_part}
 use Rattle.compile_raw.proofs.raw.push_html_part.Goals as goal

@@ -1,10 +1,5 @@
 use Rattle.std.proofs.Common.{ℕ, List, ◌∙◌}
-use Rattle.event_grammar.specs.InGrammar.{node_name}
-use Rattle.event_grammar.specs.Trees.{Nodes}
-use Rattle.event_meaning.specs.Raw.{raw_lines, raw_part, raw_parts}
-use Rattle.html_leaves.specs.CodeLines.{html_of}
-use Rattle.html_leaves.specs.Prints.{page_view}
-use Rattle.compile_raw.specs.Sound.{AreSound, HaveNoChunk}
+use Rattle.compile_raw.proofs.Prelude.{AreSound, HaveNoChunk, html_of, node_name, Nodes, page_view, raw_lines, raw_part, raw_parts}
 use Rattle.compile_raw.proofs.RawLaid.{html_both}
 use Rattle.compile_raw.proofs.RawWalk.{one_printed, first_are}
 use Rattle.compile_raw.proofs.Sound.{first_sound}

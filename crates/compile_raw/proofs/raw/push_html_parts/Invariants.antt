@@ -1,9 +1,5 @@
 use Rattle.std.proofs.Common.{◌≡◌, length}
-use Rattle.event_grammar.specs.Trees.{Nodes, events_of}
-use Rattle.event_meaning.specs.Raw.{raw_lines, raw_parts}
-use Rattle.html_leaves.specs.CodeLines.{html_of}
-use Rattle.html_leaves.specs.Prints.{KeepsEnding, page_view}
-use Rattle.compile_raw.specs.Sound.{AreSound, HaveNoChunk}
+use Rattle.compile_raw.proofs.Prelude.{AreSound, events_of, HaveNoChunk, html_of, KeepsEnding, Nodes, page_view, raw_lines, raw_parts}
 use Rattle.compile_raw.proofs.RawWalk.{Walked}
 use Rattle.compile_raw.proofs.raw.push_html_parts.Given as goal
 

@@ -1,5 +1,5 @@
 use Rattle.std.proofs.Common.{◌≡◌, ◌<◌, ◌++◌, ℕ, List, get_or, string_bytes, sym, subst, arith}
-use Rattle.std.specs.Result.{OnOk}
+use Rattle.compile_raw.proofs.Prelude.{OnOk}
 use Rattle.compile_raw.proofs.RawParts.{chunk_html}
 use Rattle.compile_raw.proofs.raw.push_html_text.Goals as goal
 

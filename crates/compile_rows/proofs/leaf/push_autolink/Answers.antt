@@ -1,7 +1,5 @@
 use Rattle.std.proofs.Common.{◌∙◌, ◌∷◌, [], sym}
-use Rattle.inline_rows.specs.InlineRows.{Part}
-use Rattle.inline_rows.specs.View.{rows_view}
-use Rattle.compile_rows.specs.Leaves.{autolink_by}
+use Rattle.compile_rows.proofs.Prelude.{autolink_by, Part, rows_view}
 use Rattle.compile_rows.proofs.Pushed.{along, email_row, protocol_row}
 use Rattle.compile_rows.proofs.leaf.push_autolink.Goals as goal
 

@@ -1,11 +1,7 @@
 use Rattle.std.proofs.Common.{◌∷◌, [], ap}
-use Rattle.inline_rows.specs.InlineRows.{Part}
-use Rattle.inline_rows.specs.View.{rows_view}
+use Rattle.compile_rows.proofs.Prelude.{ending_rows, line_ending_code, LineEnd, Part, rows_view}
 use Rattle.compile_rows.proofs.Pushed.{along}
 use Rattle.markdown_options.specs.declared.line_ending.LineEnding.{LineEnding}
-use Rattle.definition_text.specs.Content.{line_ending_code}
-use Rattle.definition_inline.specs.Inline.{LineEnd}
-use Rattle.compile_rows.specs.Leaves.{ending_rows}
 use Rattle.compile_rows.proofs.leaf.push_ending.Goals as goal
 
 pub returns : goal.returns

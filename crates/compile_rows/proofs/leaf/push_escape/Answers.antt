@@ -1,10 +1,7 @@
 use Rattle.std.proofs.Common.{ℕ, List, ap, map}
-use Rattle.inline_rows.specs.InlineRows.{Part}
-use Rattle.inline_rows.specs.View.{rows_view}
+use Rattle.compile_rows.proofs.Prelude.{Escape, Part, rows_view, value_of}
 use Rattle.compile_rows.proofs.Pushed.{along}
 use Rattle.engine_events.specs.declared.event.Name.TheVariants as n
-use Rattle.definition_inline.specs.Inline.{Escape}
-use Rattle.compile_rows.specs.Leaves.{value_of}
 use Rattle.compile_rows.proofs.leaf.push_escape.Goals as goal
 
 pub returns : goal.returns

@@ -1,9 +1,6 @@
 use Rattle.std.proofs.Common.{◌++◌, ◌∙◌, ap, ℕ, List, arith, get_or}
 use Rattle.std.proofs.lemmas.List.{take_rest}
-use Rattle.event_grammar.proofs.Runs.{no_event}
-use Rattle.compile_written.specs.Child.{text_first}
-use Rattle.inline_rows.specs.View.{rows_view}
-use Rattle.compile_rows.specs.Leaves.{html_part_rows}
+use Rattle.compile_rows.proofs.Prelude.{html_part_rows, no_event, rows_view, text_first}
 use Rattle.compile_rows.proofs.HtmlLoops.{part_on, enter_on, exit_on, ends_on, none_on, zero_is, zero_not}
 use Rattle.compile_rows.proofs.leaf.push_html.Goals as goal
 use Rattle.compile_rows.proofs.leaf.push_html.Goals.{in-Enter, then-depth-eq0+in_ok-push_html_part-in-Enter, else-depth-eq0, in-Exit+else-depth-eq0-2}

@@ -1,7 +1,5 @@
 use Rattle.std.proofs.Common.{◌≡◌, ◌≤◌, ◌++◌, ℕ, drop}
-use Rattle.definition_inline.specs.Inline.{LinkTexts}
-use Rattle.inline_rows.specs.View.{rows_view}
-use Rattle.compile_rows.specs.Leaves.{html_after}
+use Rattle.compile_rows.proofs.Prelude.{html_after, LinkTexts, rows_view}
 use Rattle.compile_rows.proofs.leaf.push_html.Given as goal
 
 -- the rows so far, with those of the events that are left, are all

@@ -1,6 +1,5 @@
 use Rattle.std.proofs.Common.{◌∙◌, sym}
-use Rattle.inline_rows.specs.View.{rows_view}
-use Rattle.compile_rows.specs.Leaves.{html_part_rows}
+use Rattle.compile_rows.proofs.Prelude.{html_part_rows, rows_view}
 use Rattle.compile_rows.proofs.Pushed.{along, html_data, html_ending}
 use Rattle.compile_rows.proofs.leaf.push_html_part.Goals as goal
 

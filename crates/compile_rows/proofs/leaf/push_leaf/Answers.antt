@@ -1,12 +1,9 @@
 use Rattle.std.proofs.Common.{◌∙◌, ◌∷◌, [], ℕ, List, sym, ap, map}
-use Rattle.inline_rows.specs.InlineRows.{Part}
-use Rattle.inline_rows.specs.View.{rows_view, data_rows}
-use Rattle.engine_events.specs.declared.event.Event.{Event}
+use Rattle.compile_rows.proofs.Prelude.{autolink_by, Character, data_rows, ending_rows, Escape, Event, html_after, leaf_rows, literal_kind, literal_rows, Part}
+use Rattle.compile_rows.proofs.Prelude.{reference_by, rows_view, valid, value_of}
 use Rattle.engine_events.specs.declared.event.Name.TheVariants as n
-use Rattle.definition_inline.specs.Inline.{Character, Escape}
-use Rattle.compile_written.specs.Strings.{valid}
 use Rattle.compile_rows.specs.declared.leaf.LeafKind.{LeafKind}
-use Rattle.compile_rows.specs.Leaves.{ending_rows, literal_kind, literal_rows, value_of, reference_by, autolink_by, html_after, leaf_kind_rows, leaf_rows}
+use Rattle.compile_rows.specs.Leaves.{leaf_kind_rows}
 use Rattle.compile_rows.proofs.Pushed.{along}
 use Rattle.compile_rows.proofs.leaf.push_leaf.Goals as goal
 

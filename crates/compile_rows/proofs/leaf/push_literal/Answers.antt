@@ -1,6 +1,4 @@
-use Rattle.inline_rows.specs.View.{rows_view}
-use Rattle.compile_written.specs.Strings.{valid}
-use Rattle.compile_rows.specs.Leaves.{literal_kind, literal_rows}
+use Rattle.compile_rows.proofs.Prelude.{literal_kind, literal_rows, rows_view, valid}
 use Rattle.compile_rows.proofs.Pushed.{along, literal_row}
 use Rattle.compile_rows.proofs.leaf.push_literal.Goals as goal
 

@@ -1,9 +1,5 @@
 use Rattle.std.proofs.Common.{◌∙◌, ◌∷◌, [], ℕ, List, sym, ap}
-use Rattle.inline_rows.specs.InlineRows.{Part}
-use Rattle.inline_rows.specs.View.{rows_view}
-use Rattle.std.specs.Prelude.{unwrap_or}
-use Rattle.definition_inline.specs.Inline.{Character}
-use Rattle.compile_rows.specs.Leaves.{reference_by}
+use Rattle.compile_rows.proofs.Prelude.{Character, Part, reference_by, rows_view, unwrap_or}
 use Rattle.compile_rows.proofs.Pushed.{along, hexadecimal, decimal, named}
 use Rattle.compile_rows.proofs.leaf.push_reference.Goals as goal
 

@@ -1,9 +1,5 @@
 use Rattle.std.proofs.Common.{◌∙◌, [], ◌++◌, ap, sym, refl, length}
-use Rattle.event_grammar.proofs.Runs.{no_event}
-use Rattle.compile_written.specs.Strings.{valid}
-use Rattle.inline_rows.specs.View.{data_rows}
-use Rattle.compile_rows.specs.Places.{place}
-use Rattle.compile_rows.specs.Rows.{rows_by}
+use Rattle.compile_rows.proofs.Prelude.{data_rows, no_event, place, rows_by, valid}
 use Rattle.compile_rows.specs.declared.rows.Mode.TheVariants.{Text}
 use Rattle.compile_rows.proofs.AloneRow.{two_first, alone_by, empty_is}
 use Rattle.compile_rows.proofs.RowsLaw.{rows_law}

@@ -1,8 +1,5 @@
 use Rattle.std.proofs.Common.{◌∙◌, sym, ap}
-use Rattle.std.specs.Option.{option_map}
-use Rattle.inline_rows.specs.View.{rows_view}
-use Rattle.compile_strings.specs.RawTexts.{sequence_of}
-use Rattle.compile_rows.specs.Rows.{alone_rows}
+use Rattle.compile_rows.proofs.Prelude.{alone_rows, option_map, rows_view, sequence_of}
 use Rattle.compile_rows.proofs.Pushed.{along}
 use Rattle.compile_rows.proofs.RowParts.{raw_row, no_raw_row}
 use Rattle.compile_rows.proofs.rows.push_alone.Goals as goal

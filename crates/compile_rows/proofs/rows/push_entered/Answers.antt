@@ -1,6 +1,5 @@
 use Rattle.std.proofs.Common.{arith}
-use Rattle.inline_rows.specs.View.{rows_view}
-use Rattle.compile_rows.specs.Rows.{enter_rows}
+use Rattle.compile_rows.proofs.Prelude.{enter_rows, rows_view}
 use Rattle.compile_rows.specs.declared.rows.Mode.TheVariants.{Text}
 use Rattle.compile_rows.proofs.Pushed.{along}
 use Rattle.compile_rows.proofs.RowParts.{place_rows}

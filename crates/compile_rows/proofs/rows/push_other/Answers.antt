@@ -1,8 +1,6 @@
 use Rattle.std.proofs.Common.{◌∙◌, sym, ap, None}
 use Rattle.engine_events.specs.declared.event.Name.TheVariants as n
-use Rattle.inline_rows.specs.View.{rows_view}
-use Rattle.compile_rows.specs.Leaves.{has}
-use Rattle.compile_rows.specs.Rows.{alone_rows}
+use Rattle.compile_rows.proofs.Prelude.{alone_rows, has, rows_view}
 use Rattle.compile_rows.proofs.Pushed.{along}
 use Rattle.compile_rows.proofs.RowParts.{call_row, check_row, leaf_row}
 use Rattle.compile_rows.proofs.rows.push_other.Goals as goal

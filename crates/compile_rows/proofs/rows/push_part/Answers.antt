@@ -1,10 +1,6 @@
 use Rattle.std.proofs.Common.{◌∙◌, sym, ap, Option}
-use Rattle.std.specs.Option.{option_map}
-use Rattle.definition_inline.specs.Inline.{SpanKind}
+use Rattle.compile_rows.proofs.Prelude.{option_map, part_rows, rows_view, span_of, SpanKind}
 use Rattle.inline_runs.specs.View.{span_view}
-use Rattle.inline_rows.specs.View.{rows_view}
-use Rattle.event_grammar.specs.Spans.{span_of}
-use Rattle.compile_rows.specs.Rows.{part_rows}
 use Rattle.compile_rows.proofs.Pushed.{along}
 use Rattle.compile_rows.proofs.rows.push_part.Goals as goal
 

@@ -1,6 +1,5 @@
 use Rattle.std.proofs.Common.{◌∙◌, sym, None, false}
-use Rattle.inline_rows.specs.View.{rows_view}
-use Rattle.compile_rows.specs.Rows.{part_rows}
+use Rattle.compile_rows.proofs.Prelude.{part_rows, rows_view}
 use Rattle.compile_rows.proofs.Pushed.{along}
 use Rattle.compile_rows.proofs.RowParts.{link_row, image_row, parts_by}
 use Rattle.compile_rows.proofs.rows.push_unspanned.Goals as goal

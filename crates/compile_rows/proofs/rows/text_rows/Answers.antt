@@ -1,9 +1,5 @@
 use Rattle.std.proofs.Common.{◌∙◌, ◌++◌, List, ap, arith, length, refl}
-use Rattle.inline_rows.specs.InlineRows.{InlineRow}
-use Rattle.inline_rows.specs.View.{rows_view}
-use Rattle.compile_rows.specs.Places.{place}
-use Rattle.compile_rows.specs.Rows.{rows_by}
-use Rattle.compile_strings.specs.Spelled.{raws_by, targets_by}
+use Rattle.compile_rows.proofs.Prelude.{InlineRow, place, raws_by, rows_by, rows_view, targets_by}
 use Rattle.compile_rows.specs.declared.rows.Mode.TheVariants.{Text}
 use Rattle.compile_rows.proofs.RowLoops.{HasRead, enter_left, exit_left, enter_on, exit_on, left_over, none_on}
 use Rattle.compile_rows.proofs.RowsLaw.{rows_law}

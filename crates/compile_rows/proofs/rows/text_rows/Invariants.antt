@@ -1,10 +1,5 @@
 use Rattle.std.proofs.Common.{◌≡◌, ◌≤◌, ◌+◌, ◌++◌, ℕ, length}
-use Rattle.definition_inline.specs.Inline.{Target, LinkTexts}
-use Rattle.inline_rows.specs.View.{rows_view}
-use Rattle.compile_rows.specs.Ahead.{AreLeft}
-use Rattle.compile_rows.specs.Places.{place}
-use Rattle.compile_rows.specs.Rows.{rows_by}
-use Rattle.compile_strings.specs.Spelled.{AreSpelled, raws_by, targets_by}
+use Rattle.compile_rows.proofs.Prelude.{AreLeft, AreSpelled, LinkTexts, place, raws_by, rows_by, rows_view, Target, targets_by}
 use Rattle.compile_rows.specs.declared.rows.Mode.TheVariants.{Text}
 use Rattle.compile_rows.proofs.rows.text_rows.Given as goal
 

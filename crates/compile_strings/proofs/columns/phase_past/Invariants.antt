@@ -1,6 +1,5 @@
 use Rattle.std.proofs.Common.{◌≡◌, ◌<◌, drop}
-use Rattle.std.specs.List.{fold}
-use Rattle.event_grammar.specs.Phases.{phase_on}
+use Rattle.compile_strings.proofs.Prelude.{fold, phase_on}
 use Rattle.compile_strings.proofs.columns.phase_past.Given as goal
 
 abbrev pub invariant-loop-byte : goal.invariant-loop-byte

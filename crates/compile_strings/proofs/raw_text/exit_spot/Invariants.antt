@@ -1,5 +1,5 @@
 use Rattle.std.proofs.Common.{◌≡◌, ◌≤◌, drop}
-use Rattle.compile_strings.specs.RawTexts.{exit_spot}
+use Rattle.compile_strings.proofs.Prelude.{exit_spot}
 use Rattle.compile_strings.proofs.raw_text.exit_spot.Given as goal
 
 -- the exit is among the events that are left

@@ -1,6 +1,6 @@
 use Rattle.std.proofs.Common.{◌≡◌, ◌++◌, ◌∙◌, ℕ, List, ap, subst, string_bytes, false}
-use Rattle.std.specs.Prelude.{OnOk, replicate}
-use Rattle.compile_written.specs.Strings.{valid}
+use Rattle.compile_strings.proofs.Prelude.{replicate, valid}
+use Rattle.std.specs.Prelude.{OnOk}
 use Rattle.compile_strings.proofs.RawLoops.{is_cut, cut_chunk, whole_chunk, cut, uncut_start, uncut_index}
 use Rattle.compile_strings.proofs.raw_text.push_chunk.Goals as goal
 use Rattle.compile_strings.proofs.raw_text.push_chunk.Goals.{else-from-ne0-via-then-from-ne0+else-from-to, else-from-ne0-via-else-from-ne0}

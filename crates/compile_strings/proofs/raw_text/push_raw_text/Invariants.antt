@@ -1,6 +1,5 @@
 use Rattle.std.proofs.Common.{◌≡◌, ◌≤◌, ◌++◌, false, drop, string_bytes}
-use Rattle.compile_strings.specs.Columns.{AreCounted}
-use Rattle.compile_strings.specs.RawTexts.{raw_after}
+use Rattle.compile_strings.proofs.Prelude.{AreCounted, raw_after}
 use Rattle.compile_strings.proofs.raw_text.push_raw_text.Given as goal
 
 -- what was appended, with the text that is left, is all

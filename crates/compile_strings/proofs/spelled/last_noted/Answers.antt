@@ -1,6 +1,5 @@
 use Rattle.std.proofs.Common.{◌≡◌, ◌∙◌, ◌<◌, ◌+◌, ◌-◌, ℕ, sym, ap, subst, drop, length, arith}
-use Rattle.compile_strings.specs.LabelEnd.{HoldsAt}
-use Rattle.compile_strings.specs.Spelled.{targets_by}
+use Rattle.compile_strings.proofs.Prelude.{HoldsAt, targets_by}
 use Rattle.compile_strings.proofs.HeldLaw.{held_other}
 use Rattle.compile_strings.proofs.PassLaw.{targets_other}
 use Rattle.compile_strings.proofs.spelled.last_noted.Goals as goal

@@ -1,9 +1,5 @@
 use Rattle.std.proofs.Common.{◌≡◌, ◌≤◌, ℕ, List, drop}
-use Rattle.definition_inline.specs.CharacterReference.{Names}
-use Rattle.definition_inline.specs.Inline.{Target, LinkTexts}
-use Rattle.compile_strings.specs.LabelEnd.{HoldsAt}
-use Rattle.compile_strings.specs.Spelled.{targets_by}
-use Rattle.compile_strings.specs.declared.label_end.Held.{Held}
+use Rattle.compile_strings.proofs.Prelude.{Held, HoldsAt, LinkTexts, Names, Target, targets_by}
 use Rattle.compile_strings.proofs.spelled.last_noted.Given as goal
 
 -- the events from here up to the end say nothing of where something leads

@@ -1,5 +1,5 @@
 use Rattle.std.proofs.Common.{◌≡◌, ◌≤◌, ◌-◌, ℕ, List, drop, length}
-use Rattle.compile_strings.specs.Spelled.{raws_by}
+use Rattle.compile_strings.proofs.Prelude.{raws_by}
 use Rattle.compile_strings.proofs.spelled.next_raw.Given as goal
 
 -- the events from the first index up to here aren't raw texts

@@ -1,8 +1,5 @@
 use Rattle.std.proofs.Common.{◌++◌, ◌∙◌, ℕ, List, sym, ap, string_bytes}
-use Rattle.std.proofs.lemmas.List.{append-nil}
-use Rattle.engine_events.specs.declared.event.Event.{Event}
-use Rattle.event_meaning.specs.Strings.{written}
-use Rattle.compile_written.specs.Strings.{parts_after}
+use Rattle.compile_strings.proofs.Prelude.{append-nil, Event, parts_after, written}
 use Rattle.compile_strings.proofs.SpelledLaw.{found_string, no_string}
 use Rattle.compile_strings.proofs.spelled.push_string_at.Goals as goal
 

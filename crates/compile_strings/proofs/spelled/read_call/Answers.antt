@@ -1,11 +1,5 @@
 use Rattle.std.proofs.Common.{◌≡◌, ◌∙◌, ℕ, List, ap, subst, string_bytes}
-use Rattle.std.proofs.lemmas.Str.{IsUtf8-string_bytes}
-use Rattle.definition_text.specs.Content.{content_codes}
-use Rattle.compile_written.specs.Strings.{valid}
-use Rattle.compile_written.proofs.FormedTexts.{valid_is}
-use Rattle.compile_strings.specs.Joined.{IsTarget, label_at}
-use Rattle.compile_strings.specs.LabelEnd.{label_place}
-use Rattle.compile_strings.specs.Spelled.{spelled, nowhere}
+use Rattle.compile_strings.proofs.Prelude.{content_codes, IsTarget, IsUtf8-string_bytes, label_at, label_place, nowhere, spelled, valid, valid_is}
 use Rattle.compile_strings.specs.declared.spelled.SpelledTarget.TheVariants as targets
 use Rattle.compile_strings.proofs.JoinedLaw.{call_target}
 use Rattle.compile_strings.proofs.spelled.read_call.Goals as goal

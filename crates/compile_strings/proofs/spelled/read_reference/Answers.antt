@@ -1,7 +1,5 @@
 use Rattle.std.proofs.Common.{◌∙◌, ℕ, List, sym, ap}
-use Rattle.definition_text.specs.Content.{content_codes}
-use Rattle.definition_inline.specs.LabelMatch.{first_match}
-use Rattle.compile_strings.specs.Joined.{found_target}
+use Rattle.compile_strings.proofs.Prelude.{content_codes, first_match, found_target}
 use Rattle.compile_strings.proofs.spelled.read_reference.Goals as goal
 
 pub returns-in-Some : goal.returns-in-Some

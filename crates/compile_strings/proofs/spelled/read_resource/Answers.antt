@@ -1,7 +1,6 @@
 use Rattle.std.proofs.Common.{string_bytes}
-use Rattle.std.proofs.lemmas.Str.{IsUtf8-string_bytes}
+use Rattle.compile_strings.proofs.Prelude.{IsUtf8-string_bytes, own_from, string_first}
 use Rattle.engine_events.specs.declared.event.Name.TheVariants as n
-use Rattle.compile_strings.specs.Targets.{own_from, string_first}
 use Rattle.compile_strings.proofs.JoinedLaw.{resource_target}
 use Rattle.compile_strings.proofs.spelled.read_resource.Goals as goal
 

@@ -1,10 +1,6 @@
 use Rattle.std.proofs.Common.{◌∙◌, sym, subst, string_bytes}
 use Rattle.std.specs.Prelude.{IfOk}
-use Rattle.definition_inline.specs.Targets.{labels_of, linked_at, leads_to, linked_by}
-use Rattle.compile_strings.specs.Joined.{IsTarget}
-use Rattle.compile_strings.specs.LabelEnd.{label_place}
-use Rattle.compile_strings.specs.Spelled.{Spelled, spelled_by}
-use Rattle.compile_strings.specs.declared.spelled.SpelledTarget.{SpelledTarget}
+use Rattle.compile_strings.proofs.Prelude.{IsTarget, label_place, labels_of, leads_to, linked_at, linked_by, Spelled, spelled_by, SpelledTarget}
 use Rattle.compile_strings.proofs.SpelledLaw.{label_text, call_made, resource_made, reference_target}
 use Rattle.compile_strings.proofs.spelled.read_target.Goals as goal
 

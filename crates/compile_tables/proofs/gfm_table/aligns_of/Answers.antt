@@ -1,10 +1,8 @@
 use Rattle.std.proofs.Common.{◌≡◌, ◌+◌, ◌<◌, ◌∙◌, ℕ, List, length, sym, ap, subst}
 use Rattle.std.specs.Result.{IfOk}
-use Rattle.engine_events.specs.declared.event.Event.{Event}
+use Rattle.compile_tables.proofs.Prelude.{Event, inside_of, IsAt}
 use Rattle.engine_events.specs.declared.event.Name.TheVariants as n
 use Rattle.event_check.specs.Align.{table_align}
-use Rattle.event_check.specs.Loose.{IsAt}
-use Rattle.event_meaning.specs.Children.{inside_of}
 use Rattle.compile_tables.proofs.Found.{none_found, some_found}
 use Rattle.compile_tables.proofs.HeadAt.{child_at, same_kids}
 use Rattle.compile_tables.proofs.gfm_table.aligns_of.Goals as goal

@@ -1,5 +1,5 @@
 use Rattle.std.proofs.Common.{◌∙◌, sym, ap}
-use Rattle.event_grammar.specs.Trees.{events_of}
+use Rattle.compile_tables.proofs.Prelude.{events_of}
 use Rattle.compile_raw.proofs.Children.{no_child_before}
 use Rattle.compile_tables.proofs.gfm_table.before_child.Goals as goal
 

@@ -1,18 +1,8 @@
 use Rattle.std.proofs.Common.{◌≡◌, ◌∙◌, false, sym, ap, subst}
-use Rattle.std.specs.Result.{OnOk}
+use Rattle.compile_tables.proofs.Prelude.{cell_or_none, child_sound, in_bytes, in_cell, inline_pieces, Inlines, inlines_of, kids_of, layout_after, next_cell}
+use Rattle.compile_tables.proofs.Prelude.{OnOk, page_view, text_kids, text_law, text_sound}
 use Rattle.engine_events.specs.declared.event.Name.TheVariants as n
-use Rattle.definition_inline.specs.Inline.{Inlines}
-use Rattle.definition_page.specs.GfmTable.{in_cell}
-use Rattle.definition_page.specs.InlinePieces.{inline_pieces}
-use Rattle.event_grammar.specs.InGrammar.{kids_of}
-use Rattle.event_meaning.specs.Texts.{inlines_of}
-use Rattle.html_bytes.specs.Pieces.{in_bytes}
-use Rattle.html_leaves.specs.Prints.{layout_after, page_view}
-use Rattle.compile_tables.specs.GfmTable.{cell_or_none, next_cell}
-use Rattle.compile_texts.specs.Texts.{text_kids}
 use Rattle.compile_tables.proofs.Found.{none_found, some_found, reads_inside}
-use Rattle.compile_raw.proofs.Sound.{child_sound}
-use Rattle.compile_texts.proofs.TextKids.{text_law, text_sound}
 use Rattle.compile_tables.proofs.gfm_table.cell_text.Goals as goal
 
 pub returns-in-None-clause-printed : goal.returns-in-None-clause-printed

@@ -1,4 +1,4 @@
-use Rattle.event_grammar.specs.Trees.{events_of}
+use Rattle.compile_tables.proofs.Prelude.{events_of}
 use Rattle.compile_tables.proofs.Found.{none_found, some_found, inside_none, inside_some}
 use Rattle.compile_tables.proofs.gfm_table.inside_of.Goals as goal
 

@@ -1,24 +1,9 @@
 use Rattle.std.proofs.Common.{◌≡◌, ◌∙◌, false, refl, sym, ap}
-use Rattle.std.specs.List.{flat_map}
+use Rattle.compile_tables.proofs.Prelude.{after_child, after_pieces, after_sound, cell_of, cells_in, child_sound, ending_bytes, flat_map, in_bytes, in_cell}
+use Rattle.compile_tables.proofs.Prelude.{inline_counts, Inlines, inlines_of, kids_of, layout_after, LineEnding, page_view, text_kids, text_law, text_sound}
 use Rattle.engine_events.specs.declared.event.Name.TheVariants as n
-use Rattle.markdown_options.specs.LineEndings.{ending_bytes}
-use Rattle.markdown_options.specs.declared.line_ending.LineEnding.{LineEnding}
-use Rattle.definition_inline.specs.Inline.{Inlines}
-use Rattle.definition_page.specs.GfmTable.{in_cell}
-use Rattle.definition_page.specs.InlinePieces.{inline_counts}
-use Rattle.event_grammar.specs.InGrammar.{kids_of}
-use Rattle.event_meaning.specs.Children.{after_child}
-use Rattle.event_meaning.specs.GfmTable.{cell_of}
-use Rattle.event_meaning.specs.Texts.{inlines_of}
-use Rattle.html_bytes.specs.Pieces.{in_bytes}
-use Rattle.html_leaves.specs.Prints.{layout_after, page_view}
-use Rattle.html_leaves.proofs.LeafLaid.{after_pieces}
-use Rattle.compile_tables.specs.GfmTable.{cells_in}
-use Rattle.compile_texts.specs.Texts.{text_kids}
 use Rattle.compile_tables.proofs.Found.{reads_inside}
 use Rattle.compile_tables.proofs.GfmTableLaid.{counts_more, no_counts}
-use Rattle.compile_raw.proofs.Sound.{child_sound, after_sound}
-use Rattle.compile_texts.proofs.TextKids.{text_law, text_sound}
 use Rattle.compile_tables.proofs.gfm_table.more_cells.Goals as goal
 
 pub loop-cell-init : goal.loop-cell-init

@@ -1,15 +1,6 @@
 use Rattle.std.proofs.Common.{◌≡◌, List, length}
-use Rattle.std.specs.List.{flat_map}
-use Rattle.markdown_options.specs.LineEndings.{ending_bytes}
-use Rattle.definition_inline.specs.Definition.{Definition}
-use Rattle.definition_page.specs.InlinePieces.{Meaning, inline_counts}
-use Rattle.event_grammar.specs.Trees.{Nodes, events_of}
-use Rattle.html_bytes.specs.Pieces.{in_bytes}
-use Rattle.html_leaves.specs.Prints.{layout_after, page_view}
-use Rattle.compile_rows.specs.Columns.{AreCounted}
-use Rattle.compile_tables.specs.GfmTable.{cells_in}
-use Rattle.compile_texts.specs.Meant.{IsMeant}
-use Rattle.compile_raw.specs.Sound.{AreSound}
+use Rattle.compile_tables.proofs.Prelude.{AreCounted, AreSound, cells_in, Definition, ending_bytes, events_of, flat_map, in_bytes, inline_counts, IsMeant}
+use Rattle.compile_tables.proofs.Prelude.{layout_after, Meaning, Nodes, page_view}
 use Rattle.compile_tables.proofs.GfmTableLeft.{IsLeft}
 use Rattle.compile_tables.proofs.gfm_table.more_cells.Given as goal
 

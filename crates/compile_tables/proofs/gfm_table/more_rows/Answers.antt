@@ -1,18 +1,9 @@
 use Rattle.std.proofs.Common.{◌∙◌, ℕ, List, [], refl, ap, codes}
 use Rattle.engine_events.specs.declared.event.Name.TheVariants as n
-use Rattle.markdown_options.specs.LineEndings.{ending_bytes}
-use Rattle.markdown_options.specs.declared.line_ending.LineEnding.{LineEnding}
-use Rattle.definition_page.specs.GfmTable.{row_pieces, endings_pieces}
-use Rattle.event_grammar.specs.InGrammar.{kids_of}
-use Rattle.event_meaning.specs.Children.{before_child, after_child}
-use Rattle.event_meaning.specs.GfmTable.{row_of, endings_in}
-use Rattle.html_bytes.specs.Pieces.{in_bytes}
-use Rattle.html_leaves.specs.Prints.{layout_after, page_view}
-use Rattle.html_leaves.proofs.LeafLaid.{after_pieces}
-use Rattle.compile_tables.specs.GfmTable.{more_rows_pieces}
+use Rattle.compile_tables.proofs.Prelude.{after_child, after_pieces, after_sound, before_child, before_sound, child_sound, ending_bytes, endings_in}
+use Rattle.compile_tables.proofs.Prelude.{endings_pieces, in_bytes, kids_of, layout_after, LineEnding, more_rows_pieces, page_view, row_of, row_pieces}
 use Rattle.compile_tables.proofs.Found.{reads_inside}
 use Rattle.compile_tables.proofs.GfmTableLaid.{rows_more, no_more_rows}
-use Rattle.compile_raw.proofs.Sound.{child_sound, before_sound, after_sound}
 use Rattle.compile_tables.proofs.gfm_table.more_rows.Goals as goal
 
 pub loop-row-init : goal.loop-row-init

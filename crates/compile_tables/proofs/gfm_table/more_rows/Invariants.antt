@@ -1,14 +1,6 @@
 use Rattle.std.proofs.Common.{◌≡◌, List, length}
-use Rattle.markdown_options.specs.LineEndings.{ending_bytes}
-use Rattle.definition_inline.specs.Definition.{Definition}
-use Rattle.definition_page.specs.InlinePieces.{Meaning}
-use Rattle.event_grammar.specs.Trees.{Nodes, events_of}
-use Rattle.html_bytes.specs.Pieces.{in_bytes}
-use Rattle.html_leaves.specs.Prints.{layout_after, page_view}
-use Rattle.compile_rows.specs.Columns.{AreCounted}
-use Rattle.compile_tables.specs.GfmTable.{more_rows_pieces}
-use Rattle.compile_texts.specs.Meant.{IsMeant}
-use Rattle.compile_raw.specs.Sound.{AreSound}
+use Rattle.compile_tables.proofs.Prelude.{AreCounted, AreSound, Definition, ending_bytes, events_of, in_bytes, IsMeant, layout_after, Meaning}
+use Rattle.compile_tables.proofs.Prelude.{more_rows_pieces, Nodes, page_view}
 use Rattle.compile_tables.proofs.GfmTableLeft.{IsLeft}
 use Rattle.compile_tables.proofs.gfm_table.more_rows.Given as goal
 

@@ -1,17 +1,10 @@
 use Rattle.std.proofs.Common.{◌≡◌, ◌∙◌, List, ap, subst, codes}
-use Rattle.std.specs.Result.{OnOk}
+use Rattle.compile_tables.proofs.Prelude.{after_child, after_sound, AlignKind, body_pieces, ending_bytes, head_pieces, in_bytes, kids_in, kids_sound}
+use Rattle.compile_tables.proofs.Prelude.{layout_after, LineEnding, OnOk, page_view, Table, with_fresh, with_tag}
 use Rattle.engine_events.specs.declared.event.Name.TheVariants as n
-use Rattle.markdown_options.specs.LineEndings.{ending_bytes}
-use Rattle.markdown_options.specs.declared.align_kind.AlignKind.{AlignKind}
-use Rattle.markdown_options.specs.declared.line_ending.LineEnding.{LineEnding}
-use Rattle.definition_page.specs.GfmTable.{Table, head_pieces, body_pieces}
-use Rattle.event_meaning.specs.Children.{kids_in, after_child}
 use Rattle.event_meaning.specs.GfmTable.{table_of}
-use Rattle.html_bytes.specs.Pieces.{in_bytes}
-use Rattle.html_leaves.specs.Prints.{layout_after, page_view, with_fresh, with_tag}
 use Rattle.compile_tables.proofs.Found.{found_law}
 use Rattle.compile_tables.proofs.GfmTableLaid.{table_laid}
-use Rattle.compile_raw.proofs.Sound.{kids_sound, after_sound}
 use Rattle.compile_tables.proofs.gfm_table.push_table.Goals as goal
 
 pub returns-clause-printed : goal.returns-clause-printed

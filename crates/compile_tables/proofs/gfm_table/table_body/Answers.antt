@@ -1,18 +1,10 @@
 use Rattle.std.proofs.Common.{◌≡◌, ◌∙◌, ℕ, List, [], ap, subst, codes}
-use Rattle.std.specs.Result.{OnOk}
+use Rattle.compile_tables.proofs.Prelude.{after_child, after_sound, before_child, before_sound, child_sound, ending_bytes, endings_in, endings_pieces}
+use Rattle.compile_tables.proofs.Prelude.{in_bytes, kids_of, layout_after, LineEnding, more_rows_pieces, OnOk, page_view, row_of, row_pieces, with_bytes}
+use Rattle.compile_tables.proofs.Prelude.{with_tag}
 use Rattle.engine_events.specs.declared.event.Name.TheVariants as n
-use Rattle.markdown_options.specs.LineEndings.{ending_bytes}
-use Rattle.markdown_options.specs.declared.line_ending.LineEnding.{LineEnding}
-use Rattle.definition_page.specs.GfmTable.{row_pieces, endings_pieces}
-use Rattle.event_grammar.specs.InGrammar.{kids_of}
-use Rattle.event_meaning.specs.Children.{after_child, before_child}
-use Rattle.event_meaning.specs.GfmTable.{row_of, endings_in}
-use Rattle.html_bytes.specs.Pieces.{in_bytes}
-use Rattle.html_leaves.specs.Prints.{layout_after, page_view, with_bytes, with_tag}
-use Rattle.compile_tables.specs.GfmTable.{more_rows_pieces}
 use Rattle.compile_tables.proofs.Found.{reads_inside}
 use Rattle.compile_tables.proofs.GfmTableLaid.{body_laid, no_body}
-use Rattle.compile_raw.proofs.Sound.{child_sound, after_sound, before_sound}
 use Rattle.compile_tables.proofs.gfm_table.table_body.Goals as goal
 
 pub returns-in-None-clause-printed : goal.returns-in-None-clause-printed

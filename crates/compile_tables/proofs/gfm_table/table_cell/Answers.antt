@@ -1,13 +1,6 @@
 use Rattle.std.proofs.Common.{◌≡◌, ◌∙◌, ap, subst}
-use Rattle.std.specs.Result.{OnOk}
-use Rattle.markdown_options.specs.LineEndings.{ending_bytes}
-use Rattle.markdown_options.specs.declared.line_ending.LineEnding.{LineEnding}
-use Rattle.definition_page.specs.InlinePieces.{inline_pieces}
-use Rattle.definition_page.specs.Tags.{end_tag}
-use Rattle.html_bytes.specs.Pieces.{in_bytes}
-use Rattle.html_leaves.specs.GfmTable.{cell_name}
-use Rattle.html_leaves.specs.Prints.{layout_after, page_view, with_bytes, with_tag}
-use Rattle.compile_tables.specs.GfmTable.{next_cell}
+use Rattle.compile_tables.proofs.Prelude.{cell_name, end_tag, ending_bytes, in_bytes, inline_pieces, layout_after, LineEnding, next_cell, OnOk, page_view}
+use Rattle.compile_tables.proofs.Prelude.{with_bytes, with_tag}
 use Rattle.compile_tables.proofs.GfmTableLaid.{cell_laid}
 use Rattle.compile_tables.proofs.gfm_table.table_cell.Goals as goal
 

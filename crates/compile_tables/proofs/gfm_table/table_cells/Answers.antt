@@ -1,23 +1,11 @@
 use Rattle.std.proofs.Common.{◌≡◌, ◌+◌, ◌∙◌, refl, sym, ap, subst, drop, get_or}
-use Rattle.std.specs.List.{flat_map}
-use Rattle.std.specs.Result.{OnOk}
+use Rattle.compile_tables.proofs.Prelude.{after_child, after_pieces, after_sound, AlignKind, cell_name, cell_pieces, cells_in, cells_pieces, ending_bytes}
+use Rattle.compile_tables.proofs.Prelude.{flat_map, in_bytes, inline_counts, layout_after, LineEnding, next_cell, OnOk, page_view}
 use Rattle.std.proofs.lemmas.List.{drop_more}
 use Rattle.engine_events.specs.declared.event.Name.TheVariants as n
-use Rattle.markdown_options.specs.LineEndings.{ending_bytes}
-use Rattle.markdown_options.specs.declared.align_kind.AlignKind.{AlignKind}
 use Rattle.markdown_options.specs.declared.align_kind.AlignKind.TheVariants as kind
-use Rattle.markdown_options.specs.declared.line_ending.LineEnding.{LineEnding}
-use Rattle.definition_page.specs.GfmTable.{cell_pieces, cells_pieces}
-use Rattle.definition_page.specs.InlinePieces.{inline_counts}
-use Rattle.event_meaning.specs.Children.{after_child}
-use Rattle.html_bytes.specs.Pieces.{in_bytes}
-use Rattle.html_leaves.specs.GfmTable.{cell_name}
-use Rattle.html_leaves.specs.Prints.{layout_after, page_view}
-use Rattle.html_leaves.proofs.LeafLaid.{after_pieces}
-use Rattle.compile_tables.specs.GfmTable.{cells_in, next_cell}
 use Rattle.compile_tables.proofs.Found.{found_law}
 use Rattle.compile_tables.proofs.GfmTableLaid.{cells_more, no_columns}
-use Rattle.compile_raw.proofs.Sound.{after_sound}
 use Rattle.compile_tables.proofs.gfm_table.table_cells.Goals as goal
 
 pub loop-align-init : goal.loop-align-init

@@ -1,17 +1,6 @@
 use Rattle.std.proofs.Common.{◌≡◌, List, drop}
-use Rattle.markdown_options.specs.LineEndings.{ending_bytes}
-use Rattle.markdown_options.specs.declared.align_kind.AlignKind.{AlignKind}
-use Rattle.definition_inline.specs.Definition.{Definition}
-use Rattle.definition_page.specs.GfmTable.{cells_pieces}
-use Rattle.definition_page.specs.InlinePieces.{Meaning}
-use Rattle.event_grammar.specs.Trees.{Nodes, events_of}
-use Rattle.html_bytes.specs.Pieces.{in_bytes}
-use Rattle.html_leaves.specs.GfmTable.{cell_name}
-use Rattle.html_leaves.specs.Prints.{layout_after, page_view}
-use Rattle.compile_rows.specs.Columns.{AreCounted}
-use Rattle.compile_tables.specs.GfmTable.{cells_in}
-use Rattle.compile_texts.specs.Meant.{IsMeant}
-use Rattle.compile_raw.specs.Sound.{AreSound}
+use Rattle.compile_tables.proofs.Prelude.{AlignKind, AreCounted, AreSound, cell_name, cells_in, cells_pieces, Definition, ending_bytes, events_of, in_bytes}
+use Rattle.compile_tables.proofs.Prelude.{IsMeant, layout_after, Meaning, Nodes, page_view}
 use Rattle.compile_tables.proofs.GfmTableLeft.{IsLeft}
 use Rattle.compile_tables.proofs.gfm_table.table_cells.Given as goal
 

@@ -1,17 +1,10 @@
 use Rattle.std.proofs.Common.{◌≡◌, ◌∙◌, ℕ, List, [], ap, subst, codes}
-use Rattle.std.specs.Result.{OnOk}
+use Rattle.compile_tables.proofs.Prelude.{after_child, after_sound, before_child, before_sound, ending_bytes, endings_in, endings_pieces, in_bytes, kids_in}
+use Rattle.compile_tables.proofs.Prelude.{kids_sound, layout_after, LineEnding, OnOk, page_view, row_of, row_pieces, with_tag}
 use Rattle.engine_events.specs.declared.event.Name.TheVariants as n
-use Rattle.markdown_options.specs.LineEndings.{ending_bytes}
-use Rattle.markdown_options.specs.declared.line_ending.LineEnding.{LineEnding}
-use Rattle.definition_page.specs.GfmTable.{row_pieces, endings_pieces}
-use Rattle.event_meaning.specs.Children.{kids_in, after_child, before_child}
-use Rattle.event_meaning.specs.GfmTable.{row_of, endings_in}
-use Rattle.html_bytes.specs.Pieces.{in_bytes}
-use Rattle.html_leaves.specs.Prints.{layout_after, page_view, with_tag}
 use Rattle.compile_tables.specs.GfmTable.{head_row_of}
 use Rattle.compile_tables.proofs.Found.{found_law}
 use Rattle.compile_tables.proofs.GfmTableLaid.{head_laid}
-use Rattle.compile_raw.proofs.Sound.{kids_sound, after_sound, before_sound}
 use Rattle.compile_tables.proofs.gfm_table.table_head.Goals as goal
 
 pub returns-clause-printed : goal.returns-clause-printed

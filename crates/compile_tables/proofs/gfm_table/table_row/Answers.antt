@@ -1,13 +1,6 @@
 use Rattle.std.proofs.Common.{◌≡◌, ◌∙◌, [], ap, subst, codes}
-use Rattle.std.specs.Result.{OnOk}
-use Rattle.markdown_options.specs.LineEndings.{ending_bytes}
-use Rattle.markdown_options.specs.declared.line_ending.LineEnding.{LineEnding}
-use Rattle.definition_page.specs.GfmTable.{cells_pieces}
-use Rattle.event_meaning.specs.GfmTable.{row_of}
-use Rattle.html_bytes.specs.Pieces.{in_bytes}
-use Rattle.html_leaves.specs.GfmTable.{cell_name}
-use Rattle.html_leaves.specs.Prints.{layout_after, page_view, with_tag}
-use Rattle.compile_tables.specs.GfmTable.{cells_in}
+use Rattle.compile_tables.proofs.Prelude.{cell_name, cells_in, cells_pieces, ending_bytes, in_bytes, layout_after, LineEnding, OnOk, page_view, row_of}
+use Rattle.compile_tables.proofs.Prelude.{with_tag}
 use Rattle.compile_tables.proofs.GfmTableLaid.{row_laid}
 use Rattle.compile_tables.proofs.gfm_table.table_row.Goals as goal
 

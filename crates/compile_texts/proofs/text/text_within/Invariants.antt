@@ -1,5 +1,5 @@
 use Rattle.std.proofs.Common.{◌≡◌, length}
-use Rattle.event_grammar.specs.Trees.{Nodes, AreNodes, events_of}
+use Rattle.compile_texts.proofs.Prelude.{AreNodes, events_of, Nodes}
 use Rattle.compile_texts.proofs.TextKids.{TextLeft}
 use Rattle.compile_texts.proofs.text.text_within.Given as goal
 

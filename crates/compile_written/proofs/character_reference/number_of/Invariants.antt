@@ -1,5 +1,5 @@
 use Rattle.std.proofs.Common.{◌≡◌, min, take}
-use Rattle.definition_inline.specs.CharacterReference.{number_of}
+use Rattle.compile_written.proofs.Prelude.{number_of}
 use Rattle.compile_written.proofs.Numbers.{greatest}
 use Rattle.compile_written.proofs.character_reference.number_of.Given as goal
 

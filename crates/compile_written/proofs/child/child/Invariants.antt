@@ -1,5 +1,5 @@
 use Rattle.std.proofs.Common.{◌≡◌, ◌≤◌, drop}
-use Rattle.compile_written.specs.Child.{from_child}
+use Rattle.compile_written.proofs.Prelude.{from_child}
 use Rattle.compile_written.proofs.child.child.Given as goal
 
 -- no child so far: the first is among the events that are left

@@ -1,5 +1,5 @@
 use Rattle.std.proofs.Common.{◌≡◌, ◌≤◌, drop}
-use Rattle.compile_written.specs.Child.{text_to}
+use Rattle.compile_written.proofs.Prelude.{text_to}
 use Rattle.compile_written.proofs.child.text_to.Given as goal
 
 -- the exit is among the events that are left

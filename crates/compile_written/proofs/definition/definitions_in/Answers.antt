@@ -1,7 +1,5 @@
 use Rattle.std.proofs.Common.{◌∙◌, ◌+◌, ◌++◌, ◌∷◌, [], sym, subst, List}
-use Rattle.std.proofs.lemmas.List.{take_rest}
-use Rattle.engine_events.specs.declared.event.Event.{Event}
-use Rattle.compile_written.specs.Definition.{HasDefinitions, definition_after}
+use Rattle.compile_written.proofs.Prelude.{definition_after, Event, HasDefinitions, take_rest}
 use Rattle.compile_written.proofs.DefinitionLoops.{front_same, front_more, none_defined}
 use Rattle.compile_written.proofs.definition.definitions_in.Goals as goal
 use Rattle.compile_written.proofs.definition.definitions_in.Goals.{then-starts_definition+in_ok-read, else-starts_definition}

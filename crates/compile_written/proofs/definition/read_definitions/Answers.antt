@@ -1,7 +1,5 @@
 use Rattle.std.proofs.Common.{◌∙◌, ap, subst, List}
-use Rattle.engine_events.specs.declared.event.Event.{Event}
-use Rattle.event_grammar.specs.InGrammar.{PlacesFit}
-use Rattle.compile_written.specs.Definition.{HasDefinitions, definitions_in}
+use Rattle.compile_written.proofs.Prelude.{definitions_in, Event, HasDefinitions, PlacesFit}
 use Rattle.compile_written.proofs.DefinitionLaw.{definitions_law}
 use Rattle.compile_written.proofs.PlaceTexts.{texts_law}
 use Rattle.compile_written.proofs.definition.read_definitions.Goals as goal

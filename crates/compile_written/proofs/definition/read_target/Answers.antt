@@ -1,6 +1,6 @@
 use Rattle.std.proofs.Common.{◌++◌, ◌∙◌, ap, ap₂, ℕ, List, Some, string_bytes}
 use Rattle.definition_inline.specs.Inline.{link_texts}
-use Rattle.compile_written.specs.Definition.{destination_written, title_written}
+use Rattle.compile_written.proofs.Prelude.{destination_written, title_written}
 use Rattle.compile_written.proofs.WrittenTargets.{destination_codes, title_codes}
 use Rattle.compile_written.proofs.definition.read_target.Goals as goal
 

@@ -1,10 +1,8 @@
 use Rattle.std.proofs.Common.{◌∙◌, ap, refl, sym, subst, arith, List}
 use Rattle.std.specs.Prelude.{IfOk}
-use Rattle.definition_text.specs.Columns.{Code}
-use Rattle.engine_events.specs.declared.event.Event.{Event}
+use Rattle.compile_written.proofs.Prelude.{Code, Event, HasLabels, notes_after}
 use Rattle.engine_events.specs.declared.event.Kind.TheVariants as kinds
-use Rattle.inline_labels.specs.Table.{HasLabels}
-use Rattle.compile_written.specs.GfmFootnoteDefinition.{holder_views, notes_after}
+use Rattle.compile_written.specs.GfmFootnoteDefinition.{holder_views}
 use Rattle.compile_written.proofs.FootnoteLaw.{footnotes_law}
 use Rattle.compile_written.proofs.FootnoteLoops.{start_notes, knows_more, knows_all}
 use Rattle.compile_written.proofs.NoFootnotes.{no_footnotes}

@@ -1,9 +1,5 @@
 use Rattle.std.proofs.Common.{◌≡◌, ◌∙◌, ◌<◌, ◌-◌, ◌+◌, ℕ, ap, sym, arith, drop, get_or, length}
-use Rattle.std.specs.Prelude.{reverse}
-use Rattle.std.proofs.lemmas.List.{length-drop}
-use Rattle.event_grammar.proofs.Runs.{no_event}
-use Rattle.event_references.proofs.Loops.{drop_next}
-use Rattle.compile_written.specs.List.{PassView, around, pass_event, pass_start, passed}
+use Rattle.compile_written.proofs.Prelude.{around, drop_next, length-drop, no_event, pass_event, pass_start, passed, PassView, reverse}
 use Rattle.compile_written.proofs.ListLaw.{lists_law}
 use Rattle.compile_written.proofs.OpenLevels.{depth_fits}
 use Rattle.compile_written.proofs.list.loose_lists.Goals as goal

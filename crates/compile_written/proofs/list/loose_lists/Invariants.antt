@@ -1,5 +1,5 @@
 use Rattle.std.proofs.Common.{◌≡◌, ◌≤◌, drop, length}
-use Rattle.compile_written.specs.List.{pass_view, pass_start, passed}
+use Rattle.compile_written.proofs.Prelude.{pass_start, pass_view, passed}
 use Rattle.compile_written.proofs.list.loose_lists.Given as goal
 
 -- the last events are passed

@@ -1,5 +1,5 @@
 use Rattle.std.proofs.Common.{◌≡◌, ◌∙◌, ◌<◌, ◌+◌, ◌-◌, ℕ, sym, ap, drop, length, arith}
-use Rattle.compile_written.specs.List.{pass_start, passed}
+use Rattle.compile_written.proofs.Prelude.{pass_start, passed}
 use Rattle.compile_written.proofs.OpenLevels.{other_enter, other_exit, no_child}
 use Rattle.compile_written.proofs.list.pass_others.Goals as goal
 use Rattle.compile_written.proofs.list.pass_others.Goals.{in-Exit+else-is_some, in-Enter+else-inside-least+else-is_list}

@@ -1,6 +1,5 @@
 use Rattle.std.proofs.Common.{◌≡◌, ◌≤◌, ◌+◌, ℕ, Bool, List, None, drop}
-use Rattle.compile_written.specs.List.{level_view, pass_start, passed}
-use Rattle.compile_written.specs.declared.list.Level.{Level}
+use Rattle.compile_written.proofs.Prelude.{Level, level_view, pass_start, passed}
 use Rattle.compile_written.proofs.list.pass_others.Given as goal
 
 -- the events from here on are passed

@@ -1,6 +1,6 @@
 use Rattle.std.proofs.Common.{◌≡◌, ◌++◌, ◌∙◌, sym, ap, subst, ℕ, List, OnOk, string_bytes}
 use Rattle.std.specs.Option.{option_copied}
-use Rattle.compile_written.specs.Strings.{formed}
+use Rattle.compile_written.proofs.Prelude.{formed}
 use Rattle.compile_written.proofs.FormedTexts.{name_text, no_named}
 use Rattle.compile_written.proofs.string.push_named.Goals as goal
 

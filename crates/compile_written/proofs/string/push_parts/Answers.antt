@@ -1,8 +1,5 @@
 use Rattle.std.proofs.Common.{◌++◌, ◌∙◌, ap, List, string_bytes, arith, get_or}
-use Rattle.std.proofs.lemmas.List.{take_rest}
-use Rattle.engine_events.specs.declared.event.Event.{Event}
-use Rattle.event_grammar.proofs.Runs.{no_event}
-use Rattle.compile_written.specs.Strings.{formed, part_text}
+use Rattle.compile_written.proofs.Prelude.{Event, formed, no_event, part_text, take_rest}
 use Rattle.compile_written.proofs.StringLoops.{part_on, enter_on, exit_on, zero_is, zero_not}
 use Rattle.compile_written.proofs.string.push_parts.Goals as goal
 use Rattle.compile_written.proofs.string.push_parts.Goals.{in-Enter, then-depth-eq0+in_ok-push_part-in-Enter, else-depth-eq0, in-Exit+else-depth-eq0-2}

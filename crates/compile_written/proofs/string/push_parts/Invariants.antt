@@ -1,5 +1,5 @@
 use Rattle.std.proofs.Common.{◌≡◌, ◌≤◌, ◌++◌, drop, string_bytes}
-use Rattle.compile_written.specs.Strings.{formed, parts_after}
+use Rattle.compile_written.proofs.Prelude.{formed, parts_after}
 use Rattle.compile_written.proofs.string.push_parts.Given as goal
 
 -- what was appended, with the parts that are left, is all

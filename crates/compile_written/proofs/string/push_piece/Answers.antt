@@ -1,5 +1,5 @@
 use Rattle.std.proofs.Common.{◌≡◌, ◌++◌, ◌∙◌, sym, subst, ℕ, List, OnOk, string_bytes}
-use Rattle.compile_written.specs.Strings.{formed}
+use Rattle.compile_written.proofs.Prelude.{formed}
 use Rattle.compile_written.proofs.FormedTexts.{text_valid, no_valid}
 use Rattle.compile_written.proofs.string.push_piece.Goals as goal
 

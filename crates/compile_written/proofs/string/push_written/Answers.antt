@@ -1,5 +1,5 @@
 use Rattle.std.proofs.Common.{◌++◌, ◌∙◌, ap, ℕ, List, string_bytes}
-use Rattle.event_meaning.specs.Strings.{written}
+use Rattle.compile_written.proofs.Prelude.{written}
 use Rattle.compile_written.proofs.StringLaw.{string_law}
 use Rattle.compile_written.proofs.string.push_written.Goals as goal
 

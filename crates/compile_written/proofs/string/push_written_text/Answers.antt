@@ -1,8 +1,6 @@
 use Rattle.std.proofs.Common.{◌≡◌, ◌<◌, ◌++◌, [], ◌∷◌, ℕ, List, string_bytes, sym, ap, ◌∙◌, arith, get_or, length, ◌-◌, take, drop, subst}
-use Rattle.std.specs.Str.{IsCharBoundary}
-use Rattle.std.proofs.lemmas.List.{append-nil}
+use Rattle.compile_written.proofs.Prelude.{append-nil, IsCharBoundary, written, written_byte}
 use Rattle.std.proofs.lemmas.Str.{IsCharBoundary-start, IsCharBoundary-after_ascii}
-use Rattle.event_meaning.specs.Strings.{written_byte, written}
 use Rattle.compile_written.proofs.Waiting.{written_else, written_as_is}
 use Rattle.compile_written.proofs.string.push_written_text.Goals as goal
 use Rattle.compile_written.proofs.string.push_written_text.Goals.{in-Some+in_ok-push_str+in_ok-push_str-2, in_default}

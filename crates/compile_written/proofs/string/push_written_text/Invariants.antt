@@ -1,5 +1,5 @@
 use Rattle.std.proofs.Common.{◌≤◌, string_bytes}
-use Rattle.std.specs.Str.{IsCharBoundary}
+use Rattle.compile_written.proofs.Prelude.{IsCharBoundary}
 use Rattle.compile_written.proofs.Waiting.{IsWrittenAt}
 use Rattle.compile_written.proofs.string.push_written_text.Given as goal
 

@@ -1,5 +1,5 @@
 use Rattle.std.proofs.Common.{◌∙◌, ap}
-use Rattle.event_meaning.specs.Strings.{written_byte}
+use Rattle.compile_written.proofs.Prelude.{written_byte}
 use Rattle.compile_written.proofs.FormedTexts.{written_tab, written_feed, written_return, written_space, written_ampersand, written_backslash}
 use Rattle.compile_written.proofs.string.told_text.Goals as goal
 

@@ -1,5 +1,5 @@
 use Rattle.std.proofs.Common.{◌≡◌, ◌≤◌, ◌++◌, drop}
-use Rattle.event_check.specs.Align.{aligns_after}
+use Rattle.event_check.proofs.Prelude.{aligns_after}
 use Rattle.event_check.proofs.align.aligns_in.Given as goal
 
 abbrev pub invariant-loop-index : goal.invariant-loop-index

@@ -1,7 +1,5 @@
 use Rattle.std.proofs.Common.{◌∙◌, ◌+◌, ap, drop}
-use Rattle.event_grammar.specs.Trees.{Node}
-use Rattle.event_check.specs.Align.{aligns_after}
-use Rattle.event_check.specs.Loose.{IsAt}
+use Rattle.event_check.proofs.Prelude.{aligns_after, IsAt, Node}
 use Rattle.event_check.proofs.AlignLaw.{aligns_are}
 use Rattle.event_check.proofs.align.gfm_table_align.Goals as goal
 

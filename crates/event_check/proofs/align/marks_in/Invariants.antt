@@ -1,5 +1,5 @@
 use Rattle.std.proofs.Common.{◌≡◌, ◌≤◌, drop, false}
-use Rattle.event_check.specs.Align.{marks, marks_after}
+use Rattle.event_check.proofs.Prelude.{marks, marks_after}
 use Rattle.event_check.proofs.align.marks_in.Given as goal
 
 abbrev pub invariant-loop-event : goal.invariant-loop-event

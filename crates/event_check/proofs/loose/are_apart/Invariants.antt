@@ -1,5 +1,5 @@
 use Rattle.std.proofs.Common.{◌≡◌, ◌≤◌, drop, None}
-use Rattle.event_check.specs.Loose.{apart_after}
+use Rattle.event_check.proofs.Prelude.{apart_after}
 use Rattle.event_check.proofs.loose.are_apart.Given as goal
 
 abbrev pub invariant-loop-event : goal.invariant-loop-event

@@ -1,5 +1,5 @@
 use Rattle.std.proofs.Common.{◌≡◌, ◌≤◌, drop}
-use Rattle.event_check.specs.Loose.{item_after}
+use Rattle.event_check.proofs.Prelude.{item_after}
 use Rattle.event_check.proofs.loose.has_loose_item.Given as goal
 
 abbrev pub invariant-loop-index : goal.invariant-loop-index

@@ -1,7 +1,6 @@
 use Rattle.std.proofs.Common.{◌∙◌, ◌+◌, ap, drop, None, List, ℕ}
 use Rattle.event_grammar.specs.declared.slot.Child.TheVariants.{Block}
-use Rattle.event_grammar.specs.Trees.{Node}
-use Rattle.event_check.specs.Loose.{apart_after, IsAt}
+use Rattle.event_check.proofs.Prelude.{apart_after, IsAt, Node}
 use Rattle.event_check.proofs.LooseLaw.{apart_is}
 use Rattle.event_check.proofs.loose.list_item_loose.Goals as goal
 

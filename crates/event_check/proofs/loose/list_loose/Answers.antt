@@ -1,8 +1,7 @@
 use Rattle.std.proofs.Common.{◌∙◌, ◌+◌, ◌&&◌, ap, drop, None, List, ℕ}
 use Rattle.engine_events.specs.declared.event.Name.TheVariants as names
 use Rattle.event_grammar.specs.declared.slot.Child.TheVariants.{Only}
-use Rattle.event_grammar.specs.Trees.{Node}
-use Rattle.event_check.specs.Loose.{apart_after, item_after, are_apart, has_loose_item, IsAt, kids_of}
+use Rattle.event_check.proofs.Prelude.{apart_after, are_apart, has_loose_item, IsAt, item_after, kids_of, Node}
 use Rattle.event_check.proofs.LooseLaw.{apart_is, items_are, by_first, by_second, by_neither}
 use Rattle.event_check.proofs.loose.list_loose.Goals as goal
 

@@ -1,5 +1,5 @@
 use Rattle.std.proofs.Common.{sym, subst}
-use Rattle.std.specs.Str.{IsValidUpTo}
+use Rattle.event_grammar.proofs.Prelude.{IsValidUpTo}
 use Rattle.event_grammar.proofs.PlaceLaws.{front_whole, front_part}
 use Rattle.event_grammar.proofs.place.front_of.Goals as goal
 

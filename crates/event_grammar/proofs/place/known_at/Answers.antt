@@ -1,7 +1,6 @@
 use Rattle.std.proofs.Common.{◌≡◌, ◌∙◌, ◌≤◌, ℕ, List, length, take, drop, ◌-◌, min, max, sym, ap}
-use Rattle.std.specs.List.{fold}
-use Rattle.engine_events.specs.Columns.{mark_size}
-use Rattle.event_grammar.specs.Phases.{phase_at, phase_on, is_column_by}
+use Rattle.event_grammar.proofs.Prelude.{fold, mark_size, phase_at, phase_on}
+use Rattle.event_grammar.specs.Phases.{is_column_by}
 use Rattle.event_grammar.proofs.PlaceLaws.{phase_more}
 use Rattle.event_grammar.proofs.place.known_at.Goals as goal
 

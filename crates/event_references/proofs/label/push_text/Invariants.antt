@@ -1,5 +1,5 @@
 use Rattle.std.proofs.Common.{◌≡◌, ◌≤◌, ◌++◌, drop}
-use Rattle.event_references.specs.Texts.{text_after}
+use Rattle.event_references.proofs.Prelude.{text_after}
 use Rattle.event_references.proofs.label.push_text.Given as goal
 
 -- what was read, with what is left to read, is the text of all

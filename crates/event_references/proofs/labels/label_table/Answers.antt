@@ -1,6 +1,5 @@
 use Rattle.std.proofs.Common.{◌∙◌, sym, ap, get_or, arith, ◌&&◌, Bool}
-use Rattle.engine_events.specs.Names.{same_name}
-use Rattle.event_grammar.proofs.Runs.{no_event}
+use Rattle.event_references.proofs.Prelude.{no_event, same_name}
 use Rattle.event_references.proofs.Loops.{front_same, front_more, text_read}
 use Rattle.event_references.proofs.labels.label_table.Goals as goal
 use Rattle.event_references.proofs.labels.label_table.Goals.{then-is_enter+then-eq+in_ok-push_text+in_ok-insert, else-is_enter, else-is_enter-via-then-is_enter+else-eq, else-is_enter-via-else-is_enter}

@@ -1,6 +1,5 @@
 use Rattle.std.proofs.Common.{◌∙◌, [], List, length, sym, ap, subst, refl, arith, get_or, ◌&&◌, Bool}
-use Rattle.engine_events.specs.Names.{same_name}
-use Rattle.event_grammar.proofs.Runs.{no_event}
+use Rattle.event_references.proofs.Prelude.{no_event, same_name}
 use Rattle.event_references.proofs.Loops.{AreBelow, all_below, all_texts, marked_more, marked_texts, text_read}
 use Rattle.event_references.proofs.labels.marked_table.Goals as goal
 

@@ -1,13 +1,8 @@
 use Rattle.std.proofs.Common.{◌∙◌, [], List, ℕ, length, sym, ap, subst, get_or, refl}
-use Rattle.std.specs.Prelude.{map, reverse}
+use Rattle.event_references.proofs.Prelude.{is_listed, map, media_names, media_view, no_event, reverse, texts_of}
 use Rattle.engine_events.specs.declared.event.Kind.TheVariants.{Enter}
 use Rattle.engine_events.specs.declared.event.Name.TheVariants as names
-use Rattle.engine_events.specs.Names.{is_listed}
-use Rattle.event_grammar.specs.References.{media_names}
-use Rattle.event_grammar.proofs.Runs.{no_event}
 use Rattle.event_references.specs.Lost as lost
-use Rattle.event_references.specs.Texts.{texts_of}
-use Rattle.event_references.specs.Views.{media_view}
 use Rattle.event_references.specs.declared.lost.Media.{Media}
 use Rattle.event_references.proofs.Loops.{run_marks, all_marks, AreBelow, all_below, enter_on, first_mark}
 use Rattle.event_references.proofs.lost.first_lost.Goals as goal

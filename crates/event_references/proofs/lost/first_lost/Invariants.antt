@@ -1,9 +1,7 @@
 use Rattle.std.proofs.Common.{◌≡◌, [], length}
-use Rattle.std.specs.Prelude.{map, reverse}
+use Rattle.event_references.proofs.Prelude.{lost_from, map, media_view, new_media, reverse, texts_of}
 use Rattle.engine_events.specs.declared.event.Name.TheVariants as names
-use Rattle.event_references.specs.Texts.{texts_of}
-use Rattle.event_references.specs.Lost.{new_media, lost_from}
-use Rattle.event_references.specs.Views.{media_view, AreLabels}
+use Rattle.event_references.specs.Views.{AreLabels}
 use Rattle.event_references.proofs.Loops.{run_marks, AreBelow}
 use Rattle.event_references.proofs.lost.first_lost.Given as goal
 

@@ -1,11 +1,7 @@
 use Rattle.std.proofs.Common.{◌≡◌, ℕ, ◌+◌, ◌<◌, List, [], ◌∷◌, ◌++◌, map, string_bytes, take, length, get_or, sym, ap, ◌∙◌}
 use Rattle.std.proofs.lemmas.List.{map_push, take_all, take_more}
 use Rattle.definition_page.specs.GfmFootnoteDefinition as footnote
-use Rattle.html_bytes.specs.Layout.{NoteCalls, note_of}
-use Rattle.html_footnotes.specs.Calls.{called_view}
-use Rattle.html_footnotes.specs.Footnotes.{note_view}
-use Rattle.html_footnotes.specs.declared.calls.CalledFootnote.{CalledFootnote}
-use Rattle.html_footnotes.specs.declared.gfm_footnote_definition.Footnote.{Footnote}
+use Rattle.html_footnotes.proofs.Prelude.{called_view, CalledFootnote, Footnote, note_of, note_view, NoteCalls}
 use Rattle.html_footnotes.proofs.calls.footnotes_of.Goals as goal
 
 -- one more footnote

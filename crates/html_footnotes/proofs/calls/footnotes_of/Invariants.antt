@@ -1,7 +1,5 @@
 use Rattle.std.proofs.Common.{◌≡◌, map, string_bytes, take}
-use Rattle.html_bytes.specs.Layout.{note_of}
-use Rattle.html_footnotes.specs.Calls.{called_view}
-use Rattle.html_footnotes.specs.Footnotes.{note_view}
+use Rattle.html_footnotes.proofs.Prelude.{called_view, note_of, note_view}
 use Rattle.html_footnotes.proofs.calls.footnotes_of.Given as goal
 
 -- these so far

@@ -1,7 +1,7 @@
 use Rattle.std.proofs.Common.{◌≡◌, ◌≤◌, ◌<◌, ◌-◌, ℕ, List, true, false, length, get_or, sym, ◌∙◌, arith}
 use Rattle.std.specs.List.{suffix_len}
 use Rattle.std.proofs.lemmas.List.Sums.{suffix_len_is}
-use Rattle.definition_text.specs.Lines.{ends_line}
+use Rattle.html_footnotes.proofs.Prelude.{ends_line}
 use Rattle.definition_page.specs.GfmFootnoteDefinition.{ended_size}
 use Rattle.html_footnotes.proofs.gfm_footnote_definition.ended_size.Goals as goal
 

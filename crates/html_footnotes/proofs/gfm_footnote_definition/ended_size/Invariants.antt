@@ -1,5 +1,5 @@
 use Rattle.std.proofs.Common.{◌≡◌, ◌≤◌, ◌<◌, ℕ, true, length, get_or}
-use Rattle.definition_text.specs.Lines.{ends_line}
+use Rattle.html_footnotes.proofs.Prelude.{ends_line}
 use Rattle.html_footnotes.proofs.gfm_footnote_definition.ended_size.Given as goal
 
 -- what is left out are line endings

@@ -1,7 +1,5 @@
 use Rattle.std.proofs.Common.{◌++◌, string_bytes, codes, sym, ap, ◌∙◌}
-use Rattle.definition_page.specs.GfmFootnoteDefinition.{arrow, back_tag, count_pieces}
-use Rattle.definition_page.specs.Tags.{start_tag}
-use Rattle.html_bytes.specs.Pieces.{pieces_html}
+use Rattle.html_footnotes.proofs.Prelude.{arrow, back_tag, count_pieces, pieces_html, start_tag}
 use Rattle.html_footnotes.proofs.Parts.{four}
 use Rattle.html_footnotes.proofs.Printed.{counted}
 use Rattle.html_footnotes.proofs.gfm_footnote_definition.push_back.Goals as goal

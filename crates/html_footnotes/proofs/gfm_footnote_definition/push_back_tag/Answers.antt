@@ -1,7 +1,5 @@
 use Rattle.std.proofs.Common.{◌++◌, string_bytes, codes, sym, ap, ◌∙◌}
-use Rattle.definition_text.specs.Encode.{encode}
-use Rattle.definition_page.specs.GfmLabelStartFootnote.{text_or, call_id}
-use Rattle.html_bytes.specs.InlineHtml.{say_bytes}
+use Rattle.html_footnotes.proofs.Prelude.{call_id, encode, say_bytes, text_or}
 use Rattle.html_footnotes.proofs.Parts.{five}
 use Rattle.html_footnotes.proofs.Printed.{back_printed}
 use Rattle.html_footnotes.proofs.gfm_footnote_definition.push_back_tag.Goals as goal

@@ -1,6 +1,5 @@
 use Rattle.std.proofs.Common.{◌≡◌, ◌++◌, ◌+◌, suc, string_bytes, sym, ap, ◌∙◌, arith}
-use Rattle.definition_page.specs.GfmFootnoteDefinition.{space_after, back_pieces, backs_pieces}
-use Rattle.html_bytes.specs.Pieces.{pieces_html}
+use Rattle.html_footnotes.proofs.Prelude.{back_pieces, backs_pieces, pieces_html, space_after}
 use Rattle.html_footnotes.proofs.Parts.{three}
 use Rattle.html_footnotes.proofs.Printed.{one_more}
 use Rattle.html_footnotes.proofs.gfm_footnote_definition.push_backs.Goals as goal

@@ -1,6 +1,5 @@
 use Rattle.std.proofs.Common.{◌≡◌, ◌++◌, string_bytes}
-use Rattle.definition_page.specs.GfmFootnoteDefinition.{backs_pieces}
-use Rattle.html_bytes.specs.Pieces.{pieces_html}
+use Rattle.html_footnotes.proofs.Prelude.{backs_pieces, pieces_html}
 use Rattle.html_footnotes.proofs.gfm_footnote_definition.push_backs.Given as goal
 
 -- the ways back so far are printed

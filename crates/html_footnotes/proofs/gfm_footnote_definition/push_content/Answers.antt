@@ -1,12 +1,6 @@
 use Rattle.std.proofs.Common.{◌≡◌, ◌++◌, ℕ, List, Option, None, Some, string_bytes, codes, take, drop, sym, ap, ◌∙◌, subst}
-use Rattle.std.specs.Prelude.{OnOk}
-use Rattle.std.specs.List.{fold}
-use Rattle.std.proofs.lemmas.Result.{on_ok_weaker}
-use Rattle.markdown_options.specs.LineEndings.{ending_bytes}
-use Rattle.definition_text.specs.Encode.{plain}
-use Rattle.definition_page.specs.Pieces.{Fresh, print}
-use Rattle.definition_page.specs.GfmFootnoteDefinition.{backs_pieces, paragraph_end, with_backs}
-use Rattle.html_bytes.specs.Pieces.{pieces_html}
+use Rattle.html_footnotes.proofs.Prelude.{backs_pieces, ending_bytes, fold, Fresh, on_ok_weaker, OnOk, pieces_html, plain, print, with_backs}
+use Rattle.definition_page.specs.GfmFootnoteDefinition.{paragraph_end}
 use Rattle.html_footnotes.proofs.Printed.{backs_added, in_paragraph}
 use Rattle.html_footnotes.proofs.gfm_footnote_definition.push_content.Goals as goal
 

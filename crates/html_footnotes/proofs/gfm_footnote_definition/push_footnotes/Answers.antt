@@ -1,13 +1,7 @@
 use Rattle.std.proofs.Common.{◌≡◌, ◌++◌, ◌∷◌, [], ℕ, List, map, take, get_or, string_bytes, sym, ap, ◌∙◌}
-use Rattle.std.specs.List.{fold}
-use Rattle.std.proofs.lemmas.List.{append-nil, map_more}
-use Rattle.std.proofs.lemmas.List.Sums.{fold-append}
-use Rattle.std.proofs.lemmas.List.Concat.{flat_map-append}
-use Rattle.markdown_options.specs.LineEndings.{ending_bytes}
-use Rattle.markdown_options.specs.declared.configuration.CompileOptions.{CompileOptions}
-use Rattle.definition_page.specs.Pieces.{print}
-use Rattle.definition_page.specs.GfmFootnoteDefinition.{Footnote, footnote_pieces, footnotes_pieces}
-use Rattle.html_footnotes.specs.Footnotes.{note_view}
+use Rattle.html_footnotes.proofs.Prelude.{append-nil, CompileOptions, ending_bytes, flat_map-append, fold, fold-append, footnotes_pieces, note_view, print}
+use Rattle.std.proofs.lemmas.List.{map_more}
+use Rattle.definition_page.specs.GfmFootnoteDefinition.{Footnote, footnote_pieces}
 use Rattle.html_footnotes.proofs.gfm_footnote_definition.push_footnotes.Goals as goal
 
 -- one more footnote

@@ -1,9 +1,5 @@
 use Rattle.std.proofs.Common.{◌≡◌, map, take, string_bytes}
-use Rattle.std.specs.List.{fold}
-use Rattle.markdown_options.specs.LineEndings.{ending_bytes}
-use Rattle.definition_page.specs.Pieces.{print}
-use Rattle.definition_page.specs.GfmFootnoteDefinition.{footnotes_pieces}
-use Rattle.html_footnotes.specs.Footnotes.{note_view}
+use Rattle.html_footnotes.proofs.Prelude.{ending_bytes, fold, footnotes_pieces, note_view, print}
 use Rattle.html_footnotes.proofs.gfm_footnote_definition.push_footnotes.Given as goal
 
 -- the footnotes so far are printed

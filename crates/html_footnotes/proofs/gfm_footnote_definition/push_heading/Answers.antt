@@ -1,9 +1,5 @@
 use Rattle.std.proofs.Common.{◌≡◌, ◌++◌, string_bytes, codes, sym, ap, ◌∙◌, subst}
-use Rattle.std.specs.Prelude.{OnOk}
-use Rattle.definition_text.specs.Encode.{encode}
-use Rattle.definition_page.specs.GfmLabelStartFootnote.{text_or}
-use Rattle.definition_page.specs.Tags.{start_tag}
-use Rattle.definition_page.specs.GfmFootnoteDefinition.{section_heading_name, section_heading_tag}
+use Rattle.html_footnotes.proofs.Prelude.{encode, OnOk, section_heading_name, section_heading_tag, start_tag, text_or}
 use Rattle.html_footnotes.proofs.Parts.{five_prints, on_ok}
 use Rattle.html_footnotes.proofs.Printed.{heading_said}
 use Rattle.html_footnotes.proofs.gfm_footnote_definition.push_heading.Goals as goal

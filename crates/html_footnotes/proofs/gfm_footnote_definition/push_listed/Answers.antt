@@ -1,12 +1,8 @@
 use Rattle.std.proofs.Common.{◌≡◌, ◌++◌, ◌∷◌, [], ℕ, List, map, codes, string_bytes, sym, ap, ◌∙◌, append_assoc}
-use Rattle.std.specs.List.{fold}
-use Rattle.std.proofs.lemmas.List.Sums.{fold-append}
-use Rattle.markdown_options.specs.LineEndings.{ending_bytes}
-use Rattle.definition_page.specs.Tags.{bare_tag}
-use Rattle.definition_page.specs.Pieces.{Piece, Open, Close, Fresh, print}
-use Rattle.definition_page.specs.GfmFootnoteDefinition.{heading_pieces, footnotes_pieces, section_tag}
-use Rattle.html_bytes.specs.Pieces.{pieces_html}
-use Rattle.html_footnotes.specs.Footnotes.{note_view}
+use Rattle.html_footnotes.proofs.Prelude.{bare_tag, Close, ending_bytes, fold, fold-append, footnotes_pieces, Fresh, heading_pieces, note_view, pieces_html}
+use Rattle.html_footnotes.proofs.Prelude.{print}
+use Rattle.definition_page.specs.Pieces.{Piece, Open}
+use Rattle.definition_page.specs.GfmFootnoteDefinition.{section_tag}
 use Rattle.html_footnotes.proofs.Printed.{heading_added}
 use Rattle.html_footnotes.proofs.gfm_footnote_definition.push_listed.Goals as goal
 

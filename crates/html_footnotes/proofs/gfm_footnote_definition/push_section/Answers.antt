@@ -1,10 +1,8 @@
 use Rattle.std.proofs.Common.{◌≡◌, [], ◌∷◌, List, map, length, false, eqb, subst, sym, refl, ◌∙◌}
 use Rattle.std.proofs.lemmas.Bool.{false≢true}
-use Rattle.markdown_options.specs.LineEndings.{ending_bytes}
-use Rattle.markdown_options.specs.declared.configuration.CompileOptions.{CompileOptions}
+use Rattle.html_footnotes.proofs.Prelude.{CompileOptions, ending_bytes, Footnote, note_view}
 use Rattle.definition_page.specs.GfmFootnoteDefinition.{section_pieces, listed_pieces}
-use Rattle.html_footnotes.specs.declared.gfm_footnote_definition.Footnote.{Footnote}
-use Rattle.html_footnotes.specs.Footnotes.{LaysOut, note_view}
+use Rattle.html_footnotes.specs.Footnotes.{LaysOut}
 use Rattle.html_footnotes.proofs.gfm_footnote_definition.push_section.Goals as goal
 
 -- footnotes that are there

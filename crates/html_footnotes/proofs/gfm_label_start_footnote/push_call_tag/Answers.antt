@@ -1,7 +1,5 @@
 use Rattle.std.proofs.Common.{◌++◌, string_bytes, codes, sym, ap, ◌∙◌}
-use Rattle.definition_page.specs.GfmLabelStartFootnote.{footnote_id, call_id}
-use Rattle.html_bytes.specs.InlineHtml.{say_bytes}
-use Rattle.html_footnotes.specs.Footnotes.{call_view}
+use Rattle.html_footnotes.proofs.Prelude.{call_id, call_view, footnote_id, say_bytes}
 use Rattle.html_footnotes.proofs.Parts.{five}
 use Rattle.html_footnotes.proofs.Printed.{call_printed}
 use Rattle.html_footnotes.proofs.gfm_label_start_footnote.push_call_tag.Goals as goal

@@ -1,7 +1,7 @@
 use Rattle.std.proofs.Common.{◌≡◌, ◌++◌, length, string_bytes}
 use denote.Text.{Utf8}
 use denote.Shadow.{shadow}
-use Rattle.html_inline.specs.CodeBytes.{spaces_for_endings}
+use Rattle.html_inline.proofs.Prelude.{spaces_for_endings}
 use Rattle.html_inline.proofs.code_text.push_spaced.Given as goal
 
 -- what was printed, and what is printed for the rest, is what is printed for the text

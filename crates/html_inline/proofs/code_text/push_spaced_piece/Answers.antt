@@ -1,9 +1,5 @@
 use Rattle.std.proofs.Common.{◌≡◌, ◌++◌, false, string_bytes, sym, ap, ◌∙◌, append_assoc, arith, drop, take, length}
-use Rattle.std.specs.List.{prefix_len}
-use Rattle.std.proofs.lemmas.List.{length-drop}
-use Rattle.definition_text.specs.Content.{content_codes}
-use Rattle.definition_inline.specs.Strings.{begins_with_eol}
-use Rattle.html_inline.specs.CodeBytes.{is_in_line, spaces_for_endings}
+use Rattle.html_inline.proofs.Prelude.{begins_with_eol, content_codes, is_in_line, length-drop, prefix_len, spaces_for_endings}
 use Rattle.html_inline.proofs.InLine.{line_boundary, line_some, line_spaced}
 use Rattle.html_inline.proofs.code_text.push_spaced_piece.Goals as goal
 

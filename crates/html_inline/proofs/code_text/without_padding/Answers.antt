@@ -1,6 +1,6 @@
 use Rattle.std.proofs.Common.{◌≡◌, ap, arith, sym, ◌∙◌, true}
 use Rattle.std.proofs.lemmas.Str.{IsCharBoundary-after_ascii}
-use Rattle.definition_inline.specs.CodeText.{is_padded}
+use Rattle.html_inline.proofs.Prelude.{is_padded}
 use Rattle.html_inline.proofs.InLine.{padded_start}
 use Rattle.html_inline.proofs.code_text.without_padding.Goals as goal
 

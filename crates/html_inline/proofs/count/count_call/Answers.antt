@@ -1,13 +1,6 @@
 use Rattle.std.proofs.Common.{◌≡◌, ℕ, List, Option, sym, ap, ◌∙◌, subst}
-use Rattle.std.specs.Prelude.{map}
-use Rattle.std.specs.List.{fold}
+use Rattle.html_inline.proofs.Prelude.{content_codes, count_at, CountOf, first_match, fold, in_bytes, lay, map, normal_label, output_view, place_of}
 use Rattle.std.specs.Result.{OnOk}
-use Rattle.definition_text.specs.Content.{content_codes}
-use Rattle.definition_inline.specs.LabelMatch.{first_match, normal_label, place_of}
-use Rattle.definition_page.specs.InlinePieces.{count_at}
-use Rattle.html_bytes.specs.Layout.{lay}
-use Rattle.html_bytes.specs.Pieces.{CountOf, in_bytes}
-use Rattle.html_footnotes.specs.Output.{output_view}
 use Rattle.html_inline.proofs.count.count_call.Goals as goal
 
 pub returns-in-None : goal.returns-in-None

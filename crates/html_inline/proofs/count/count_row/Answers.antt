@@ -1,17 +1,7 @@
 use Rattle.std.proofs.Common.{◌≡◌, sym, ap, ◌∙◌, subst}
-use Rattle.std.specs.List.{fold}
-use Rattle.std.proofs.lemmas.List.{append-nil}
+use Rattle.html_inline.proofs.Prelude.{append-nil, content_codes, count_at, first_match, fold, in_bytes, InlineRow, lay, normal_label, output_view, parts_of}
+use Rattle.html_inline.proofs.Prelude.{row_view, rows_counts}
 use Rattle.std.specs.Result.{OnOk}
-use Rattle.definition_text.specs.Content.{content_codes}
-use Rattle.definition_inline.specs.LabelMatch.{first_match, normal_label}
-use Rattle.definition_page.specs.InlinePieces.{count_at}
-use Rattle.html_bytes.specs.Layout.{lay}
-use Rattle.html_bytes.specs.Pieces.{in_bytes}
-use Rattle.html_footnotes.specs.Output.{output_view}
-use Rattle.inline_leaves.specs.Leaves.{parts_of}
-use Rattle.inline_rows.specs.declared.row.InlineRow.{InlineRow}
-use Rattle.inline_rows.specs.View.{row_view}
-use Rattle.html_inline.specs.Counts.{rows_counts}
 use Rattle.html_inline.proofs.Counts.{data_counts, leaves_counts}
 use Rattle.html_inline.proofs.count.count_row.Goals as goal
 

@@ -1,19 +1,9 @@
 use Rattle.std.proofs.Common.{◌≡◌, List, sym, ap, ◌∙◌, take}
-use Rattle.std.specs.List.{fold}
-use Rattle.std.proofs.lemmas.List.{take_all}
-use Rattle.definition_inline.specs.Targets.{leads_to}
-use Rattle.definition_page.specs.Pieces.{Piece}
-use Rattle.html_bytes.specs.Layout.{lay}
-use Rattle.html_bytes.specs.Pieces.{in_bytes}
-use Rattle.html_footnotes.specs.Output.{output_view}
+use Rattle.html_inline.proofs.Prelude.{fold, in_bytes, InlineRow, lay, leads_to, meaning_by, output_view, Piece, place_target, row_view, rows_counts}
+use Rattle.html_inline.proofs.Prelude.{rows_view, take_all}
 use Rattle.inline_rows.specs.InlineRows as rows_of
-use Rattle.inline_rows.specs.declared.row.InlineRow.{InlineRow}
-use Rattle.inline_rows.specs.View.{row_view, rows_view}
-use Rattle.html_inline.specs.Counts.{rows_counts}
-use Rattle.html_inline.specs.Opens.{place_target}
 use Rattle.html_inline.proofs.Counts.{counts_more, rows_counted, shown_counts}
 use Rattle.html_inline.proofs.count.count_rows.Goals as goal
-use Rattle.html_inline.specs.Prints.{meaning_by}
 
 pub loop-row-preserved : goal.loop-row-preserved
 loop-row-preserved g c = λ definition footnotes default held.

@@ -1,6 +1,5 @@
 use Rattle.std.proofs.Common.{◌≡◌, ◌++◌, List, ℕ, string_bytes, sym, ap, ◌∙◌, subst, rules}
-use Rattle.std.specs.Prelude.{OnOk}
-use Rattle.html_inline.specs.Forms.{form_bytes}
+use Rattle.html_inline.proofs.Prelude.{form_bytes, OnOk}
 use Rattle.html_inline.proofs.FormedText.{formed_bytes}
 use Rattle.html_inline.proofs.form.push_formed.Goals as goal
 

@@ -1,17 +1,8 @@
 use Rattle.std.proofs.Common.{◌≡◌, ℕ, List, [], true, false, sym, ap, ◌∙◌}
-use Rattle.std.specs.Prelude.{map, reverse}
-use Rattle.std.proofs.lemmas.Result.{on_ok_weaker}
-use Rattle.definition_text.specs.Content.{content_codes}
-use Rattle.definition_inline.specs.LabelMatch.{first_match, normal_label, place_of}
-use Rattle.html_bytes.specs.Layout.{lay}
-use Rattle.html_bytes.specs.Pieces.{CallOf, CountOf}
-use Rattle.html_footnotes.specs.Output.{output_view}
-use Rattle.html_inline.specs.declared.stack.OpenPart.{OpenPart}
-use Rattle.html_inline.specs.Opens.{opened_view, place_target}
-use Rattle.html_inline.specs.Printed.{is_described}
+use Rattle.html_inline.proofs.Prelude.{CallOf, content_codes, CountOf, first_match, is_described, lay, map, meaning_by, normal_label, on_ok_weaker}
+use Rattle.html_inline.proofs.Prelude.{opened_view, OpenPart, output_view, place_of, place_target, reverse}
 use Rattle.html_inline.proofs.FootnoteCalls.{uncalled, counted, called}
 use Rattle.html_inline.proofs.gfm_label_start_footnote.push_call.Goals as goal
-use Rattle.html_inline.specs.Prints.{meaning_by}
 
 pub returns-in-None-clause-laid : goal.returns-in-None-clause-laid
 returns-in-None-clause-laid g c = λ definition footnotes rows held.

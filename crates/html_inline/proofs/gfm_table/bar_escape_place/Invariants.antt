@@ -1,5 +1,5 @@
 use Rattle.std.proofs.Common.{◌≡◌, ◌+◌, drop}
-use Rattle.html_inline.specs.GfmTable.{bar_escape_at}
+use Rattle.html_inline.proofs.Prelude.{bar_escape_at}
 use Rattle.html_inline.proofs.gfm_table.bar_escape_place.Given as goal
 
 -- no backslash so far escapes a bar

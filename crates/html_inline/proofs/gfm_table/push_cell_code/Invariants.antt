@@ -1,8 +1,7 @@
 use Rattle.std.proofs.Common.{◌≡◌, ◌++◌, length, string_bytes}
 use denote.Text.{Utf8}
 use denote.Shadow.{shadow}
-use Rattle.definition_page.specs.GfmTable.{cell_code}
-use Rattle.definition_text.specs.Encode.{encode}
+use Rattle.html_inline.proofs.Prelude.{cell_code, encode}
 use Rattle.html_inline.proofs.gfm_table.push_cell_code.Given as goal
 
 -- what was printed, and what is printed for the rest, is what is printed for the code

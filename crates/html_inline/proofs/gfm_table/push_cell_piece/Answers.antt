@@ -1,9 +1,7 @@
 use lib.Utf8.{encode}
 use Rattle.std.proofs.Common.{◌∷◌, ◌++◌, string_bytes, sym, ap, ◌∙◌, subst, take, drop, length, arith}
-use Rattle.std.specs.Str.{IsCharBoundary}
-use Rattle.definition_page.specs.GfmTable.{cell_code}
+use Rattle.html_inline.proofs.Prelude.{bar_escape_at, cell_code, IsCharBoundary}
 use Rattle.definition_text.specs.Encode as text
-use Rattle.html_inline.specs.GfmTable.{bar_escape_at}
 use Rattle.html_inline.proofs.BarEscapes.{boundary_escape, piece_printed, escape_printed, less_after, less_before}
 use Rattle.html_inline.proofs.gfm_table.push_cell_piece.Goals as goal
 

@@ -1,7 +1,5 @@
 use Rattle.std.proofs.Common.{◌++◌, sym, ap, ◌∙◌, append_assoc, codes, string_bytes}
-use Rattle.std.specs.List.{flat_map}
-use Rattle.definition_page.specs.GfmTaskListItem.{checkable_attributes, done_attributes}
-use Rattle.definition_page.specs.Tags.{attribute_bytes}
+use Rattle.html_inline.proofs.Prelude.{attribute_bytes, checkable_attributes, done_attributes, flat_map}
 use Rattle.html_inline.proofs.TagTexts.{check_printed}
 use Rattle.html_inline.proofs.gfm_task_list_item.push_check.Goals as goal
 

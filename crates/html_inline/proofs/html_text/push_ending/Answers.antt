@@ -1,8 +1,6 @@
 use Rattle.std.proofs.Common.{◌++◌, ◌∷◌, string_bytes, sym, ap, ◌∙◌, arith, length, subst}
-use Rattle.std.proofs.lemmas.List.{length-drop}
-use Rattle.definition_text.specs.Content.{content_codes, line_ending_code}
+use Rattle.html_inline.proofs.Prelude.{content_codes, ends, length-drop, line_ending_code}
 use Rattle.inline_leaves.specs.Leaves.{ReadsEnding}
-use Rattle.html_inline.specs.HtmlBytes.{ends}
 use Rattle.html_inline.proofs.html_text.push_ending.Goals as goal
 
 pub returns : goal.returns

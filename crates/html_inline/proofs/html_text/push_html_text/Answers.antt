@@ -1,8 +1,5 @@
 use Rattle.std.proofs.Common.{◌++◌, List, string_bytes, sym, ap, ◌∙◌, append_assoc, drop, rules}
-use Rattle.std.specs.List.{flat_map}
-use Rattle.definition_text.specs.Content.{content_codes}
-use Rattle.definition_page.specs.InlinePieces.{HtmlLine, html_lines}
-use Rattle.html_inline.specs.HtmlBytes.{first_bytes, later_bytes}
+use Rattle.html_inline.proofs.Prelude.{content_codes, first_bytes, flat_map, html_lines, HtmlLine, later_bytes}
 use Rattle.html_inline.proofs.HtmlLines.{later_printed, lines_printed}
 use Rattle.html_inline.proofs.html_text.push_html_text.Goals as goal
 

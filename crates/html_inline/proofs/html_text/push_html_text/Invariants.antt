@@ -1,11 +1,7 @@
 use Rattle.std.proofs.Common.{◌≡◌, ◌++◌, length, string_bytes}
-use Rattle.std.specs.List.{flat_map}
+use Rattle.html_inline.proofs.Prelude.{content_codes, flat_map, html_lines, html_says, later_bytes, say_bytes}
 use denote.Text.{Utf8}
 use denote.Shadow.{shadow}
-use Rattle.definition_text.specs.Content.{content_codes}
-use Rattle.definition_page.specs.InlinePieces.{html_lines, html_says}
-use Rattle.html_bytes.specs.InlineHtml.{say_bytes}
-use Rattle.html_inline.specs.HtmlBytes.{later_bytes}
 use Rattle.html_inline.proofs.html_text.push_html_text.Given as goal
 
 -- what was printed, and what is printed for the later lines, is what is printed for all

@@ -1,8 +1,5 @@
 use Rattle.std.proofs.Common.{◌++◌, string_bytes, ap, ◌∙◌, arith, subst}
-use Rattle.std.specs.List.{prefix_len}
-use Rattle.html_bytes.specs.RawHtml.{raw_bytes}
-use Rattle.html_inline.specs.CodeBytes.{is_in_line}
-use Rattle.html_inline.specs.HtmlBytes.{PrintsEnding}
+use Rattle.html_inline.proofs.Prelude.{is_in_line, prefix_len, PrintsEnding, raw_bytes}
 use Rattle.html_inline.proofs.InLine.{line_boundary}
 use Rattle.html_inline.proofs.HtmlLines.{line_printed, line_shorter}
 use Rattle.html_inline.proofs.html_text.push_line.Goals as goal

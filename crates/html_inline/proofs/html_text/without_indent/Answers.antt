@@ -1,5 +1,5 @@
 use Rattle.std.proofs.Common.{ap, arith, ◌∙◌}
-use Rattle.definition_text.specs.Columns.{indent}
+use Rattle.html_inline.proofs.Prelude.{indent}
 use Rattle.html_inline.proofs.KeptText.{white_boundary}
 use Rattle.html_inline.proofs.html_text.without_indent.Goals as goal
 

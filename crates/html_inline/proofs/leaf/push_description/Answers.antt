@@ -1,9 +1,5 @@
 use Rattle.std.proofs.Common.{◌≡◌, ◌++◌, List, ℕ, string_bytes, sym, ap, ◌∙◌, subst}
-use Rattle.std.specs.Prelude.{OnOk, map}
-use Rattle.std.specs.List.{flat_map}
-use Rattle.html_bytes.specs.InlineHtml.{leaf_description}
-use Rattle.inline_leaves.specs.Leaves.{parts_of}
-use Rattle.html_inline.specs.GfmTable.{leaf_in}
+use Rattle.html_inline.proofs.Prelude.{flat_map, leaf_description, leaf_in, map, OnOk, parts_of}
 use Rattle.html_inline.proofs.LeafTexts.{data_described, escapes_described}
 use Rattle.html_inline.proofs.leaf.push_description.Goals as goal
 

@@ -1,13 +1,6 @@
 use Rattle.std.proofs.Common.{◌≡◌, ◌++◌, List, ℕ, string_bytes, sym, ap, ◌∙◌, subst}
-use Rattle.std.specs.Prelude.{OnOk, map}
-use Rattle.std.specs.List.{flat_map}
-use Rattle.std.proofs.lemmas.List.{append-nil}
-use Rattle.definition_text.specs.Content.{content_codes}
+use Rattle.html_inline.proofs.Prelude.{append-nil, content_codes, flat_map, html_says, leaf_html, leaf_in, map, OnOk, parts_of}
 use Rattle.definition_inline.specs.Inline.{Html}
-use Rattle.definition_page.specs.InlinePieces.{html_says}
-use Rattle.html_bytes.specs.InlineHtml.{leaf_html}
-use Rattle.inline_leaves.specs.Leaves.{parts_of}
-use Rattle.html_inline.specs.GfmTable.{leaf_in}
 use Rattle.html_inline.proofs.LeafTexts.{data_html, escapes_html, says_html}
 use Rattle.html_inline.proofs.leaf.push_leaf.Goals as goal
 

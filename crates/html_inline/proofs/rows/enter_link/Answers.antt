@@ -1,16 +1,10 @@
 use Rattle.std.proofs.Common.{◌≡◌, ◌++◌, List, true, false, string_bytes, sym, ap, ◌∙◌, refl}
-use Rattle.std.specs.Prelude.{codes, map, reverse}
-use Rattle.html_footnotes.specs.Output.{output_view}
-use Rattle.html_inline.specs.declared.stack.OpenPart.{OpenPart}
+use Rattle.html_inline.proofs.Prelude.{end_tag, is_described, link_tag, map, meaning_by, new_part, opened_view, OpenPart, output_view, place_target, reverse}
+use Rattle.html_inline.proofs.Prelude.{start_tag, target_texts}
+use Rattle.std.specs.Prelude.{codes}
 use Rattle.html_inline.specs.declared.stack.OpenPart.TheVariants as open_part
-use Rattle.html_inline.specs.Opens.{opened_view, place_target}
-use Rattle.html_inline.specs.Printed.{new_part, is_described}
-use Rattle.definition_page.specs.InlinePieces.{link_tag}
-use Rattle.definition_page.specs.Tags.{start_tag, end_tag}
-use Rattle.inline_rows.specs.View.{target_texts}
 use Rattle.html_inline.proofs.OpenStack.{entered, entered_silent}
 use Rattle.html_inline.proofs.rows.enter_link.Goals as goal
-use Rattle.html_inline.specs.Prints.{meaning_by}
 
 pub returns-then-is_described : goal.returns-then-is_described
 returns-then-is_described g c = λ definition footnotes rows.

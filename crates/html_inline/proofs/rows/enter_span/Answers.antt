@@ -1,11 +1,8 @@
 use Rattle.std.proofs.Common.{◌≡◌, ◌++◌, List, true, false, string_bytes, sym, ap, ◌∙◌, refl}
-use Rattle.std.specs.Prelude.{map, reverse}
+use Rattle.html_inline.proofs.Prelude.{is_described, map, new_part, opened_view, OpenPart, output_view, reverse}
 use Rattle.inline_runs.specs.View.{span_view}
-use Rattle.html_footnotes.specs.Output.{output_view}
-use Rattle.html_inline.specs.declared.stack.OpenPart.{OpenPart}
 use Rattle.html_inline.specs.declared.stack.OpenPart.TheVariants as open_part
-use Rattle.html_inline.specs.Opens.{opened_view}
-use Rattle.html_inline.specs.Printed.{new_part, is_described, span_start, span_end}
+use Rattle.html_inline.specs.Printed.{span_start, span_end}
 use Rattle.html_inline.proofs.OpenStack.{entered, entered_silent}
 use Rattle.html_inline.proofs.rows.enter_span.Goals as goal
 

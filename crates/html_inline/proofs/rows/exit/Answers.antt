@@ -1,10 +1,7 @@
 use Rattle.std.proofs.Common.{◌≡◌, ◌++◌, [], ◌∷◌, string_bytes}
-use Rattle.std.proofs.lemmas.Result.{on_ok_weaker}
-use Rattle.html_footnotes.specs.Output.{output_view}
-use Rattle.html_inline.specs.Opens.{opened_view, place_target}
+use Rattle.html_inline.proofs.Prelude.{meaning_by, on_ok_weaker, opened_view, output_view, place_target}
 use Rattle.html_inline.proofs.OpenStack.{left}
 use Rattle.html_inline.proofs.rows.exit.Goals as goal
-use Rattle.html_inline.specs.Prints.{meaning_by}
 
 pub returns-in-Some : goal.returns-in-Some
 returns-in-Some g c = λ definition footnotes.

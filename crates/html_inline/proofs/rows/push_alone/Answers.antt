@@ -1,9 +1,5 @@
 use Rattle.std.proofs.Common.{[], ◌∷◌, sym, ap, ◌∙◌}
-use Rattle.std.proofs.lemmas.List.{append-nil}
-use Rattle.inline_rows.specs.declared.row.InlineRow.{InlineRow}
-use Rattle.inline_rows.specs.View.{data_rows, rows_view}
-use Rattle.html_inline.specs.Opens.{place_target}
-use Rattle.html_inline.specs.Prints.{meaning_by}
+use Rattle.html_inline.proofs.Prelude.{append-nil, data_rows, InlineRow, meaning_by, place_target, rows_view}
 use Rattle.html_inline.proofs.rows.push_alone.Goals as goal
 
 pub returns-in-Text : goal.returns-in-Text

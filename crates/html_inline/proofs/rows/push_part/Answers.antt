@@ -1,12 +1,6 @@
 use Rattle.std.proofs.Common.{◌≡◌, ◌++◌, List, Bool, true, false, string_bytes, sym, ap, ◌∙◌, subst}
-use Rattle.std.specs.Prelude.{OnOk, map, reverse}
-use Rattle.inline_leaves.specs.Leaves.{parts_of}
-use Rattle.html_inline.specs.declared.stack.OpenPart.{OpenPart}
-use Rattle.html_inline.specs.Opens.{opened_view, place_target}
-use Rattle.html_inline.specs.GfmTable.{leaf_in}
-use Rattle.html_inline.specs.Printed.{is_described, leaves_bytes}
+use Rattle.html_inline.proofs.Prelude.{is_described, leaf_in, leaves_bytes, map, meaning_by, OnOk, opened_view, OpenPart, parts_of, place_target, reverse}
 use Rattle.html_inline.proofs.rows.push_part.Goals as goal
-use Rattle.html_inline.specs.Prints.{meaning_by}
 
 pub returns-then-is_described-clause-printed : goal.returns-then-is_described-clause-printed
 returns-then-is_described-clause-printed g c = λ definition footnotes rows.

@@ -1,20 +1,10 @@
 use Rattle.std.proofs.Common.{◌≡◌, ◌∷◌, [], ◌++◌, string_bytes, sym, ap, ◌∙◌, rules}
-use Rattle.std.specs.Prelude.{map, reverse, OnOk}
-use Rattle.std.specs.List.{fold}
-use Rattle.std.proofs.lemmas.Result.{on_ok_weaker}
-use Rattle.html_bytes.specs.Layout.{with_text}
-use Rattle.inline_leaves.specs.Leaves.{parts_of}
-use Rattle.inline_rows.specs.declared.row.InlineRow.{InlineRow}
-use Rattle.inline_rows.specs.View.{row_view, spelled_view}
-use Rattle.html_footnotes.specs.Output.{output_view}
-use Rattle.html_inline.specs.Opens.{image_target, opened_view, place_target}
-use Rattle.html_inline.specs.GfmTable.{leaf_in, row_printed_in}
-use Rattle.html_inline.specs.Printed.{call_row, is_described, laid_out, leaves_bytes, printed_at}
-use Rattle.definition_text.specs.Content.{content_codes}
-use Rattle.definition_text.specs.Encode.{encode}
+use Rattle.html_inline.proofs.Prelude.{call_row, content_codes, encode, fold, InlineRow, is_described, laid_out, leaf_in, leaves_bytes, map, meaning_by}
+use Rattle.html_inline.proofs.Prelude.{on_ok_weaker, OnOk, opened_view, output_view, parts_of, place_target, printed_at, reverse, row_printed_in, row_view}
+use Rattle.html_inline.proofs.Prelude.{spelled_view, with_text}
+use Rattle.html_inline.specs.Opens.{image_target}
 use Rattle.html_inline.proofs.OpenStack.{leaves_printed, text_printed}
 use Rattle.html_inline.proofs.rows.push_row.Goals as goal
-use Rattle.html_inline.specs.Prints.{meaning_by}
 
 pub returns-in-Text : goal.returns-in-Text
 returns-in-Text g c = λ definition footnotes held.

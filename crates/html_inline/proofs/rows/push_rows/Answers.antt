@@ -1,20 +1,13 @@
 use Rattle.std.proofs.Common.{◌≡◌, List, [], sym, ap, ◌∙◌, take}
-use Rattle.std.specs.List.{fold}
-use Rattle.std.proofs.lemmas.List.{get_or_default, take_all}
+use Rattle.html_inline.proofs.Prelude.{fold, InlineRow, leads_to, meaning_by, output_view, parts_in_cell, place_target, printed_at, printed_of, PrintState}
+use Rattle.html_inline.proofs.Prelude.{row_printed_in, row_view, rows_view, take_all, with_row}
+use Rattle.std.proofs.lemmas.List.{get_or_default}
 use Rattle.inline_rows.specs.InlineRows as rows_of
-use Rattle.html_footnotes.specs.Output.{output_view}
-use Rattle.inline_rows.specs.declared.row.InlineRow.{InlineRow}
 use Rattle.inline_rows.specs.declared.row.InlineRow.TheVariants.{Exit}
-use Rattle.inline_rows.specs.View.{row_view, rows_view}
-use Rattle.html_inline.specs.Opens.{place_target, printed_of}
-use Rattle.html_inline.specs.Printed.{PrintState, printed_at, with_row}
-use Rattle.definition_inline.specs.Targets.{leads_to}
-use Rattle.html_inline.specs.GfmTable.{parts_in_cell, row_printed_in}
 use Rattle.html_inline.proofs.CellRows.{rows_shown, fold_shown}
 use Rattle.html_inline.proofs.OpenStack.{rows_step}
 use Rattle.html_inline.proofs.RowsPrinted.{content_printed}
 use Rattle.html_inline.proofs.rows.push_rows.Goals as goal
-use Rattle.html_inline.specs.Prints.{meaning_by}
 
 pub push_row-requires : goal.push_row-requires
 push_row-requires g c =

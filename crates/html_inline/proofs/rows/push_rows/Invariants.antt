@@ -1,14 +1,7 @@
 use Rattle.std.proofs.Common.{◌≡◌, ℕ, List, Option, [], take}
-use Rattle.std.specs.List.{fold}
+use Rattle.html_inline.proofs.Prelude.{fold, HasLabels, meaning_by, output_view, place_target, printed_at, printed_of, row_printed_in, rows_view}
 use Rattle.definition_inline.specs.Inline as inline
-use Rattle.html_footnotes.specs.Output.{output_view}
-use Rattle.inline_labels.specs.Table.{HasLabels}
-use Rattle.inline_rows.specs.View.{rows_view}
-use Rattle.html_inline.specs.Opens.{place_target, printed_of}
-use Rattle.html_inline.specs.Printed.{printed_at}
-use Rattle.html_inline.specs.GfmTable.{row_printed_in}
 use Rattle.html_inline.proofs.rows.push_rows.Given as goal
-use Rattle.html_inline.specs.Prints.{meaning_by}
 
 -- the rows so far are printed
 abbrev pub invariant-loop-place : goal.invariant-loop-place

@@ -1,13 +1,7 @@
 use Rattle.std.proofs.Common.{◌≡◌, ◌++◌, [], string_bytes, sym, ap, ◌∙◌, rules}
-use Rattle.std.specs.Prelude.{OnOk}
-use Rattle.std.specs.List.{fold}
-use Rattle.std.proofs.lemmas.Result.{on_ok_weaker}
-use Rattle.definition_inline.specs.Targets.{leads_to}
-use Rattle.html_bytes.specs.Layout.{with_text}
-use Rattle.html_footnotes.specs.Output.{output_view}
+use Rattle.html_inline.proofs.Prelude.{fold, leads_to, on_ok_weaker, OnOk, output_view, parts_in_cell, printed_at, PrintState, row_printed_in, with_row}
+use Rattle.html_inline.proofs.Prelude.{with_text}
 use Rattle.inline_rows.specs.InlineRows as rows_of
-use Rattle.html_inline.specs.GfmTable.{parts_in_cell, row_printed_in}
-use Rattle.html_inline.specs.Printed.{PrintState, printed_at, with_row}
 use Rattle.html_inline.proofs.CellRows.{rows_shown, fold_shown}
 use Rattle.html_inline.proofs.OpenStack.{text_printed}
 use Rattle.html_inline.proofs.RowsPrinted.{content_printed}

@@ -2,7 +2,7 @@ use Rattle.std.proofs.Common.{refl, ◌∙◌}
 use Rattle.text_search.specs.Sets.{holds}
 use Rattle.text_search.proofs.Sets.{run_by}
 use Rattle.html_inline.specs.declared.string.TheConstants.{STARTS}
-use Rattle.html_inline.specs.Kept.{is_ink}
+use Rattle.html_inline.proofs.Prelude.{is_ink}
 use Rattle.html_inline.proofs.string.ink_size.Goals as goal
 
 pub returns : goal.returns

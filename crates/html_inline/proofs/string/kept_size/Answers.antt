@@ -1,7 +1,5 @@
 use Rattle.std.proofs.Common.{arith, drop}
-use Rattle.std.proofs.lemmas.List.{length-drop}
-use Rattle.std.proofs.lemmas.List.Sums.{prefix_len-le-length}
-use Rattle.html_inline.specs.Kept.{is_ink}
+use Rattle.html_inline.proofs.Prelude.{is_ink, length-drop, prefix_len-le-length}
 use Rattle.html_inline.proofs.string.kept_size.Goals as goal
 
 pub overflow_add-result : goal.overflow_add-result

@@ -1,8 +1,7 @@
 use Rattle.std.proofs.Common.{◌≡◌, ◌++◌, length, string_bytes}
 use denote.Text.{Utf8}
 use denote.Shadow.{shadow}
-use Rattle.html_inline.specs.Forms.{form_bytes}
-use Rattle.html_inline.specs.Kept.{text_of}
+use Rattle.html_inline.proofs.Prelude.{form_bytes, text_of}
 use Rattle.html_inline.proofs.string.push_formed_string.Given as goal
 
 -- what was printed, and what the rest stands for, is what the string stands for

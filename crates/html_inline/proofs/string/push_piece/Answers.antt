@@ -1,10 +1,6 @@
 use Rattle.std.proofs.Common.{◌≡◌, ◌++◌, string_bytes, sym, ap, ◌∙◌, arith, drop, take, subst}
-use Rattle.std.specs.List.{flat_map}
-use Rattle.std.specs.Str.{IsCharBoundary}
+use Rattle.html_inline.proofs.Prelude.{flat_map, form_bytes, IsCharBoundary, kept_size, parts_of, text_of}
 use Rattle.definition_inline.specs.Strings as strings
-use Rattle.inline_leaves.specs.Leaves.{parts_of}
-use Rattle.html_inline.specs.Forms.{form_bytes}
-use Rattle.html_inline.specs.Kept.{kept_size, text_of}
 use Rattle.html_inline.proofs.FormedText.{formed_both}
 use Rattle.html_inline.proofs.KeptText.{found_text, kept_boundary, kept_text}
 use Rattle.html_inline.proofs.string.push_piece.Goals as goal

@@ -1,9 +1,6 @@
 use Rattle.std.proofs.Common.{◌≡◌, ◌++◌, List, ℕ, string_bytes, sym, ap, ◌∙◌, subst}
-use Rattle.std.specs.Prelude.{OnOk}
-use Rattle.std.specs.List.{flat_map}
+use Rattle.html_inline.proofs.Prelude.{flat_map, form_bytes, OnOk, parts_of}
 use Rattle.definition_inline.specs.Strings as strings
-use Rattle.inline_leaves.specs.Leaves.{parts_of}
-use Rattle.html_inline.specs.Forms.{form_bytes}
 use Rattle.html_inline.proofs.PartTexts.{data_texts, escape_texts}
 use Rattle.html_inline.proofs.string.push_string_part.Goals as goal
 

@@ -1,5 +1,5 @@
 use Rattle.std.proofs.Common.{◌≡◌, ◌++◌, ◌||◌, List, ℕ, false, string_bytes, sym, subst, rules}
-use Rattle.std.specs.Prelude.{OnOk}
+use Rattle.html_inline.proofs.Prelude.{OnOk}
 use Rattle.definition_page.specs.Urls.{src_protocols}
 use Rattle.html_inline.proofs.TagTexts.{url_with}
 use Rattle.html_inline.proofs.url.push_image_url.Goals as goal

@@ -1,5 +1,5 @@
 use Rattle.std.proofs.Common.{◌≡◌, ◌++◌, List, ℕ, string_bytes, sym, subst}
-use Rattle.std.specs.Prelude.{OnOk}
+use Rattle.html_inline.proofs.Prelude.{OnOk}
 use Rattle.definition_page.specs.Urls.{href_protocols}
 use Rattle.html_inline.proofs.TagTexts.{url_with}
 use Rattle.html_inline.proofs.url.push_link_url.Goals as goal

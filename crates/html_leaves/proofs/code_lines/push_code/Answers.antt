@@ -1,7 +1,5 @@
 use Rattle.std.proofs.Common.{◌≡◌, ◌++◌, ℕ, ◌<◌, string_bytes, sym, ap, ◌∙◌, subst, append_assoc, get_or, arith}
-use Rattle.std.specs.Prelude.{replicate}
-use Rattle.std.specs.Result.{OnOk}
-use Rattle.definition_text.specs.Encode.{encode}
+use Rattle.html_leaves.proofs.Prelude.{encode, OnOk, replicate}
 use Rattle.html_leaves.proofs.Owed.{code_owed}
 use Rattle.html_leaves.proofs.code_lines.push_code.Goals as goal
 

@@ -1,15 +1,6 @@
 use Rattle.std.proofs.Common.{◌≡◌, ◌++◌, ◌∷◌, [], ℕ, List, Option, string_bytes, sym, ap, ◌∙◌, take, get_or, ◌+◌}
-use Rattle.std.proofs.lemmas.List.{map_more}
-use Rattle.markdown_options.specs.declared.line_ending.LineEnding.{LineEnding}
-use Rattle.definition_text.specs.Lines.{ending_text}
-use Rattle.std.specs.Prelude.{map}
-use Rattle.definition_text.specs.Encode.{encode}
-use Rattle.definition_text.specs.BlockLines.{BlockLine, own_lines, last_ending}
-use Rattle.html_leaves.specs.CodeLines.{code_of}
-use Rattle.definition_text.specs.Columns.{code_byte}
-use Rattle.text_pieces.specs.Pieces.{piece_line, piece_lines}
-use Rattle.text_pieces.proofs.Pieces.{no_piece}
-use Rattle.text_pieces.proofs.OwnLines.{lines_printed, last_ending_more}
+use Rattle.html_leaves.proofs.Prelude.{BlockLine, code_byte, code_of, encode, ending_text, last_ending, last_ending_more, LineEnding, lines_printed, map}
+use Rattle.html_leaves.proofs.Prelude.{map_more, no_piece, own_lines, piece_line, piece_lines}
 use Rattle.html_leaves.proofs.code_lines.push_code_lines.Goals as goal
 
 pub loop-line-preserved : goal.loop-line-preserved

@@ -1,6 +1,5 @@
 use Rattle.std.proofs.Common.{◌≡◌, ◌++◌, ℕ, ◌<◌, string_bytes, sym, subst, get_or, arith}
-use Rattle.std.specs.Result.{OnOk}
-use Rattle.html_bytes.specs.RawHtml.{raw_bytes}
+use Rattle.html_leaves.proofs.Prelude.{OnOk, raw_bytes}
 use Rattle.html_leaves.proofs.Owed.{bytes_owed}
 use Rattle.html_leaves.proofs.html_flow.push_html_line.Goals as goal
 

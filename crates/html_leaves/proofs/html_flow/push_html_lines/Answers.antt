@@ -1,14 +1,6 @@
 use Rattle.std.proofs.Common.{◌≡◌, ◌++◌, ◌∷◌, [], ℕ, List, Option, string_bytes, sym, ap, ◌∙◌, take, get_or, ◌+◌}
-use Rattle.std.proofs.lemmas.List.{map_more}
-use Rattle.markdown_options.specs.declared.line_ending.LineEnding.{LineEnding}
-use Rattle.definition_text.specs.Lines.{ending_text}
-use Rattle.definition_text.specs.Columns.{bytes_of}
-use Rattle.definition_text.specs.BlockLines.{BlockLine, own_lines, last_ending}
-use Rattle.html_leaves.specs.CodeLines.{html_of}
-use Rattle.html_bytes.specs.RawHtml.{raw_bytes}
-use Rattle.text_pieces.specs.Pieces.{piece_line, piece_lines}
-use Rattle.text_pieces.proofs.Pieces.{no_piece}
-use Rattle.text_pieces.proofs.OwnLines.{lines_printed, last_ending_more}
+use Rattle.html_leaves.proofs.Prelude.{BlockLine, bytes_of, ending_text, html_of, last_ending, last_ending_more, LineEnding, lines_printed, map_more, no_piece}
+use Rattle.html_leaves.proofs.Prelude.{own_lines, piece_line, piece_lines, raw_bytes}
 use Rattle.html_leaves.proofs.html_flow.push_html_lines.Goals as goal
 
 pub loop-line-preserved : goal.loop-line-preserved

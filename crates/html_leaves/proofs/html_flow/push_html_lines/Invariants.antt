@@ -1,7 +1,5 @@
 use Rattle.std.proofs.Common.{◌≡◌, ◌++◌, string_bytes, take}
-use Rattle.definition_text.specs.BlockLines.{own_lines, last_ending}
-use Rattle.html_leaves.specs.CodeLines.{html_of}
-use Rattle.text_pieces.specs.Pieces.{piece_lines}
+use Rattle.html_leaves.proofs.Prelude.{html_of, last_ending, own_lines, piece_lines}
 use Rattle.html_leaves.proofs.html_flow.push_html_lines.Given as goal
 
 -- the lines so far are printed, and the ending of the last one waits

@@ -2,13 +2,13 @@ use Rattle.std.proofs.Common.{arith, ℕ, ◌<◌, ◌+◌, ◌≤◌, ◌∙◌
 use Rattle.std.specs.List.{take-map}
 use Rattle.std.proofs.lemmas.List.{length-map}
 use Rattle.definition_text.specs.Columns.{bytes_of}
-use Rattle.definition_text.specs.BlockLines.{own_lines, BlockLine}
+use Rattle.html_page.proofs.Prelude.{BlockLine, document_by, piece_line, piece_lines}
+use Rattle.definition_text.specs.BlockLines.{own_lines}
 use Rattle.definition_block.specs.Tree.{Paragraph, Heading, IndentedCode, Html, Table}
 use Rattle.text_pieces.specs.ParagraphLines.{AreLines}
 use Rattle.definition_page.specs.Read.{on_page}
 use Rattle.html_bytes.specs.Html.{leaf_bytes}
-use Rattle.html_contents.specs.Texts.{document_by}
-use Rattle.text_pieces.specs.Pieces.{whole_lines, piece_line, piece_lines}
+use Rattle.text_pieces.specs.Pieces.{whole_lines}
 use Rattle.html_looseness.specs.Levels.{standing_of, standing_first}
 use Rattle.html_looseness.specs.Printable.{AreHeadingLines, AreClear, IsTable}
 use Rattle.html_rows.proofs.Lines.{first_codes_of, first_line, with_ending, clear_with_ending, own_length}

@@ -1,8 +1,7 @@
 use Rattle.std.proofs.Common.{◌≡◌, ◌+◌, ◌-◌, Some, sym, ap, ◌∙◌, arith, length, take}
 use Rattle.std.specs.List.{slice_get}
 use Rattle.std.proofs.lemmas.Option.{slice_get_within, get_or_from_slice_get}
-use Rattle.block_rows.specs.declared.row.Row.{Row}
-use Rattle.block_rows.specs.Rows.{row_value, rows_value}
+use Rattle.html_page.proofs.Prelude.{Row, row_value, rows_value}
 use Rattle.html_rows.specs.Printing.{is_blank_row}
 use Rattle.html_rows.proofs.LastRow.{last_row}
 use Rattle.html_page.proofs.printer.ends_blank.Goals as goal

@@ -1,17 +1,7 @@
 use Rattle.std.proofs.Common.{◌≡◌, Bool, List, string_bytes, ap, ◌∙◌, subst}
-use Rattle.std.specs.List.{fold}
-use Rattle.markdown_options.specs.declared.line_ending.LineEnding.{LineEnding}
-use Rattle.markdown_options.specs.LineEndings.{ending_bytes}
-use Rattle.block_rows.specs.declared.row.Row.{Row}
-use Rattle.block_rows.specs.Rows.{rows_value}
-use Rattle.text_pieces.specs.Pieces.{piece_lines}
-use Rattle.html_rows.specs.Printing.{PrinterView, print_all, blank_page, ends_blank_rows, rows_html}
-use Rattle.html_page.specs.PrinterView.{printer_view}
-use Rattle.std.specs.Result.{IfOk}
-use Rattle.html_bytes.specs.Layout.{LayoutState, with_footnotes, lay}
-use Rattle.html_leaves.specs.Prints.{page_view}
-use Rattle.html_bytes.specs.Html.{last_piece}
-use Rattle.html_contents.specs.Texts.{document_by}
+use Rattle.html_page.proofs.Prelude.{document_by, ending_bytes, fold, IfOk, last_piece, lay, LayoutState, LineEnding, page_view, piece_lines, print_all}
+use Rattle.html_page.proofs.Prelude.{printer_view, PrinterView, Row, rows_value, with_footnotes}
+use Rattle.html_rows.specs.Printing.{blank_page, ends_blank_rows, rows_html}
 use Rattle.html_rows.proofs.RowsOf.{rows_html_of}
 use Rattle.html_page.proofs.printer.print_rows.Goals as goal
 

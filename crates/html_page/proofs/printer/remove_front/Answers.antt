@@ -1,5 +1,5 @@
 use Rattle.std.proofs.Common.{◌≡◌, ◌-◌, take, drop, length, ap, ◌∙◌, arith, vec_len}
-use Rattle.std.proofs.lemmas.List.{take_at}
+use Rattle.html_page.proofs.Prelude.{take_at}
 use Rattle.html_page.proofs.printer.remove_front.Goals as goal
 
 pub returns-clause-items : goal.returns-clause-items

@@ -1,9 +1,5 @@
 use Rattle.std.proofs.Common.{◌≡◌, ◌∷◌, sym, ap, ◌∙◌, subst}
-use Rattle.markdown_options.specs.LineEndings.{ending_bytes}
-use Rattle.block_cells.specs.GfmTable.{cell_view, cells_left}
-use Rattle.html_contents.specs.Texts.{document_by}
-use Rattle.html_rows.specs.GfmTable.{CellsAreClear, counts_bytes}
-use Rattle.html_leaves.specs.Prints.{layout_after, page_view}
+use Rattle.html_tables.proofs.Prelude.{cell_view, cells_left, CellsAreClear, counts_bytes, document_by, ending_bytes, layout_after, page_view}
 use Rattle.html_rows.proofs.GfmTableLemmas.{counts_more}
 use Rattle.html_tables.proofs.gfm_table.more_cells.Goals as goal
 

@@ -1,9 +1,5 @@
 use Rattle.std.proofs.Common.{◌≡◌, length}
-use Rattle.definition_inline.specs.Targets.{Targets}
-use Rattle.html_contents.specs.Texts.{KnowsTargets, document_by}
-use Rattle.block_cells.specs.GfmTable.{cells_left}
-use Rattle.html_rows.specs.GfmTable.{CellsAreClear, counts_bytes}
-use Rattle.html_leaves.specs.Prints.{layout_after, page_view}
+use Rattle.html_tables.proofs.Prelude.{cells_left, CellsAreClear, counts_bytes, document_by, KnowsTargets, layout_after, page_view, Targets}
 use Rattle.html_tables.proofs.gfm_table.more_cells.Given as goal
 
 -- the calls in the cells that are left are still to be counted

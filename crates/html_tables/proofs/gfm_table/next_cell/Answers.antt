@@ -1,11 +1,7 @@
 use Rattle.std.proofs.Common.{◌≡◌, Option, sym, subst}
-use Rattle.std.specs.Result.{OnOk}
+use Rattle.html_tables.proofs.Prelude.{cell_name, document_by, layout_after, next_cell_bytes, OnOk, page_view}
 use Rattle.block_cells.specs.declared.gfm_table.Cell.{Cell}
-use Rattle.html_leaves.specs.GfmTable.{cell_name}
-use Rattle.html_rows.specs.GfmTable.{next_cell_bytes}
-use Rattle.html_leaves.specs.Prints.{layout_after, page_view}
 use Rattle.html_tables.proofs.gfm_table.next_cell.Goals as goal
-use Rattle.html_contents.specs.Texts.{document_by}
 
 pub returns-in-None-clause-printed : goal.returns-in-None-clause-printed
 returns-in-None-clause-printed g c = λ ds has clear.

@@ -1,16 +1,11 @@
 use Rattle.std.proofs.Common.{◌≡◌, ap, ◌∙◌, subst}
 use Rattle.std.specs.List.{fold}
-use Rattle.std.specs.Result.{OnOk}
-use Rattle.markdown_options.specs.LineEndings.{ending_bytes}
+use Rattle.html_tables.proofs.Prelude.{cell_name, cell_view, document_by, ending_bytes, OnOk, page_view, with_bytes, with_tag}
 use Rattle.definition_page.specs.Read.{read_cell}
 use Rattle.definition_page.specs.Tags.{end_tag}
-use Rattle.block_cells.specs.GfmTable.{cell_view}
 use Rattle.html_bytes.specs.Document.{reading_of, cell_of}
 use Rattle.html_bytes.specs.Layout.{lay}
-use Rattle.html_contents.specs.Texts.{document_by}
 use Rattle.html_footnotes.specs.Output.{output_view}
-use Rattle.html_leaves.specs.GfmTable.{cell_name}
-use Rattle.html_leaves.specs.Prints.{page_view, with_bytes, with_tag}
 use Rattle.html_rows.proofs.GfmTableLemmas.{cell_laid}
 use Rattle.html_tables.proofs.gfm_table.present_cell.Goals as goal
 

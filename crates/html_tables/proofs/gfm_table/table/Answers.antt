@@ -1,21 +1,13 @@
 use Rattle.std.proofs.Common.{◌≡◌, ◌∷◌, ◌-◌, List, false, sym, ap, ◌∙◌, subst, get_or, take, drop, length}
-use Rattle.std.specs.Prelude.{codes}
-use Rattle.std.specs.Result.{OnOk}
+use Rattle.html_tables.proofs.Prelude.{AlignKind, AreClear, BlockLine, codes, document_by, ending_bytes, layout_after, LineEnding, no_piece, OnOk, own_lines}
+use Rattle.html_tables.proofs.Prelude.{page_view, piece_line, piece_lines, with_tag}
 use Rattle.std.proofs.lemmas.List.{take_rest}
-use Rattle.markdown_options.specs.declared.line_ending.LineEnding.{LineEnding}
-use Rattle.markdown_options.specs.LineEndings.{ending_bytes}
-use Rattle.definition_text.specs.BlockLines.{BlockLine, own_lines}
-use Rattle.markdown_options.specs.declared.align_kind.AlignKind.{AlignKind}
 use Rattle.definition_block.specs.Tree.{Table}
 use Rattle.definition_page.specs.GfmTable.{line_aligns}
 use Rattle.definition_page.specs.Read.{on_page}
 use Rattle.html_rows.specs.GfmTable.{head_bytes, body_bytes}
 use Rattle.html_bytes.specs.Html.{leaf_bytes}
-use Rattle.html_contents.specs.Texts.{document_by}
-use Rattle.text_pieces.proofs.Pieces.{no_piece}
-use Rattle.text_pieces.specs.Pieces.{piece_line, piece_lines}
-use Rattle.html_looseness.specs.Printable.{AreClear}
-use Rattle.html_leaves.specs.Prints.{layout_after, page_view, with_fresh, with_tag}
+use Rattle.html_leaves.specs.Prints.{with_fresh}
 use Rattle.html_rows.proofs.GfmTableLemmas.{table_laid, two_lines}
 use Rattle.html_tables.proofs.gfm_table.table.Goals as goal
 

@@ -1,15 +1,8 @@
 use Rattle.std.proofs.Common.{◌≡◌, ◌<◌, sym, ap, ◌∙◌, length, arith, subst}
-use Rattle.std.specs.Result.{OnOk}
+use Rattle.html_tables.proofs.Prelude.{codes, document_by, ending_bytes, layout_after, LineEnding, OnOk, own_lines, page_view, piece_line, piece_lines}
+use Rattle.html_tables.proofs.Prelude.{rows_bytes, with_bytes, with_tag}
 use Rattle.std.proofs.lemmas.Bool.{eqb-false}
 use Rattle.std.proofs.lemmas.List.{length-map}
-use Rattle.std.specs.Prelude.{codes}
-use Rattle.markdown_options.specs.declared.line_ending.LineEnding.{LineEnding}
-use Rattle.markdown_options.specs.LineEndings.{ending_bytes}
-use Rattle.definition_text.specs.BlockLines.{own_lines}
-use Rattle.text_pieces.specs.Pieces.{piece_line, piece_lines}
-use Rattle.html_rows.specs.GfmTable.{rows_bytes}
-use Rattle.html_contents.specs.Texts.{document_by}
-use Rattle.html_leaves.specs.Prints.{layout_after, page_view, with_bytes, with_tag}
 use Rattle.html_rows.proofs.GfmTableLemmas.{body_laid}
 use Rattle.html_tables.proofs.gfm_table.table_body.Goals as goal
 

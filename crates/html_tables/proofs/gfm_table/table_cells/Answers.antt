@@ -1,18 +1,10 @@
 use Rattle.std.proofs.Common.{◌≡◌, ◌+◌, refl, sym, ap, ◌∙◌, drop, get_or}
 use Rattle.std.proofs.lemmas.List.{drop_more}
-use Rattle.markdown_options.specs.declared.line_ending.LineEnding.{LineEnding}
-use Rattle.markdown_options.specs.LineEndings.{ending_bytes}
-use Rattle.markdown_options.specs.declared.align_kind.AlignKind.{AlignKind}
+use Rattle.html_tables.proofs.Prelude.{AlignKind, cell_name, cells_bytes, cells_left, CellsAreClear, counts_bytes, document_by, ending_bytes, layout_after}
+use Rattle.html_tables.proofs.Prelude.{LineEnding, next_cell_bytes, OnOk, page_view, piece_line}
 use Rattle.markdown_options.specs.declared.align_kind.AlignKind.TheVariants as kind
-use Rattle.block_cells.specs.GfmTable.{cells_left}
-use Rattle.text_pieces.specs.Pieces.{piece_line}
-use Rattle.html_leaves.specs.GfmTable.{cell_name}
-use Rattle.html_rows.specs.GfmTable.{CellsAreClear, next_cell_bytes, cells_bytes, counts_bytes}
-use Rattle.html_leaves.specs.Prints.{layout_after, page_view}
 use Rattle.html_rows.proofs.GfmTableLemmas.{cells_clear, cells_more, clear_taken, no_columns}
 use Rattle.std.proofs.Common.{subst}
-use Rattle.std.specs.Result.{OnOk}
-use Rattle.html_contents.specs.Texts.{document_by}
 use Rattle.html_tables.proofs.gfm_table.table_cells.Goals as goal
 
 pub loop-align-init : goal.loop-align-init

@@ -1,13 +1,7 @@
 use Rattle.std.proofs.Common.{◌≡◌, drop}
-use Rattle.definition_inline.specs.Targets.{Targets}
-use Rattle.definition_block.specs.GfmTable.{line_cells}
-use Rattle.html_contents.specs.Texts.{KnowsTargets, document_by}
-use Rattle.block_cells.specs.GfmTable.{cells_left}
+use Rattle.html_tables.proofs.Prelude.{cell_name, cells_bytes, cells_left, CellsAreClear, document_by, KnowsTargets, layout_after, line_cells, page_view}
+use Rattle.html_tables.proofs.Prelude.{piece_line, Targets}
 use Rattle.text_pieces.specs.ParagraphLines.{HaveNoEnding}
-use Rattle.text_pieces.specs.Pieces.{piece_line}
-use Rattle.html_leaves.specs.GfmTable.{cell_name}
-use Rattle.html_rows.specs.GfmTable.{CellsAreClear, cells_bytes}
-use Rattle.html_leaves.specs.Prints.{layout_after, page_view}
 use Rattle.html_tables.proofs.gfm_table.table_cells.Given as goal
 
 -- the cells that are left are still to be printed, in the columns that are left

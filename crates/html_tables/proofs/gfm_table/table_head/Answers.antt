@@ -1,13 +1,6 @@
 use Rattle.std.proofs.Common.{◌≡◌, ap, ◌∙◌, subst}
-use Rattle.std.specs.Result.{OnOk}
-use Rattle.std.specs.Prelude.{codes}
-use Rattle.markdown_options.specs.declared.line_ending.LineEnding.{LineEnding}
-use Rattle.markdown_options.specs.LineEndings.{ending_bytes}
-use Rattle.definition_text.specs.Lines.{ending_text}
-use Rattle.text_pieces.specs.Pieces.{piece_line}
-use Rattle.html_rows.specs.GfmTable.{row_bytes}
-use Rattle.html_contents.specs.Texts.{document_by}
-use Rattle.html_leaves.specs.Prints.{layout_after, page_view, with_bytes, with_tag}
+use Rattle.html_tables.proofs.Prelude.{codes, document_by, ending_bytes, ending_text, layout_after, LineEnding, OnOk, page_view, piece_line, row_bytes}
+use Rattle.html_tables.proofs.Prelude.{with_bytes, with_tag}
 use Rattle.html_rows.proofs.GfmTableLemmas.{head_laid}
 use Rattle.html_tables.proofs.gfm_table.table_head.Goals as goal
 

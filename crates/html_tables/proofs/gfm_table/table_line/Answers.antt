@@ -1,14 +1,6 @@
 use Rattle.std.proofs.Common.{◌≡◌, ap, ◌∙◌, subst}
-use Rattle.std.specs.Result.{OnOk}
-use Rattle.std.specs.Prelude.{codes}
-use Rattle.markdown_options.specs.declared.line_ending.LineEnding.{LineEnding}
-use Rattle.markdown_options.specs.LineEndings.{ending_bytes}
-use Rattle.definition_block.specs.GfmTable.{line_cells}
-use Rattle.text_pieces.specs.Pieces.{piece_line}
-use Rattle.html_contents.specs.Texts.{document_by}
-use Rattle.html_leaves.specs.GfmTable.{cell_name}
-use Rattle.html_rows.specs.GfmTable.{cells_bytes}
-use Rattle.html_leaves.specs.Prints.{layout_after, page_view, with_tag}
+use Rattle.html_tables.proofs.Prelude.{cell_name, cells_bytes, codes, document_by, ending_bytes, layout_after, line_cells, LineEnding, OnOk, page_view}
+use Rattle.html_tables.proofs.Prelude.{piece_line, with_tag}
 use Rattle.html_rows.proofs.GfmTableLemmas.{row_laid}
 use Rattle.html_tables.proofs.gfm_table.table_line.Goals as goal
 

@@ -1,16 +1,8 @@
 use Rattle.std.proofs.Common.{◌≡◌, ◌++◌, ◌∷◌, [], Option, sym, ap, ◌∙◌, take, get_or, ◌+◌}
 use Rattle.std.proofs.lemmas.List.{map_more}
-use Rattle.markdown_options.specs.declared.line_ending.LineEnding.{LineEnding}
-use Rattle.markdown_options.specs.LineEndings.{ending_bytes}
-use Rattle.std.specs.Prelude.{codes}
-use Rattle.definition_text.specs.BlockLines.{BlockLine, own_lines, last_ending}
-use Rattle.definition_text.specs.Lines.{ending_text}
+use Rattle.html_tables.proofs.Prelude.{BlockLine, codes, document_by, ending_bytes, ending_text, last_ending, layout_after, LineEnding, no_piece, own_lines}
+use Rattle.html_tables.proofs.Prelude.{page_view, piece_line, piece_lines, row_bytes, rows_bytes, with_bytes}
 use Rattle.text_pieces.proofs.OwnLines.{last_ending_more}
-use Rattle.text_pieces.proofs.Pieces.{no_piece}
-use Rattle.text_pieces.specs.Pieces.{piece_line, piece_lines}
-use Rattle.html_rows.specs.GfmTable.{row_bytes, rows_bytes}
-use Rattle.html_contents.specs.Texts.{document_by}
-use Rattle.html_leaves.specs.Prints.{layout_after, page_view, with_bytes}
 use Rattle.html_rows.proofs.GfmTableLemmas.{rows_more, clear_at}
 use Rattle.html_tables.proofs.gfm_table.table_rows.Goals as goal
 

@@ -1,11 +1,5 @@
 use Rattle.std.proofs.Common.{◌≡◌, take}
-use Rattle.definition_inline.specs.Targets.{Targets}
-use Rattle.definition_text.specs.BlockLines.{own_lines, last_ending}
-use Rattle.html_rows.specs.GfmTable.{rows_bytes}
-use Rattle.html_contents.specs.Texts.{KnowsTargets, document_by}
-use Rattle.text_pieces.specs.Pieces.{piece_lines}
-use Rattle.html_looseness.specs.Printable.{AreClear}
-use Rattle.html_leaves.specs.Prints.{layout_after, page_view}
+use Rattle.html_tables.proofs.Prelude.{AreClear, document_by, KnowsTargets, last_ending, layout_after, own_lines, page_view, piece_lines, rows_bytes, Targets}
 use Rattle.html_tables.proofs.gfm_table.table_rows.Given as goal
 
 -- the rows so far are printed, and the ending of the last one waits

@@ -1,6 +1,6 @@
 use Rattle.std.proofs.Common.{◌≡◌, ◌∙◌, ◌+◌, ◌-◌, [], ◌∷◌, false, sym, ap, arith, drop, take, length}
-use Rattle.std.proofs.lemmas.List.{drop_all, drop_more, length-drop, take_all}
-use Rattle.inline_addresses.specs.Addresses.{has_at_sign, row_text, rows_may_link}
+use Rattle.inline_addresses.proofs.Prelude.{drop_all, has_at_sign, length-drop, row_text, rows_may_link}
+use Rattle.std.proofs.lemmas.List.{drop_more, take_all}
 use Rattle.inline_addresses.proofs.Unlinked.{from_link, nothing_linked}
 use Rattle.inline_addresses.proofs.links.may_link.Goals as goal
 

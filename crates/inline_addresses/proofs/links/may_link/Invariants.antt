@@ -1,5 +1,5 @@
 use Rattle.std.proofs.Common.{◌≡◌, drop}
-use Rattle.inline_addresses.specs.Addresses.{rows_may_link}
+use Rattle.inline_addresses.proofs.Prelude.{rows_may_link}
 use Rattle.inline_addresses.proofs.links.may_link.Given as goal
 
 -- what is so of all rows is so of those that are left

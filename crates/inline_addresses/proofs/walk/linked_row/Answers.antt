@@ -1,7 +1,5 @@
 use Rattle.std.proofs.Common.{Some, None, sym, ap, ◌∙◌, arith}
-use Rattle.std.specs.List.{flat_map}
-use Rattle.inline_rows.specs.View.{row_view}
-use Rattle.inline_addresses.specs.Addresses.{row_linked}
+use Rattle.inline_addresses.proofs.Prelude.{flat_map, row_linked, row_view}
 use Rattle.inline_addresses.proofs.Walks.{literal_linked, outside_rows}
 use Rattle.inline_addresses.proofs.walk.linked_row.Goals as goal
 

@@ -1,8 +1,5 @@
 use Rattle.std.proofs.Common.{◌≡◌, ◌+◌, ◌++◌, ◌∙◌, [], ap, arith, drop, length, subst, sym}
-use Rattle.std.proofs.lemmas.List.{drop_all}
-use Rattle.inline_rows.specs.declared.row.InlineRow.{InlineRow}
-use Rattle.inline_rows.specs.View.{row_view, rows_view}
-use Rattle.inline_addresses.specs.Addresses.{linked_rows, row_text, text_or_end, walk_rows, IsNext}
+use Rattle.inline_addresses.proofs.Prelude.{drop_all, InlineRow, IsNext, linked_rows, row_text, row_view, rows_view, text_or_end, walk_rows}
 use Rattle.inline_addresses.proofs.Rows.{rows_linked}
 use Rattle.inline_addresses.proofs.Walks.{after_row, next_row, rows_left}
 use Rattle.inline_addresses.proofs.walk.linked_rows.Goals as goal

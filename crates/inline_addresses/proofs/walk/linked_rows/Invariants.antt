@@ -1,7 +1,5 @@
 use Rattle.std.proofs.Common.{◌≡◌, ◌≤◌, ℕ, [], length, drop}
-use Rattle.definition_inline.specs.Inline.{LinkTexts}
-use Rattle.inline_rows.specs.View.{rows_view}
-use Rattle.inline_addresses.specs.Addresses.{linked_rows, rows_text, walk_rows}
+use Rattle.inline_addresses.proofs.Prelude.{linked_rows, LinkTexts, rows_text, rows_view, walk_rows}
 use Rattle.inline_addresses.proofs.walk.linked_rows.Given as goal
 
 -- the walk stands before the rows that are left, and will make of all of them what it should

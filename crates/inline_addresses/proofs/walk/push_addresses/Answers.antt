@@ -1,11 +1,5 @@
 use Rattle.std.proofs.Common.{◌≡◌, ◌∙◌, ◌∷◌, [], ap, refl, subst, map}
-use Rattle.std.specs.Str.{IsUtf8}
-use Rattle.definition_inline.specs.GfmAutolinkLiteral.{with_addresses}
-use Rattle.definition_inline.specs.Inline.{Data, Literal}
-use Rattle.inline_literals.specs.Addresses.{found_parts, IsFound}
-use Rattle.inline_leaves.specs.Leaves.{kind_view}
-use Rattle.inline_rows.specs.InlineRows.{Part}
-use Rattle.inline_rows.specs.View.{data_rows}
+use Rattle.inline_addresses.proofs.Prelude.{Data, data_rows, found_parts, IsFound, IsUtf8, kind_view, Literal, Part, with_addresses}
 use Rattle.inline_addresses.proofs.Walks.{address_rows, found_end, rest_rows}
 use Rattle.inline_addresses.proofs.walk.push_addresses.Goals as goal
 

@@ -1,9 +1,7 @@
 use Rattle.std.proofs.Common.{◌≡◌, ◌++◌, ℕ, length}
 use denote.Text.{Utf8}
 use denote.Shadow.{shadow}
-use Rattle.definition_inline.specs.Inline.{LinkTexts}
-use Rattle.inline_rows.specs.View.{rows_view}
-use Rattle.inline_addresses.specs.Addresses.{run_linked}
+use Rattle.inline_addresses.proofs.Prelude.{LinkTexts, rows_view, run_linked}
 use Rattle.inline_addresses.proofs.walk.push_addresses.Given as goal
 
 -- what is left of the run gives the rest of its rows

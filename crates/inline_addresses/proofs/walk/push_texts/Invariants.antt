@@ -1,5 +1,5 @@
 use Rattle.std.proofs.Common.{◌≡◌, ◌++◌, string_bytes, take}
-use Rattle.inline_addresses.specs.Addresses.{rows_text}
+use Rattle.inline_addresses.proofs.Prelude.{rows_text}
 use Rattle.inline_addresses.proofs.walk.push_texts.Given as goal
 
 -- the texts of the rows so far stand there

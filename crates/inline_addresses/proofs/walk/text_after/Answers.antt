@@ -1,4 +1,4 @@
-use Rattle.std.proofs.lemmas.Str.{IsCharBoundary-after_ascii}
+use Rattle.inline_addresses.proofs.Prelude.{IsCharBoundary-after_ascii}
 use Rattle.inline_addresses.proofs.walk.text_after.Goals as goal
 
 pub range_from-requires : goal.range_from-requires

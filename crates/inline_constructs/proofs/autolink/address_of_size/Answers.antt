@@ -1,10 +1,6 @@
 use Rattle.std.proofs.Common.{◌∙◌, drop, sym, ap, subst}
-use Rattle.std.specs.Prelude.{codes}
-use Rattle.std.specs.Option.{IfSome, option_map}
-use Rattle.definition_text.specs.Content.{content_codes}
-use Rattle.definition_text.specs.Bytes.{begins_with}
-use Rattle.definition_inline.specs.Autolink.{closed_autolink}
-use Rattle.inline_leaves.specs.Leaves.{IsPlain}
+use Rattle.inline_constructs.proofs.Prelude.{begins_with, closed_autolink, codes, content_codes, IsPlain, option_map}
+use Rattle.std.specs.Option.{IfSome}
 use Rattle.inline_constructs.proofs.AutolinkLemmas.{closed_codes}
 use Rattle.inline_constructs.proofs.autolink.address_of_size.Goals as goal
 

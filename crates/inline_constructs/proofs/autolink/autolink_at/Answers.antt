@@ -1,11 +1,6 @@
 use Rattle.std.proofs.Common.{◌≡◌, ◌+◌, ◌-◌, ◌∙◌, ◌∷◌, [], Some, drop, take, sym, ap, subst, arith}
-use Rattle.std.specs.Prelude.{codes}
-use Rattle.definition_text.specs.Content.{content_codes}
-use Rattle.definition_text.specs.Bytes.{begins_with}
-use Rattle.definition_inline.specs.Inline.{leaf, Autolink}
-use Rattle.definition_inline.specs.Autolink.{autolink_after}
-use Rattle.inline_constructs.specs.Leaves.{IsAddress, address_leaf}
-use Rattle.inline_leaves.specs.Leaves.{size_before}
+use Rattle.inline_constructs.proofs.Prelude.{Autolink, autolink_after, begins_with, codes, content_codes, IsAddress, leaf, size_before}
+use Rattle.inline_constructs.specs.Leaves.{address_leaf}
 use Rattle.inline_constructs.proofs.AutolinkLemmas.{autolink_is, autolink_end, autolink_size}
 use Rattle.inline_constructs.proofs.autolink.autolink_at.Goals as goal
 

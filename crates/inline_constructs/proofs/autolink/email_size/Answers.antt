@@ -1,10 +1,5 @@
 use Rattle.std.proofs.Common.{◌≡◌, ◌+◌, ◌∙◌, Some, refl, drop, sym, ap, subst, arith}
-use Rattle.std.proofs.lemmas.List.{drop-drop}
-use Rattle.std.specs.Prelude.{codes}
-use Rattle.definition_text.specs.Bytes.{begins_with}
-use Rattle.definition_inline.specs.Autolink.{domain_end}
-use Rattle.inline_leaves.specs.Leaves.{IsPlain}
-use Rattle.inline_leaves.proofs.Codes.{plain_join}
+use Rattle.inline_constructs.proofs.Prelude.{begins_with, codes, domain_end, drop-drop, IsPlain, plain_join}
 use Rattle.inline_constructs.proofs.AutolinkLemmas.{plain_one, email_is}
 use Rattle.inline_constructs.proofs.autolink.email_size.Goals as goal
 

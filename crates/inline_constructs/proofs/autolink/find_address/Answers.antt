@@ -1,7 +1,5 @@
 use Rattle.std.proofs.Common.{◌∙◌, false, true, ap}
-use Rattle.definition_text.specs.Content.{content_codes}
-use Rattle.definition_inline.specs.Inline.{or_else}
-use Rattle.definition_inline.specs.Autolink.{closed_autolink, email_end}
+use Rattle.inline_constructs.proofs.Prelude.{closed_autolink, content_codes, email_end, or_else}
 use Rattle.inline_constructs.proofs.AutolinkLemmas.{uri_found, email_found}
 use Rattle.inline_constructs.proofs.autolink.find_address.Goals as goal
 

@@ -1,5 +1,6 @@
 use Rattle.std.proofs.Common.{◌≡◌, ℕ, List, [], ◌∷◌, ◌∙◌, cond, eqb, refl, ap, rules, tests}
-use Rattle.std.specs.List.{list_all, onto_first, slice_split}
+use Rattle.inline_constructs.proofs.Prelude.{list_all}
+use Rattle.std.specs.List.{onto_first, slice_split}
 use Rattle.std.proofs.lemmas.Iterator.Splits.{YieldsList-from_slice_split}
 use Rattle.std.proofs.lemmas.Iterator.Search.{all_from_yields_List}
 use Rattle.definition_inline.specs.Autolink.{between_dots, in_first, is_domain_label}

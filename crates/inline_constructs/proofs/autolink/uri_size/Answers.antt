@@ -1,11 +1,5 @@
 use Rattle.std.proofs.Common.{◌+◌, ◌∙◌, refl, drop, sym, ap, subst, arith}
-use Rattle.std.proofs.lemmas.List.{drop-drop}
-use Rattle.std.specs.Prelude.{codes}
-use Rattle.std.specs.List.{prefix_len}
-use Rattle.definition_text.specs.Bytes.{begins_with}
-use Rattle.definition_inline.specs.Autolink.{is_uri_byte}
-use Rattle.inline_leaves.specs.Leaves.{IsPlain}
-use Rattle.inline_leaves.proofs.Codes.{plain_join}
+use Rattle.inline_constructs.proofs.Prelude.{begins_with, codes, drop-drop, is_uri_byte, IsPlain, plain_join, prefix_len}
 use Rattle.inline_constructs.proofs.AutolinkLemmas.{plain_one, uri_is}
 use Rattle.inline_constructs.proofs.autolink.uri_size.Goals as goal
 

@@ -1,7 +1,6 @@
 use Rattle.std.proofs.Common.{◌≡◌, arith, length}
 use Rattle.std.proofs.lemmas.Grind.{common_steps}
-use Rattle.std.specs.List.{prefix_len}
-use Rattle.inline_constructs.specs.Leaves.{is_of}
+use Rattle.inline_constructs.proofs.Prelude.{is_of, prefix_len}
 use Rattle.inline_constructs.proofs.AutolinkLemmas.{class_plain}
 use Rattle.inline_constructs.proofs.byte_class.prefix_size.Goals as goal
 

@@ -1,6 +1,5 @@
 use Rattle.std.proofs.Common.{◌≡◌, ◌+◌, drop}
-use Rattle.std.specs.List.{prefix_len}
-use Rattle.inline_constructs.specs.Leaves.{is_of}
+use Rattle.inline_constructs.proofs.Prelude.{is_of, prefix_len}
 use Rattle.inline_constructs.proofs.byte_class.prefix_size.Given as goal
 
 -- the bytes so far are of the class

@@ -1,6 +1,5 @@
 use Rattle.std.proofs.Common.{◌∙◌, sym, ap}
-use Rattle.std.specs.Prelude.{codes}
-use Rattle.definition_text.specs.Bytes.{begins_with}
+use Rattle.inline_constructs.proofs.Prelude.{begins_with, codes}
 use Rattle.inline_constructs.proofs.HtmlTextLemmas.{short_comment, dash_comment}
 use Rattle.inline_constructs.proofs.html_text.comment.Goals as goal
 

@@ -1,11 +1,5 @@
 use Rattle.std.proofs.Common.{◌≡◌, ◌∙◌, ◌∷◌, [], None, Some, drop, sym, ap, arith, subst}
-use Rattle.definition_text.specs.Content.{content_codes}
-use Rattle.definition_inline.specs.Inline.{leaf, Html}
-use Rattle.std.specs.Prelude.{codes}
-use Rattle.definition_text.specs.Bytes.{begins_with}
-use Rattle.inline_leaves.specs.Leaves.{size_before}
-use Rattle.inline_constructs.specs.HtmlText.{html_after, IsClosed}
-use Rattle.inline_leaves.proofs.Codes.{boundary_after_byte}
+use Rattle.inline_constructs.proofs.Prelude.{begins_with, boundary_after_byte, codes, content_codes, Html, html_after, IsClosed, leaf, size_before}
 use Rattle.inline_constructs.proofs.HtmlTextLemmas.{are_bytes, closed_end, html_none, html_some}
 use Rattle.inline_constructs.proofs.html_text.html_text_at.Goals as goal
 

@@ -1,7 +1,5 @@
 use Rattle.std.proofs.Common.{◌≡◌, ◌∙◌, ◌+◌, ◌-◌, get_or, sym, ap, arith}
-use Rattle.inline_tags.specs.Views.{place_of}
-use Rattle.inline_tags.specs.Places.{next}
-use Rattle.inline_constructs.specs.HtmlText.{is_end}
+use Rattle.inline_constructs.proofs.Prelude.{is_end, next, place_of}
 use Rattle.inline_constructs.proofs.HtmlTextLemmas.{ends_at_greater}
 use Rattle.inline_constructs.proofs.html_text.tag_end.Goals as goal
 

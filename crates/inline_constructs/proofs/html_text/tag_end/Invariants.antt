@@ -1,6 +1,5 @@
 use Rattle.std.proofs.Common.{◌≡◌, drop, false}
-use Rattle.inline_tags.specs.Views.{place_of}
-use Rattle.inline_constructs.specs.HtmlText.{tag_after, is_end}
+use Rattle.inline_constructs.proofs.Prelude.{is_end, place_of, tag_after}
 use Rattle.inline_constructs.proofs.html_text.tag_end.Given as goal
 
 -- what is left has the answer

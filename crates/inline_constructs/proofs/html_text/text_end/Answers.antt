@@ -1,5 +1,5 @@
 use Rattle.std.proofs.Common.{◌∙◌, sym, ap, arith}
-use Rattle.definition_text.specs.Bytes.{begins_with}
+use Rattle.inline_constructs.proofs.Prelude.{begins_with}
 use Rattle.inline_constructs.proofs.HtmlTextLemmas.{closed_at, first_later}
 use Rattle.inline_constructs.proofs.html_text.text_end.Goals as goal
 

@@ -1,5 +1,5 @@
 use Rattle.std.proofs.Common.{◌≡◌, drop}
-use Rattle.definition_inline.specs.HtmlText.{after_text}
+use Rattle.inline_constructs.proofs.Prelude.{after_text}
 use Rattle.inline_constructs.proofs.html_text.text_end.Given as goal
 
 -- what is left has the answer

@@ -1,10 +1,5 @@
 use Rattle.std.proofs.Common.{◌≡◌, ◌⊎◌, IfOk, sym, ap, ◌∙◌, subst, get_or, arith}
-use Rattle.std.proofs.lemmas.Bool.{eqb-true}
-use Rattle.definition_text.specs.Content.{content_codes}
-use Rattle.definition_inline.specs.HardBreak.{escaped_break_at}
-use Rattle.definition_inline.specs.HtmlText.{html_text_at}
-use Rattle.definition_inline.specs.Inline.{or_else}
-use Rattle.inline_leaves.specs.Leaves.{found_leaf}
+use Rattle.inline_constructs.proofs.Prelude.{content_codes, eqb-true, escaped_break_at, found_leaf, html_text_at, or_else}
 use Rattle.inline_constructs.proofs.FirstBytes as first
 use Rattle.inline_constructs.proofs.leaf_at.leaf_at.Goals as goal
 

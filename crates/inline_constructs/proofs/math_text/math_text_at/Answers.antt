@@ -1,10 +1,5 @@
 use Rattle.std.proofs.Common.{◌≡◌, ◌==◌, refl, IfOk, sym, ap, ◌∙◌, subst}
-use Rattle.definition_text.specs.Content.{content_codes}
-use Rattle.definition_text.specs.Runs.{run}
-use Rattle.definition_inline.specs.CodeText.{raw_at}
-use Rattle.definition_inline.specs.MathText.{may_open_math}
-use Rattle.inline_leaves.specs.Leaves.{found_leaf}
-use Rattle.inline_leaves.proofs.Codes.{prefix_codes}
+use Rattle.inline_constructs.proofs.Prelude.{content_codes, found_leaf, may_open_math, prefix_codes, raw_at, run}
 use Rattle.inline_constructs.proofs.math_text.math_text_at.Goals as goal
 
 pub returns-clause-read : goal.returns-clause-read

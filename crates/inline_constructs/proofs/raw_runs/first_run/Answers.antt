@@ -1,6 +1,5 @@
 use Rattle.std.proofs.Common.{◌≡◌, ◌+◌, arith, eqb, drop, ap, sym, ◌∙◌, length-drop}
-use Rattle.std.proofs.lemmas.Bool.{cond-true, cond-false, eq-eqb, ne_eqb}
-use Rattle.definition_text.specs.Runs.{run}
+use Rattle.inline_constructs.proofs.Prelude.{cond-false, cond-true, eq-eqb, ne_eqb, run}
 use Rattle.inline_constructs.proofs.RawTextLemmas.{past_here, found_here, run_here, run_there}
 use Rattle.inline_constructs.proofs.raw_runs.first_run.Goals as goal
 use Rattle.inline_constructs.proofs.raw_runs.first_run.Goals.{then-run-eq0, else-run-eq0}

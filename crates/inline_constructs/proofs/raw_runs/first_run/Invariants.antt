@@ -1,5 +1,5 @@
 use Rattle.std.proofs.Common.{◌≡◌, ◌≤◌, ◌-◌, length, drop, false}
-use Rattle.definition_inline.specs.CodeText.{run_of}
+use Rattle.inline_constructs.proofs.Prelude.{run_of}
 use Rattle.inline_constructs.proofs.raw_runs.first_run.Given as goal
 
 -- what is left has the answer

@@ -1,6 +1,5 @@
 use Rattle.std.proofs.Common.{◌≡◌, ◌∙◌, ◌∷◌, ◌++◌, set, drop, take, sym, ap, arith, get_or}
-use Rattle.inline_constructs.specs.RawRuns.{last_end}
-use Rattle.inline_constructs.specs.declared.raw_runs.LastRun.{LastRun}
+use Rattle.inline_constructs.proofs.Prelude.{last_end, LastRun}
 use Rattle.inline_constructs.proofs.RawRuns.{place_of, place_within, end_set, end_inserted}
 use Rattle.inline_constructs.proofs.raw_runs.keep.Goals as goal
 use Rattle.inline_constructs.proofs.raw_runs.keep.Goals.{else-place-len-via-then-place-len+else-index-run, else-place-len-via-else-place-len}

@@ -1,5 +1,5 @@
 use Rattle.std.proofs.Common.{◌∙◌, sym, ap, arith, is_some, length}
-use Rattle.std.proofs.lemmas.Bool.{cond-true, cond-false, eq-eqb, ne_eqb, ltb-true, ltb-false}
+use Rattle.inline_constructs.proofs.Prelude.{cond-false, cond-true, eq-eqb, ltb-false, ltb-true, ne_eqb}
 use Rattle.inline_constructs.proofs.RawRuns.{end_there, end_nowhere}
 use Rattle.inline_constructs.proofs.raw_runs.last_end.Goals as goal
 

@@ -1,5 +1,5 @@
 use Rattle.std.proofs.Common.{◌∙◌, sym, ap, drop, length-drop, arith}
-use Rattle.definition_text.specs.Runs.{run}
+use Rattle.inline_constructs.proofs.Prelude.{run}
 use Rattle.inline_constructs.proofs.RawRuns.{past_byte, past_kept}
 use Rattle.inline_constructs.proofs.RawTextLemmas.{run_here}
 use Rattle.inline_constructs.proofs.raw_runs.last_runs.Goals as goal

@@ -1,6 +1,5 @@
 use Rattle.std.proofs.Common.{◌≡◌, ◌+◌, drop, nat_lt}
-use Rattle.std.specs.List.{prefix_len}
-use Rattle.inline_constructs.specs.declared.raw_runs.LastRun.{LastRun}
+use Rattle.inline_constructs.proofs.Prelude.{LastRun, prefix_len}
 use Rattle.inline_constructs.proofs.raw_runs.smaller.Given as goal
 
 -- the runs so far are smaller

@@ -1,13 +1,6 @@
-use Rattle.std.specs.Option.{option_map}
+use Rattle.inline_constructs.proofs.Prelude.{boundary_after_byte, content_codes, Data, IsRun, leaf, marker_byte, option_map, raw_part, run, run_of}
+use Rattle.inline_constructs.proofs.Prelude.{size_before}
 use Rattle.std.proofs.Common.{◌≡◌, ◌∷◌, [], None, Some, IfSome, false, arith, drop, take, map, ap, sym, ◌∙◌, subst}
-use Rattle.definition_text.specs.Content.{content_codes}
-use Rattle.definition_inline.specs.CodeText.{run_of, raw_part}
-use Rattle.definition_text.specs.Runs.{run}
-use Rattle.definition_inline.specs.Inline.{leaf, Data}
-use Rattle.inline_constructs.specs.Leaves.{IsRun}
-use Rattle.inline_leaves.specs.Leaves.{size_before}
-use Rattle.inline_constructs.specs.RawRuns.{marker_byte}
-use Rattle.inline_leaves.proofs.Codes.{boundary_after_byte}
 use Rattle.inline_constructs.proofs.RawTextLemmas.{raw, run_here, after_it, raw_off, raw_none, raw_unclosed, raw_closed, open_end, close_end, boundary_at_run}
 use Rattle.inline_constructs.proofs.raw_text.raw_text_at.Goals as goal
 

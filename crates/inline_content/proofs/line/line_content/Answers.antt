@@ -1,6 +1,5 @@
 use Rattle.std.proofs.Common.{◌≡◌, ◌<◌, ◌≤◌, ◌∙◌, [], ◌∷◌, List, false, true, get_or, length, refl, sym, arith}
-use Rattle.std.proofs.lemmas.Bool.{eq-eqb, ne_eqb}
-use Rattle.text_pieces.specs.declared.piece.Piece.{Piece}
+use Rattle.inline_content.proofs.Prelude.{eq-eqb, ne_eqb, Piece}
 use Rattle.inline_content.specs.Lines.{is_one_line}
 use Rattle.inline_content.proofs.Lined.{one_line}
 use Rattle.inline_content.proofs.line.line_content.Goals as goal

@@ -1,6 +1,6 @@
 use Rattle.std.proofs.Common.{[], ap, ◌∙◌}
 use Rattle.markdown_options.specs.declared.beside.Kind.TheVariants.{Whitespace}
-use Rattle.inline_content.specs.View.{codes_with_marks}
+use Rattle.inline_content.proofs.Prelude.{codes_with_marks}
 use Rattle.inline_content.proofs.Utf8Bytes.{utf8_bytes}
 use Rattle.inline_content.proofs.WholeLines.{whole_view}
 use Rattle.inline_content.proofs.whole.whole_content.Goals as goal

@@ -1,5 +1,5 @@
 use Rattle.std.proofs.Common.{sym, ap, ◌∙◌}
-use Rattle.inline_content.specs.Endings.{without_last}
+use Rattle.inline_content.proofs.Prelude.{without_last}
 use Rattle.inline_content.proofs.Utf8Bytes.{utf8_bytes}
 use Rattle.inline_content.proofs.WholeLines.{whole_content_is}
 use Rattle.inline_content.proofs.whole.without_ending.Goals as goal

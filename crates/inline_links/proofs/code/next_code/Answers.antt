@@ -1,6 +1,6 @@
 use Rattle.std.proofs.Common.{◌≡◌, ◌+◌, ◌∷◌, ◌∙◌, ap, sym, drop, get_or, arith, refl}
 use Rattle.std.proofs.lemmas.List.{get_or_past}
-use Rattle.definition_text.specs.Content.{content_codes}
+use Rattle.inline_links.proofs.Prelude.{content_codes}
 use Rattle.inline_links.proofs.Cuts.{cut_at, one_code, two_bytes}
 use Rattle.inline_links.proofs.code.next_code.Goals as goal
 use Rattle.inline_links.proofs.code.next_code.Goals.{else-byte-eq13-via-then-byte-eq13+then-at-content-2+else-content-at-eq10}

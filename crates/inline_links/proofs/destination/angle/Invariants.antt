@@ -1,7 +1,5 @@
 use Rattle.std.proofs.Common.{◌≡◌, ◌≤◌, ◌-◌, length, drop, false}
-use Rattle.definition_text.specs.Content.{content_codes}
-use Rattle.definition_inline.specs.Destination.{angle_end}
-use Rattle.inline_links.specs.Codes.{IsCut}
+use Rattle.inline_links.proofs.Prelude.{angle_end, content_codes, IsCut}
 use Rattle.inline_links.proofs.destination.angle.Given as goal
 
 abbrev pub invariant-loop-read : goal.invariant-loop-read

@@ -1,10 +1,5 @@
 use Rattle.std.proofs.Common.{◌≡◌, ℕ, ◌+◌, ◌-◌, ◌&&◌, false, eqb, Some, refl, sym, ◌∙◌, ap, subst, drop, arith}
-use Rattle.definition_text.specs.Content.{content_codes, may_escape, up_to}
-use Rattle.definition_inline.specs.Destination.{bare_end, if_any, is_too_deep, open_after}
-use Rattle.std.specs.List.{prefix_len}
-use Rattle.inline_links.specs.Bare.{is_plain}
-use Rattle.inline_links.specs.Codes.{IsCut}
-use Rattle.inline_links.specs.View.{part_of}
+use Rattle.inline_links.proofs.Prelude.{bare_end, content_codes, if_any, is_plain, is_too_deep, IsCut, may_escape, open_after, part_of, prefix_len, up_to}
 use Rattle.inline_links.proofs.Bare.{ends_before, ends_with, any_there, flat, open_more, run_passed, cut_after_run, next_passed}
 use Rattle.inline_links.proofs.destination.bare.Goals as goal
 use Rattle.inline_links.proofs.destination.bare.Goals.{in-Some+then-ends_bare, in_default}

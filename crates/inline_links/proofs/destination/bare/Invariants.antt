@@ -1,7 +1,5 @@
 use Rattle.std.proofs.Common.{◌≡◌, ◌≤◌, ◌-◌, length, drop, false}
-use Rattle.definition_text.specs.Content.{content_codes}
-use Rattle.definition_inline.specs.Destination.{bare_end, is_too_deep}
-use Rattle.inline_links.specs.Codes.{IsCut}
+use Rattle.inline_links.proofs.Prelude.{bare_end, content_codes, is_too_deep, IsCut}
 use Rattle.inline_links.proofs.destination.bare.Given as goal
 
 abbrev pub invariant-loop-read : goal.invariant-loop-read

@@ -1,9 +1,7 @@
 use Rattle.std.proofs.Common.{not, refl, ◌∙◌, arith}
-use Rattle.std.proofs.lemmas.List.Sums.{prefix_len-le-length}
+use Rattle.inline_links.proofs.Prelude.{is_plain, prefix_len-le-length, run_by}
 use Rattle.text_search.specs.Classes.{is_outside}
-use Rattle.text_search.proofs.Sets.{run_by}
 use Rattle.inline_links.specs.declared.destination.TheConstants.{PLAIN}
-use Rattle.inline_links.specs.Bare.{is_plain}
 use Rattle.inline_links.proofs.destination.plain_size.Goals as goal
 
 pub returns-clause-size : goal.returns-clause-size

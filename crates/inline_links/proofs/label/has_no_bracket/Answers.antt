@@ -1,8 +1,5 @@
 use Rattle.std.proofs.Common.{◌≡◌, ℕ, ◌+◌, ◌-◌, ◌&&◌, Bool, false, eqb, sym, ◌∙◌, ap, drop, arith}
-use Rattle.definition_text.specs.Content.{content_codes}
-use Rattle.definition_inline.specs.LabelEnd.{has_no_bracket}
-use Rattle.std.specs.List.{prefix_len}
-use Rattle.inline_links.specs.Unmarked.{is_unmarked}
+use Rattle.inline_links.proofs.Prelude.{content_codes, has_no_bracket, is_unmarked, prefix_len}
 use Rattle.inline_links.proofs.Unmarked.{test_goes_on, next_passed, run_passed}
 use Rattle.inline_links.proofs.label.has_no_bracket.Goals as goal
 

@@ -1,6 +1,5 @@
 use Rattle.std.proofs.Common.{◌≡◌, ◌≤◌, ◌-◌, length, drop, false}
-use Rattle.definition_text.specs.Content.{content_codes}
-use Rattle.definition_inline.specs.LabelEnd.{has_no_bracket}
+use Rattle.inline_links.proofs.Prelude.{content_codes, has_no_bracket}
 use Rattle.inline_links.proofs.label.has_no_bracket.Given as goal
 
 abbrev pub invariant-loop-read : goal.invariant-loop-read

@@ -1,5 +1,5 @@
 use Rattle.std.proofs.Common.{◌≡◌, ◌≤◌, ◌-◌, length, drop}
-use Rattle.definition_text.specs.Content.{content_codes}
+use Rattle.inline_links.proofs.Prelude.{content_codes}
 use Rattle.definition_inline.specs.Label.{has_text}
 use Rattle.inline_links.proofs.label.has_text.Given as goal
 

@@ -1,7 +1,6 @@
 use Rattle.std.proofs.Common.{arith, false, sym}
 use Rattle.std.proofs.lemmas.Bool.{le-leb}
-use Rattle.definition_text.specs.Content.{content_codes}
-use Rattle.definition_inline.specs.Label.{label_size}
+use Rattle.inline_links.proofs.Prelude.{content_codes, label_size}
 use Rattle.inline_links.proofs.Unmarked.{size_of_bytes}
 use Rattle.inline_links.proofs.label.is_short.Goals as goal
 

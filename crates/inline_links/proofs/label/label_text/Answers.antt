@@ -1,9 +1,5 @@
 use Rattle.std.proofs.Common.{◌≡◌, ℕ, ◌+◌, ◌-◌, ◌&&◌, List, false, eqb, Option, refl, sym, ◌∙◌, ap, subst, drop, arith}
-use Rattle.definition_text.specs.Content.{content_codes}
-use Rattle.definition_inline.specs.Label.{label_end}
-use Rattle.std.specs.List.{prefix_len}
-use Rattle.inline_links.specs.Codes.{IsCut}
-use Rattle.inline_links.specs.Unmarked.{is_unmarked}
+use Rattle.inline_links.proofs.Prelude.{content_codes, is_unmarked, IsCut, label_end, prefix_len}
 use Rattle.inline_links.proofs.Bare.{cut_after_run}
 use Rattle.inline_links.proofs.Unmarked.{end_goes_on, next_passed, run_passed}
 use Rattle.inline_links.proofs.label.label_text.Goals as goal

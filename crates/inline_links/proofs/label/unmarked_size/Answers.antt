@@ -1,9 +1,7 @@
 use Rattle.std.proofs.Common.{not, refl, ◌∙◌, arith}
-use Rattle.std.proofs.lemmas.List.Sums.{prefix_len-le-length}
+use Rattle.inline_links.proofs.Prelude.{is_unmarked, prefix_len-le-length, run_by}
 use Rattle.text_search.specs.Sets.{holds}
-use Rattle.text_search.proofs.Sets.{run_by}
 use Rattle.inline_links.specs.declared.label.TheConstants.{MARKS}
-use Rattle.inline_links.specs.Unmarked.{is_unmarked}
 use Rattle.inline_links.proofs.label.unmarked_size.Goals as goal
 
 pub returns-clause-size : goal.returns-clause-size

@@ -1,7 +1,7 @@
 use Rattle.std.proofs.Common.{◌≡◌, ◌+◌, ◌-◌, ℕ, List, ap, ◌∙◌, drop, length, arith}
-use Rattle.std.proofs.lemmas.List.{drop-drop}
+use Rattle.inline_links.proofs.Prelude.{drop-drop, IsShorterRest}
 use Rattle.std.proofs.lemmas.Option.{IfSome_then}
-use Rattle.inline_links.specs.Codes.{IsRest, IsShorterRest}
+use Rattle.inline_links.specs.Codes.{IsRest}
 use Rattle.inline_links.proofs.resource.inside.Goals as goal
 
 rest_after : (content middle rest : List ℕ) → IsShorterRest content middle → IsRest middle rest → IsRest content rest

@@ -1,6 +1,5 @@
 use Rattle.std.proofs.Common.{◌≡◌, ◌≤◌, ◌-◌, length, drop}
-use Rattle.definition_text.specs.Content.{content_codes}
-use Rattle.definition_inline.specs.Space.{after_spaces}
+use Rattle.inline_links.proofs.Prelude.{after_spaces, content_codes}
 use Rattle.inline_links.proofs.space.spaces.Given as goal
 
 abbrev pub invariant-loop-read : goal.invariant-loop-read

@@ -1,8 +1,5 @@
 use Rattle.std.proofs.Common.{◌≡◌, Some, arith, ap, sym, ◌∙◌, subst}
-use Rattle.std.specs.Option.{IfSome, option_map}
-use Rattle.definition_text.specs.Content.{content_codes}
-use Rattle.definition_inline.specs.Definition.{definition_at}
-use Rattle.inline_links.specs.Texts.{IsText}
+use Rattle.inline_links.proofs.Prelude.{content_codes, definition_at, IfSome, IsText, option_map}
 use Rattle.inline_links.specs.View.{definition_of}
 use Rattle.inline_links.proofs.DefinitionTexts.{definition_texts}
 use Rattle.inline_links.proofs.Texts.{is_text}

@@ -1,9 +1,5 @@
 use Rattle.std.proofs.Common.{◌≡◌, Some, arith, ap, sym, ◌∙◌, subst}
-use Rattle.definition_text.specs.Content.{content_codes}
-use Rattle.definition_inline.specs.Label.{label_at}
-use Rattle.inline_links.specs.Codes.{IsShorterRest}
-use Rattle.inline_links.specs.Texts.{IsLater}
-use Rattle.inline_links.specs.View.{part_of}
+use Rattle.inline_links.proofs.Prelude.{content_codes, IsLater, IsShorterRest, label_at, part_of}
 use Rattle.inline_links.proofs.Places.{is_later}
 use Rattle.inline_links.proofs.Texts.{is_text, label_text}
 use Rattle.inline_links.proofs.text.label_of.Goals as goal

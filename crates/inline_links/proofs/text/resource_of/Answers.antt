@@ -1,9 +1,5 @@
 use Rattle.std.proofs.Common.{◌≡◌, Some, arith, ap, sym, ◌∙◌, subst}
-use Rattle.std.specs.Option.{IfSome, option_map}
-use Rattle.definition_text.specs.Content.{content_codes}
-use Rattle.definition_inline.specs.Resource.{resource_at}
-use Rattle.inline_links.specs.Codes.{IsShorterRest}
-use Rattle.inline_links.specs.Texts.{IsLater, IsText}
+use Rattle.inline_links.proofs.Prelude.{content_codes, IfSome, IsLater, IsShorterRest, IsText, option_map, resource_at}
 use Rattle.inline_links.specs.View.{resource_of}
 use Rattle.inline_links.proofs.Places.{is_later}
 use Rattle.inline_links.proofs.Texts.{is_text, resource_text}

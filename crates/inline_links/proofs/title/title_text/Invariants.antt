@@ -1,7 +1,5 @@
 use Rattle.std.proofs.Common.{◌≡◌, ◌≤◌, ◌-◌, length, drop, false}
-use Rattle.definition_text.specs.Content.{content_codes}
-use Rattle.definition_inline.specs.Title.{title_end}
-use Rattle.inline_links.specs.Codes.{IsCut}
+use Rattle.inline_links.proofs.Prelude.{content_codes, IsCut, title_end}
 use Rattle.inline_links.proofs.title.title_text.Given as goal
 
 abbrev pub invariant-loop-read : goal.invariant-loop-read

@@ -1,9 +1,5 @@
 use Rattle.std.proofs.Common.{◌≡◌, subst}
-use Rattle.std.specs.List.{prefix_len}
-use Rattle.definition_text.specs.Columns.{is_white}
-use Rattle.definition_text.specs.Content.{content_codes}
-use Rattle.inline_leaves.specs.Leaves.{size_before}
-use Rattle.inline_parser.specs.Scanned.{IsPlace}
+use Rattle.inline_parser.proofs.Prelude.{content_codes, is_white, IsPlace, prefix_len, size_before}
 use Rattle.inline_parser.proofs.Whole.{first_view}
 use Rattle.inline_parser.proofs.scan.content_start.Goals as goal
 

@@ -1,4 +1,4 @@
-use Rattle.std.proofs.lemmas.Str.{IsCharBoundary-after_ascii}
+use Rattle.inline_parser.proofs.Prelude.{IsCharBoundary-after_ascii}
 use Rattle.inline_parser.proofs.scan.first_byte.Goals as goal
 
 pub text_before-requires : goal.text_before-requires

@@ -1,11 +1,5 @@
 use Rattle.std.proofs.Common.{sym, subst, IfOk}
-use Rattle.definition_text.specs.Content.{content_codes}
-use Rattle.definition_inline.specs.Scan.{formed_at}
-use Rattle.definition_inline.specs.Targets.{labels_of}
-use Rattle.inline_label_ends.specs.Ends.{IsFormed}
-use Rattle.inline_reading.specs.declared.label.LabelStart.{LabelStart}
-use Rattle.inline_parser.specs.Scanned.{context_by}
-use Rattle.inline_reading.specs.Shows.{start_view}
+use Rattle.inline_parser.proofs.Prelude.{content_codes, context_by, formed_at, IsFormed, labels_of, LabelStart, start_view}
 use Rattle.inline_parser.proofs.scan.formed_at.Goals as goal
 
 pub returns-in-Link-clause-read : goal.returns-in-Link-clause-read

@@ -1,16 +1,9 @@
 use Rattle.std.proofs.Common.{◌≡◌, ◌∙◌, [], IfOk, IfSome, Option, ap, subst, sym}
-use Rattle.std.proofs.lemmas.List.{append-nil}
-use Rattle.std.proofs.lemmas.Bool.{cond-true}
-use Rattle.definition_inline.specs.GfmAutolinkLiteral.{with_literals}
-use Rattle.definition_inline.specs.Scan.{inlines_from, spans_from}
-use Rattle.definition_inline.specs.Targets.{leads_to}
-use Rattle.definition_inline.specs.Targets.{linked_at, linked_by}
-use Rattle.inline_content.specs.View.{view_at}
-use Rattle.inline_rows.specs.InlineRows.{inline_rows}
-use Rattle.inline_rows.specs.View.{row_view, rows_view}
+use Rattle.inline_parser.proofs.Prelude.{append-nil, cond-true, context_by, inline_rows, leads_to, linked_at, linked_by, row_view, rows_view, spans_from}
+use Rattle.inline_parser.proofs.Prelude.{view_at, with_literals}
+use Rattle.definition_inline.specs.Scan.{inlines_from}
 use Rattle.inline_rows.specs.declared.row.InlineRow.{InlineRow}
 use Rattle.inline_parser.specs.Found.{found_rows}
-use Rattle.inline_parser.specs.Scanned.{context_by}
 use Rattle.inline_parser.proofs.scan.inline_rows.Goals as goal
 
 pub returns-then-options : goal.returns-then-options

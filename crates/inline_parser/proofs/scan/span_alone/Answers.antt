@@ -1,7 +1,6 @@
 use Rattle.std.proofs.Common.{◌≡◌, ◌∙◌, sym, subst, arith}
-use Rattle.definition_text.specs.Encode.{encode}
+use Rattle.inline_parser.proofs.Prelude.{encode, front_same}
 use Rattle.inline_parser.proofs.PlainText.{front_rows}
-use Rattle.inline_text.proofs.Verbatim.{front_same}
 use Rattle.inline_parser.proofs.scan.span_alone.Goals as goal
 
 pub text_row-requires : goal.text_row-requires

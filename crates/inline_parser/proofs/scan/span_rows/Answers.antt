@@ -1,17 +1,8 @@
 use Rattle.std.proofs.Common.{◌≡◌, ℕ, true, false, eqb, List, [], ◌∷◌, refl, sym, ap, ◌∙◌, length, arith, subst}
 use Rattle.std.specs.Prelude.{OnOk}
-use Rattle.std.specs.List.{All}
-use Rattle.std.proofs.lemmas.Bool.{eqb-true}
-use Rattle.definition_inline.specs.Targets.{leads_to}
-use Rattle.inline_rows.specs.InlineRows.{inline_rows}
+use Rattle.inline_parser.proofs.Prelude.{All, context_by, eqb-true, inline_rows, IsRest, leads_to, linked_at, linked_by, OpenLabel, rows_view, whole_text}
+use Rattle.inline_parser.proofs.Prelude.{with_spans}
 use Rattle.definition_inline.specs.Scan as scan
-use Rattle.definition_inline.specs.Scan.{whole_text}
-use Rattle.definition_inline.specs.Spans.{with_spans}
-use Rattle.definition_inline.specs.Targets.{linked_at, linked_by}
-use Rattle.inline_rows.specs.View.{rows_view}
-use Rattle.inline_links.specs.Codes.{IsRest}
-use Rattle.inline_parser.specs.Scanned.{context_by}
-use Rattle.inline_reading.specs.declared.label.OpenLabel.{OpenLabel}
 use Rattle.inline_parser.proofs.Whole as whole
 use Rattle.inline_parser.proofs.scan.span_rows.Goals as goal
 

@@ -1,12 +1,5 @@
 use Rattle.std.proofs.Common.{◌≡◌, ◌∙◌, [], ap, sym}
-use Rattle.std.proofs.lemmas.Bool.{cond-false, cond-true}
-use Rattle.std.proofs.lemmas.List.{append-nil}
-use Rattle.definition_inline.specs.GfmAutolinkLiteral.{with_literals}
-use Rattle.definition_inline.specs.Scan.{spans_from}
-use Rattle.inline_content.specs.View.{view_at}
-use Rattle.inline_rows.specs.InlineRows.{inline_rows}
-use Rattle.inline_rows.specs.View.{row_view, rows_view}
-use Rattle.inline_parser.specs.Scanned.{context_by}
+use Rattle.inline_parser.proofs.Prelude.{append-nil, cond-false, cond-true, context_by, inline_rows, row_view, rows_view, spans_from, view_at, with_literals}
 use Rattle.inline_parser.proofs.scan.text_alone.Goals as goal
 use Rattle.inline_parser.proofs.scan.text_alone.Goals.{else-options-via-then-options+else-may_link, else-options-via-else-options}
 

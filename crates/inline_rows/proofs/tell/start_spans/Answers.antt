@@ -1,6 +1,6 @@
 use Rattle.std.proofs.Common.{ap, ◌∙◌, set}
 use Rattle.inline_rows.specs.declared.row.InlineRow.TheVariants.{EnterSpan}
-use Rattle.inline_rows.specs.Told.{start_row}
+use Rattle.inline_rows.proofs.Prelude.{start_row}
 use Rattle.inline_rows.proofs.Writes.{one_more}
 use Rattle.inline_rows.proofs.tell.start_spans.Goals as goal
 

@@ -1,6 +1,6 @@
 use Rattle.std.proofs.Common.{◌≡◌, ◌++◌, map}
 use Rattle.std.specs.Prelude.{take, drop}
-use Rattle.inline_rows.specs.Told.{start_row}
+use Rattle.inline_rows.proofs.Prelude.{start_row}
 use Rattle.inline_rows.proofs.tell.start_spans.Given as goal
 
 abbrev pub invariant-loop-place : goal.invariant-loop-place

@@ -1,13 +1,7 @@
 use Rattle.std.proofs.Common.{◌≡◌, ◌≤◌, ◌+◌, ◌-◌, refl, ap, sym, ◌∙◌, false, arith, get_or, subst, length, take, drop}
 use Rattle.std.proofs.lemmas.Bool.{eqb-true}
 use borrow.Rule.Slice.PartMut.{put_mid}
-use Rattle.definition_inline.specs.Pairing.{pairs}
-use Rattle.definition_inline.specs.SpanRows.{run_rows}
-use Rattle.inline_runs.specs.View.{run_view, runs_view}
-use Rattle.inline_rows.specs.View.{rows_view}
-use Rattle.inline_rows.specs.Container.{AreBytes}
-use Rattle.inline_runs.specs.declared.run.Run.{Run}
-use Rattle.inline_rows.specs.Told.{told_rows, rows_needed}
+use Rattle.inline_rows.proofs.Prelude.{AreBytes, pairs, rows_needed, rows_view, Run, run_rows, run_view, runs_view, told_rows}
 use Rattle.inline_rows.proofs.Needed.{needed_at, rows_at}
 use Rattle.inline_rows.proofs.Runs.{IsTold, none_told, one_told, all_told}
 use Rattle.inline_rows.proofs.Writes.{part_size, length-over}

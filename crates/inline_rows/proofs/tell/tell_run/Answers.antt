@@ -1,7 +1,5 @@
 use Rattle.std.proofs.Common.{◌≡◌, ◌+◌, ◌-◌, ◌++◌, ap, ◌∙◌, refl, arith, length, take, drop}
-use Rattle.std.proofs.lemmas.List.{length-map, length-take-le, length-append, length-drop}
-use Rattle.inline_rows.specs.View.{rows_view}
-use Rattle.inline_rows.specs.Told.{start_row}
+use Rattle.inline_rows.proofs.Prelude.{length-append, length-drop, length-map, length-take-le, rows_view, start_row}
 use Rattle.inline_rows.proofs.Writes.{parts_are, told_is}
 use Rattle.inline_rows.proofs.tell.tell_run.Goals as goal
 

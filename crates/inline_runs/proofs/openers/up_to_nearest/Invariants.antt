@@ -1,5 +1,5 @@
 use Rattle.std.proofs.Common.{◌<◌, ◌≤◌, ℕ, length, false}
-use Rattle.inline_runs.specs.Floors.{FitsAt}
+use Rattle.inline_runs.proofs.Prelude.{FitsAt}
 use Rattle.inline_runs.proofs.openers.up_to_nearest.Given as goal
 
 -- no opener from here on fits

@@ -1,12 +1,6 @@
 use Rattle.std.proofs.Common.{◌≡◌, ◌+◌, ◌≤◌, List, drop, ap, sym, ◌∙◌, length, arith}
-use Rattle.std.specs.List.{fold}
-use Rattle.std.proofs.lemmas.Grind.{common_steps}
+use Rattle.inline_runs.proofs.Prelude.{common_steps, fold, next_run, PairingOf, pairs, pairs_view, placed_from, Run, runs_view, state}
 use Rattle.std.proofs.lemmas.List.{at_drop_more, at_drop_all}
-use Rattle.definition_inline.specs.Pairing.{placed_from, pairs}
-use Rattle.inline_runs.specs.FoundPairs.{Pairing as PairingOf, next_run}
-use Rattle.inline_runs.specs.View.{runs_view, pairs_view}
-use Rattle.inline_runs.specs.Paired.{state}
-use Rattle.inline_runs.specs.declared.run.Run.{Run}
 use Rattle.inline_runs.proofs.FoundPairs.{found_are_pairs}
 use Rattle.inline_runs.proofs.pairing.pair_runs.Goals as goal
 

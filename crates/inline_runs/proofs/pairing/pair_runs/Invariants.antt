@@ -1,9 +1,5 @@
 use Rattle.std.proofs.Common.{◌≡◌, [], drop}
-use Rattle.std.specs.List.{fold}
-use Rattle.definition_inline.specs.Pairing.{placed_from}
-use Rattle.inline_runs.specs.FoundPairs.{next_run, pairing}
-use Rattle.inline_runs.specs.View.{runs_view}
-use Rattle.inline_runs.specs.Paired.{state, IsSound}
+use Rattle.inline_runs.proofs.Prelude.{fold, IsSound, next_run, pairing, placed_from, runs_view, state}
 use Rattle.inline_runs.proofs.pairing.pair_runs.Given as goal
 
 -- the runs that are left do to what is there what all do at first

@@ -1,6 +1,6 @@
 use Rattle.std.proofs.Common.{◌≡◌, ◌-◌, take}
 use Rattle.std.specs.List.{sum_by}
-use Rattle.inline_runs.specs.Laid.{pair_bytes}
+use Rattle.inline_runs.proofs.Prelude.{pair_bytes}
 use Rattle.inline_runs.proofs.spans.left_after.Given as goal
 
 abbrev pub invariant-loop-pair : goal.invariant-loop-pair

@@ -1,13 +1,6 @@
 use Rattle.std.proofs.Common.{◌≡◌, ◌∙◌, ◌+◌, ◌∷◌, List, ap, drop, length, refl, sym, subst, Option, Some, None}
-use Rattle.std.proofs.lemmas.List.{drop_all, drop_more}
-use Rattle.engine_events.specs.declared.event.Content.{Content}
-use Rattle.engine_events.specs.declared.event.Event.{Event}
-use Rattle.engine_edits.specs.Edits.{edits_of}
-use Rattle.engine_chunks.specs.Chunks.{chunks}
-use Rattle.engine_chunks.specs.Parts.{counts, with_division}
-use Rattle.markdown_engine.specs.Chains.{AreApart, Chain, MayBegin, chains, chains_from, chunks_of}
-use Rattle.markdown_engine.specs.Context.{context}
-use Rattle.markdown_engine.specs.Resolving.{found_both, found_in}
+use Rattle.markdown_engine.proofs.Prelude.{AreApart, Chain, chains, chains_from, chunks, chunks_of, Content, context, counts, drop_all, drop_more, edits_of}
+use Rattle.markdown_engine.proofs.Prelude.{Event, found_both, found_in, MayBegin, with_division}
 use Rattle.markdown_engine.proofs.ChainSteps.{Dividing, apart_all, apart_front, chains_at, dividing_all, dividing_none, dividing_on}
 use Rattle.markdown_engine.proofs.chains.divide_chains.Goals as goal
 use Rattle.markdown_engine.proofs.chains.divide_chains.Goals.{in-Some+in_ok-read+in_ok-counts, in_default}

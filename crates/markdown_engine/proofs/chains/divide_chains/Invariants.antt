@@ -1,8 +1,5 @@
 use Rattle.std.proofs.Common.{drop}
-use Rattle.engine_edits.specs.Edits.{edits_of}
-use Rattle.markdown_engine.specs.Chains.{chains, chains_from}
-use Rattle.markdown_engine.specs.Context.{context}
-use Rattle.markdown_engine.specs.Resolving.{found_in}
+use Rattle.markdown_engine.proofs.Prelude.{chains, chains_from, context, edits_of, found_in}
 use Rattle.markdown_engine.proofs.ChainSteps.{Dividing}
 use Rattle.markdown_engine.proofs.chains.divide_chains.Given as goal
 

@@ -1,8 +1,5 @@
 use Rattle.std.proofs.Common.{List, ℕ, refl, subst, sym}
-use Rattle.markdown_engine.specs.Chains.{ArePlaces, place_at}
-use Rattle.markdown_engine.specs.Context.{context}
-use Rattle.markdown_engine.specs.Machine.{read_with}
-use Rattle.markdown_engine.specs.Resolving.{found_in}
+use Rattle.markdown_engine.proofs.Prelude.{ArePlaces, context, found_in, place_at, read_with}
 use Rattle.markdown_engine.proofs.ChainSteps.{begins_as, fresh_at, machine_of, reads_as}
 use Rattle.markdown_engine.proofs.Resolves.{same_bytes, same_context}
 use Rattle.markdown_engine.proofs.chains.read_chain.Goals as goal

@@ -1,13 +1,6 @@
 use Rattle.std.proofs.Common.{◌≡◌, ◌∙◌, List, ℕ, ap, length, refl, subst, sym}
-use Rattle.std.proofs.lemmas.Result.{IfOk-weaker}
-use Rattle.engine_events.specs.declared.place.Point.{Point}
-use Rattle.engine_events.specs.declared.state.Name.{Name}
+use Rattle.markdown_engine.proofs.Prelude.{AreApart, chunks, Config, found_in, IfOk-weaker, IsPlace, Name, place_at, Point, read_with, seen_as}
 use Rattle.engine_events.specs.declared.state.State.TheVariants as states
-use Rattle.engine_chunks.specs.Chunks.{chunks}
-use Rattle.markdown_engine.specs.Chains.{AreApart, IsPlace, place_at}
-use Rattle.markdown_engine.specs.Machine.{read_with}
-use Rattle.markdown_engine.specs.Reading.{Config, seen_as}
-use Rattle.markdown_engine.specs.Resolving.{found_in}
 use Rattle.markdown_engine.proofs.ChainSteps.{chain_read}
 use Rattle.markdown_engine.proofs.Push.{same_read}
 use Rattle.markdown_engine.proofs.Resolves.{completed_at}

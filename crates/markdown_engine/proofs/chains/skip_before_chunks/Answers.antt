@@ -1,8 +1,5 @@
 use Rattle.std.proofs.Common.{◌≡◌, ◌∙◌, ◌≤◌, ◌+◌, drop, length, get_or, ap, arith}
-use Rattle.std.proofs.lemmas.List.{drop_more}
-use Rattle.engine_events.specs.declared.place.Point.{Point}
-use Rattle.markdown_engine.specs.Chains.{place_at, after_chunk}
-use Rattle.markdown_engine.specs.Machine.{source}
+use Rattle.markdown_engine.proofs.Prelude.{after_chunk, drop_more, place_at, Point, source}
 use Rattle.markdown_engine.proofs.ChainSteps.{next_fits, skipping_on}
 use Rattle.markdown_engine.proofs.chains.skip_before_chunks.Goals as goal
 

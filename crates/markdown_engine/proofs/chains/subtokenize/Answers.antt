@@ -1,14 +1,10 @@
 use Rattle.std.proofs.Common.{length}
 use Rattle.std.specs.Option.{option_copied}
-use Rattle.engine_edits.specs.Edits.{edits_of}
-use Rattle.engine_edits.specs.Replacement.{IsOrdered}
+use Rattle.markdown_engine.proofs.Prelude.{chains, context, edits_of, found_in, IsOrdered}
 use Rattle.markdown_engine.proofs.ChainLaws.{divides_ordered, links_lead}
 use Rattle.markdown_engine.proofs.ChainSteps.{divides_as}
 use Rattle.markdown_engine.proofs.Computing.{chains_read}
 use Rattle.markdown_engine.proofs.Weaving.{stays_balanced}
-use Rattle.markdown_engine.specs.Chains.{chains}
-use Rattle.markdown_engine.specs.Context.{context}
-use Rattle.markdown_engine.specs.Resolving.{found_in}
 use Rattle.markdown_engine.proofs.chains.subtokenize.Goals as goal
 
 pub consume-requires : goal.consume-requires

@@ -1,5 +1,5 @@
 use Rattle.std.proofs.Common.{◌≤◌, ◌↔◌, drop, length}
-use Rattle.markdown_engine.specs.Chains.{AreApart, chains, chains_from, chunks_of}
+use Rattle.markdown_engine.proofs.Prelude.{AreApart, chains, chains_from, chunks_of}
 use Rattle.markdown_engine.proofs.fitting.are_apart.Given as goal
 
 abbrev pub invariant-loop-index : goal.invariant-loop-index

@@ -1,7 +1,5 @@
 use Rattle.std.proofs.Common.{◌≡◌, ◌∙◌, inl, inr, ℕ, IsTrue, Bool, subst, arith}
-use Rattle.std.proofs.lemmas.Bool.{cases_lt}
-use Rattle.engine_events.specs.declared.place.Point.{Point}
-use Rattle.markdown_engine.specs.Chains.{IsPlace, place_at}
+use Rattle.markdown_engine.proofs.Prelude.{cases_lt, IsPlace, place_at, Point}
 use Rattle.markdown_engine.proofs.ChainSteps.{place_read}
 use Rattle.markdown_engine.proofs.fitting.are_places.Goals as goal
 

@@ -1,5 +1,5 @@
 use Rattle.std.proofs.Common.{◌<◌, ℕ}
-use Rattle.markdown_engine.specs.Chains.{IsPlace, place_at}
+use Rattle.markdown_engine.proofs.Prelude.{IsPlace, place_at}
 use Rattle.markdown_engine.proofs.fitting.are_places.Given as goal
 
 abbrev pub invariant-loop-event : goal.invariant-loop-event

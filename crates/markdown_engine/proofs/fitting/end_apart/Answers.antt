@@ -1,6 +1,5 @@
 use Rattle.std.proofs.Common.{◌≡◌, ◌+◌, ◌∷◌, ◌++◌, ℕ, List, IsTrue, Bool, true, false, drop, get_or, subst}
-use Rattle.std.proofs.lemmas.List.{drop_more}
-use Rattle.markdown_engine.specs.Chains.{AreApart}
+use Rattle.markdown_engine.proofs.Prelude.{AreApart, drop_more}
 use Rattle.markdown_engine.proofs.ChainSteps.{apart_first}
 use Rattle.markdown_engine.proofs.fitting.end_apart.Goals as goal
 

@@ -1,5 +1,5 @@
 use Rattle.std.proofs.Common.{◌≤◌, ◌++◌, ◌↔◌, ℕ, List, drop}
-use Rattle.markdown_engine.specs.Chains.{AreApart}
+use Rattle.markdown_engine.proofs.Prelude.{AreApart}
 use Rattle.markdown_engine.proofs.fitting.end_apart.Given as goal
 
 abbrev pub invariant-loop-chunk : goal.invariant-loop-chunk

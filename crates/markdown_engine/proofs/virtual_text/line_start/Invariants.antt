@@ -1,5 +1,5 @@
 use Rattle.std.proofs.Common.{◌≡◌, ◌≤◌, ℕ, List, length}
-use Rattle.markdown_engine.specs.VirtualText.{line_start}
+use Rattle.markdown_engine.proofs.Prelude.{line_start}
 use Rattle.markdown_engine.proofs.virtual_text.line_start.Given as goal
 
 pub record Back (bytes : List ℕ) (index start : ℕ) : Type 0 where

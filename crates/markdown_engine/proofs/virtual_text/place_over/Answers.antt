@@ -1,8 +1,6 @@
 use Rattle.std.proofs.Common.{◌≡◌, ◌∙◌, ◌<◌, sym, subst, true, length, arith}
-use Rattle.markdown_engine.specs.VirtualText.{there, over, is_before}
-use Rattle.markdown_engine.specs.declared.virtual_text.VirtualByte.{VirtualByte}
-use Rattle.markdown_engine.specs.Laws.{remaining}
-use Rattle.markdown_engine.specs.OrderLaws.{reaches_on}
+use Rattle.markdown_engine.proofs.Prelude.{is_before, reaches_on, remaining, VirtualByte}
+use Rattle.markdown_engine.specs.VirtualText.{there, over}
 use Rattle.markdown_engine.proofs.Falls.{step_less, step_reaches}
 use Rattle.markdown_engine.proofs.virtual_text.place_over.Invariants.{Walking}
 use Rattle.markdown_engine.proofs.virtual_text.place_over.Goals as goal

@@ -1,8 +1,5 @@
 use Rattle.std.proofs.Common.{◌≤◌, ℕ, List, length}
-use Rattle.engine_events.specs.declared.place.Point.{Point}
-use Rattle.markdown_engine.specs.VirtualText.{Walks}
-use Rattle.markdown_engine.specs.Laws.{remaining}
-use Rattle.markdown_engine.specs.Order.{Reaches}
+use Rattle.markdown_engine.proofs.Prelude.{Point, Reaches, remaining, Walks}
 use Rattle.markdown_engine.proofs.virtual_text.place_over.Given as goal
 
 pub record Walking (bytes : List ℕ) (to : ℕ × ℕ) (first place : Point) : Type 0 where

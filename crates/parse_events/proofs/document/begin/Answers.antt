@@ -1,8 +1,5 @@
 use Rattle.std.proofs.Common.{◌<◌, ◌≤◌, ℕ, List, arith, get_or, length, subst}
-use Rattle.markdown_options.specs.declared.beside.Kind.{Kind}
-use Rattle.definition_text.specs.Lines.{without_mark}
-use Rattle.parse_lines.specs.Standing.{TEXT_MAX}
-use Rattle.parse_events.specs.Document.{StandsBefore}
+use Rattle.parse_events.proofs.Prelude.{Kind, StandsBefore, TEXT_MAX, without_mark}
 use Rattle.parse_events.proofs.Fronts.{after_mark}
 use Rattle.parse_events.proofs.document.begin.Goals as goal
 

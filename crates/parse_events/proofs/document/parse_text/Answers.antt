@@ -1,10 +1,5 @@
 use Rattle.std.proofs.Common.{◌≡◌, ℕ, List, [], ap, ap₂, ◌∙◌}
-use Rattle.markdown_options.specs.declared.beside.Kind.{Kind}
-use Rattle.definition_block.specs.Tree.{blocks}
-use Rattle.text_pieces.specs.declared.piece.Piece.{Piece}
-use Rattle.text_pieces.specs.Pieces.{piece_lines}
-use Rattle.block_rows.specs.declared.row.Row.{Row}
-use Rattle.block_rows.specs.Rows.{RowsValue, rows_of, rows_value, value_with}
+use Rattle.parse_events.proofs.Prelude.{blocks, Kind, Piece, piece_lines, Row, rows_of, rows_value, RowsValue, value_with}
 use Rattle.parse_events.specs.Labels.{text_blocks}
 use Rattle.parse_events.proofs.LabelRows.{begun_by, defined_by}
 use Rattle.parse_events.proofs.document.parse_text.Goals as goal

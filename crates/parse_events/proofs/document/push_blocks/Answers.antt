@@ -1,10 +1,5 @@
 use Rattle.std.proofs.Common.{ap}
-use Rattle.std.proofs.lemmas.Result.{IfOk-weaker}
-use Rattle.definition_block.specs.Definitions.{document_definitions, document_targets}
-use Rattle.definition_block.specs.Tree.{blocks}
-use Rattle.block_rows.specs.Rows.{RowsValue, rows_of}
-use Rattle.html_rows.proofs.Printable.{blocks_printable}
-use Rattle.html_rows.proofs.RowsOf.{printable_rows_of}
+use Rattle.parse_events.proofs.Prelude.{blocks, blocks_printable, document_definitions, document_targets, IfOk-weaker, printable_rows_of, rows_of, RowsValue}
 use Rattle.laws_endings.proofs.NoFootnotes.{no_footnotes}
 use Rattle.parse_events.proofs.Targets.{bare_rows, knows_targets}
 use Rattle.parse_events.proofs.document.push_blocks.Goals as goal

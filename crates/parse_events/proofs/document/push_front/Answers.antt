@@ -1,9 +1,8 @@
 use Rattle.std.proofs.Common.{◌≡◌, ◌+◌, ℕ, sym, ap, subst, ◌∙◌, arith, length, length-append, take}
 use Rattle.std.specs.Str.{IsCharBoundary}
 use Rattle.std.proofs.Math.Seq.{take-append_seam}
-use Rattle.std.proofs.lemmas.Result.{on_ok_weaker}
+use Rattle.parse_events.proofs.Prelude.{joined, on_ok_weaker}
 use Rattle.std.proofs.lemmas.Str.{IsCharBoundary-at_seam}
-use Rattle.parse_lines.proofs.Lines.{joined}
 use Rattle.parse_events.proofs.FrontLines.{no_front, some_front}
 use Rattle.parse_events.proofs.Fronts.{before_all, before_others}
 use Rattle.parse_events.proofs.document.push_front.Goals as goal

@@ -1,7 +1,5 @@
 use Rattle.std.proofs.Common.{◌∙◌}
-use Rattle.std.proofs.lemmas.Result.{IfOk-weaker}
-use Rattle.text_pieces.specs.Pieces.{piece_lines}
-use Rattle.parse_leaves.specs.Texts.{reading_by}
+use Rattle.parse_events.proofs.Prelude.{IfOk-weaker, piece_lines, reading_by}
 use Rattle.parse_events.proofs.Blocks.{rows_written}
 use Rattle.parse_events.proofs.Held.{new_around, new_holds}
 use Rattle.parse_events.proofs.document.push_rows.Goals as goal

@@ -1,11 +1,7 @@
 use Rattle.std.proofs.Common.{◌<◌, ℕ, ◌∙◌, arith, get_or}
 use Rattle.definition_page.specs.TextTables.{text_tables}
-use Rattle.definition_text.specs.Lines.{kind_before_text, without_mark}
-use Rattle.text_pieces.specs.Pieces.{piece_lines}
-use Rattle.block_rows.specs.Rows.{rows_value}
+use Rattle.parse_events.proofs.Prelude.{kind_before_text, Piece, piece_lines, Row, rows_value, without_mark}
 use Rattle.std.proofs.Common.{◌≡◌, List, [], ap₂, refl}
-use Rattle.text_pieces.specs.declared.piece.Piece.{Piece}
-use Rattle.block_rows.specs.declared.row.Row.{Row}
 use Rattle.parse_events.proofs.AllRows.{are_events}
 use Rattle.parse_events.proofs.Fronts.{rest_bytes}
 use Rattle.parse_events.proofs.document.text_events.Goals as goal

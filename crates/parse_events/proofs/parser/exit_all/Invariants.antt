@@ -1,6 +1,5 @@
 use Rattle.std.proofs.Common.{◌≡◌, [], vec_len}
-use Rattle.parse_lines.specs.Open.{still_open}
-use Rattle.parse_events.specs.Opened.{close_all}
+use Rattle.parse_events.proofs.Prelude.{close_all, still_open}
 use Rattle.parse_events.proofs.parser.exit_all.Given as goal
 
 abbrev pub invariant-loop-opened : goal.invariant-loop-opened

@@ -1,7 +1,5 @@
 use Rattle.std.proofs.Common.{◌≡◌, ap, sym, drop, false, ◌∙◌, arith}
-use Rattle.std.specs.List.{position_or_len}
-use Rattle.definition_text.specs.Runs.{run}
-use Rattle.definition_inline.specs.CodeText.{run_of}
+use Rattle.parse_inline.proofs.Prelude.{position_or_len, run, run_of}
 use Rattle.parse_inline.proofs.Runs.{is_mark, mark_within, others_passed, mark_first}
 use Rattle.parse_inline.proofs.code_text.from_byte.Goals as goal
 

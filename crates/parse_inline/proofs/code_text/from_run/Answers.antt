@@ -1,7 +1,5 @@
 use Rattle.std.proofs.Common.{[], sym, ap, false, ◌∙◌, arith}
-use Rattle.std.specs.Prelude.{◌==◌, unwrap_or}
-use Rattle.std.proofs.lemmas.List.Sums.{prefix_len-le-length}
-use Rattle.definition_inline.specs.CodeText.{run_of}
+use Rattle.parse_inline.proofs.Prelude.{prefix_len-le-length, run_of, unwrap_or, ◌==◌}
 use Rattle.parse_inline.proofs.Runs.{run_passed, run_found}
 use Rattle.parse_inline.proofs.code_text.from_run.Goals as goal
 

@@ -1,6 +1,5 @@
 use Rattle.std.proofs.Common.{◌≡◌, ◌<◌, [], length, false}
-use Rattle.definition_text.specs.Runs.{run}
-use Rattle.definition_inline.specs.CodeText.{run_of}
+use Rattle.parse_inline.proofs.Prelude.{run, run_of}
 use Rattle.parse_inline.proofs.code_text.from_run.Given as goal
 
 -- what is left has the answer, and begins with so many of the byte

@@ -1,5 +1,5 @@
 use Rattle.std.proofs.Common.{◌≡◌, ◌-◌, ap, ◌∙◌, take, length, arith}
-use Rattle.parse_lines.proofs.Steps.{both_ok}
+use Rattle.parse_inline.proofs.Prelude.{both_ok}
 use Rattle.parse_inline.proofs.RawSpans.{raw_written}
 use Rattle.parse_inline.proofs.code_text.push_raw.Goals as goal
 

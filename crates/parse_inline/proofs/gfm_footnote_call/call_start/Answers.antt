@@ -1,10 +1,6 @@
 use Rattle.std.proofs.Common.{[], ◌∷◌, refl}
 use Rattle.engine_events.specs.declared.event.Name.TheVariants as n
-use Rattle.parse_lines.specs.Content.{end_after}
-use Rattle.parse_output.specs.Forest.{append}
-use Rattle.parse_output.specs.Written.{end_in}
-use Rattle.parse_strings.proofs.PlainNodes.{plain_both, plain_void}
-use Rattle.parse_inline.specs.Rows.{void_next}
+use Rattle.parse_inline.proofs.Prelude.{append, end_after, end_in, plain_both, plain_void, void_next}
 use Rattle.parse_inline.proofs.Calls.{entering, exiting, marking, on_ok_both, texting, written_both}
 use Rattle.parse_inline.proofs.gfm_footnote_call.call_start.Goals as goal
 

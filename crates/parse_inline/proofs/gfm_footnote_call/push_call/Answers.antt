@@ -1,11 +1,8 @@
 use Rattle.std.proofs.Common.{◌≡◌, ◌+◌, ◌<◌, suc, [], ◌∷◌, ◌++◌, inr, length, get_or, take, refl, sym, ap, subst, ◌∙◌, arith, length-append}
-use Rattle.std.specs.Str.{IsCharBoundary}
+use Rattle.parse_inline.proofs.Prelude.{IsCharBoundary, StandsInContent, take-append_seam, utf8_bytes, WritesInContent}
 use Rattle.std.proofs.lemmas.Str.{IsCharBoundary-before_ascii}
 use Rattle.std.proofs.lemmas.List.{get_or-drop, get_or_at}
-use Rattle.std.proofs.Math.Seq.{take-append_seam}
 use Rattle.engine_events.specs.declared.event.Name.TheVariants as n
-use Rattle.inline_content.proofs.Utf8Bytes.{utf8_bytes}
-use Rattle.parse_lines.specs.InContent.{StandsInContent, WritesInContent}
 use Rattle.parse_inline.proofs.Behind.{call_ahead}
 use Rattle.parse_inline.proofs.Calls.{exited_whole, exiting, label_entered, on_ok_both}
 use Rattle.parse_inline.proofs.LabelWritten.{call_written}

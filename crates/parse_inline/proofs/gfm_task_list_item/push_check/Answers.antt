@@ -1,5 +1,5 @@
 use Rattle.std.proofs.Common.{arith}
-use Rattle.parse_lines.proofs.Steps.{both_ok}
+use Rattle.parse_inline.proofs.Prelude.{both_ok}
 use Rattle.parse_inline.proofs.Checks.{check_written}
 use Rattle.parse_inline.proofs.gfm_task_list_item.push_check.Goals as goal
 

@@ -1,5 +1,5 @@
 use Rattle.std.proofs.Common.{arith}
-use Rattle.parse_lines.proofs.Steps.{both_ok}
+use Rattle.parse_inline.proofs.Prelude.{both_ok}
 use Rattle.parse_inline.proofs.Checks.{value_other, value_read}
 use Rattle.parse_inline.proofs.gfm_task_list_item.push_value.Goals as goal
 

@@ -1,9 +1,7 @@
 use Rattle.std.proofs.Common.{[], ◌∷◌, sym, ap, subst, ◌∙◌}
 use Rattle.engine_events.specs.declared.event.Name.TheVariants as n
-use Rattle.parse_output.specs.Open.{Entered}
-use Rattle.parse_lines.specs.Open.{still_open}
+use Rattle.parse_inline.proofs.Prelude.{AreHeld, Entered, leave_all, still_open}
 use Rattle.parse_inline.specs.declared.opened.Open.TheVariants as held
-use Rattle.parse_inline.specs.Leaving.{AreHeld, leave_all}
 use Rattle.parse_inline.proofs.Calls.{label_entered}
 use Rattle.parse_inline.proofs.Held.{more}
 use Rattle.parse_inline.proofs.label.enter_link.Goals as goal

@@ -1,8 +1,5 @@
 use Rattle.std.proofs.Common.{◌≡◌, ◌+◌, sym, subst, ◌∙◌, arith}
-use Rattle.definition_text.specs.Content.{text_before}
-use Rattle.definition_text.specs.InlineCode.{codes_of}
-use Rattle.parse_lines.specs.InContent.{StandsInContent}
-use Rattle.parse_rows.specs.Bytes.{AreBytesAt}
+use Rattle.parse_inline.proofs.Prelude.{AreBytesAt, codes_of, StandsInContent, text_before}
 use Rattle.parse_inline.specs.Rows.{WritesBehind}
 use Rattle.parse_inline.proofs.Behind.{bracket_first}
 use Rattle.parse_inline.proofs.Calls.{exited_whole, exiting, on_ok_both}

@@ -1,9 +1,6 @@
 use Rattle.std.proofs.Common.{[], ◌∷◌, refl}
 use Rattle.engine_events.specs.declared.event.Name.TheVariants as n
-use Rattle.parse_strings.proofs.PlainNodes.{plain_void}
-use Rattle.parse_inline.specs.Rows.{void_next}
-use Rattle.parse_output.specs.Written.{end_in}
-use Rattle.parse_lines.specs.Content.{end_after}
+use Rattle.parse_inline.proofs.Prelude.{end_after, end_in, plain_void, void_next}
 use Rattle.parse_inline.proofs.Calls.{entering, exiting, marking, on_ok_both, texting}
 use Rattle.parse_inline.proofs.label.link_start.Goals as goal
 

@@ -1,8 +1,5 @@
 use Rattle.std.proofs.Common.{◌≡◌, None, Some, sym, ap, subst, ◌∙◌}
-use Rattle.std.proofs.lemmas.Result.{on_ok_weaker}
-use Rattle.definition_text.specs.Content.{content_codes}
-use Rattle.definition_inline.specs.Resource.{resource_at}
-use Rattle.parse_links.specs.Tails.{SpellsResource}
+use Rattle.parse_inline.proofs.Prelude.{content_codes, on_ok_weaker, resource_at, SpellsResource}
 use Rattle.inline_links.specs.View.{resource_of}
 use Rattle.parse_inline.proofs.Behind.{by_reference, by_resource}
 use Rattle.parse_inline.proofs.label.push_behind.Goals as goal

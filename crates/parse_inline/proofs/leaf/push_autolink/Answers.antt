@@ -1,5 +1,5 @@
 use Rattle.std.proofs.Common.{◌∙◌}
-use Rattle.parse_lines.proofs.Steps.{both_ok}
+use Rattle.parse_inline.proofs.Prelude.{both_ok}
 use Rattle.parse_inline.proofs.Autolinks.{autolink_front}
 use Rattle.parse_inline.proofs.leaf.push_autolink.Goals as goal
 

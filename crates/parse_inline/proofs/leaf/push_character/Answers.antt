@@ -1,5 +1,5 @@
 use Rattle.std.proofs.Common.{refl, arith}
-use Rattle.parse_lines.proofs.Steps.{both_ok}
+use Rattle.parse_inline.proofs.Prelude.{both_ok}
 use Rattle.parse_inline.proofs.Escapes.{reference_written}
 use Rattle.parse_inline.proofs.leaf.push_character.Goals as goal
 

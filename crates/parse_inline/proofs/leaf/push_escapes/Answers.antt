@@ -1,8 +1,6 @@
 use Rattle.std.proofs.Common.{◌≡◌, ◌++◌, ◌∙◌, refl, subst, length, map, take, drop, arith}
 use Rattle.std.proofs.Math.Seq.{drop-length, take-length}
-use Rattle.definition_inline.specs.Inline.{Escape}
-use Rattle.parse_rows.specs.Parts.{escaped}
-use Rattle.parse_inline.specs.Leaves.{Anywhere, WritesFront}
+use Rattle.parse_inline.proofs.Prelude.{Anywhere, Escape, escaped, WritesFront}
 use Rattle.parse_inline.proofs.Escapes.{escapes_more, no_escapes}
 use Rattle.parse_inline.proofs.leaf.push_escapes.Goals as goal
 

@@ -1,12 +1,5 @@
 use Rattle.std.proofs.Common.{◌≡◌, ◌++◌, List, ℕ, false, length, map, take, drop}
-use Rattle.std.specs.List.{list_any}
-use Rattle.definition_text.specs.Lines.{ends_line}
-use Rattle.definition_inline.specs.CharacterReference.{Names}
-use Rattle.definition_inline.specs.Inline.{Escape}
-use Rattle.parse_lines.specs.InContent.{IsWhole, StandsInContent, Stop}
-use Rattle.parse_lines.specs.Open.{still_open}
-use Rattle.parse_rows.specs.Parts.{escaped}
-use Rattle.parse_inline.specs.Leaves.{Anywhere, WritesFront}
+use Rattle.parse_inline.proofs.Prelude.{Anywhere, ends_line, Escape, escaped, IsWhole, list_any, Names, StandsInContent, still_open, Stop, WritesFront}
 use Rattle.parse_inline.proofs.leaf.push_escapes.Given as goal
 
 abbrev pub invariant-loop-done : goal.invariant-loop-done

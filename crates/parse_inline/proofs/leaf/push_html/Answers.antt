@@ -1,5 +1,5 @@
 use Rattle.std.proofs.Common.{inr, refl}
-use Rattle.parse_lines.proofs.Steps.{both_ok}
+use Rattle.parse_inline.proofs.Prelude.{both_ok}
 use Rattle.parse_inline.proofs.RawTexts.{html_front}
 use Rattle.parse_inline.proofs.leaf.push_html.Goals as goal
 

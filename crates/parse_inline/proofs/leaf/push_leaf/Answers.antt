@@ -1,10 +1,6 @@
 use Rattle.std.proofs.Common.{◌≡◌, ◌<◌, refl, sym, ap, ap₂, subst, ◌∙◌, drop, take, length}
-use Rattle.std.specs.Prelude.{slice_index}
+use Rattle.parse_inline.proofs.Prelude.{both_ok, bytes_drop, raw_bytes_law, slice_index, utf8_bytes}
 use Rattle.inline_leaves.specs.declared.leaf.LeafPart.TheVariants as leaf
-use Rattle.parse_lines.proofs.Steps.{both_ok}
-use Rattle.parse_strings.proofs.Texts.{bytes_drop}
-use Rattle.inline_content.proofs.Utf8Bytes.{utf8_bytes}
-use Rattle.parse_rows.proofs.Raw.{raw_bytes_law}
 use Rattle.parse_inline.proofs.LeafParts.{autolink_part, break_part, data_part, escape_part, escaped_break_part, html_part, line_end_part}
 use Rattle.parse_inline.proofs.LeafParts.{literal_part, nothing_part, part_from}
 use Rattle.parse_inline.proofs.leaf.push_leaf.Goals as goal

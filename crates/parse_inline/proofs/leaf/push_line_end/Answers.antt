@@ -1,6 +1,5 @@
 use Rattle.std.proofs.Common.{refl, ap, ◌∙◌}
-use Rattle.definition_text.specs.Columns.{indent}
-use Rattle.parse_lines.proofs.Steps.{both_ok}
+use Rattle.parse_inline.proofs.Prelude.{both_ok, indent}
 use Rattle.parse_inline.proofs.LineEnds.{line_end_front, rest_after}
 use Rattle.parse_inline.proofs.leaf.push_line_end.Goals as goal
 

@@ -1,7 +1,6 @@
 use Rattle.std.proofs.Common.{◌≡◌, refl, sym, ap₂, ◌∙◌, drop}
 use Rattle.inline_rows.specs.declared.row.SpelledLeaf.TheVariants as spelled
-use Rattle.parse_lines.proofs.Steps.{both_ok}
-use Rattle.parse_rows.proofs.Raw.{raw_bytes_law}
+use Rattle.parse_inline.proofs.Prelude.{both_ok, raw_bytes_law}
 use Rattle.parse_inline.proofs.LeafParts.{spelled_from}
 use Rattle.parse_inline.proofs.leaf.push_spelled.Goals as goal
 

@@ -1,5 +1,5 @@
 use Rattle.std.proofs.Common.{◌≡◌, ◌+◌, ◌∙◌, ap, true, false, rules, arith}
-use Rattle.definition_text.specs.Columns.{indent}
+use Rattle.parse_inline.proofs.Prelude.{indent}
 use Rattle.parse_inline.proofs.RawLines.{chunk_line, ending_line, ending_white, ends_bytes}
 use Rattle.parse_strings.proofs.Parts.{ending_small}
 use Rattle.parse_inline.proofs.lines.push_line.Goals as goal

@@ -1,5 +1,5 @@
 use Rattle.std.proofs.Common.{◌≡◌, ◌<◌, ◌∙◌, ap, refl, subst, drop, length, rules, arith}
-use Rattle.parse_inline.specs.Lines.{AreCutBetween}
+use Rattle.parse_inline.proofs.Prelude.{AreCutBetween}
 use Rattle.parse_inline.proofs.RawLines.{cut_rest}
 use Rattle.parse_inline.proofs.RawTexts.{lines_begin, lines_end, lines_more}
 use Rattle.parse_strings.proofs.Parts.{none_left}

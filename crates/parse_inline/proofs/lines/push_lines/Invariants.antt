@@ -1,8 +1,5 @@
 use Rattle.std.proofs.Common.{◌≡◌, ◌++◌, List, ℕ, length}
-use Rattle.definition_inline.specs.CharacterReference.{Names}
-use Rattle.parse_lines.specs.InContent.{StandsInContent, Stop}
-use Rattle.parse_lines.specs.Open.{still_open}
-use Rattle.parse_inline.specs.Lines.{AreCutBetween, IsChunk, WritesLinesTo}
+use Rattle.parse_inline.proofs.Prelude.{AreCutBetween, IsChunk, Names, StandsInContent, still_open, Stop, WritesLinesTo}
 use Rattle.parse_inline.proofs.lines.push_lines.Given as goal
 
 abbrev pub invariant-loop-rest : goal.invariant-loop-rest

@@ -1,7 +1,6 @@
 use Rattle.std.proofs.Common.{OnOk, sym, subst}
-use Rattle.std.proofs.lemmas.Result.{on_ok_weaker}
+use Rattle.parse_inline.proofs.Prelude.{on_ok_weaker, StandsInText}
 use Rattle.parse_inline.specs.Rows.{PassesExit}
-use Rattle.parse_inline.specs.Texts.{StandsInText}
 use Rattle.parse_inline.proofs.Exits.{image_exits, link_exits, span_exits}
 use Rattle.parse_inline.proofs.rows.leave.Goals as goal
 

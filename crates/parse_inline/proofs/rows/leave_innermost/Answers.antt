@@ -1,6 +1,5 @@
 use Rattle.std.proofs.Common.{◌≡◌, ◌-◌, [], ◌∷◌, take, ap, subst, ◌∙◌}
-use Rattle.std.proofs.lemmas.List.{append-nil}
-use Rattle.parse_inline.specs.Rows.{IsInRows}
+use Rattle.parse_inline.proofs.Prelude.{append-nil, IsInRows}
 use Rattle.inline_rows.specs.declared.row.InlineRow.TheVariants.{Exit}
 use Rattle.parse_inline.proofs.Exits.{none_exits}
 use Rattle.parse_inline.proofs.rows.leave_innermost.Goals as goal

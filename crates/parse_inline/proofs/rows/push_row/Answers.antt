@@ -1,6 +1,5 @@
 use Rattle.std.proofs.Common.{OnOk, sym, subst}
-use Rattle.std.proofs.lemmas.Result.{on_ok_weaker}
-use Rattle.parse_inline.specs.Rows.{PassesRow}
+use Rattle.parse_inline.proofs.Prelude.{on_ok_weaker, PassesRow}
 use Rattle.parse_inline.proofs.Calls.{on_ok_both}
 use Rattle.parse_inline.proofs.InRows.{call_passes, image_passes, leaf_passes, link_passes, span_passes, spelled_passes, text_passes, verbatim_passes}
 use Rattle.parse_inline.proofs.rows.push_row.Goals as goal

@@ -1,9 +1,6 @@
 use Rattle.std.proofs.Common.{◌≡◌, ◌+◌, ◌-◌, ◌∷◌, drop, length, refl, sym, ap, subst, ◌∙◌, arith}
-use Rattle.std.proofs.lemmas.List.{drop_more, length-drop}
-use Rattle.definition_inline.specs.Scan.{inlines_from}
-use Rattle.parse_lines.specs.Open.{still_open}
-use Rattle.parse_inline.specs.Leaving.{AreHeld, leave_all, open_around}
-use Rattle.parse_inline.specs.Rows.{IsReadBy, Setting}
+use Rattle.parse_inline.proofs.Prelude.{AreHeld, inlines_from, IsReadBy, leave_all, length-drop, open_around, Setting, still_open}
+use Rattle.std.proofs.lemmas.List.{drop_more}
 use Rattle.parse_inline.proofs.AllRows.{IsOver, all_written, drop_past, goes_first, goes_on, goes_over, no_more}
 use Rattle.parse_inline.proofs.Calls.{on_ok_both}
 use Rattle.parse_inline.proofs.Held.{held_less, none_held}

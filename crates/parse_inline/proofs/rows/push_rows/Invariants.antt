@@ -1,6 +1,5 @@
 use Rattle.std.proofs.Common.{◌≡◌, drop, vec_len}
-use Rattle.parse_lines.specs.Open.{still_open}
-use Rattle.parse_inline.specs.Leaving.{AreHeld, open_around}
+use Rattle.parse_inline.proofs.Prelude.{AreHeld, open_around, still_open}
 use Rattle.parse_inline.proofs.AllRows.{GoesOver, IsOver}
 use Rattle.parse_inline.proofs.rows.push_rows.Given as goal
 

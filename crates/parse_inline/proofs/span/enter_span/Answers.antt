@@ -1,10 +1,6 @@
 use Rattle.std.proofs.Common.{◌≡◌, [], ◌∷◌, ◌++◌, drop, length, sym, ap, ap₂, subst, ◌∙◌}
-use Rattle.parse_rows.specs.Marks.{sequence_size}
-use Rattle.parse_output.specs.Open.{Entered}
-use Rattle.parse_lines.specs.Open.{still_open}
-use Rattle.event_grammar.specs.declared.spans.SpanNames.{SpanNames}
+use Rattle.parse_inline.proofs.Prelude.{AreHeld, Entered, leave_all, sequence_size, SpanNames, still_open}
 use Rattle.parse_inline.specs.declared.opened.Open.TheVariants as held
-use Rattle.parse_inline.specs.Leaving.{AreHeld, leave_all}
 use Rattle.parse_inline.proofs.Calls.{DoesEnter, DoesText, span_entered}
 use Rattle.parse_inline.proofs.Held.{more}
 use Rattle.parse_inline.proofs.span.enter_span.Goals as goal

@@ -1,5 +1,5 @@
 use Rattle.std.proofs.Common.{subst}
-use Rattle.event_grammar.specs.declared.spans.SpanNames.{SpanNames}
+use Rattle.parse_inline.proofs.Prelude.{SpanNames}
 use Rattle.parse_inline.proofs.Calls.{DoesExit, DoesText, on_ok_both, span_left}
 use Rattle.parse_inline.proofs.span.leave_span.Goals as goal
 

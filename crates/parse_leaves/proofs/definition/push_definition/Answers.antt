@@ -1,10 +1,5 @@
 use Rattle.std.proofs.Common.{◌≡◌, arith, drop, ap, ◌∙◌}
-use Rattle.definition_text.specs.Content.{content_text}
-use Rattle.inline_content.proofs.Utf8Bytes.{utf8_bytes}
-use Rattle.text_pieces.specs.Pieces.{piece_lines}
-use Rattle.block_rows.specs.Rows.{definition_on}
-use Rattle.parse_lines.proofs.Steps.{both_ok}
-use Rattle.parse_leaves.specs.Texts.{reading_by}
+use Rattle.parse_leaves.proofs.Prelude.{both_ok, content_text, definition_on, piece_lines, reading_by, utf8_bytes}
 use Rattle.parse_leaves.proofs.Definitions.{any_definition, definition_written, white_boundary}
 use Rattle.parse_leaves.proofs.Starts.{white_count}
 use Rattle.parse_leaves.proofs.definition.push_definition.Goals as goal

@@ -1,9 +1,6 @@
 use Rattle.std.proofs.Common.{arith, sym, ap, ◌∙◌}
-use Rattle.std.proofs.lemmas.Result.{on_ok_weaker}
-use Rattle.definition_text.specs.BlockLines.{own_lines}
+use Rattle.parse_leaves.proofs.Prelude.{on_ok_weaker, own_lines, piece_lines, reading_by}
 use Rattle.block_starts.specs.HeadingAtx.{atx_if}
-use Rattle.text_pieces.specs.Pieces.{piece_lines}
-use Rattle.parse_leaves.specs.Texts.{reading_by}
 use Rattle.parse_leaves.proofs.AtxLists.{first_clear}
 use Rattle.parse_leaves.proofs.Headings.{atx_only, no_pieces, setext_only}
 use Rattle.parse_leaves.proofs.heading.push_any_heading.Goals as goal

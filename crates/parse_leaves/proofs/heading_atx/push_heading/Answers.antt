@@ -1,5 +1,5 @@
 use Rattle.std.proofs.Common.{◌∙◌}
-use Rattle.parse_leaves.specs.Texts.{reading_by}
+use Rattle.parse_leaves.proofs.Prelude.{reading_by}
 use Rattle.parse_leaves.proofs.AtxLeaves.{atx_written}
 use Rattle.parse_leaves.proofs.TextLeaves.{three_ok}
 use Rattle.parse_leaves.proofs.heading_atx.push_heading.Goals as goal

@@ -1,17 +1,8 @@
 use Rattle.std.proofs.Common.{◌++◌, false, replicate, refl, sym, subst}
-use Rattle.std.proofs.lemmas.Bool.{eqb-true}
-use Rattle.std.proofs.lemmas.Result.{on_ok_weaker}
+use Rattle.parse_leaves.proofs.Prelude.{AreContentLines, content_text, eqb-true, HaveNoEnding, inline_content, on_ok_weaker, own_lines, piece_lines}
+use Rattle.parse_leaves.proofs.Prelude.{read_content, reading_by, tab_column, WritesContentIn}
 use Rattle.markdown_options.specs.declared.beside.Kind.TheVariants.{Whitespace}
 use Rattle.engine_events.specs.declared.event.Name.TheVariants.{HeadingAtxText}
-use Rattle.definition_text.specs.BlockLines.{own_lines}
-use Rattle.definition_text.specs.Columns.{tab_column}
-use Rattle.definition_text.specs.Content.{content_text}
-use Rattle.definition_text.specs.InlineCode.{inline_content}
-use Rattle.inline_content.specs.Lines.{AreContentLines}
-use Rattle.text_pieces.specs.ParagraphLines.{HaveNoEnding}
-use Rattle.text_pieces.specs.Pieces.{piece_lines}
-use Rattle.parse_leaves.specs.Entered.{WritesContentIn}
-use Rattle.parse_leaves.specs.Texts.{read_content, reading_by}
 use Rattle.parse_leaves.proofs.AtxLists.{clear_text, nothing}
 use Rattle.parse_leaves.proofs.AtxParts.{heading_text, no_heading_text}
 use Rattle.parse_leaves.proofs.heading_atx.push_heading_text.Goals as goal

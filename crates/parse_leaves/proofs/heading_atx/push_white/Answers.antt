@@ -1,8 +1,6 @@
 use Rattle.std.proofs.Common.{◌≤◌, length, refl, subst}
 use Rattle.engine_events.specs.declared.event.Name.TheVariants.{SpaceOrTab}
-use Rattle.definition_text.specs.Columns.{indent}
-use Rattle.parse_raw.specs.Calls.{TokenCall}
-use Rattle.parse_raw.proofs.OnLine.{some_on}
+use Rattle.parse_leaves.proofs.Prelude.{indent, some_on, TokenCall}
 use Rattle.parse_leaves.proofs.heading_atx.push_white.Goals as goal
 
 pub returns-clause-written : goal.returns-clause-written

@@ -1,6 +1,5 @@
-use Rattle.text_pieces.specs.Pieces.{piece_lines}
+use Rattle.parse_leaves.proofs.Prelude.{piece_lines, reading_by}
 use Rattle.std.proofs.Common.{refl}
-use Rattle.parse_leaves.specs.Texts.{reading_by}
 use Rattle.parse_leaves.proofs.SetextLeaves.{setext_written}
 use Rattle.parse_leaves.proofs.TextLeaves.{three_ok}
 use Rattle.parse_leaves.proofs.heading_setext.push_setext_heading.Goals as goal

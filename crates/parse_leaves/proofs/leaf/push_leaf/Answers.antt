@@ -1,7 +1,5 @@
 use Rattle.std.proofs.Common.{refl, arith}
-use Rattle.std.proofs.lemmas.Result.{on_ok_weaker}
-use Rattle.text_pieces.specs.Pieces.{piece_lines}
-use Rattle.parse_leaves.specs.Texts.{reading_by}
+use Rattle.parse_leaves.proofs.Prelude.{on_ok_weaker, piece_lines, reading_by}
 use Rattle.parse_leaves.proofs.RowLeaves.{break_row, definition_row, fenced_row, heading_row, html_row, indented_row, paragraph_row, setext_row, unclosed_row, whole_code_row}
 use Rattle.parse_leaves.proofs.RowLeaves.{whole_first, whole_paragraph_row, whole_second}
 use Rattle.parse_leaves.proofs.leaf.push_leaf.Goals as goal

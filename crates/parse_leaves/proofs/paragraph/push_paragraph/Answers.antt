@@ -1,5 +1,4 @@
-use Rattle.text_pieces.specs.Pieces.{piece_lines}
-use Rattle.parse_leaves.specs.Texts.{reading_by}
+use Rattle.parse_leaves.proofs.Prelude.{piece_lines, reading_by}
 use Rattle.parse_leaves.proofs.Lines.{content_lines}
 use Rattle.parse_leaves.proofs.TextLeaves.{paragraph_written, three_ok}
 use Rattle.parse_leaves.proofs.paragraph.push_paragraph.Goals as goal

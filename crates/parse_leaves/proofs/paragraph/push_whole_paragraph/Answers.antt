@@ -1,6 +1,4 @@
-use Rattle.text_pieces.specs.Pieces.{whole_lines}
-use Rattle.inline_content.proofs.Utf8Bytes.{utf8_bytes}
-use Rattle.parse_leaves.specs.Texts.{reading_by}
+use Rattle.parse_leaves.proofs.Prelude.{reading_by, utf8_bytes, whole_lines}
 use Rattle.parse_leaves.proofs.Contents.{whole_written}
 use Rattle.parse_leaves.proofs.TextLeaves.{paragraph_written, three_ok}
 use Rattle.parse_leaves.proofs.paragraph.push_whole_paragraph.Goals as goal

@@ -1,4 +1,4 @@
-use Rattle.parse_lines.proofs.Steps.{both_ok}
+use Rattle.parse_leaves.proofs.Prelude.{both_ok}
 use Rattle.parse_leaves.proofs.Entered.{text_entered}
 use Rattle.parse_leaves.proofs.text.enter_text.Goals as goal
 

@@ -1,15 +1,7 @@
 use Rattle.std.proofs.Common.{◌≡◌, ◌<◌, ℕ, [], ap, sym, subst, ◌∙◌, drop, get_or}
-use Rattle.std.proofs.lemmas.Result.{on_ok_weaker}
-use Rattle.definition_inline.specs.Scan.{inlines_from}
-use Rattle.definition_page.specs.Read.{context_of}
-use Rattle.inline_content.proofs.Utf8Bytes.{utf8_bytes}
-use Rattle.inline_content.specs.View.{view_at}
-use Rattle.definition_inline.specs.GfmTaskListItem.{check_of}
-use Rattle.definition_text.specs.Content.{content_codes}
-use Rattle.inline_leaves.specs.GfmTaskListItem.{IsAfterCheck}
-use Rattle.parse_lines.specs.InContent.{StandsInContent}
-use Rattle.parse_inline.specs.Texts.{WritesText}
-use Rattle.parse_leaves.specs.Texts.{WritesIndent, reading_by, without_white}
+use Rattle.parse_leaves.proofs.Prelude.{check_of, content_codes, context_of, inlines_from, IsAfterCheck, on_ok_weaker, reading_by, StandsInContent, utf8_bytes}
+use Rattle.parse_leaves.proofs.Prelude.{view_at, without_white, WritesText}
+use Rattle.parse_leaves.specs.Texts.{WritesIndent}
 use Rattle.parse_leaves.proofs.Checked.{after_check, after_white, read_bare, stands_at_start, start_bare}
 use Rattle.parse_leaves.proofs.text.push_checked.Goals as goal
 

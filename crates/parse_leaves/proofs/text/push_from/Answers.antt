@@ -1,12 +1,7 @@
 use Rattle.std.proofs.Common.{refl, sym, ap, ◌∙◌, subst}
-use Rattle.std.proofs.lemmas.Result.{on_ok_weaker}
+use Rattle.parse_leaves.proofs.Prelude.{context_of, on_ok_weaker, reading_by, StandsInText, utf8_bytes, view_at}
 use Rattle.definition_inline.specs.Targets.{leads_to, linked_at, linked_by}
-use Rattle.definition_page.specs.Read.{context_of}
-use Rattle.inline_content.proofs.Utf8Bytes.{utf8_bytes}
-use Rattle.inline_content.specs.View.{view_at}
 use Rattle.inline_rows.specs.View.{rows_view}
-use Rattle.parse_inline.specs.Texts.{StandsInText}
-use Rattle.parse_leaves.specs.Texts.{reading_by}
 use Rattle.parse_leaves.proofs.text.push_from.Goals as goal
 
 pub returns-clause-written : goal.returns-clause-written

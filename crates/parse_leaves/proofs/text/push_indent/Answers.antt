@@ -1,5 +1,5 @@
 use Rattle.std.proofs.Common.{◌≡◌, ◌-◌, arith, length}
-use Rattle.parse_lines.proofs.Steps.{both_ok}
+use Rattle.parse_leaves.proofs.Prelude.{both_ok}
 use Rattle.parse_leaves.proofs.Indents.{white_written}
 use Rattle.parse_leaves.proofs.text.push_indent.Goals as goal
 

@@ -1,9 +1,7 @@
 use Rattle.std.proofs.Common.{◌∙◌, subst}
-use Rattle.text_pieces.specs.Pieces.{piece_lines}
-use Rattle.parse_lines.proofs.Steps.{both_ok}
+use Rattle.parse_leaves.proofs.Prelude.{both_ok, content_view, piece_lines, read_content, reading_by, WritesContent}
 use Rattle.definition_inline.specs.Targets.{Targets}
-use Rattle.inline_content.specs.View.{content_view}
-use Rattle.parse_leaves.specs.Texts.{KnowsTargets, WritesContent, read_content, reading_by}
+use Rattle.parse_leaves.specs.Texts.{KnowsTargets}
 use Rattle.parse_leaves.proofs.Contents.{lines_written}
 use Rattle.parse_leaves.proofs.text.push_text.Goals as goal
 

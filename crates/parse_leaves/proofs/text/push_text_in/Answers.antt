@@ -1,9 +1,5 @@
-use Rattle.definition_text.specs.BlockLines.{own_lines}
-use Rattle.definition_text.specs.Content.{content_text}
-use Rattle.definition_text.specs.InlineCode.{inline_content}
-use Rattle.text_pieces.specs.Pieces.{piece_lines}
+use Rattle.parse_leaves.proofs.Prelude.{content_text, inline_content, own_lines, piece_lines, read_content, reading_by}
 use Rattle.std.proofs.Common.{false}
-use Rattle.parse_leaves.specs.Texts.{read_content, reading_by}
 use Rattle.parse_leaves.proofs.InEvents.{text_in_event}
 use Rattle.parse_leaves.proofs.TextLeaves.{three_ok}
 use Rattle.parse_leaves.proofs.text.push_text_in.Goals as goal

@@ -1,7 +1,5 @@
 use Rattle.std.proofs.Common.{◌≡◌, ◌+◌, ap, sym, ◌∙◌, arith}
-use Rattle.std.specs.List.{prefix_len}
-use Rattle.block_starts.specs.View.{rest_of}
-use Rattle.definition_text.specs.Columns.{bytes_of, is_tab_column}
+use Rattle.parse_leaves.proofs.Prelude.{bytes_of, is_tab_column, prefix_len, rest_of}
 use Rattle.parse_leaves.proofs.Starts.{white_count, white_of_rest}
 use Rattle.parse_leaves.proofs.text.white_ahead.Goals as goal
 

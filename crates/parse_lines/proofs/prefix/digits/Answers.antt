@@ -1,6 +1,6 @@
 use Rattle.std.proofs.Common.{length, sym, ◌∙◌, arith}
 use Rattle.std.proofs.lemmas.List.Sums.{prefix_len_is}
-use Rattle.definition_block.specs.ListItem.{is_digit}
+use Rattle.parse_lines.proofs.Prelude.{is_digit}
 use Rattle.parse_lines.proofs.prefix.digits.Goals as goal
 
 pub returns-then-not-is_ascii_digit : goal.returns-then-not-is_ascii_digit

@@ -1,5 +1,5 @@
 use Rattle.std.proofs.Common.{◌≡◌, ◌<◌, ℕ, get_or, true}
-use Rattle.definition_block.specs.ListItem.{is_digit}
+use Rattle.parse_lines.proofs.Prelude.{is_digit}
 use Rattle.parse_lines.proofs.prefix.digits.Given as goal
 
 -- every byte so far is a digit

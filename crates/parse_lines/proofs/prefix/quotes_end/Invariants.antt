@@ -1,6 +1,5 @@
 use Rattle.std.proofs.Common.{◌≤◌, length}
-use Rattle.block_starts.specs.View.{container_views}
-use Rattle.parse_lines.specs.Standing.{AreQuotesWithin}
+use Rattle.parse_lines.proofs.Prelude.{AreQuotesWithin, container_views}
 use Rattle.parse_lines.proofs.prefix.quotes_end.Given as goal
 
 abbrev pub invariant-loop-depth : goal.invariant-loop-depth

@@ -1,17 +1,8 @@
 use Rattle.std.proofs.Common.{◌≡◌, ◌∷◌, ◌++◌, [], Some, append_assoc, arith, drop, length, refl, subst, sym, ap, ap₂, ◌∙◌}
-use Rattle.definition_text.specs.Content.{Part, content_codes}
-use Rattle.definition_inline.specs.Label.{label_at}
-use Rattle.definition_inline.specs.Space.{after_white}
+use Rattle.parse_links.proofs.Prelude.{after_white, AreBytes, both_ok, bytes_after, bytes_drop, content_codes, from_some, IsTarget, label_at, label_whole}
+use Rattle.parse_links.proofs.Prelude.{Part, part_of, same_codes, SpellsPlace, StandsInContent, WritesParts, WritesWhite}
 use Rattle.engine_events.specs.declared.event.Name.TheVariants as n
 use Rattle.parse_output.specs.Children.{has_string, may_hold}
-use Rattle.parse_lines.proofs.Steps.{both_ok}
-use Rattle.parse_lines.specs.InContent.{StandsInContent}
-use Rattle.inline_links.specs.View.{part_of}
-use Rattle.inline_links.proofs.Splits.{from_some, label_whole}
-use Rattle.inline_links.proofs.Texts.{AreBytes}
-use Rattle.parse_strings.proofs.Texts.{bytes_after, bytes_drop, same_codes}
-use Rattle.parse_links.specs.Definition.{IsTarget, SpellsPlace, WritesParts}
-use Rattle.parse_links.specs.White.{WritesWhite}
 use Rattle.parse_links.proofs.Definitions.{cut_after_ascii, definition_in, reads_definition}
 use Rattle.parse_links.proofs.Marks.{label_filled, one_byte, quoted_bytes, quoted_cut}
 use Rattle.parse_links.proofs.Tails.{left_mark, right_mark, string_filled}

@@ -1,15 +1,7 @@
 use Rattle.std.proofs.Common.{◌≡◌, ◌++◌, None, Some, arith, length, refl, subst, sym, ap, ◌∙◌}
-use Rattle.definition_text.specs.Content.{Part, content_codes}
-use Rattle.definition_inline.specs.Destination.{destination_at}
+use Rattle.parse_links.proofs.Prelude.{AreBytes, both_ok, bytes_after, bytes_drop, content_codes, destination_at, EndsWithTitle, from_some, IsPlace, Part}
+use Rattle.parse_links.proofs.Prelude.{part_of, same_codes, SpellsEnd, StandsInContent, WritesParts}
 use Rattle.parse_output.specs.Children.{has_string, may_hold}
-use Rattle.parse_lines.proofs.Steps.{both_ok}
-use Rattle.parse_lines.specs.InContent.{StandsInContent}
-use Rattle.inline_links.specs.View.{part_of}
-use Rattle.inline_links.proofs.Splits.{from_some}
-use Rattle.inline_links.proofs.Texts.{AreBytes}
-use Rattle.parse_strings.proofs.Texts.{bytes_after, bytes_drop, same_codes}
-use Rattle.parse_links.specs.Definition.{EndsWithTitle, SpellsEnd, WritesParts}
-use Rattle.parse_links.specs.Destination.{IsPlace}
 use Rattle.parse_links.proofs.Definitions.{target_in}
 use Rattle.parse_links.proofs.Marks.{destination_marks, place_bytes}
 use Rattle.parse_links.proofs.definition.push_target.Goals as goal

@@ -1,15 +1,7 @@
 use Rattle.std.proofs.Common.{◌≡◌, ◌∷◌, ◌++◌, [], Some, arith, length, refl, subst, sym, ap, ◌∙◌}
-use Rattle.definition_text.specs.Content.{content_codes}
-use Rattle.definition_inline.specs.Definition.{next_line}
-use Rattle.definition_inline.specs.Space.{after_white}
-use Rattle.definition_inline.specs.Title.{title_at}
+use Rattle.parse_links.proofs.Prelude.{after_white, AreBytes, both_ok, bytes_after, bytes_drop, content_codes, next_line, part_of, same_codes, StandsInContent}
+use Rattle.parse_links.proofs.Prelude.{title_at, WritesWhite}
 use Rattle.parse_output.specs.Children.{has_string, may_hold}
-use Rattle.parse_lines.proofs.Steps.{both_ok}
-use Rattle.parse_lines.specs.InContent.{StandsInContent}
-use Rattle.inline_links.specs.View.{part_of}
-use Rattle.inline_links.proofs.Texts.{AreBytes}
-use Rattle.parse_strings.proofs.Texts.{bytes_after, bytes_drop, same_codes}
-use Rattle.parse_links.specs.White.{WritesWhite}
 use Rattle.parse_links.proofs.Definitions.{no_title, title_in, titled, untitled}
 use Rattle.parse_links.proofs.Marks.{before_ascii, bytes_front, mark_eol, quoted_bytes, quoted_cut, title_marks}
 use Rattle.parse_links.proofs.Resources.{title_ascii}

@@ -1,5 +1,5 @@
 use Rattle.std.proofs.Common.{◌∙◌, sym, ap, slice_index}
-use Rattle.parse_lines.proofs.Steps.{both_ok}
+use Rattle.parse_links.proofs.Prelude.{both_ok}
 use Rattle.parse_links.proofs.Places.{inner_quoted, inner_raw}
 use Rattle.parse_links.proofs.destination.push_inner.Goals as goal
 

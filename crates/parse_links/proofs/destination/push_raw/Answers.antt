@@ -1,7 +1,5 @@
 use Rattle.std.proofs.Common.{◌∙◌, ap}
-use Rattle.parse_lines.proofs.InContent.{line_enters, line_exits}
-use Rattle.parse_lines.proofs.Steps.{both_ok}
-use Rattle.parse_output.specs.declared.end.End.{End}
+use Rattle.parse_links.proofs.Prelude.{both_ok, End, line_enters, line_exits}
 use Rattle.parse_links.proofs.Written.{own_of, quoted_own, raw_in, string_in}
 use Rattle.parse_links.proofs.destination.push_raw.Goals as goal
 

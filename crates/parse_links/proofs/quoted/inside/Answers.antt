@@ -1,8 +1,5 @@
 use Rattle.std.proofs.Common.{◌≡◌, ◌+◌, ◌<◌, ◌∷◌, [], arith, get_or, length, length-append, drop, take, subst, sym, ap, ◌∙◌}
-use Rattle.std.specs.Str.{IsCharBoundary}
-use Rattle.std.proofs.lemmas.List.{get_or_at, take_at}
-use Rattle.std.proofs.lemmas.Str.{IsCharBoundary-before_ascii}
-use Rattle.inline_leaves.proofs.Codes.{boundary_after_byte}
+use Rattle.parse_links.proofs.Prelude.{boundary_after_byte, get_or_at, IsCharBoundary, IsCharBoundary-before_ascii, take_at}
 use Rattle.parse_links.proofs.quoted.inside.Goals as goal
 
 pub returns : goal.returns

@@ -1,8 +1,5 @@
 use Rattle.std.proofs.Common.{◌<◌, arith, ◌≡◌, ◌∙◌, length, sym, ap}
-use Rattle.std.proofs.lemmas.Bool.{eqb-false, eqb-true}
-use Rattle.parse_lines.proofs.InContent.{line_enters, line_exits}
-use Rattle.parse_lines.proofs.Steps.{both_ok}
-use Rattle.parse_output.specs.declared.end.End.{End}
+use Rattle.parse_links.proofs.Prelude.{both_ok, End, eqb-false, eqb-true, line_enters, line_exits}
 use Rattle.parse_strings.proofs.Parts.{none_left}
 use Rattle.parse_links.proofs.Written.{held_none, held_some, own_of, quoted_own, string_in}
 use Rattle.parse_links.proofs.quoted.push_held.Goals as goal

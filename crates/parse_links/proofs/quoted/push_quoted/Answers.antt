@@ -1,9 +1,5 @@
 use Rattle.std.proofs.Common.{◌≡◌, ◌∷◌, ◌++◌, [], append_assoc, subst, sym, ap, ◌∙◌}
-use Rattle.parse_lines.proofs.InContent.{line_enters, line_exits}
-use Rattle.parse_lines.proofs.Steps.{both_ok}
-use Rattle.parse_lines.specs.InContent.{StandsInContent}
-use Rattle.parse_output.specs.declared.end.End.{End}
-use Rattle.parse_links.specs.Quoted.{WritesHeld}
+use Rattle.parse_links.proofs.Prelude.{both_ok, End, line_enters, line_exits, StandsInContent, WritesHeld}
 use Rattle.parse_links.proofs.Written.{mark_apart, mark_dark, own_of, quoted_in, quoted_own, token_in}
 use Rattle.parse_links.proofs.quoted.push_quoted.Goals as goal
 

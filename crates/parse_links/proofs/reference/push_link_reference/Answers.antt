@@ -1,10 +1,6 @@
 use Rattle.std.proofs.Common.{refl, subst}
-use Rattle.definition_text.specs.Content.{content_codes}
-use Rattle.definition_inline.specs.Label.{label_at}
+use Rattle.parse_links.proofs.Prelude.{after_reference, both_ok, content_codes, label_at, StandsInContent}
 use Rattle.parse_output.specs.Children.{has_string, may_hold}
-use Rattle.parse_lines.proofs.Steps.{both_ok}
-use Rattle.parse_lines.specs.InContent.{StandsInContent}
-use Rattle.parse_links.specs.Tails.{after_reference}
 use Rattle.parse_links.proofs.Tails.{left_mark, no_reference, reference_tail, right_mark}
 use Rattle.parse_links.proofs.reference.push_link_reference.Goals as goal
 

@@ -1,11 +1,6 @@
 use Rattle.std.proofs.Common.{◌≡◌, true, ◌-◌, ◌++◌, ◌∷◌, [], None, Some, arith, drop, length, take, subst, sym, ap, ◌∙◌, refl}
-use Rattle.definition_text.specs.Content.{content_codes}
-use Rattle.definition_inline.specs.Label.{label_at}
-use Rattle.inline_links.specs.View.{part_of}
-use Rattle.inline_links.proofs.Splits.{label_whole}
-use Rattle.inline_links.proofs.Texts.{AreBytes}
-use Rattle.parse_strings.proofs.Texts.{bytes_after, bytes_drop, cut_last, same_codes}
-use Rattle.parse_links.specs.Tails.{HasCodes, after_reference, is_collapsed}
+use Rattle.parse_links.proofs.Prelude.{after_reference, AreBytes, bytes_after, bytes_drop, content_codes, cut_last, HasCodes, is_collapsed, label_at}
+use Rattle.parse_links.proofs.Prelude.{label_whole, part_of, same_codes}
 use Rattle.parse_links.proofs.Marks.{label_filled, quoted_bytes, quoted_cut}
 use Rattle.parse_links.proofs.Tails.{collapsed_bytes, collapsed_left, string_filled}
 use Rattle.parse_links.proofs.reference.reference_front.Goals as goal

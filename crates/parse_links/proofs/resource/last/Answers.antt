@@ -1,6 +1,5 @@
 use Rattle.std.proofs.Common.{◌≡◌, arith, drop, length, length-append, subst, ap, ◌∙◌}
-use Rattle.std.specs.Str.{IsCharBoundary}
-use Rattle.std.proofs.lemmas.List.{drop_at}
+use Rattle.parse_links.proofs.Prelude.{drop_at, IsCharBoundary}
 use Rattle.parse_links.proofs.resource.last.Goals as goal
 
 pub returns : goal.returns

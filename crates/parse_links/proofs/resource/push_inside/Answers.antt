@@ -1,6 +1,5 @@
 use Rattle.std.proofs.Common.{sym, ap, ◌∙◌, slice_index}
-use Rattle.parse_lines.proofs.Steps.{both_ok}
-use Rattle.inline_links.specs.View.{resource_of}
+use Rattle.parse_links.proofs.Prelude.{both_ok, resource_of}
 use Rattle.parse_links.proofs.Resources.{inside_none, inside_place, target_nothing}
 use Rattle.parse_links.proofs.resource.push_inside.Goals as goal
 

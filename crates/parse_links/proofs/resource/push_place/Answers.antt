@@ -1,13 +1,6 @@
 use Rattle.std.proofs.Common.{◌≡◌, ◌++◌, Some, arith, drop, get_or, length, take, subst, sym, ap, ap₂, ◌∙◌, refl}
-use Rattle.std.specs.Str.{IsCharBoundary}
-use Rattle.std.proofs.lemmas.List.{drop_at, take_at}
-use Rattle.definition_text.specs.Content.{content_codes}
-use Rattle.definition_inline.specs.Space.{after_white}
+use Rattle.parse_links.proofs.Prelude.{after_white, AreBytes, content_codes, drop_at, IsCharBoundary, IsPlace, StandsInContent, take_at, WritesWhite}
 use Rattle.parse_output.specs.Children.{has_string, may_hold}
-use Rattle.parse_lines.specs.InContent.{StandsInContent}
-use Rattle.inline_links.proofs.Texts.{AreBytes}
-use Rattle.parse_links.specs.Destination.{IsPlace}
-use Rattle.parse_links.specs.White.{WritesWhite}
 use Rattle.parse_links.proofs.Marks.{destination_marks, place_bytes}
 use Rattle.parse_links.proofs.Resources.{if_both, place_in, place_size, same_string}
 use Rattle.parse_links.proofs.resource.push_place.Goals as goal

@@ -1,15 +1,7 @@
 use Rattle.std.proofs.Common.{◌≡◌, ◌∷◌, ◌++◌, arith, drop, subst, sym, ap, ◌∙◌, refl}
-use Rattle.definition_text.specs.Content.{content_codes}
-use Rattle.definition_inline.specs.Resource.{resource_inside}
-use Rattle.definition_inline.specs.Space.{after_white}
+use Rattle.parse_links.proofs.Prelude.{after_white, both_ok, content_codes, End, line_enters, line_exits, resource_inside, resource_of, SpellsTarget}
+use Rattle.parse_links.proofs.Prelude.{StandsInContent, WritesTail, WritesWhite}
 use Rattle.engine_events.specs.declared.event.Name.TheVariants as n
-use Rattle.parse_output.specs.declared.end.End.{End}
-use Rattle.parse_lines.proofs.InContent.{line_enters, line_exits}
-use Rattle.parse_lines.proofs.Steps.{both_ok}
-use Rattle.parse_lines.specs.InContent.{StandsInContent}
-use Rattle.inline_links.specs.View.{resource_of}
-use Rattle.parse_links.specs.Tails.{SpellsTarget, WritesTail}
-use Rattle.parse_links.specs.White.{WritesWhite}
 use Rattle.parse_links.proofs.Marks.{one_byte}
 use Rattle.parse_links.proofs.Resources.{ascii_cut, at_inside, resource_tail}
 use Rattle.parse_links.proofs.Written.{token_in}

@@ -1,11 +1,6 @@
 use Rattle.std.proofs.Common.{◌≡◌, ◌∷◌, Some, arith, refl, subst, sym, ap, ◌∙◌}
-use Rattle.definition_text.specs.Content.{content_codes}
-use Rattle.definition_inline.specs.Space.{after_white}
-use Rattle.definition_inline.specs.Title.{title_at}
-use Rattle.parse_lines.proofs.Steps.{both_ok}
-use Rattle.parse_lines.specs.InContent.{StandsInContent}
-use Rattle.inline_links.specs.View.{resource_of, title_codes}
-use Rattle.parse_links.specs.Tails.{SpellsTitle, WritesTail}
+use Rattle.parse_links.proofs.Prelude.{after_white, both_ok, content_codes, resource_of, SpellsTitle, StandsInContent, title_at, WritesTail}
+use Rattle.inline_links.specs.View.{title_codes}
 use Rattle.parse_links.proofs.Marks.{before_ascii}
 use Rattle.parse_links.proofs.Resources.{after_is, read_title, target_none, target_title, title_ascii, unread_title}
 use Rattle.parse_links.proofs.resource.push_target.Goals as goal

@@ -1,12 +1,6 @@
 use Rattle.std.proofs.Common.{◌≡◌, ◌∷◌, ◌++◌, [], arith, drop, length, length-append, take, subst, sym, ap, ap₂, ◌∙◌, refl}
-use Rattle.std.specs.Str.{IsCharBoundary}
-use Rattle.std.proofs.lemmas.List.{drop_at, take_at}
-use Rattle.definition_text.specs.Content.{content_codes}
-use Rattle.definition_inline.specs.Space.{after_white}
-use Rattle.parse_lines.specs.InContent.{StandsInContent}
-use Rattle.inline_links.proofs.Texts.{AreBytes}
-use Rattle.parse_strings.proofs.Texts.{bytes_after, same_codes}
-use Rattle.parse_links.specs.White.{WritesWhite}
+use Rattle.parse_links.proofs.Prelude.{after_white, AreBytes, bytes_after, content_codes, drop_at, IsCharBoundary, same_codes, StandsInContent, take_at}
+use Rattle.parse_links.proofs.Prelude.{WritesWhite}
 use Rattle.parse_links.proofs.Marks.{bytes_front, mark_eol, quoted_bytes, quoted_cut, title_marks}
 use Rattle.parse_links.proofs.Resources.{title_tail}
 use Rattle.parse_output.specs.Children.{has_string, may_hold}

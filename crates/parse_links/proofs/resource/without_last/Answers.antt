@@ -1,6 +1,5 @@
 use Rattle.std.proofs.Common.{◌≡◌, arith, take, length, length-append, subst, ap, ◌∙◌}
-use Rattle.std.specs.Str.{IsCharBoundary}
-use Rattle.std.proofs.lemmas.List.{take_at}
+use Rattle.parse_links.proofs.Prelude.{IsCharBoundary, take_at}
 use Rattle.parse_links.proofs.resource.without_last.Goals as goal
 
 pub returns : goal.returns

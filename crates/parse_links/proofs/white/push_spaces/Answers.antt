@@ -1,5 +1,5 @@
 use Rattle.std.proofs.Common.{arith, refl, subst, sym}
-use Rattle.parse_links.specs.White.{WritesWhite}
+use Rattle.parse_links.proofs.Prelude.{WritesWhite}
 use Rattle.parse_links.proofs.Spaces.{spaces_in}
 use Rattle.parse_links.proofs.white.push_spaces.Goals as goal
 

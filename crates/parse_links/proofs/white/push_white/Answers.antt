@@ -1,13 +1,7 @@
 use Rattle.std.proofs.Common.{◌≡◌, ◌++◌, arith, drop, refl, subst, sym, ap, ◌∙◌}
 use Rattle.std.proofs.lemmas.Result.{IfOk-weaker}
-use Rattle.markdown_options.specs.LineEndings.{ending_bytes}
-use Rattle.definition_text.specs.Columns.{bare, indent}
-use Rattle.definition_text.specs.Content.{content_codes}
-use Rattle.definition_inline.specs.Strings.{begins_with_eol}
+use Rattle.parse_links.proofs.Prelude.{AreBytes, bare, begins_with_eol, bytes_drop, content_codes, ending_bytes, indent, ReadsEnding}
 use Rattle.parse_lines.specs.InContent.{IsApart}
-use Rattle.inline_leaves.specs.Leaves.{ReadsEnding}
-use Rattle.inline_links.proofs.Texts.{AreBytes}
-use Rattle.parse_strings.proofs.Texts.{bytes_drop}
 use Rattle.parse_links.proofs.Spaces.{ending_cut, white_both, white_more, white_none}
 use Rattle.parse_links.proofs.white.push_white.Goals as goal
 

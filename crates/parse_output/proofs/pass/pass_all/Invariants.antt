@@ -1,6 +1,5 @@
 use Rattle.std.proofs.Common.{◌≡◌, ◌+◌, ◌*◌, ◌≤◌, take}
-use Rattle.std.specs.List.{fold}
-use Rattle.parse_output.specs.Spots.{next_spot}
+use Rattle.parse_output.proofs.Prelude.{fold, next_spot}
 use Rattle.parse_output.proofs.pass.pass_all.Given as goal
 
 abbrev pub invariant-loop-byte : goal.invariant-loop-byte

@@ -1,7 +1,6 @@
 use Rattle.std.proofs.Common.{ap, ◌∙◌}
-use Rattle.std.specs.List.{prefix_len}
+use Rattle.parse_output.proofs.Prelude.{is_plain, prefix_len}
 use Rattle.std.proofs.lemmas.List.{take_rest}
-use Rattle.parse_output.specs.Spots.{is_plain}
 use Rattle.parse_output.proofs.Plain.{searched}
 use Rattle.parse_output.proofs.pass.plain_end.Goals as goal
 

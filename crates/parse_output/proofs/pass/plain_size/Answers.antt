@@ -2,7 +2,7 @@ use Rattle.std.proofs.Common.{arith, refl, ◌∙◌, not}
 use Rattle.std.proofs.lemmas.List.Sums.{prefix_len-le-length}
 use Rattle.text_search.specs.Sets.{holds}
 use Rattle.text_search.proofs.Sets.{run_by}
-use Rattle.parse_output.specs.Spots.{is_plain}
+use Rattle.parse_output.proofs.Prelude.{is_plain}
 use Rattle.parse_output.specs.declared.pass.TheConstants.{CONTROLS}
 use Rattle.parse_output.proofs.pass.plain_size.Goals as goal
 

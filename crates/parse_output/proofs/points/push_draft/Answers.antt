@@ -1,9 +1,6 @@
 use Rattle.std.proofs.Common.{◌++◌, ◌∷◌, [], None, append_assoc, sym, subst, ap, ap₂, ◌∙◌}
 use Rattle.engine_events.specs.declared.event.Kind.TheVariants as kind
-use Rattle.engine_events.specs.Events.{event}
-use Rattle.parse_output.specs.Ends.{end_at, enter_at}
-use Rattle.parse_output.specs.Forest.{GoesOnward, draft_events}
-use Rattle.parse_output.specs.Placed.{IsTold}
+use Rattle.parse_output.proofs.Prelude.{draft_events, end_at, enter_at, event, GoesOnward, IsTold}
 use Rattle.parse_output.proofs.TokenLists.{enters, exits, passes}
 use Rattle.parse_output.proofs.Ends.{point_reached}
 use Rattle.parse_output.proofs.points.push_draft.Goals as goal

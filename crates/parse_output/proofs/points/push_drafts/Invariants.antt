@@ -1,11 +1,5 @@
 use Rattle.std.proofs.Common.{◌≡◌, ◌≤◌, ◌*◌, map, take, vec_capacity, vec_len}
-use Rattle.parse_output.specs.Drafts.{marks_of}
-use Rattle.parse_output.specs.Ends.{first_end}
-use Rattle.parse_output.specs.Forest.{AreInOrder}
-use Rattle.parse_output.specs.Open.{mark_of}
-use Rattle.parse_output.specs.Placed.{IsTold}
-use Rattle.parse_output.specs.Spots.{ArePlain}
-use Rattle.parse_output.specs.Tokens.{IsPlace}
+use Rattle.parse_output.proofs.Prelude.{AreInOrder, ArePlain, first_end, IsPlace, IsTold, mark_of, marks_of}
 use Rattle.parse_output.proofs.Forests.{IsRead}
 use Rattle.parse_output.proofs.points.push_drafts.Given as goal
 

@@ -1,5 +1,5 @@
 use Rattle.std.proofs.Common.{arith, refl, ◌++◌, ◌∷◌, [], sym, subst, ap₂, ◌∙◌}
-use Rattle.parse_output.specs.Placed.{ArePlaced}
+use Rattle.parse_output.proofs.Prelude.{ArePlaced}
 use Rattle.engine_events.specs.declared.event.Name.TheVariants.{Data, Paragraph}
 use Rattle.parse_output.proofs.TokenLists.{rest_placed}
 use Rattle.parse_output.proofs.points.push_rest.Goals as goal

@@ -1,8 +1,5 @@
 use Rattle.std.proofs.Common.{◌-◌, ap, ◌∙◌, length}
-use Rattle.std.proofs.lemmas.Result.{on_ok_weaker}
-use Rattle.parse_output.specs.Ends.{end_at}
-use Rattle.parse_lines.specs.Ends.{line_after}
-use Rattle.parse_lines.specs.Standing.{Standing}
+use Rattle.parse_raw.proofs.Prelude.{end_at, line_after, on_ok_weaker, Standing}
 use Rattle.parse_raw.proofs.Blank.{blank_written}
 use Rattle.parse_raw.proofs.NextLines.{all_ok}
 use Rattle.parse_raw.proofs.blank_line.push_blank_line.Goals as goal

@@ -1,7 +1,5 @@
 use Rattle.std.proofs.Common.{sym, subst}
-use Rattle.markdown_options.specs.declared.configuration.Constructs.{Constructs}
-use Rattle.definition_inline.specs.CharacterReference.{Names}
-use Rattle.parse_raw.specs.FenceParts.{WritesOpening}
+use Rattle.parse_raw.proofs.Prelude.{Constructs, Names, WritesOpening}
 use Rattle.parse_raw.proofs.ClosedCode.{closed_written}
 use Rattle.parse_raw.proofs.NextLines.{all_ok}
 use Rattle.parse_raw.proofs.code_fenced.push_fenced_code.Goals as goal

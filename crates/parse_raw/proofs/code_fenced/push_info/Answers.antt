@@ -1,6 +1,5 @@
 use Rattle.std.proofs.Common.{ap, ◌∙◌, arith}
-use Rattle.std.specs.List.{position_or_len}
-use Rattle.definition_text.specs.Content.{is_space}
+use Rattle.parse_raw.proofs.Prelude.{is_space, position_or_len}
 use Rattle.parse_raw.proofs.FenceStrings.{info_absent, info_present}
 use Rattle.parse_raw.proofs.code_fenced.push_info.Goals as goal
 

@@ -1,6 +1,5 @@
 use Rattle.std.proofs.Common.{ap, ◌∙◌, arith}
-use Rattle.std.proofs.lemmas.Result.{on_ok_weaker}
-use Rattle.definition_text.specs.Columns.{indent}
+use Rattle.parse_raw.proofs.Prelude.{indent, on_ok_weaker}
 use Rattle.parse_raw.proofs.FenceStrings.{meta_written}
 use Rattle.parse_raw.proofs.code_fenced.push_info_and_meta.Goals as goal
 

@@ -1,5 +1,5 @@
 use Rattle.std.proofs.Common.{ℕ, List, ap, ◌∙◌, get_or}
-use Rattle.definition_text.specs.Columns.{bare, bytes_of, indent, Rest}
+use Rattle.parse_raw.proofs.Prelude.{bare, bytes_of, indent, Rest}
 use Rattle.parse_raw.proofs.FencedLines.{opening_written}
 use Rattle.parse_raw.proofs.OnLine.{white_ahead}
 use Rattle.parse_raw.proofs.code_fenced.push_open.Goals as goal

@@ -1,6 +1,5 @@
 use Rattle.std.proofs.Common.{ℕ, List, ap, ap₂, ◌∙◌}
-use Rattle.definition_text.specs.Columns.{indent}
-use Rattle.definition_text.specs.Runs.{run}
+use Rattle.parse_raw.proofs.Prelude.{indent, run}
 use Rattle.std.specs.Prelude.{slice_index}
 use Rattle.parse_raw.proofs.NextLines.{all_ok}
 use Rattle.parse_raw.proofs.OpeningFence.{fence_written}

@@ -1,5 +1,5 @@
 use Rattle.std.proofs.Common.{◌∙◌}
-use Rattle.std.proofs.lemmas.Result.{on_ok_weaker}
+use Rattle.parse_raw.proofs.Prelude.{on_ok_weaker}
 use Rattle.parse_raw.proofs.code_fenced.push_whole_code.Goals as goal
 
 pub returns-clause-written : goal.returns-clause-written

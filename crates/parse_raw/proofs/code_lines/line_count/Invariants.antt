@@ -1,7 +1,7 @@
 use Rattle.std.proofs.Common.{◌≡◌, ◌+◌, length}
 use denote.Shadow.{shadow}
 use denote.Text.{Utf8}
-use Rattle.definition_text.specs.Lines.{lines}
+use Rattle.parse_raw.proofs.Prelude.{lines}
 use Rattle.parse_raw.proofs.code_lines.line_count.Given as goal
 
 abbrev pub invariant-loop-rest : goal.invariant-loop-rest

@@ -1,5 +1,5 @@
 use Rattle.std.proofs.Common.{◌≡◌, ◌∙◌, arith}
-use Rattle.definition_text.specs.Indents.{outdent}
+use Rattle.parse_raw.proofs.Prelude.{outdent}
 use Rattle.parse_raw.proofs.NextLines.{so_far_all, so_far_more, so_far_none}
 use Rattle.parse_raw.proofs.code_lines.push_code_lines.Goals as goal
 use Rattle.std.proofs.Common.{refl}

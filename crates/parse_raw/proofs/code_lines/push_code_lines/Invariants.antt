@@ -1,6 +1,5 @@
 use Rattle.std.proofs.Common.{◌≡◌}
-use Rattle.definition_text.specs.Indents.{outdent}
-use Rattle.parse_lines.specs.Open.{still_open}
+use Rattle.parse_raw.proofs.Prelude.{outdent, still_open}
 use Rattle.parse_raw.proofs.NextLines.{LinesSoFar}
 use Rattle.parse_raw.proofs.code_lines.push_code_lines.Given as goal
 

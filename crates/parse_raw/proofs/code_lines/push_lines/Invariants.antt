@@ -1,5 +1,5 @@
 use Rattle.std.proofs.Common.{◌≡◌}
-use Rattle.parse_lines.specs.Open.{still_open}
+use Rattle.parse_raw.proofs.Prelude.{still_open}
 use Rattle.parse_raw.proofs.NextLines.{LinesSoFar}
 use Rattle.parse_raw.proofs.code_lines.push_lines.Given as goal
 

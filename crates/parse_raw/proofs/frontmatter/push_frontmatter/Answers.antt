@@ -1,19 +1,9 @@
 use Rattle.std.proofs.Common.{◌≡◌, ◌+◌, ◌∷◌, ◌++◌, [], List, ℕ, refl, sym, ap, subst, ◌∙◌, length, length-append, arith}
 use Rattle.engine_events.specs.declared.event.Name.TheVariants as n
 use Rattle.markdown_options.specs.declared.beside.Kind.TheVariants.{Whitespace}
-use Rattle.definition_text.specs.BlockLines.{last_ending_or}
-use Rattle.definition_text.specs.Columns.{whole}
-use Rattle.definition_text.specs.Lines.{TextLine, lines}
-use Rattle.definition_block.specs.Tree.{beside_line}
-use Rattle.event_grammar.specs.Trees.{Around, Node}
-use Rattle.parse_lines.specs.Ends.{written_to}
-use Rattle.parse_lines.proofs.Spots.{bytes_after}
-use Rattle.parse_output.specs.Ends.{end_at, enter_at, exit_at}
-use Rattle.parse_output.specs.Forest.{append, one}
-use Rattle.parse_output.specs.Written.{end_in}
-use Rattle.parse_output.proofs.Written.{writes_around, writes_both}
-use Rattle.parse_laid.specs.Places.{AtEnding, Between, LineRest, Within, line_rest, unread}
-use Rattle.parse_lines.specs.Standing.{Standing, StandsAt, standing}
+use Rattle.parse_raw.proofs.Prelude.{append, Around, AtEnding, beside_line, Between, bytes_after, end_at, end_in, enter_at, exit_at, last_ending_or, line_rest}
+use Rattle.parse_raw.proofs.Prelude.{LineRest, lines, Node, one, Standing, standing, StandsAt, TextLine, unread, whole, Within, writes_around, writes_both}
+use Rattle.parse_raw.proofs.Prelude.{written_to}
 use Rattle.parse_raw.proofs.Blank.{end_written}
 use Rattle.parse_raw.proofs.MetadataLines.{AreBytes, fence_line, front_lines, line_bytes, mid_lines, text_lines, top_line}
 use Rattle.parse_raw.proofs.NextLines.{all_ok, next_written}

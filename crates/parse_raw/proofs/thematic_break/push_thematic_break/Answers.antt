@@ -1,9 +1,7 @@
 use Rattle.std.proofs.Common.{◌≡◌, ℕ, ◌-◌, refl, sym, ap, subst, ◌∙◌, arith, length, length-drop}
 use Rattle.engine_events.specs.declared.event.Name.TheVariants as n
 use Rattle.definition_page.specs.Page as page
-use Rattle.parse_lines.specs.Standing.{Standing, standing}
-use Rattle.parse_output.specs.Ends.{end_at}
-use Rattle.parse_raw.specs.Tokens.{AreLeft, LeadsOn}
+use Rattle.parse_raw.proofs.Prelude.{AreLeft, end_at, LeadsOn, standing, Standing}
 use Rattle.parse_raw.proofs.LeafNodes.{leaf_written, stands_here, white_written}
 use Rattle.parse_raw.proofs.NextLines.{all_ok, no_bytes_left, some_length}
 use Rattle.parse_raw.proofs.Tokens.{left_none, left_same, tokens_both, tokens_none}

@@ -1,6 +1,5 @@
 use Rattle.std.proofs.Common.{◌≡◌, length}
-use Rattle.parse_lines.specs.Open.{still_open}
-use Rattle.parse_raw.specs.Tokens.{LeadsOn}
+use Rattle.parse_raw.proofs.Prelude.{LeadsOn, still_open}
 use Rattle.parse_raw.proofs.thematic_break.push_thematic_break.Given as goal
 
 abbrev pub invariant-loop-rest : goal.invariant-loop-rest

@@ -1,8 +1,5 @@
 use Rattle.std.proofs.Common.{◌∷◌, [], false, refl, ◌∙◌}
-use Rattle.std.proofs.lemmas.Bool.{or_from}
-use Rattle.definition_text.specs.Lines.{ends_line}
-use Rattle.parse_lines.proofs.InContent.{line_in_content}
-use Rattle.parse_lines.proofs.Steps.{both_ok}
+use Rattle.parse_strings.proofs.Prelude.{both_ok, ends_line, line_in_content, or_from}
 use Rattle.parse_strings.proofs.Parts.{node_in}
 use Rattle.parse_strings.proofs.Strings.{writes_escape}
 use Rattle.parse_strings.proofs.character_escape.push_escape.Goals as goal

@@ -1,5 +1,5 @@
 use Rattle.std.proofs.Common.{◌≡◌, true, drop, slice_index, refl, sym, ap, ◌∙◌}
-use Rattle.parse_strings.specs.References.{is_x}
+use Rattle.parse_strings.proofs.Prelude.{is_x}
 use Rattle.parse_strings.proofs.References.{marked_x, unmarked, x_of}
 use Rattle.parse_strings.proofs.character_reference.push_markers.Goals as goal
 

@@ -1,8 +1,5 @@
 use Rattle.std.proofs.Common.{◌≡◌, ◌++◌, ◌∷◌, [], length, drop, arith, refl, ap, ◌∙◌, append_assoc}
-use Rattle.parse_lines.proofs.InContent.{line_in_content}
-use Rattle.parse_lines.proofs.Steps.{both_ok}
-use Rattle.parse_output.specs.declared.end.End.{End}
-use Rattle.parse_lines.specs.Content.{end_after}
+use Rattle.parse_strings.proofs.Prelude.{both_ok, End, end_after, line_in_content}
 use Rattle.parse_strings.proofs.Parts.{node_in}
 use Rattle.parse_strings.proofs.Spelled.{still_whole}
 use Rattle.parse_strings.proofs.ReferenceSteps.{stands_by, writes_reference}

@@ -1,7 +1,7 @@
 use Rattle.std.proofs.Common.{refl, ◌∙◌}
 use Rattle.text_search.specs.Sets.{holds}
 use Rattle.text_search.proofs.Sets.{run_by}
-use Rattle.parse_strings.specs.Strings.{is_ink}
+use Rattle.parse_strings.proofs.Prelude.{is_ink}
 use Rattle.parse_strings.specs.declared.string.TheConstants.{STARTS}
 use Rattle.parse_strings.proofs.string.data_size.Goals as goal
 

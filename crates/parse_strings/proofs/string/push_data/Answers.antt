@@ -1,7 +1,5 @@
 use Rattle.std.proofs.Common.{◌≡◌, ◌+◌, arith, drop, ap, ◌∙◌}
-use Rattle.std.specs.List.{prefix_len}
-use Rattle.std.proofs.lemmas.List.Sums.{prefix_len-le-length}
-use Rattle.parse_strings.specs.Strings.{is_ink}
+use Rattle.parse_strings.proofs.Prelude.{is_ink, prefix_len, prefix_len-le-length}
 use Rattle.parse_strings.proofs.Parts.{data_part}
 use Rattle.parse_strings.proofs.Texts.{data_step}
 use Rattle.parse_strings.proofs.string.push_data.Goals as goal

@@ -1,16 +1,9 @@
 use Rattle.std.proofs.Common.{◌≡◌, ◌+◌, ◌-◌, ◌<◌, ◌++◌, ◌∷◌, [], None, length, length-append, arith, subst, sym, ap, ◌∙◌, refl, append_assoc}
-use Rattle.std.proofs.lemmas.Result.{IfOk-weaker}
+use Rattle.parse_strings.proofs.Prelude.{AreBytes, AreCutApart, content_codes, escape_at, IfOk-weaker, marked_text, parts_of, reference_at, StandsInContent}
+use Rattle.parse_strings.proofs.Prelude.{WritesStringPart}
 use Rattle.engine_events.specs.declared.event.Name.TheVariants.{CharacterEscape, CharacterReference}
-use Rattle.inline_leaves.specs.Leaves.{parts_of}
-use Rattle.inline_links.proofs.Texts.{AreBytes}
-use Rattle.parse_lines.specs.InContent.{StandsInContent}
 use Rattle.parse_strings.proofs.Parts.{node_part}
 use Rattle.parse_strings.proofs.Texts.{bytes_drop, escape_step, leaf_absent, leaf_there, reference_step}
-use Rattle.definition_text.specs.Content.{content_codes}
-use Rattle.definition_inline.specs.CharacterEscape.{escape_at}
-use Rattle.definition_inline.specs.CharacterReference.{reference_at}
-use Rattle.parse_strings.specs.References.{marked_text}
-use Rattle.parse_strings.specs.Strings.{AreCutApart, WritesStringPart}
 use Rattle.parse_strings.proofs.string.push_part.Goals as goal
 
 pub returns-then-is_some-clause-written : goal.returns-then-is_some-clause-written

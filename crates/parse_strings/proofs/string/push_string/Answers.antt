@@ -1,6 +1,5 @@
 use Rattle.std.proofs.Common.{◌≡◌, ◌<◌, arith, drop, length, refl, subst, sym, ap, ◌∙◌}
-use Rattle.std.specs.Str.{IsCharBoundary}
-use Rattle.std.proofs.lemmas.Bool.{eqb-false, eqb-true}
+use Rattle.parse_strings.proofs.Prelude.{eqb-false, eqb-true, IsCharBoundary}
 use Rattle.parse_strings.proofs.Parts.{front_all, front_more, front_none, none_left}
 use Rattle.parse_strings.proofs.string.push_string.Goals as goal
 

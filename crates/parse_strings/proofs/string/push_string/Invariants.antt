@@ -1,9 +1,8 @@
 use Rattle.std.proofs.Common.{◌≡◌, ℕ, List, ◌++◌, length}
 use denote.Text.{Utf8}
 use denote.Shadow.{shadow}
-use Rattle.parse_lines.specs.InContent.{IsWhole, StandsInContent, Stop}
+use Rattle.parse_strings.proofs.Prelude.{AreCutApart, IsWhole, StandsInContent, Stop, WritesStringFront}
 use Rattle.parse_lines.specs.Open.{still_open}
-use Rattle.parse_strings.specs.Strings.{AreCutApart, WritesStringFront}
 use Rattle.parse_strings.proofs.string.push_string.Given as goal
 
 abbrev pub invariant-loop-rest : goal.invariant-loop-rest

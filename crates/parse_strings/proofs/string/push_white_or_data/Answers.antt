@@ -1,11 +1,5 @@
 use Rattle.std.proofs.Common.{◌≡◌, ◌+◌, ◌<◌, ◌++◌, true, false, arith, drop, subst, sym, ap, ◌∙◌, refl, append_assoc}
-use Rattle.std.proofs.lemmas.Result.{IfOk-weaker}
-use Rattle.markdown_options.specs.LineEndings.{ending_bytes}
-use Rattle.definition_text.specs.Columns.{indent}
-use Rattle.definition_text.specs.Content.{content_codes}
-use Rattle.definition_inline.specs.Strings.{begins_with_eol}
-use Rattle.parse_lines.specs.InContent.{StandsInContent}
-use Rattle.parse_strings.specs.Strings.{WritesStringPart}
+use Rattle.parse_strings.proofs.Prelude.{begins_with_eol, content_codes, ending_bytes, IfOk-weaker, indent, StandsInContent, WritesStringPart}
 use Rattle.parse_strings.proofs.Parts.{ending_part, ending_small, first_feed, stays_apart, white_part}
 use Rattle.parse_strings.proofs.Texts.{apart_more, ending_step, ending_there, no_spaces, white_some, white_step}
 use Rattle.parse_strings.proofs.string.push_white_or_data.Goals as goal

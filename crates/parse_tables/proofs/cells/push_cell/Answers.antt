@@ -1,8 +1,6 @@
 use Rattle.std.proofs.Common.{◌++◌}
-use Rattle.definition_text.specs.Columns.{bytes_of}
+use Rattle.parse_tables.proofs.Prelude.{bytes_of, cell_view, reading_by}
 use Rattle.engine_events.specs.declared.event.Name.TheVariants.{GfmTableCell}
-use Rattle.block_cells.specs.GfmTable.{cell_view}
-use Rattle.parse_leaves.specs.Texts.{reading_by}
 use Rattle.parse_tables.proofs.RowWritten.{row_ended}
 use Rattle.parse_tables.proofs.Steps.{IsEntered, entered_before}
 use Rattle.parse_tables.proofs.CellsWritten.{cell_written}

@@ -1,5 +1,4 @@
-use Rattle.block_cells.specs.GfmTable.{cell_view}
-use Rattle.parse_leaves.specs.Texts.{reading_by}
+use Rattle.parse_tables.proofs.Prelude.{cell_view, reading_by}
 use Rattle.parse_tables.proofs.CellsWritten.{first_alone, first_with_bar, token_ended}
 use Rattle.parse_tables.proofs.cells.push_cell_and_bar.Goals as goal
 

@@ -1,11 +1,5 @@
 use Rattle.std.proofs.Common.{List, false, subst}
-use Rattle.definition_text.specs.BlockLines.{own_lines}
-use Rattle.definition_text.specs.Content.{content_text}
-use Rattle.definition_text.specs.InlineCode.{inline_content}
-use Rattle.inline_content.specs.Lines.{AreContentLines}
-use Rattle.text_pieces.specs.declared.piece.Piece.{Piece}
-use Rattle.text_pieces.specs.Pieces.{piece_lines}
-use Rattle.parse_leaves.specs.Texts.{WritesContent, read_content, reading_by}
+use Rattle.parse_tables.proofs.Prelude.{AreContentLines, content_text, inline_content, own_lines, Piece, piece_lines, read_content, reading_by, WritesContent}
 use Rattle.parse_tables.proofs.CellTexts.{in_cell_written}
 use Rattle.parse_tables.proofs.cells.push_cell_text.Goals as goal
 

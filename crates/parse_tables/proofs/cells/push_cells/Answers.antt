@@ -1,6 +1,5 @@
 use Rattle.std.proofs.Common.{refl, ◌∙◌}
-use Rattle.block_cells.specs.GfmTable.{cell_view, cells_left}
-use Rattle.parse_leaves.specs.Texts.{reading_by}
+use Rattle.parse_tables.proofs.Prelude.{cell_view, cells_left, reading_by}
 use Rattle.parse_tables.proofs.CellsWritten.{all_cells, cells_so_far, no_cells_yet}
 use Rattle.parse_tables.proofs.cells.push_cells.Goals as goal
 

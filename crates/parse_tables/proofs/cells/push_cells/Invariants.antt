@@ -1,9 +1,5 @@
 use Rattle.std.proofs.Common.{◌≡◌, length}
-use Rattle.definition_inline.specs.Targets.{Targets}
-use Rattle.block_cells.specs.GfmTable.{cells_left}
-use Rattle.parse_lines.specs.Open.{still_open}
-use Rattle.parse_leaves.specs.Texts.{KnowsTargets, reading_by}
-use Rattle.parse_tables.specs.Cells.{WritesFirstCellsHere}
+use Rattle.parse_tables.proofs.Prelude.{cells_left, KnowsTargets, reading_by, still_open, Targets, WritesFirstCellsHere}
 use Rattle.parse_tables.proofs.cells.push_cells.Given as goal
 
 abbrev pub invariant-loop-cell : goal.invariant-loop-cell

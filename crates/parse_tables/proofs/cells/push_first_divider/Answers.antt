@@ -1,5 +1,5 @@
 use Rattle.std.proofs.Common.{ℕ, List, ap, sym, ◌∙◌}
-use Rattle.std.specs.Prelude.{slice_index}
+use Rattle.parse_tables.proofs.Prelude.{slice_index}
 use Rattle.parse_tables.proofs.CellsWritten.{first_bar, no_first_bar, token_ended}
 use Rattle.parse_tables.proofs.cells.push_first_divider.Goals as goal
 

@@ -1,10 +1,5 @@
 use Rattle.std.proofs.Common.{List, ◌++◌, ℕ, replicate, sym, ap, subst, ◌∙◌}
-use Rattle.std.proofs.lemmas.Result.{on_ok_weaker}
-use Rattle.definition_text.specs.Columns.{is_blank, tab_column}
-use Rattle.text_pieces.specs.declared.piece.Piece.{Piece}
-use Rattle.block_cells.specs.GfmTable.{cell_view}
-use Rattle.parse_leaves.specs.Texts.{reading_by}
-use Rattle.parse_tables.specs.Cells.{WritesInCellHere}
+use Rattle.parse_tables.proofs.Prelude.{cell_view, is_blank, on_ok_weaker, Piece, reading_by, tab_column, WritesInCellHere}
 use Rattle.parse_tables.proofs.CellsWritten.{in_blank_cell, in_filled_cell, token_ended}
 use Rattle.parse_tables.proofs.cells.push_in_cell.Goals as goal
 

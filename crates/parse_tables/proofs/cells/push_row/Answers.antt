@@ -1,14 +1,7 @@
 use Rattle.std.proofs.Common.{List, [], ◌++◌, ℕ, replicate, sym, ap, subst, ◌∙◌}
-use Rattle.definition_text.specs.Columns.{tab_column}
-use Rattle.definition_block.specs.GfmTable.{Cell}
-use Rattle.text_pieces.specs.declared.piece.Piece.{Piece}
-use Rattle.text_pieces.specs.Pieces.{piece_line}
+use Rattle.parse_tables.proofs.Prelude.{Cell, end_at, Piece, piece_line, reading_by, tab_column, WritesFirstBar, WritesFirstCellsHere, WritesUpTo}
 use Rattle.engine_events.specs.declared.event.Name.TheVariants.{SpaceOrTab}
-use Rattle.parse_output.specs.Ends.{end_at}
-use Rattle.parse_lines.specs.Ends.{WritesUpTo}
-use Rattle.parse_leaves.specs.Texts.{reading_by}
 use Rattle.parse_tables.proofs.RowWritten.{row_ended}
-use Rattle.parse_tables.specs.Cells.{WritesFirstBar, WritesFirstCellsHere}
 use Rattle.parse_tables.proofs.RowsWritten.{row_written}
 use Rattle.parse_tables.proofs.cells.push_row.Goals as goal
 

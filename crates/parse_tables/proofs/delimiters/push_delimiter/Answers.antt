@@ -1,5 +1,5 @@
 use Rattle.std.proofs.Common.{ap, ◌∙◌}
-use Rattle.definition_text.specs.Runs.{run}
+use Rattle.parse_tables.proofs.Prelude.{run}
 use Rattle.parse_tables.proofs.ColumnWritten.{column_written}
 use Rattle.parse_tables.proofs.delimiters.push_delimiter.Goals as goal
 

@@ -1,5 +1,6 @@
 use Rattle.std.proofs.Common.{◌≡◌, ◌∙◌, ℕ, List, refl, ap, sym, arith, subst, drop, length, max}
-use Rattle.std.proofs.lemmas.Bool.{eqb-false, eqb-true}
+use Rattle.parse_tables.proofs.Prelude.{eqb-true}
+use Rattle.std.proofs.lemmas.Bool.{eqb-false}
 use Rattle.parse_tables.proofs.RowWritten.{WritesRowSoFar, row_begins, row_ended, row_ends, row_more}
 use Rattle.parse_tables.proofs.delimiters.push_delimiters.Goals as goal
 

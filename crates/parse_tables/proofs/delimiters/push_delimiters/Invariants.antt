@@ -1,5 +1,5 @@
 use Rattle.std.proofs.Common.{◌≡◌, length}
-use Rattle.parse_lines.specs.Open.{still_open}
+use Rattle.parse_tables.proofs.Prelude.{still_open}
 use Rattle.parse_tables.proofs.RowWritten.{WritesRowSoFar}
 use Rattle.parse_tables.proofs.delimiters.push_delimiters.Given as goal
 

@@ -1,8 +1,6 @@
 use Rattle.std.proofs.Common.{List, sym, subst}
-use Rattle.definition_text.specs.BlockLines.{BlockLine}
-use Rattle.parse_leaves.specs.Texts.{reading_by}
+use Rattle.parse_tables.proofs.Prelude.{BlockLine, reading_by, WritesBodyHere}
 use Rattle.parse_tables.proofs.RowWritten.{row_ended}
-use Rattle.parse_tables.specs.Tables.{WritesBodyHere}
 use Rattle.parse_tables.proofs.BodyWritten.{body_written, no_body}
 use Rattle.parse_tables.proofs.TablesWritten.{first_piece, no_piece}
 use Rattle.parse_tables.proofs.gfm_table.push_body.Goals as goal

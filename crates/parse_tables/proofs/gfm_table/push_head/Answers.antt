@@ -1,5 +1,4 @@
-use Rattle.text_pieces.specs.Pieces.{piece_line}
-use Rattle.parse_leaves.specs.Texts.{reading_by}
+use Rattle.parse_tables.proofs.Prelude.{piece_line, reading_by}
 use Rattle.parse_tables.proofs.RowWritten.{row_ended}
 use Rattle.parse_tables.proofs.BodyWritten.{head_written}
 use Rattle.parse_tables.proofs.gfm_table.push_head.Goals as goal

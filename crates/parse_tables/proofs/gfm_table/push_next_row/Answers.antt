@@ -1,6 +1,4 @@
-use Rattle.std.proofs.lemmas.Result.{on_ok_weaker}
-use Rattle.text_pieces.specs.Pieces.{piece_line}
-use Rattle.parse_leaves.specs.Texts.{reading_by}
+use Rattle.parse_tables.proofs.Prelude.{on_ok_weaker, piece_line, reading_by}
 use Rattle.parse_tables.proofs.RowsWritten.{next_row_written}
 use Rattle.parse_tables.proofs.gfm_table.push_next_row.Goals as goal
 

@@ -1,8 +1,7 @@
 use Rattle.std.proofs.Common.{◌+◌, drop, refl, ap, ◌∙◌}
 use Rattle.std.proofs.lemmas.List.{drop_more}
-use Rattle.text_pieces.specs.Pieces.{piece_lines}
+use Rattle.parse_tables.proofs.Prelude.{piece_lines, reading_by}
 use Rattle.parse_inline.proofs.AllRows.{drop_past}
-use Rattle.parse_leaves.specs.Texts.{reading_by}
 use Rattle.parse_tables.proofs.RowsWritten.{all_rows, no_rows, rows_so_far}
 use Rattle.parse_tables.proofs.gfm_table.push_next_rows.Goals as goal
 

@@ -1,9 +1,5 @@
 use Rattle.std.proofs.Common.{◌≡◌, drop}
-use Rattle.definition_inline.specs.Targets.{Targets}
-use Rattle.text_pieces.specs.Pieces.{piece_lines}
-use Rattle.parse_lines.specs.Open.{still_open}
-use Rattle.parse_leaves.specs.Texts.{KnowsTargets, reading_by}
-use Rattle.parse_tables.specs.Rows.{WritesFirstRowsHere}
+use Rattle.parse_tables.proofs.Prelude.{KnowsTargets, piece_lines, reading_by, still_open, Targets, WritesFirstRowsHere}
 use Rattle.parse_tables.proofs.gfm_table.push_next_rows.Given as goal
 
 abbrev pub invariant-loop-row : goal.invariant-loop-row

@@ -1,10 +1,6 @@
 use Rattle.std.proofs.Common.{List, [], subst, arith}
 use Rattle.std.proofs.lemmas.List.{length-map}
-use Rattle.definition_text.specs.BlockLines.{BlockLine, own_lines}
-use Rattle.definition_block.specs.Tree.{Table}
-use Rattle.text_pieces.specs.Pieces.{piece_line, piece_lines}
-use Rattle.parse_raw.specs.Reads.{WritesReadLeaf}
-use Rattle.parse_leaves.specs.Texts.{reading_by}
+use Rattle.parse_tables.proofs.Prelude.{BlockLine, own_lines, piece_line, piece_lines, reading_by, Table, WritesReadLeaf}
 use Rattle.parse_tables.proofs.RowWritten.{row_ended}
 use Rattle.parse_tables.proofs.TablesWritten.{no_table, table_written, two_pieces}
 use Rattle.parse_tables.proofs.gfm_table.push_table.Goals as goal

@@ -1,7 +1,5 @@
 use Rattle.std.proofs.Common.{ap, refl, inl, inr}
-use Rattle.markdown_engine.specs.Machine.{view_config}
-use Rattle.markdown_engine.specs.Reading.{seen_as}
-use Rattle.markdown_engine.proofs.Push.{not_refused}
+use Rattle.state_inline.proofs.Prelude.{not_refused, seen_as, view_config}
 use Rattle.state_inline.proofs.reading.read_text.Goals as goal
 
 pub returns-in_default-clause-balanced : goal.returns-in_default-clause-balanced

@@ -1,20 +1,10 @@
 use Rattle.std.proofs.Common.{◌≡◌, ℕ, [], true, length, refl, ap, subst, sym}
-use Rattle.markdown_engine.specs.Machine.{config, source, view_config}
-use Rattle.markdown_engine.specs.Order.{text_start}
-use Rattle.markdown_engine.specs.Reading.{Config, Outcome, Runs, seen_as}
-use Rattle.markdown_engine.specs.VirtualText.{Source, text_to, without_skips}
-use Rattle.markdown_engine.specs.Machine.{fresh_config}
+use Rattle.state_inline.proofs.Prelude.{at_outcome, bodies, Config, context, fresh_config, inline_resolved, Inlines, Outcome, ParseState, resolve_all, Runs}
+use Rattle.state_inline.proofs.Prelude.{seen_as, Source, source, step_by, text_start, text_to, view_config, whole_run, without_skips}
+use Rattle.markdown_engine.specs.Machine.{config}
 use Rattle.engine_events.specs.declared.state.Inline.TheVariants as state_inline
 use Rattle.engine_events.specs.declared.state.Name.TheVariants.{Inline}
 use Rattle.engine_events.specs.declared.state.State.TheVariants as states
-use Rattle.markdown_engine.specs.Context.{context}
-use Rattle.markdown_engine.specs.declared.parse_state.ParseState.{ParseState}
-use Rattle.markdown_engine.proofs.Push.{at_outcome, whole_run}
-use Rattle.markdown_engine.specs.Resolving.{resolve_all}
-use Rattle.state_resolvers.specs.Resolving.{inline_resolved}
-use Rattle.engine_programs.specs.Bodies.{step_by}
-use Rattle.state_inline.specs.declared.inlines.Inlines.{Inlines}
-use Rattle.state_inline.specs.Inlines.{bodies}
 use Rattle.state_inline.proofs.reading.resolved_string.Goals as goal
 
 pub returns-clause-reads : goal.returns-clause-reads

@@ -1,6 +1,5 @@
 use Rattle.std.proofs.Common.{sym, ap, ◌∙◌, arith, length}
-use Rattle.block_cells.specs.GfmTable.{parts_if, cell_view}
-use Rattle.definition_block.specs.GfmTable.{without_blank_last}
+use Rattle.block_cells.proofs.Prelude.{cell_view, parts_if, without_blank_last}
 use Rattle.block_cells.proofs.Parts.{filled_part, followed_part}
 use Rattle.block_cells.proofs.gfm_table.CellsIterator.next.Goals as goal
 use Rattle.block_cells.proofs.gfm_table.CellsIterator.next.Goals.{else-is_none-via-then-is_none+else-is_blank_part, else-is_none-via-else-is_none}

@@ -1,5 +1,4 @@
-use Rattle.std.proofs.lemmas.Result.{on_ok_weaker}
-use Rattle.text_pieces.specs.Pieces.{piece_lines}
+use Rattle.block_leaves.proofs.Prelude.{on_ok_weaker, piece_lines}
 use Rattle.block_leaves.proofs.Changes as changes
 use Rattle.block_leaves.proofs.leaves.Leaves.blank_line.Goals as goal
 

@@ -1,15 +1,8 @@
 use Rattle.std.proofs.Common.{◌≡◌, ℕ, ◌≤◌, ◌<◌, ◌-◌, List, [], ◌∷◌, sym, refl, subst, take, drop, length, arith}
-use Rattle.std.proofs.lemmas.List.{length-map, length-take}
-use Rattle.std.proofs.lemmas.Result.{on_ok_weaker}
-use Rattle.definition_text.specs.BlockLines.{BlockLine, own_lines}
-use Rattle.definition_block.specs.Container.{Container}
-use Rattle.definition_block.specs.Tree.{Blocks, Leaf, Paragraph, Text, join, paragraph_of}
-use Rattle.text_pieces.specs.Pieces.{piece_lines, piece_line}
-use Rattle.block_state.specs.Spine.{Level, spine}
-use Rattle.block_leaves.specs.View.{AreRead}
+use Rattle.block_leaves.proofs.Prelude.{AreRead, BlockLine, Blocks, Container, join, join-nil, Leaf, length-map, length-take, Level, on_ok_weaker, own_lines}
+use Rattle.block_leaves.proofs.Prelude.{Paragraph, paragraph_of, piece_line, piece_lines, spine, Text}
 use Rattle.block_leaves.proofs.GfmTableLemmas.{paragraph_some}
 use Rattle.block_leaves.proofs.Changes as changes
-use Rattle.block_state.proofs.Trees.{join-nil}
 use Rattle.block_leaves.proofs.leaves.Leaves.close_before_head.Goals as goal
 
 pub returns-then-count-le1 : goal.returns-then-count-le1

@@ -1,13 +1,6 @@
 use Rattle.std.proofs.Common.{◌≡◌, ◌-◌, ◌∷◌, [], Option, false, sym, ap, subst, refl, length, arith}
-use Rattle.std.proofs.lemmas.List.{length-map, take_all}
-use Rattle.std.proofs.lemmas.Result.{on_ok_weaker}
-use Rattle.markdown_options.specs.declared.line_ending.LineEnding.{LineEnding}
-use Rattle.definition_block.specs.Tree.{Leaf, FencedCode, block_and_ending, join, Text, Fenced}
-use Rattle.block_rows.specs.Rows.{Single}
-use Rattle.text_pieces.specs.Pieces.{piece_lines, piece_line}
-use Rattle.block_state.specs.Spine.{spine}
-use Rattle.block_state.specs.Shows.{leaf_lines}
-use Rattle.block_leaves.specs.View.{AreRead}
+use Rattle.block_leaves.proofs.Prelude.{AreRead, block_and_ending, Fenced, FencedCode, join, Leaf, leaf_lines, length-map, LineEnding, on_ok_weaker}
+use Rattle.block_leaves.proofs.Prelude.{piece_line, piece_lines, Single, spine, take_all, Text}
 use Rattle.block_leaves.proofs.Changes as changes
 use Rattle.block_leaves.proofs.leaves.Leaves.close_fenced.Goals as goal
 

@@ -1,13 +1,6 @@
 use Rattle.std.proofs.Common.{◌≡◌, ◌-◌, ◌∷◌, [], Option, sym, ap, subst, refl, length, arith}
-use Rattle.std.proofs.lemmas.List.{length-map, take_all}
-use Rattle.std.proofs.lemmas.Result.{on_ok_weaker}
-use Rattle.markdown_options.specs.declared.line_ending.LineEnding.{LineEnding}
-use Rattle.definition_text.specs.BlockLines.{own_lines}
-use Rattle.definition_block.specs.Tree.{Leaf, Html, block_and_ending, join, Text, OpenHtml}
-use Rattle.block_rows.specs.Rows.{Single}
-use Rattle.text_pieces.specs.Pieces.{piece_lines, piece_line}
-use Rattle.block_state.specs.Spine.{spine}
-use Rattle.block_leaves.specs.View.{AreRead}
+use Rattle.block_leaves.proofs.Prelude.{AreRead, block_and_ending, Html, join, Leaf, length-map, LineEnding, on_ok_weaker, OpenHtml, own_lines, piece_line}
+use Rattle.block_leaves.proofs.Prelude.{piece_lines, Single, spine, take_all, Text}
 use Rattle.block_leaves.proofs.Changes as changes
 use Rattle.block_leaves.proofs.leaves.Leaves.close_html.Goals as goal
 

@@ -1,12 +1,6 @@
 use Rattle.std.proofs.Common.{◌-◌, ◌+◌, ◌++◌, ◌∷◌, [], List, sym, ap, ◌∙◌, refl, take, drop, get_or, arith}
-use Rattle.std.specs.Prelude.{map}
-use Rattle.std.proofs.lemmas.List.{take_all}
-use Rattle.text_pieces.specs.declared.piece.Piece.{Piece}
-use Rattle.definition_block.specs.Tree.{join, Indented, close_leaf}
-use Rattle.text_pieces.specs.Pieces.{piece_lines}
-use Rattle.block_state.specs.Leaves.{leaf_state}
+use Rattle.block_leaves.proofs.Prelude.{close_leaf, Indented, join, leaf_state, length-drop, map, Piece, piece_lines, take_all}
 use Rattle.block_leaves.proofs.Changes as changes
-use Rattle.std.proofs.lemmas.List.{length-drop}
 use Rattle.block_leaves.proofs.leaves.Leaves.close_indented.Goals as goal
 
 pub loop-i-preserved : goal.loop-i-preserved

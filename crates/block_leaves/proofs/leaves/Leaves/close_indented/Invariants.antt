@@ -1,5 +1,5 @@
 use Rattle.std.proofs.Common.{◌≡◌, ◌++◌, ◌-◌, take, drop}
-use Rattle.std.specs.Prelude.{map}
+use Rattle.block_leaves.proofs.Prelude.{map}
 use Rattle.block_leaves.proofs.Changes.{blank_row}
 use Rattle.block_leaves.proofs.leaves.Leaves.close_indented.Given as goal
 

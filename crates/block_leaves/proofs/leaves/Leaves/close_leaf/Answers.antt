@@ -1,17 +1,8 @@
 use Rattle.std.proofs.Common.{◌≡◌, ℕ, [], List, Option, sym, ap, ◌∙◌, length}
-use Rattle.std.proofs.lemmas.Result.{on_ok_weaker}
-use Rattle.markdown_options.specs.declared.line_ending.LineEnding.{LineEnding}
-use Rattle.definition_block.specs.CodeFenced.{Fence}
-use Rattle.definition_text.specs.BlockLines.{BlockLine, last_ending, last_ending_or}
-use Rattle.definition_block.specs.Container.{Container}
-use Rattle.definition_block.specs.Tree.{Blocks, join, OpenLeaf, Text, Indented, Fenced, OpenHtml, OpenTable, close_leaf, leaf_text}
-use Rattle.text_pieces.specs.ParagraphLines.{AreLines}
-use Rattle.block_starts.specs.CodeFenced.{fence_view}
-use Rattle.block_starts.specs.HtmlFlow.{number_of}
-use Rattle.block_state.specs.Spine.{Level, spine}
-use Rattle.block_state.specs.Shows.{InText, InIndented, InFenced, InHtml, InTable, state_of}
-use Rattle.block_state.specs.Leaves.{leaf_state}
-use Rattle.block_leaves.specs.View.{AreRead}
+use Rattle.block_leaves.proofs.Prelude.{AreLines, AreRead, BlockLine, Blocks, close_leaf, Container, Fence, fence_view, Fenced, Indented, InFenced, InHtml}
+use Rattle.block_leaves.proofs.Prelude.{InIndented, InTable, InText, join, last_ending, leaf_state, leaf_text, Level, LineEnding, number_of, on_ok_weaker}
+use Rattle.block_leaves.proofs.Prelude.{OpenHtml, OpenLeaf, OpenTable, spine, state_of, Text}
+use Rattle.definition_text.specs.BlockLines.{last_ending_or}
 use Rattle.block_leaves.proofs.leaves.Leaves.close_leaf.Goals as goal
 
 pub returns-in-Text : goal.returns-in-Text

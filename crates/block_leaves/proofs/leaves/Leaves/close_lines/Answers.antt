@@ -1,11 +1,7 @@
 use Rattle.std.proofs.Common.{[], sym, subst}
-use Rattle.std.proofs.lemmas.Result.{on_ok_weaker}
-use Rattle.definition_block.specs.Tree.{Blocks, Text, join, paragraph_of, with_paragraph}
-use Rattle.definition_block.specs.Definitions.{DefinitionCut, definition_cut}
-use Rattle.block_state.specs.Spine.{spine}
-use Rattle.block_leaves.specs.View.{AreRead}
+use Rattle.block_leaves.proofs.Prelude.{AreRead, Blocks, definition_cut, DefinitionCut, join, join-assoc, on_ok_weaker, paragraph_of, spine, Text}
+use Rattle.block_leaves.proofs.Prelude.{with_paragraph}
 use Rattle.block_leaves.proofs.DefinitionLemmas.{cut_clean}
-use Rattle.block_state.proofs.Trees.{join-assoc}
 use Rattle.block_leaves.proofs.leaves.Leaves.close_lines.Goals as goal
 
 pub returns-then-not-may_define : goal.returns-then-not-may_define

@@ -1,18 +1,7 @@
 use Rattle.std.proofs.Common.{◌≡◌, ◌-◌, ◌∷◌, [], List, Option, sym, ap, ◌∙◌, subst, refl, length, drop, arith}
-use Rattle.std.specs.Prelude.{IfSome}
-use Rattle.std.proofs.lemmas.List.{length-map, take_all}
-use Rattle.std.proofs.lemmas.Result.{on_ok_weaker}
-use Rattle.markdown_options.specs.declared.line_ending.LineEnding.{LineEnding}
-use Rattle.definition_text.specs.BlockLines.{BlockLine, last_ending, own_lines}
-use Rattle.definition_block.specs.Container.{Container}
-use Rattle.definition_block.specs.Tree.{Blocks, Leaf, Paragraph, block_and_ending, join, Text, paragraph_of}
-use Rattle.text_pieces.specs.ParagraphLines.{AreLines}
-use Rattle.block_rows.specs.Rows.{Single}
-use Rattle.text_pieces.specs.Pieces.{piece_lines, piece_line, whole_lines}
-use Rattle.block_leaves.specs.declared.leaves.Leaves.{Leaves}
-use Rattle.block_state.specs.Spine.{Level, spine}
-use Rattle.block_leaves.specs.View.{AreRead}
-use Rattle.block_state.proofs.Trees.{join-nil}
+use Rattle.block_leaves.proofs.Prelude.{AreLines, AreRead, block_and_ending, BlockLine, Blocks, Container, IfSome, join, join-nil, last_ending, Leaf, Leaves}
+use Rattle.block_leaves.proofs.Prelude.{length-map, Level, LineEnding, on_ok_weaker, own_lines, Paragraph, paragraph_of, piece_line, piece_lines, Single}
+use Rattle.block_leaves.proofs.Prelude.{spine, take_all, Text, whole_lines}
 use Rattle.block_leaves.proofs.Changes as changes
 use Rattle.block_leaves.proofs.leaves.Leaves.close_paragraph.Goals as goal
 

@@ -1,10 +1,6 @@
 use Rattle.std.proofs.Common.{[], List, sym, ap, ◌∙◌, subst}
-use Rattle.definition_text.specs.BlockLines.{BlockLine}
-use Rattle.definition_block.specs.Tree.{Blocks, Text, close_leaf, join}
-use Rattle.block_state.specs.Spine.{spine}
-use Rattle.block_leaves.specs.View.{AreRead}
+use Rattle.block_leaves.proofs.Prelude.{AreRead, BlockLine, Blocks, close_leaf, join, join-nil, spine, Text}
 use Rattle.block_leaves.proofs.Going.{closed_nothing, no_text}
-use Rattle.block_state.proofs.Trees.{join-nil}
 use Rattle.block_leaves.proofs.leaves.Leaves.close_text.Goals as goal
 
 pub returns-then-not-has_text : goal.returns-then-not-has_text

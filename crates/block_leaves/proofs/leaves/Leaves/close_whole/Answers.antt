@@ -1,11 +1,7 @@
 use Rattle.std.proofs.Common.{◌≡◌, ◌++◌, ◌∷◌, [], None, sym, ap, ◌∙◌, refl, take}
-use Rattle.std.proofs.lemmas.Result.{on_ok_weaker}
-use Rattle.definition_text.specs.BlockLines.{spaced_line, own_lines}
-use Rattle.definition_block.specs.Tree.{Leaf, Paragraph, Text}
-use Rattle.block_rows.specs.Rows.{rows_size, Single}
-use Rattle.text_pieces.specs.Pieces.{whole_lines, piece_lines, piece_line}
+use Rattle.block_leaves.proofs.Prelude.{Leaf, on_ok_weaker, own_lines, Paragraph, piece_line, piece_lines, rows_size, Single, spaced_line, take-map, Text}
+use Rattle.block_leaves.proofs.Prelude.{whole_lines}
 use Rattle.block_leaves.proofs.Changes as changes
-use Rattle.std.proofs.lemmas.List.{take-map}
 use Rattle.block_leaves.proofs.leaves.Leaves.close_whole.Goals as goal
 
 pub returns : goal.returns

@@ -1,11 +1,6 @@
 use Rattle.std.proofs.Common.{◌++◌, ◌∷◌, [], None, true, sym, ap, refl}
-use Rattle.std.proofs.lemmas.Result.{on_ok_weaker}
-use Rattle.definition_text.specs.BlockLines.{spaced_line}
-use Rattle.definition_block.specs.Tree.{Leaf, FencedCode, Fenced, Text}
-use Rattle.block_rows.specs.Rows.{Single}
-use Rattle.text_pieces.specs.Pieces.{piece_lines, whole_lines}
-use Rattle.block_state.specs.Leaves.{leaf_state}
-use Rattle.block_state.specs.Shows.{InText, leaf_lines}
+use Rattle.block_leaves.proofs.Prelude.{Fenced, FencedCode, InText, Leaf, leaf_lines, leaf_state, on_ok_weaker, piece_lines, Single, spaced_line, Text}
+use Rattle.block_leaves.proofs.Prelude.{whole_lines}
 use Rattle.block_leaves.proofs.Changes as changes
 use Rattle.block_leaves.proofs.leaves.Leaves.close_whole_code.Goals as goal
 

@@ -1,16 +1,9 @@
 use Rattle.std.proofs.Common.{◌≡◌, ◌+◌, ℕ, List, None, refl, sym, ap, ◌∙◌, subst, take, drop, length, string_bytes, arith}
-use Rattle.std.proofs.lemmas.List.{drop-drop, length-drop, take_rest}
-use Rattle.definition_text.specs.Content.{content_of, content_text}
-use Rattle.definition_inline.specs.Definition.{definition_at}
-use Rattle.text_pieces.specs.ParagraphLines.{AreLines}
-use Rattle.definition_text.specs.BlockLines.{BlockLine, own_lines}
-use Rattle.definition_block.specs.Tree.{Blocks, Leaf, Definition, Text, join}
-use Rattle.definition_block.specs.Definitions.{DefinitionCut}
-use Rattle.block_state.specs.Spine.{spine}
-use Rattle.block_leaves.specs.View.{AreRead}
+use Rattle.block_leaves.proofs.Prelude.{AreLines, AreRead, BlockLine, Blocks, content_of, content_text, Definition, definition_at, DefinitionCut, drop-drop}
+use Rattle.block_leaves.proofs.Prelude.{join, join-nil, Leaf, length-drop, own_lines, spine, Text}
+use Rattle.std.proofs.lemmas.List.{take_rest}
 use Rattle.block_leaves.proofs.DefinitionLemmas.{Cutting, none_yet, ends_as, row_of_definition, one_more, all_cut}
 use Rattle.block_leaves.proofs.Changes as changes
-use Rattle.block_state.proofs.Trees.{join-nil}
 use Rattle.block_leaves.proofs.leaves.Leaves.cut_definitions.Goals as goal
 
 pub returns-then-not-may_define : goal.returns-then-not-may_define

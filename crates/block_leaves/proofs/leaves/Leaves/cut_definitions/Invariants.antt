@@ -1,10 +1,5 @@
 use Rattle.std.proofs.Common.{◌≤◌, ◌-◌, List, drop, length, string_bytes}
-use Rattle.definition_text.specs.BlockLines.{BlockLine}
-use Rattle.definition_block.specs.Container.{Container}
-use Rattle.definition_block.specs.Tree.{Blocks, Text}
-use Rattle.text_pieces.specs.ParagraphLines.{AreLines}
-use Rattle.block_state.specs.Spine.{Level, spine}
-use Rattle.block_leaves.specs.View.{AreRead}
+use Rattle.block_leaves.proofs.Prelude.{AreLines, AreRead, BlockLine, Blocks, Container, Level, spine, Text}
 use Rattle.block_leaves.proofs.DefinitionLemmas.{Cutting}
 use Rattle.block_leaves.proofs.leaves.Leaves.cut_definitions.Given as goal
 

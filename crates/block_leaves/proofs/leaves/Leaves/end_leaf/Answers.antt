@@ -1,9 +1,5 @@
 use Rattle.std.proofs.Common.{[], sym, ◌∙◌, refl, arith}
-use Rattle.std.proofs.lemmas.List.{length-map, drop_all}
-use Rattle.std.proofs.lemmas.Result.{on_ok_weaker}
-use Rattle.block_rows.specs.Rows.{row_size}
-use Rattle.text_pieces.specs.Pieces.{piece_lines, piece_line}
-use Rattle.block_state.specs.Shows.{leaf_lines}
+use Rattle.block_leaves.proofs.Prelude.{drop_all, leaf_lines, length-map, on_ok_weaker, piece_line, piece_lines, row_size}
 use Rattle.block_leaves.proofs.Changes as changes
 use Rattle.block_leaves.proofs.leaves.Leaves.end_leaf.Goals as goal
 

@@ -1,7 +1,7 @@
 use Rattle.std.proofs.Common.{sym, subst}
 use Rattle.std.specs.Prelude.{OnOk}
 use Rattle.markdown_options.specs.declared.container.Container.{Container}
-use Rattle.block_starts.specs.View.{container_view}
+use Rattle.block_leaves.proofs.Prelude.{container_view}
 use Rattle.block_leaves.specs.View.{Enters}
 use Rattle.block_leaves.proofs.leaves.Leaves.enter.Goals as goal
 

@@ -1,8 +1,5 @@
 use Rattle.std.proofs.Common.{◌++◌, ◌∷◌, [], List, drop, sym, ap}
-use Rattle.definition_block.specs.Container.{Container}
-use Rattle.definition_text.specs.BlockLines.{BlockLine}
-use Rattle.text_pieces.specs.Pieces.{piece_lines}
-use Rattle.block_starts.specs.View.{container_view}
+use Rattle.block_leaves.proofs.Prelude.{BlockLine, Container, container_view, piece_lines}
 use Rattle.block_leaves.proofs.Changes as changes
 use Rattle.block_leaves.proofs.leaves.Leaves.enter_alone.Goals as goal
 

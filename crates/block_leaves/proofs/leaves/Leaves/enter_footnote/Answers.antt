@@ -1,7 +1,5 @@
 use Rattle.std.proofs.Common.{◌≡◌, ◌++◌, ◌∷◌, [], List, None, refl, ap}
-use Rattle.definition_text.specs.BlockLines.{spaced_line}
-use Rattle.definition_block.specs.Container.{Container, Footnote}
-use Rattle.text_pieces.specs.Pieces.{piece_lines}
+use Rattle.block_leaves.proofs.Prelude.{Container, Footnote, piece_lines, spaced_line}
 use Rattle.block_leaves.proofs.Changes as changes
 use Rattle.block_leaves.proofs.leaves.Leaves.enter_footnote.Goals as goal
 

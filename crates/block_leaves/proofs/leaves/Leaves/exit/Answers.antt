@@ -1,7 +1,5 @@
-use Rattle.text_pieces.specs.Pieces.{piece_lines}
-use Rattle.block_starts.specs.View.{container_view}
+use Rattle.block_leaves.proofs.Prelude.{container_view, leaf_lines, piece_lines}
 use Rattle.std.proofs.Common.{refl}
-use Rattle.block_state.specs.Shows.{leaf_lines}
 use Rattle.block_leaves.proofs.Changes as changes
 use Rattle.block_leaves.proofs.leaves.Leaves.exit.Goals as goal
 

@@ -1,19 +1,7 @@
 use Rattle.std.proofs.Common.{◌≡◌, ◌-◌, ◌++◌, ◌∷◌, [], true, sym, ap, ◌∙◌, subst, refl, length, arith}
-use Rattle.std.proofs.lemmas.List.{length-map, take_all}
-use Rattle.std.proofs.lemmas.Result.{on_ok_weaker}
-use Rattle.definition_text.specs.Columns.{Rest}
-use Rattle.definition_block.specs.CodeFenced.{fence_line}
-use Rattle.definition_block.specs.Tree.{Blocks, Leaf, FencedCode, Tree, Fenced, rest_line}
-use Rattle.block_rows.specs.Rows.{Single}
-use Rattle.text_pieces.specs.Pieces.{piece_lines, piece_line}
-use Rattle.text_pieces.proofs.OwnLines.{last_ending_or-more}
-use Rattle.block_starts.specs.View.{rest_of}
-use Rattle.block_starts.specs.CodeFenced.{fence_view}
-use Rattle.block_state.specs.Spine.{spine, spine_after}
-use Rattle.block_state.specs.Shows.{InFenced, leaf_lines, Shows}
-use Rattle.block_state.specs.Leaves.{leaf_state}
-use Rattle.block_leaves.specs.View.{AreRead}
-use Rattle.block_state.proofs.Trees.{join-nil}
+use Rattle.block_leaves.proofs.Prelude.{AreRead, Blocks, fence_line, fence_view, Fenced, FencedCode, InFenced, join-nil, last_ending_or-more, Leaf, leaf_lines}
+use Rattle.block_leaves.proofs.Prelude.{leaf_state, length-map, on_ok_weaker, piece_line, piece_lines, Rest, rest_line, rest_of, Shows, Single, spine}
+use Rattle.block_leaves.proofs.Prelude.{spine_after, take_all, Tree}
 use Rattle.block_leaves.proofs.Changes as changes
 use Rattle.block_leaves.proofs.Going as going
 use Rattle.block_leaves.proofs.leaves.Leaves.fenced_line.Goals as goal

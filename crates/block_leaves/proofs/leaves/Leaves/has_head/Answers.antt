@@ -1,7 +1,5 @@
 use Rattle.std.proofs.Common.{◌≡◌, ap, ◌∙◌, drop, length, arith}
-use Rattle.definition_block.specs.GfmTable.{is_head}
-use Rattle.text_pieces.proofs.Pieces.{lines_from}
-use Rattle.text_pieces.specs.Pieces.{piece_lines}
+use Rattle.block_leaves.proofs.Prelude.{is_head, lines_from, piece_lines}
 use Rattle.block_leaves.proofs.GfmTableLemmas.{fits_some}
 use Rattle.block_leaves.proofs.leaves.Leaves.has_head.Goals as goal
 

@@ -1,6 +1,5 @@
 use Rattle.std.proofs.Common.{sym, ap, ◌∙◌}
-use Rattle.definition_block.specs.Tree.{is_some_line, leaf_text}
-use Rattle.block_state.specs.Leaves.{leaf_state}
+use Rattle.block_leaves.proofs.Prelude.{is_some_line, leaf_state, leaf_text}
 use Rattle.block_definitions.proofs.Cuts.{left_if}
 use Rattle.block_leaves.proofs.Changes.{text_left}
 use Rattle.block_leaves.proofs.leaves.Leaves.has_text.Goals as goal

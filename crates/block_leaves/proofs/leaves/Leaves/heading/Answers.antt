@@ -1,9 +1,6 @@
 use Rattle.std.proofs.Common.{◌++◌, ◌∷◌, [], None, ◌∙◌, refl}
-use Rattle.std.proofs.lemmas.Result.{on_ok_weaker}
+use Rattle.block_leaves.proofs.Prelude.{Heading, Leaf, on_ok_weaker, piece_lines, spaced_line}
 use Rattle.block_rows.specs.declared.row.Row.TheVariants as row
-use Rattle.definition_text.specs.BlockLines.{spaced_line}
-use Rattle.definition_block.specs.Tree.{Leaf, Heading}
-use Rattle.text_pieces.specs.Pieces.{piece_lines}
 use Rattle.block_leaves.proofs.Changes as changes
 use Rattle.block_leaves.proofs.leaves.Leaves.heading.Goals as goal
 

@@ -1,20 +1,9 @@
 use Rattle.std.proofs.Common.{◌≡◌, ◌++◌, ◌∷◌, [], Option, None, sym, ap, ◌∙◌, subst}
-use Rattle.std.proofs.lemmas.Result.{on_ok_weaker}
-use Rattle.markdown_options.specs.declared.line_ending.LineEnding.{LineEnding}
-use Rattle.definition_text.specs.BlockLines.{last_ending, own_lines}
-use Rattle.definition_block.specs.Tree.{Blocks, Leaf, Html, Tree, block_and_ending, join, Text, OpenHtml, rest_line}
-use Rattle.text_pieces.specs.Pieces.{piece_lines}
-use Rattle.text_pieces.proofs.OwnLines.{last_ending_or-more}
-use Rattle.block_starts.specs.View.{rest_of}
-use Rattle.block_starts.specs.HtmlFlow.{number_of}
+use Rattle.block_leaves.proofs.Prelude.{AreRead, block_and_ending, Blocks, cond-false, cond-true, Html, InHtml, join, join-nil, last_ending}
+use Rattle.block_leaves.proofs.Prelude.{last_ending_or-more, Leaf, leaf_state, LineEnding, number_of, on_ok_weaker, OpenHtml, own_lines, piece_lines}
+use Rattle.block_leaves.proofs.Prelude.{rest_line, rest_of, Shows, spine, spine_after, Text, Tree}
 use Rattle.definition_block.specs.HtmlFlow.{html_ends_here}
-use Rattle.block_state.specs.Spine.{spine, spine_after}
-use Rattle.block_state.specs.Shows.{InHtml, Shows}
-use Rattle.block_state.specs.Leaves.{leaf_state}
-use Rattle.block_leaves.specs.View.{AreRead}
-use Rattle.block_state.proofs.Trees.{join-nil}
 use Rattle.block_leaves.proofs.Changes as changes
-use Rattle.std.proofs.lemmas.Bool.{cond-true, cond-false}
 use Rattle.markdown_options.specs.Defaults.{no_constructs}
 use Rattle.block_leaves.proofs.leaves.Leaves.html_with.Goals as goal
 

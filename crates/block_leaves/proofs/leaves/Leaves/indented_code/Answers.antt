@@ -1,15 +1,6 @@
 use Rattle.std.proofs.Common.{◌≡◌, ◌-◌, ◌++◌, ◌∷◌, [], None, sym, ap, ◌∙◌, subst, length, arith}
-use Rattle.std.proofs.lemmas.List.{length-map, length-append, append-nil}
-use Rattle.definition_text.specs.Columns.{Rest}
-use Rattle.definition_text.specs.Indents.{outdent}
-use Rattle.definition_block.specs.Tree.{Blocks, Indented, rest_line}
-use Rattle.text_pieces.specs.Pieces.{piece_lines, piece_line}
-use Rattle.text_pieces.proofs.OwnLines.{last_ending_or-more}
-use Rattle.block_starts.specs.View.{rest_of}
-use Rattle.block_state.specs.Spine.{spine}
-use Rattle.block_state.specs.Shows.{InIndented, Shows}
-use Rattle.block_state.specs.Leaves.{leaf_state}
-use Rattle.block_state.proofs.Trees.{join-nil}
+use Rattle.block_leaves.proofs.Prelude.{append-nil, Blocks, Indented, InIndented, join-nil, last_ending_or-more, leaf_state, length-append, length-map}
+use Rattle.block_leaves.proofs.Prelude.{outdent, piece_line, piece_lines, Rest, rest_line, rest_of, Shows, spine}
 use Rattle.block_leaves.proofs.Changes as changes
 use Rattle.block_leaves.proofs.leaves.Leaves.indented_code.Goals as goal
 

@@ -1,6 +1,5 @@
 use Rattle.std.proofs.Common.{sym, ap, ◌∙◌}
-use Rattle.definition_block.specs.Tree.{At, is_nothing}
-use Rattle.block_state.specs.Leaves.{leaf_state}
+use Rattle.block_leaves.proofs.Prelude.{At, is_nothing, leaf_state}
 use Rattle.block_leaves.proofs.Changes.{nothing_is_open, text_left}
 use Rattle.block_leaves.proofs.leaves.Leaves.is_nothing.Goals as goal
 

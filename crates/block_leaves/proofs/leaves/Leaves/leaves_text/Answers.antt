@@ -1,9 +1,5 @@
 use Rattle.std.proofs.Common.{sym, ap, ◌∙◌, subst, take, drop, length, ◌-◌}
-use Rattle.definition_block.specs.Tree.{Text, is_some_line}
-use Rattle.definition_block.specs.Definitions.{DefinitionCut}
-use Rattle.text_pieces.specs.ParagraphLines.{AreLines}
-use Rattle.definition_text.specs.Content.{content_text}
-use Rattle.block_state.specs.Spine.{spine}
+use Rattle.block_leaves.proofs.Prelude.{AreLines, content_text, DefinitionCut, is_some_line, spine, Text}
 use Rattle.block_leaves.proofs.DefinitionLemmas.{more_left}
 use Rattle.block_leaves.proofs.Changes as changes
 use Rattle.block_leaves.proofs.leaves.Leaves.leaves_text.Goals as goal

@@ -1,9 +1,5 @@
 use Rattle.std.proofs.Common.{List, ap, ◌∙◌, subst}
-use Rattle.definition_text.specs.Content.{content_of}
-use Rattle.definition_inline.specs.Definition.{definition_at}
-use Rattle.text_pieces.specs.ParagraphLines.{AreLines}
-use Rattle.definition_text.specs.BlockLines.{BlockLine, own_lines}
-use Rattle.definition_block.specs.Tree.{Text}
+use Rattle.block_leaves.proofs.Prelude.{AreLines, BlockLine, content_of, definition_at, own_lines, Text}
 use Rattle.block_leaves.proofs.DefinitionLemmas.{cut_not}
 use Rattle.block_leaves.proofs.Changes as changes
 use Rattle.block_leaves.proofs.leaves.Leaves.may_define.Goals as goal

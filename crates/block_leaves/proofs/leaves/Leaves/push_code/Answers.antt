@@ -1,8 +1,5 @@
 use Rattle.std.proofs.Common.{◌++◌, ◌∷◌, [], sym, ap, refl}
-use Rattle.definition_block.specs.Tree.{Fenced}
-use Rattle.text_pieces.specs.Pieces.{piece_line, piece_lines}
-use Rattle.text_pieces.proofs.OwnLines.{last_ending_or-more}
-use Rattle.block_state.specs.Shows.{InFenced}
+use Rattle.block_leaves.proofs.Prelude.{Fenced, InFenced, last_ending_or-more, piece_line, piece_lines}
 use Rattle.block_leaves.proofs.Changes as changes
 use Rattle.block_leaves.proofs.leaves.Leaves.push_code.Goals as goal
 

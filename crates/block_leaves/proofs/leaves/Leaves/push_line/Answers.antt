@@ -1,7 +1,5 @@
 use Rattle.std.proofs.Common.{◌++◌, ◌∷◌, [], refl}
-use Rattle.definition_block.specs.Tree.{Text}
-use Rattle.text_pieces.specs.Pieces.{piece_line, piece_lines}
-use Rattle.block_state.specs.Leaves.{leaf_state}
+use Rattle.block_leaves.proofs.Prelude.{leaf_state, piece_line, piece_lines, Text}
 use Rattle.block_leaves.proofs.Changes as changes
 use Rattle.block_leaves.proofs.leaves.Leaves.push_line.Goals as goal
 

@@ -1,15 +1,7 @@
 use Rattle.std.proofs.Common.{◌≡◌, ◌-◌, ◌∷◌, [], sym, ap, refl, subst, length, arith}
-use Rattle.std.proofs.lemmas.List.{length-map, take_all}
-use Rattle.std.proofs.lemmas.Result.{on_ok_weaker}
-use Rattle.definition_text.specs.BlockLines.{own_lines}
-use Rattle.definition_block.specs.Tree.{Blocks, Leaf, Heading, Text, block_and_ending, join}
-use Rattle.definition_block.specs.Definitions.{definition_cut}
-use Rattle.block_rows.specs.Rows.{Single}
-use Rattle.text_pieces.specs.Pieces.{piece_lines, piece_line}
-use Rattle.block_state.specs.Spine.{spine}
-use Rattle.block_leaves.specs.View.{AreRead}
+use Rattle.block_leaves.proofs.Prelude.{AreRead, block_and_ending, Blocks, definition_cut, Heading, join, join-assoc, Leaf, length-map, on_ok_weaker}
+use Rattle.block_leaves.proofs.Prelude.{own_lines, piece_line, piece_lines, Single, spine, take_all, Text}
 use Rattle.block_leaves.proofs.Changes as changes
-use Rattle.block_state.proofs.Trees.{join-assoc}
 use Rattle.block_leaves.proofs.leaves.Leaves.setext_heading.Goals as goal
 
 pub returns : goal.returns

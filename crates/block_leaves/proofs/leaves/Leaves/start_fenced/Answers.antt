@@ -1,12 +1,5 @@
 use Rattle.std.proofs.Common.{[], None, sym, subst, refl}
-use Rattle.definition_text.specs.BlockLines.{spaced_line}
-use Rattle.definition_block.specs.Tree.{Blocks, Text, Fenced}
-use Rattle.text_pieces.specs.Pieces.{piece_lines}
-use Rattle.block_starts.specs.CodeFenced.{fence_view}
-use Rattle.block_state.specs.Spine.{spine}
-use Rattle.block_state.specs.Shows.{InFenced, Shows}
-use Rattle.block_state.specs.Leaves.{leaf_state}
-use Rattle.block_state.proofs.Trees.{join-nil}
+use Rattle.block_leaves.proofs.Prelude.{Blocks, fence_view, Fenced, InFenced, join-nil, leaf_state, piece_lines, Shows, spaced_line, spine, Text}
 use Rattle.block_leaves.proofs.Changes as changes
 use Rattle.block_leaves.proofs.leaves.Leaves.start_fenced.Goals as goal
 

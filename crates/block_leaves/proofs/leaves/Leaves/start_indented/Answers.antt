@@ -1,13 +1,5 @@
 use Rattle.std.proofs.Common.{◌∷◌, [], sym, ap, ◌∙◌, subst, refl}
-use Rattle.definition_text.specs.Columns.{Rest}
-use Rattle.definition_text.specs.Indents.{outdent}
-use Rattle.definition_block.specs.Tree.{Blocks, Text, Indented, rest_line}
-use Rattle.text_pieces.specs.Pieces.{piece_lines}
-use Rattle.block_starts.specs.View.{rest_of}
-use Rattle.block_state.specs.Spine.{spine}
-use Rattle.block_state.specs.Shows.{InIndented, Shows}
-use Rattle.block_state.specs.Leaves.{leaf_state}
-use Rattle.block_state.proofs.Trees.{join-nil}
+use Rattle.block_leaves.proofs.Prelude.{Blocks, Indented, InIndented, join-nil, leaf_state, outdent, piece_lines, Rest, rest_line, rest_of, Shows, spine, Text}
 use Rattle.block_leaves.proofs.Changes as changes
 use Rattle.block_leaves.proofs.leaves.Leaves.start_indented.Goals as goal
 

@@ -1,11 +1,6 @@
 use Rattle.std.proofs.Common.{◌-◌, ◌++◌, ◌∷◌, [], ◌∙◌, refl, subst, take, drop, length}
-use Rattle.std.proofs.lemmas.Result.{on_ok_weaker}
-use Rattle.definition_block.specs.Definitions.{definition_cut}
-use Rattle.definition_block.specs.Tree.{Blocks, OpenTable, Text, join, paragraph_of, rest_line}
-use Rattle.block_starts.specs.View.{rest_of}
-use Rattle.block_state.specs.Spine.{spine}
-use Rattle.block_leaves.specs.View.{AreRead}
-use Rattle.block_state.proofs.Trees.{join-assoc, join-nil}
+use Rattle.block_leaves.proofs.Prelude.{AreRead, Blocks, definition_cut, join, join-assoc, join-nil, on_ok_weaker, OpenTable, paragraph_of, rest_line, rest_of}
+use Rattle.block_leaves.proofs.Prelude.{spine, Text}
 use Rattle.block_leaves.proofs.leaves.Leaves.start_table.Goals as goal
 
 pub returns : goal.returns

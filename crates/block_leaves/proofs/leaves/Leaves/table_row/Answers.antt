@@ -1,13 +1,6 @@
 use Rattle.std.proofs.Common.{◌≡◌, ◌++◌, ◌∷◌, [], None, sym, ap, subst}
-use Rattle.definition_text.specs.BlockLines.{last_ending}
-use Rattle.definition_block.specs.Tree.{Blocks, OpenTable, rest_line}
-use Rattle.text_pieces.specs.Pieces.{piece_lines}
-use Rattle.text_pieces.proofs.OwnLines.{last_ending_or-more}
-use Rattle.block_starts.specs.View.{rest_of}
-use Rattle.block_state.specs.Spine.{spine}
-use Rattle.block_state.specs.Shows.{InTable, Shows}
-use Rattle.block_state.specs.Leaves.{leaf_state}
-use Rattle.block_state.proofs.Trees.{join-nil}
+use Rattle.block_leaves.proofs.Prelude.{Blocks, InTable, join-nil, last_ending, last_ending_or-more, leaf_state, OpenTable, piece_lines, rest_line, rest_of}
+use Rattle.block_leaves.proofs.Prelude.{Shows, spine}
 use Rattle.block_leaves.proofs.Changes as changes
 use Rattle.block_leaves.proofs.leaves.Leaves.table_row.Goals as goal
 

@@ -1,9 +1,6 @@
 use Rattle.std.proofs.Common.{◌≡◌, ◌++◌, ◌∷◌, [], arith, sym, ap, ◌∙◌, refl, take, drop}
-use Rattle.std.proofs.lemmas.Result.{on_ok_weaker}
+use Rattle.block_leaves.proofs.Prelude.{last_ending, on_ok_weaker, piece_lines, Text}
 use Rattle.block_rows.specs.declared.row.Row.TheVariants as row
-use Rattle.definition_text.specs.BlockLines.{last_ending}
-use Rattle.definition_block.specs.Tree.{Text}
-use Rattle.text_pieces.specs.Pieces.{piece_lines}
 use Rattle.block_leaves.proofs.Changes as changes
 use Rattle.block_leaves.proofs.leaves.Leaves.take_lines.Goals as goal
 

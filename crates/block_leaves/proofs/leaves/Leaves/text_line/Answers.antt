@@ -1,9 +1,5 @@
 use Rattle.std.proofs.Common.{◌++◌, ◌∷◌, [], subst}
-use Rattle.std.proofs.lemmas.Result.{on_ok_weaker}
-use Rattle.definition_text.specs.BlockLines.{BlockLine}
-use Rattle.definition_block.specs.Tree.{Text}
-use Rattle.block_state.specs.Spine.{spine}
-use Rattle.block_leaves.specs.View.{AreRead}
+use Rattle.block_leaves.proofs.Prelude.{AreRead, BlockLine, on_ok_weaker, spine, Text}
 use Rattle.block_leaves.proofs.leaves.Leaves.text_line.Goals as goal
 
 pub returns : goal.returns

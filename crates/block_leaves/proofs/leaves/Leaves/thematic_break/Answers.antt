@@ -1,8 +1,7 @@
 use Rattle.std.proofs.Common.{[], ◌∙◌, refl}
-use Rattle.std.proofs.lemmas.Result.{on_ok_weaker}
+use Rattle.block_leaves.proofs.Prelude.{Leaf, on_ok_weaker, piece_lines}
 use Rattle.block_rows.specs.declared.row.Row.TheVariants as row
-use Rattle.definition_block.specs.Tree.{Leaf, Break}
-use Rattle.text_pieces.specs.Pieces.{piece_lines}
+use Rattle.definition_block.specs.Tree.{Break}
 use Rattle.block_leaves.proofs.Changes as changes
 use Rattle.block_leaves.proofs.leaves.Leaves.thematic_break.Goals as goal
 

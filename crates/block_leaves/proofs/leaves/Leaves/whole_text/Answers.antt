@@ -1,10 +1,6 @@
 use Rattle.std.proofs.Common.{◌≡◌, List, ◌∙◌, ap, drop, subst}
-use Rattle.std.specs.Prelude.{IfNone, IfSome}
-use Rattle.definition_text.specs.BlockLines.{BlockLine}
-use Rattle.text_pieces.specs.ParagraphLines.{AreLines}
-use Rattle.text_pieces.specs.declared.piece.Piece.{Piece}
-use Rattle.text_pieces.specs.Pieces.{piece_lines, whole_lines}
-use Rattle.text_pieces.proofs.Pieces.{lines_from}
+use Rattle.block_leaves.proofs.Prelude.{AreLines, BlockLine, IfSome, lines_from, Piece, piece_lines, whole_lines}
+use Rattle.std.specs.Prelude.{IfNone}
 use Rattle.block_state.specs.WholeLines.{BeginsNot}
 use Rattle.block_leaves.proofs.leaves.Leaves.whole_text.Goals as goal
 

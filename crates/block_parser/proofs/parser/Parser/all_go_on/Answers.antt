@@ -1,8 +1,5 @@
 use Rattle.std.proofs.Common.{◌∙◌, length, sym, subst, arith}
-use Rattle.std.proofs.lemmas.Bool.{eqb-true}
-use Rattle.std.proofs.lemmas.List.{nil_from_length}
-use Rattle.block_starts.specs.View.{container_views, rest_of}
-use Rattle.block_parser.specs.View.{HasRead}
+use Rattle.block_parser.proofs.Prelude.{container_views, eqb-true, HasRead, nil_from_length, rest_of}
 use Rattle.block_parser.proofs.Closing as closing
 use Rattle.block_parser.proofs.Quotes as quotes
 use Rattle.block_parser.proofs.parser.Parser.all_go_on.Goals as goal

@@ -1,24 +1,14 @@
 use Rattle.std.proofs.Common.{◌∷◌, [], None, not, ◌&&◌, sym, ap, ◌∙◌, subst, refl}
-use Rattle.std.proofs.lemmas.Result.{on_ok_weaker}
-use Rattle.definition_text.specs.Indents.{outdent}
-use Rattle.definition_block.specs.CodeIndented.{starts_code_indented}
-use Rattle.definition_text.specs.BlockLines.{spaced_line}
-use Rattle.definition_block.specs.Tree.{Leaf, Heading, Break, Blank, Nil, Tree, tree, nothing, one, block_and_ending, join, Text, Indented, Fenced, At}
-use Rattle.definition_block.specs.Tree.{rest_line, close, html_with, text_here}
-use Rattle.block_starts.specs.View.{rest_of, container_views}
-use Rattle.block_starts.specs.CodeFenced.{fence_view, fence_if}
+use Rattle.block_parser.proofs.Prelude.{AreRead, At, Blank, block_and_ending, Break, close, container_views, definition_cut, fence_view, Fenced, HasRead}
+use Rattle.block_parser.proofs.Prelude.{Heading, heading_blocks, heading_tree, html_start, html_with, Indented, join, Leaf, Nil, nothing, number_of}
+use Rattle.block_parser.proofs.Prelude.{on_ok_weaker, one, outdent, rest_line, rest_of, spaced_line, spine_after, spine_at, starts_code_indented}
+use Rattle.block_parser.proofs.Prelude.{table_from_cut, table_tree, Text, text_here, tree, Tree}
+use Rattle.block_starts.specs.CodeFenced.{fence_if}
 use Rattle.block_starts.specs.HeadingAtx.{atx_if}
-use Rattle.block_starts.specs.HtmlFlow.{number_of, kind_number}
-use Rattle.definition_block.specs.Definitions.{definition_cut}
-use Rattle.block_leaves.specs.HeadingSetext.{heading_blocks, heading_tree}
-use Rattle.block_leaves.specs.GfmTable.{table_from_cut, table_tree}
-use Rattle.block_state.specs.Spine.{spine_at, spine_after}
-use Rattle.block_leaves.specs.View.{AreRead}
-use Rattle.block_parser.specs.View.{HasRead}
+use Rattle.block_starts.specs.HtmlFlow.{kind_number}
 use Rattle.block_parser.proofs.Steps as steps
 use Rattle.block_parser.proofs.Closing as closing
 use Rattle.definition_block.specs.HeadingAtx.{atx as Atx_of}
-use Rattle.definition_block.specs.HtmlFlow.{html_start}
 use Rattle.block_parser.proofs.parser.Parser.any_leaf_line.Goals as goal
 
 pub returns-then-is_blank : goal.returns-then-is_blank

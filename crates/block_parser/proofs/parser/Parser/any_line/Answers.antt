@@ -1,20 +1,9 @@
 use Rattle.std.proofs.Common.{◌≡◌, [], false, ◌==◌, sym, ap, ◌∙◌, subst, length, arith, vec_len}
-use Rattle.std.proofs.lemmas.Result.{on_ok_weaker}
-use Rattle.definition_text.specs.Columns.{Rest}
-use Rattle.text_pieces.specs.ParagraphLines.{AreLines}
-use Rattle.definition_text.specs.Lines.{text_line}
-use Rattle.definition_block.specs.Tree.{beside_line, new, grow, leaf_text}
-use Rattle.block_starts.specs.View.{rest_of, container_views}
-use Rattle.block_starts.specs.CodeFenced.{fence_view}
-use Rattle.block_starts.specs.HtmlFlow.{number_of}
-use Rattle.block_state.specs.Spine.{Spine, spine_after}
-use Rattle.block_state.specs.Leaves.{leaf_state}
-use Rattle.block_leaves.specs.View.{AreRead}
-use Rattle.block_parser.specs.View.{HasRead}
+use Rattle.block_parser.proofs.Prelude.{AreLines, AreRead, beside_line, container_views, eq-eqb, fence_view, grow, HasRead, leaf_state, leaf_text, ne_eqb, new}
+use Rattle.block_parser.proofs.Prelude.{number_of, on_ok_weaker, Rest, rest_of, Spine, spine_after, text_line}
 use Rattle.block_parser.proofs.Closing as closing
 use Rattle.block_parser.proofs.Descending as descending
 use Rattle.block_parser.proofs.Steps.{text_at}
-use Rattle.std.proofs.lemmas.Bool.{eq-eqb, ne_eqb}
 use Rattle.block_parser.proofs.parser.Parser.any_line.Goals as goal
 
 pub returns-then-depth-len : goal.returns-then-depth-len

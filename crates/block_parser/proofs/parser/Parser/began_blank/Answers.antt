@@ -1,14 +1,7 @@
 use Rattle.std.proofs.Common.{◌≡◌, ◌+◌, true, false, ◌&&◌, ◌==◌, sym, ap, ◌∙◌, length, arith}
-use Rattle.definition_block.specs.Tree.{At, Inside}
-use Rattle.definition_block.specs.Tree.{is_nothing}
-use Rattle.text_pieces.specs.Pieces.{piece_lines}
-use Rattle.block_starts.specs.View.{container_views}
-use Rattle.block_state.specs.Spine.{spine_at}
-use Rattle.block_state.specs.Shows.{leaf_lines}
+use Rattle.block_parser.proofs.Prelude.{At, container_views, eq-eqb, Inside, is_nothing, is_one_blank_row, leaf_lines, ne_eqb, piece_lines, spine_at}
 use Rattle.block_parser.proofs.Closing as closing
 use Rattle.block_parser.proofs.Descending as descending
-use Rattle.std.proofs.lemmas.Bool.{eq-eqb, ne_eqb}
-use Rattle.block_state.specs.Waits.{is_one_blank_row}
 use Rattle.block_parser.proofs.parser.Parser.began_blank.Goals as goal
 
 pub returns-then-depth-len : goal.returns-then-depth-len

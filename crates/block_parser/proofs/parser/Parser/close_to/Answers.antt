@@ -1,8 +1,5 @@
 use Rattle.std.proofs.Common.{◌≡◌, ◌-◌, sym, ap, ◌∙◌, subst, refl, length, arith}
-use Rattle.text_pieces.specs.ParagraphLines.{AreLines}
-use Rattle.block_starts.specs.View.{container_views}
-use Rattle.block_state.specs.Spine.{spine_at}
-use Rattle.block_parser.specs.View.{HasRead}
+use Rattle.block_parser.proofs.Prelude.{AreLines, container_views, HasRead, spine_at}
 use Rattle.block_parser.proofs.Closing as closing
 use Rattle.block_parser.proofs.Steps.{text_at}
 use Rattle.std.proofs.Common.{suc, vec_len}

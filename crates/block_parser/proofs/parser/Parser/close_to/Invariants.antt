@@ -1,7 +1,5 @@
 use Rattle.std.proofs.Common.{◌≡◌, ◌-◌, ◌≤◌, [], vec_len}
-use Rattle.definition_block.specs.Tree.{Text}
-use Rattle.block_state.specs.Spine.{Spine}
-use Rattle.block_parser.specs.View.{HasRead}
+use Rattle.block_parser.proofs.Prelude.{HasRead, Spine, Text}
 use Rattle.block_parser.proofs.Closing.{exits}
 use Rattle.block_parser.proofs.parser.Parser.close_to.Given as goal
 

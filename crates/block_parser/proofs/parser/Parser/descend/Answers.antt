@@ -1,10 +1,7 @@
 use Rattle.std.proofs.Common.{◌≡◌, [], refl, ◌<◌, length, vec_len, sym, ap, ◌∙◌, subst, arith}
 use Rattle.markdown_options.specs.declared.beside.Kind.TheVariants.{Whitespace}
-use Rattle.definition_text.specs.Columns.{Rest}
-use Rattle.definition_block.specs.ContainerLine.{container_line}
-use Rattle.definition_block.specs.Tree.{beside_in}
-use Rattle.block_starts.specs.View.{rest_of, line_if, container_view, container_views}
-use Rattle.block_parser.specs.View.{HasRead, Descent}
+use Rattle.block_parser.proofs.Prelude.{beside_in, container_line, container_view, container_views, Descent, HasRead, Rest, rest_of}
+use Rattle.block_starts.specs.View.{line_if}
 use Rattle.block_parser.proofs.Closing as closing
 use Rattle.block_parser.proofs.Descending as descending
 use Rattle.block_parser.proofs.Quotes as quotes

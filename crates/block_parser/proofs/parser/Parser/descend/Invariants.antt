@@ -1,7 +1,4 @@
-use Rattle.definition_block.specs.Tree.{Tree}
-use Rattle.block_starts.specs.View.{rest_of}
-use Rattle.block_state.specs.Spine.{spine_of}
-use Rattle.block_parser.specs.View.{HasRead, Descent}
+use Rattle.block_parser.proofs.Prelude.{Descent, HasRead, rest_of, spine_of, Tree}
 use Rattle.block_parser.proofs.parser.Parser.descend.Given as goal
 
 -- so many containers go on

@@ -1,16 +1,6 @@
 use Rattle.std.proofs.Common.{◌<◌, ◌∷◌, [], ◌++◌, length, sym, ◌∙◌, subst, rules, arith}
-use Rattle.std.specs.Prelude.{map}
-use Rattle.std.specs.Str.{IsUtf8}
-use Rattle.std.proofs.lemmas.Bool.{eqb-false, eqb-true}
-use Rattle.definition_text.specs.Lines.{text_line}
-use Rattle.definition_text.specs.BlockLines.{BlockLine}
-use Rattle.definition_block.specs.Tree.{Fenced, At, tree}
-use Rattle.block_starts.specs.CodeFenced.{fence_view}
-use Rattle.block_starts.specs.View.{container_views}
-use Rattle.block_state.specs.Spine.{spine}
-use Rattle.block_leaves.specs.View.{AreFenced}
-use Rattle.block_parser.specs.Fences.{code_line}
-use Rattle.block_parser.specs.View.{HasRead}
+use Rattle.block_parser.proofs.Prelude.{AreFenced, At, BlockLine, code_line, container_views, eqb-false, eqb-true, fence_view, Fenced, HasRead, IsUtf8, map}
+use Rattle.block_parser.proofs.Prelude.{spine, text_line, tree}
 use Rattle.block_parser.proofs.FencedLines as fenced
 use Rattle.block_parser.proofs.PlainLines.{shorter_after}
 use Rattle.block_parser.proofs.parser.Parser.each_fenced_line.Goals as goal

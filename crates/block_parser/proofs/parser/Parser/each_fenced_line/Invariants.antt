@@ -1,8 +1,7 @@
 use Rattle.std.proofs.Common.{◌≤◌, ◌+◌, length, vec_len}
 use denote.Text.{Utf8}
 use denote.Shadow.{shadow}
-use Rattle.block_starts.specs.CodeFenced.{fence_view}
-use Rattle.block_parser.specs.View.{HasRead}
+use Rattle.block_parser.proofs.Prelude.{fence_view, HasRead}
 use Rattle.block_parser.proofs.FencedLines.{FencedSoFar}
 use Rattle.block_parser.proofs.parser.Parser.each_fenced_line.Given as goal
 

@@ -1,10 +1,5 @@
 use Rattle.std.proofs.Common.{◌∷◌, [], sym, ap, ◌∙◌, subst}
-use Rattle.std.specs.Prelude.{map}
-use Rattle.std.proofs.lemmas.List.{map-append}
-use Rattle.definition_block.specs.Tree.{Nil, Text}
-use Rattle.block_starts.specs.View.{container_view, container_views}
-use Rattle.block_state.specs.Spine.{level, spine}
-use Rattle.block_leaves.specs.View.{AreRead}
+use Rattle.block_parser.proofs.Prelude.{AreRead, container_view, container_views, level, map, map-append, Nil, spine, Text}
 use Rattle.block_parser.proofs.parser.Parser.enter.Goals as goal
 
 pub returns : goal.returns

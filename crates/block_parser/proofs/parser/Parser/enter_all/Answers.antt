@@ -1,8 +1,5 @@
 use Rattle.std.proofs.Common.{◌∷◌, true, false, sym, ap, ◌∙◌, length}
-use Rattle.definition_block.specs.ContainerStart.{container_start}
-use Rattle.definition_block.specs.Tree.{Nil, nothing}
-use Rattle.block_starts.specs.View.{rest_of, container_view, started_if}
-use Rattle.block_state.specs.Spine.{level, spine_after}
+use Rattle.block_parser.proofs.Prelude.{container_start, container_view, level, Nil, nothing, rest_of, spine_after, started_if}
 use Rattle.block_parser.proofs.Starting as starting
 use Rattle.block_parser.proofs.parser.Parser.enter_all.Goals as goal
 

@@ -1,8 +1,6 @@
 use Rattle.std.proofs.Common.{[], List, length}
-use Rattle.definition_block.specs.Tree.{Blocks, Text}
-use Rattle.block_starts.specs.View.{rest_of}
-use Rattle.block_state.specs.Spine.{Level, spine}
-use Rattle.block_parser.specs.View.{HasRead, Inner, new_inside}
+use Rattle.block_parser.proofs.Prelude.{Blocks, HasRead, Level, new_inside, rest_of, spine, Text}
+use Rattle.block_parser.specs.View.{Inner}
 use Rattle.block_parser.proofs.parser.Parser.enter_all.Given as goal
 
 -- what the rest so far makes is what is left to read

@@ -1,10 +1,5 @@
 use Rattle.std.proofs.Common.{◌≡◌, ◌++◌, ◌∷◌, [], List, sym, ap, subst, length, arith}
-use Rattle.std.proofs.lemmas.List.{length-append}
-use Rattle.definition_block.specs.Tree.{Blocks, OpenLeaf}
-use Rattle.block_starts.specs.View.{container_views}
-use Rattle.block_state.specs.Spine.{Level, spine, without_innermost_at}
-use Rattle.block_leaves.specs.View.{AreRead}
-use Rattle.block_parser.specs.View.{HasRead}
+use Rattle.block_parser.proofs.Prelude.{AreRead, Blocks, container_views, HasRead, length-append, Level, OpenLeaf, spine, without_innermost_at}
 use Rattle.block_parser.proofs.Closing as closing
 use Rattle.block_parser.proofs.Quotes as quotes
 use Rattle.block_parser.proofs.parser.Parser.exit.Goals as goal

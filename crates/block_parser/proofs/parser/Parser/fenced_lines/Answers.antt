@@ -1,13 +1,6 @@
 use Rattle.std.proofs.Common.{◌≡◌, [], ◌<◌, List, length, get_or, ℕ, subst, arith}
-use Rattle.std.proofs.lemmas.List.{length-map, nil_from_length}
-use Rattle.definition_text.specs.BlockLines.{BlockLine}
-use Rattle.definition_block.specs.Tree.{Fenced}
-use Rattle.text_pieces.specs.Pieces.{piece_line, piece_lines}
-use Rattle.block_starts.specs.CodeFenced.{fence_view}
-use Rattle.block_state.specs.Shows.{leaf_lines}
-use Rattle.block_state.specs.Spine.{spine}
-use Rattle.block_starts.specs.View.{container_views}
-use Rattle.block_parser.specs.View.{HasRead}
+use Rattle.block_parser.proofs.Prelude.{BlockLine, container_views, fence_view, Fenced, HasRead, leaf_lines, length-map, nil_from_length, piece_lines, spine}
+use Rattle.text_pieces.specs.Pieces.{piece_line}
 use Rattle.block_parser.proofs.FencedLines.{whole_read}
 use Rattle.block_leaves.proofs.Changes as changes
 use Rattle.block_parser.proofs.parser.Parser.fenced_lines.Goals as goal

@@ -1,14 +1,7 @@
 use Rattle.std.proofs.Common.{◌≡◌, true, ◌==◌, sym, ap, ◌∙◌, subst, refl, length, arith, vec_len}
-use Rattle.std.proofs.lemmas.Result.{on_ok_weaker}
-use Rattle.definition_block.specs.Tree.{Tree, OpenHtml, At, new}
-use Rattle.block_starts.specs.View.{rest_of, container_views}
-use Rattle.block_starts.specs.HtmlFlow.{number_of}
-use Rattle.block_state.specs.Spine.{spine_after}
-use Rattle.block_leaves.specs.View.{AreRead}
-use Rattle.block_parser.specs.View.{HasRead}
+use Rattle.block_parser.proofs.Prelude.{AreRead, At, container_views, eq-eqb, HasRead, new, number_of, on_ok_weaker, OpenHtml, rest_of, spine_after, Tree}
 use Rattle.block_leaves.proofs.Going as going
 use Rattle.block_parser.proofs.Closing as closing
-use Rattle.std.proofs.lemmas.Bool.{eq-eqb}
 use Rattle.block_parser.proofs.parser.Parser.html_line.Goals as goal
 
 pub returns-then-html_stops : goal.returns-then-html_stops

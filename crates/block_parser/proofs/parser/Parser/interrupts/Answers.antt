@@ -1,10 +1,7 @@
 use Rattle.std.proofs.Common.{◌≡◌, true, ◌&&◌, ◌==◌, sym, ap, ◌∙◌}
-use Rattle.definition_block.specs.Tree.{has_text}
-use Rattle.block_state.specs.Spine.{spine_at}
-use Rattle.block_starts.specs.View.{container_views}
+use Rattle.block_parser.proofs.Prelude.{container_views, eq-eqb, has_text, spine_at}
 use Rattle.block_parser.proofs.Steps as steps
 use Rattle.std.proofs.Common.{vec_len}
-use Rattle.std.proofs.lemmas.Bool.{eq-eqb}
 use Rattle.block_parser.proofs.parser.Parser.interrupts.Goals as goal
 
 pub returns-then-depth-len : goal.returns-then-depth-len

@@ -1,7 +1,5 @@
 use Rattle.std.proofs.Common.{sym, ap, ◌∙◌, length, arith}
-use Rattle.std.proofs.lemmas.Bool.{ne_eqb}
-use Rattle.block_starts.specs.View.{container_views}
-use Rattle.block_state.specs.Spine.{spine_at}
+use Rattle.block_parser.proofs.Prelude.{container_views, ne_eqb, spine_at}
 use Rattle.block_parser.proofs.Closing as closing
 use Rattle.block_parser.proofs.Descending as descending
 use Rattle.block_parser.proofs.Steps as steps

@@ -1,9 +1,5 @@
 use Rattle.std.proofs.Common.{sym, ◌∙◌, subst}
-use Rattle.std.proofs.lemmas.Result.{on_ok_weaker}
-use Rattle.definition_block.specs.Tree.{Tree}
-use Rattle.block_starts.specs.View.{rest_of}
-use Rattle.block_state.specs.Spine.{spine_after}
-use Rattle.block_parser.specs.View.{HasRead}
+use Rattle.block_parser.proofs.Prelude.{HasRead, on_ok_weaker, rest_of, spine_after, Tree}
 use Rattle.block_parser.proofs.Plain.{plain_leaf}
 use Rattle.block_parser.proofs.parser.Parser.leaf_line.Goals as goal
 

@@ -1,17 +1,7 @@
 use Rattle.std.proofs.Common.{◌≡◌, ℕ, List, ◌∷◌, [], refl, sym, ap, ◌∙◌, subst, rules, arith, vec_len}
-use Rattle.std.proofs.lemmas.Bool.{eqb-true}
-use Rattle.std.proofs.lemmas.Result.{IfOk-weaker}
-use Rattle.markdown_options.specs.declared.configuration.Constructs.{Constructs}
-use Rattle.markdown_options.specs.declared.beside.Kind.{Kind}
+use Rattle.block_parser.proofs.Prelude.{Constructs, container_views, eqb-true, fence_view, HasRead, IfOk-weaker, KeepsLines, Kind, leaf_state, lines, Parser}
+use Rattle.block_parser.proofs.Prelude.{ReadsSome, spine_of, text_line, Tree}
 use Rattle.markdown_options.specs.declared.beside.Kind.TheVariants.{Whitespace}
-use Rattle.definition_text.specs.Lines.{lines, text_line}
-use Rattle.definition_block.specs.Tree.{Tree}
-use Rattle.block_state.specs.Spine.{spine_of}
-use Rattle.block_starts.specs.CodeFenced.{fence_view}
-use Rattle.block_starts.specs.View.{container_views}
-use Rattle.block_state.specs.Leaves.{leaf_state}
-use Rattle.block_parser.specs.declared.parser.Parser.{Parser}
-use Rattle.block_parser.specs.View.{HasRead, KeepsLines, ReadsSome}
 use Rattle.block_parser.proofs.Closing.{views_length}
 use Rattle.block_parser.proofs.Descending.{depth_of}
 use Rattle.block_parser.proofs.FencedLines.{of_fenced}

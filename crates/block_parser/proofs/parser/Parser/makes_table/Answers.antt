@@ -1,13 +1,6 @@
 use Rattle.std.proofs.Common.{◌≡◌, ◌∷◌, None, refl, sym, ap, ◌∙◌}
-use Rattle.std.proofs.lemmas.Result.{IfOk-weaker}
-use Rattle.text_pieces.specs.ParagraphLines.{AreLines}
-use Rattle.definition_block.specs.GfmTable.{delimiter_row}
-use Rattle.definition_block.specs.Tree.{At, Text, open_text, text_here}
-use Rattle.block_starts.specs.View.{rest_of, container_views}
-use Rattle.block_leaves.specs.GfmTable.{fits, table_if, table_tree}
-use Rattle.block_leaves.specs.HeadingSetext.{IsText}
-use Rattle.block_state.specs.Spine.{spine_at}
-use Rattle.block_parser.specs.View.{HasRead}
+use Rattle.block_parser.proofs.Prelude.{AreLines, At, container_views, delimiter_row, fits, HasRead, IfOk-weaker, IsText, open_text, rest_of, spine_at}
+use Rattle.block_parser.proofs.Prelude.{table_if, table_tree, Text, text_here}
 use Rattle.block_parser.proofs.GfmTableLemmas as tables
 use Rattle.block_leaves.proofs.Changes as changes
 use Rattle.block_parser.proofs.Steps as steps

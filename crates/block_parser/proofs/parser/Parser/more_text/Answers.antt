@@ -1,10 +1,5 @@
 use Rattle.std.proofs.Common.{[], sym, ◌∙◌, refl}
-use Rattle.std.proofs.lemmas.Result.{on_ok_weaker}
-use Rattle.definition_block.specs.Tree.{OpenTable, join, close}
-use Rattle.block_starts.specs.View.{rest_of, container_views}
-use Rattle.block_state.specs.Spine.{spine_at}
-use Rattle.block_leaves.specs.View.{AreRead}
-use Rattle.block_parser.specs.View.{HasRead}
+use Rattle.block_parser.proofs.Prelude.{AreRead, close, container_views, HasRead, join, on_ok_weaker, OpenTable, rest_of, spine_at}
 use Rattle.block_parser.proofs.Steps as steps
 use Rattle.block_parser.proofs.parser.Parser.more_text.Goals as goal
 

@@ -1,22 +1,11 @@
 use Rattle.std.proofs.Common.{◌≡◌, ◌<◌, ◌++◌, [], ℕ, List, length, get_or, sym, ap, ◌∙◌, subst, rules, arith}
-use Rattle.std.specs.Prelude.{map, IfSome}
-use Rattle.std.specs.List.{flat_map}
-use Rattle.std.specs.Str.{IsUtf8}
-use Rattle.std.proofs.lemmas.Bool.{eqb-true, eqb-false}
-use Rattle.std.proofs.lemmas.List.{length-append, nil_from_length}
+use Rattle.block_parser.proofs.Prelude.{AreRead, At, beside_line, Blank, close_leaf, container_views, eqb-false, eqb-true, flat_map, grow, HasRead, IsUtf8}
+use Rattle.block_parser.proofs.Prelude.{join, length-append, line_text, map, nil_from_length, no_text, nothing, one, spine, spine_after, Text, text_line, tree}
+use Rattle.block_parser.proofs.Prelude.{whole, whole_line, whole_lines}
+use Rattle.std.specs.Prelude.{IfSome}
 use Rattle.std.proofs.lemmas.Option.{IfSome_then}
-use Rattle.definition_text.specs.Columns.{whole}
 use Rattle.markdown_options.specs.declared.beside.Kind.TheVariants.{Whitespace}
-use Rattle.definition_text.specs.Content.{line_text}
-use Rattle.definition_text.specs.Lines.{text_line}
-use Rattle.definition_block.specs.Tree.{Blank, At, Text, beside_line, close_leaf, grow, join, nothing, one, tree}
-use Rattle.text_pieces.specs.Pieces.{whole_line, whole_lines}
-use Rattle.block_state.specs.Spine.{spine, spine_after}
-use Rattle.block_starts.specs.View.{container_views}
-use Rattle.block_leaves.specs.View.{AreRead}
-use Rattle.block_parser.specs.View.{HasRead}
 use Rattle.block_parser.proofs.Closing as closing
-use Rattle.block_leaves.proofs.Going.{no_text}
 use Rattle.block_parser.proofs.PlainLines.{plain_clean, plain_front, plain_more, plain_none, read_after, shorter_after}
 use Rattle.block_state.proofs.WholeLines.{cut_boundary}
 use Rattle.block_parser.proofs.parser.Parser.plain_lines.Goals as goal

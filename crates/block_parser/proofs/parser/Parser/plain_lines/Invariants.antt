@@ -1,7 +1,7 @@
 use Rattle.std.proofs.Common.{length}
 use denote.Text.{Utf8}
 use denote.Shadow.{shadow}
-use Rattle.block_parser.specs.View.{HasRead}
+use Rattle.block_parser.proofs.Prelude.{HasRead}
 use Rattle.block_parser.proofs.PlainLines.{PlainSoFar}
 use Rattle.block_parser.proofs.parser.Parser.plain_lines.Given as goal
 

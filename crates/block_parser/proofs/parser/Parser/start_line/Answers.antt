@@ -1,15 +1,10 @@
 use Rattle.std.proofs.Common.{◌≡◌, ◌∷◌, ◌==◌, ◌&&◌, sym, ap, ◌∙◌, subst, length, arith}
-use Rattle.std.proofs.lemmas.Result.{on_ok_weaker}
-use Rattle.definition_block.specs.ContainerStart.{container_start}
-use Rattle.definition_block.specs.Tree.{Nil, Tree, tree, nothing, join, Inside, close, beside_in, has_text}
-use Rattle.block_starts.specs.View.{rest_of, container_view, started_if}
+use Rattle.block_parser.proofs.Prelude.{beside_in, close, container_start, container_view, has_text, HasRead, Inside, join, level, new_inside, Nil, nothing}
+use Rattle.block_parser.proofs.Prelude.{on_ok_weaker, rest_of, spine_after, started_if, starts, tree, Tree}
 use Rattle.block_starts.proofs.MarkLemmas.{none_starts}
-use Rattle.block_state.specs.Spine.{level, spine_after}
-use Rattle.block_parser.specs.View.{HasRead, new_inside}
 use Rattle.block_parser.proofs.Closing as closing
 use Rattle.block_parser.proofs.Starting as starting
 use Rattle.std.proofs.Common.{vec_len}
-use Rattle.definition_block.specs.Containers.{starts}
 use Rattle.block_parser.proofs.parser.Parser.start_line.Goals as goal
 
 pub returns-then-not-container_may_start : goal.returns-then-not-container_may_start

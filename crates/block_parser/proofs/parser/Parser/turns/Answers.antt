@@ -1,10 +1,5 @@
 use Rattle.std.proofs.Common.{◌≡◌, ◌∷◌, None, Some, refl, sym, ◌∙◌}
-use Rattle.text_pieces.specs.ParagraphLines.{AreLines}
-use Rattle.definition_block.specs.Tree.{open_text, turns}
-use Rattle.block_starts.specs.View.{rest_of, container_views}
-use Rattle.block_leaves.specs.HeadingSetext.{IsText, heading_tree}
-use Rattle.block_state.specs.Spine.{spine_at}
-use Rattle.block_parser.specs.View.{HasRead}
+use Rattle.block_parser.proofs.Prelude.{AreLines, container_views, HasRead, heading_tree, IsText, open_text, rest_of, spine_at, turns}
 use Rattle.block_parser.proofs.Steps as steps
 use Rattle.block_parser.proofs.Interrupting as interrupting
 use Rattle.block_parser.proofs.parser.Parser.turns.Goals as goal

@@ -1,13 +1,9 @@
 use Rattle.std.proofs.Common.{◌≡◌, ◌++◌, ◌∷◌, [], List, Option, None, Some, refl, sym, ap, ◌∙◌, subst, take}
-use Rattle.std.specs.Prelude.{map}
+use Rattle.block_targets.proofs.Prelude.{alone, BlockLine, Definition, HasContents, map, on_ok_weaker, piece_line, piece_lines, Row, row_definitions}
+use Rattle.block_targets.proofs.Prelude.{row_value}
 use Rattle.std.proofs.lemmas.List.{take-map}
-use Rattle.std.proofs.lemmas.Result.{on_ok_weaker}
-use Rattle.block_rows.specs.declared.row.Row.{Row}
-use Rattle.definition_text.specs.BlockLines.{BlockLine, own_lines}
-use Rattle.definition_inline.specs.Definition.{Definition}
-use Rattle.block_rows.specs.Rows.{Single, definition_on, definition_value, row_definitions, row_value}
-use Rattle.text_pieces.specs.Pieces.{piece_line, piece_lines}
-use Rattle.block_targets.specs.Read.{HasContents, alone}
+use Rattle.definition_text.specs.BlockLines.{own_lines}
+use Rattle.block_rows.specs.Rows.{Single, definition_on, definition_value}
 use Rattle.block_targets.proofs.contents.DefinitionContents.block.Goals as goal
 
 -- a row of a definition stands for one

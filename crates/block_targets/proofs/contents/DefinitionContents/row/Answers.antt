@@ -1,7 +1,5 @@
 use Rattle.std.proofs.Common.{◌++◌, sym, ap, ◌∙◌, subst}
-use Rattle.std.proofs.lemmas.List.{append-nil}
-use Rattle.text_pieces.specs.Pieces.{piece_lines}
-use Rattle.block_targets.specs.Read.{HasContents}
+use Rattle.block_targets.proofs.Prelude.{append-nil, HasContents, piece_lines}
 use Rattle.block_targets.proofs.NoDefinition.{no_lines}
 use Rattle.block_targets.proofs.contents.DefinitionContents.row.Goals as goal
 

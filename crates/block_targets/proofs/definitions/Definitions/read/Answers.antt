@@ -1,12 +1,10 @@
 use Rattle.std.proofs.Common.{◌≡◌, ◌++◌, ◌∷◌, [], sym, ap, ap₂, ◌∙◌, arith, length, subst}
-use Rattle.std.specs.Prelude.{map}
+use Rattle.block_targets.proofs.Prelude.{alone, content_codes, Definition, definition_at, map}
 use Rattle.std.proofs.lemmas.List.{length-map, map-append}
-use Rattle.definition_text.specs.Content.{content_codes}
-use Rattle.definition_inline.specs.Definition.{Definition, definition_at}
 use Rattle.definition_inline.specs.Targets.{labels_of}
 use Rattle.inline_labels.specs.Table.{HasLabels}
 use Rattle.inline_links.specs.View.{link_texts_view}
-use Rattle.block_targets.specs.Read.{alone, leads, read_of}
+use Rattle.block_targets.specs.Read.{leads, read_of}
 use Rattle.block_targets.proofs.definitions.Definitions.read.Goals as goal
 
 pub returns : goal.returns

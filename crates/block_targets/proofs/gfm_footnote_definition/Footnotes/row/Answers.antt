@@ -1,13 +1,10 @@
 use Rattle.std.proofs.Common.{◌≡◌, ◌≤◌, List, [], ◌∷◌, Some, true, sym, ap, ◌∙◌, subst, length, arith}
 use Rattle.std.specs.Prelude.{slice_index_or}
-use Rattle.std.proofs.lemmas.Result.{on_ok_weaker}
-use Rattle.definition_text.specs.Content.{content_codes}
+use Rattle.block_targets.proofs.Prelude.{content_codes, HasLabelsSoFar, is_bare_row, labels_so_far, note_row, on_ok_weaker, piece_lines, Row, row_size}
+use Rattle.block_targets.proofs.Prelude.{row_value}
 use Rattle.text_pieces.specs.declared.piece.Piece.{Piece}
-use Rattle.block_rows.specs.declared.row.Row.{Row}
 use Rattle.block_rows.specs.declared.row.Row.TheVariants as row
-use Rattle.block_rows.specs.Rows.{EnterFootnote, first_codes, row_size, row_value}
-use Rattle.text_pieces.specs.Pieces.{piece_lines}
-use Rattle.block_targets.specs.GfmFootnoteDefinition.{HasLabelsSoFar, is_bare_row, labels_so_far, note_row}
+use Rattle.block_rows.specs.Rows.{EnterFootnote, first_codes}
 use Rattle.block_targets.proofs.Notes.{bare_codes}
 use Rattle.block_targets.proofs.gfm_footnote_definition.Footnotes.row.Goals as goal
 

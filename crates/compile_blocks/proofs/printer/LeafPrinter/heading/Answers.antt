@@ -1,8 +1,5 @@
 use Rattle.std.proofs.Common.{◌≡◌, ◌∙◌, false, subst}
-use Rattle.std.specs.Result.{OnOk}
-use Rattle.definition_page.specs.InlinePieces.{inline_pieces}
-use Rattle.event_meaning.specs.Texts.{inlines_of}
-use Rattle.html_leaves.specs.Prints.{page_view}
+use Rattle.compile_blocks.proofs.Prelude.{inline_pieces, inlines_of, OnOk, page_view}
 use Rattle.compile_blocks.proofs.Laid.{heading_laid}
 use Rattle.compile_blocks.proofs.printer.LeafPrinter.heading.Goals as goal
 

@@ -1,17 +1,8 @@
 use Rattle.std.proofs.Common.{◌≡◌, ◌≤◌, ◌∙◌, ℕ, false, List, length, sym, ap, subst}
-use Rattle.std.specs.Result.{OnOk}
+use Rattle.compile_blocks.proofs.Prelude.{Heading, heading_atx_of, in_bytes, Inlines, inlines_of, layout_after, leaf_block_pieces, OnOk, page_view, PageLeaf}
+use Rattle.compile_blocks.proofs.Prelude.{text_in, text_kids, text_law, text_sound}
 use Rattle.engine_events.specs.declared.event.Name.TheVariants as n
-use Rattle.definition_inline.specs.Inline.{Inlines}
-use Rattle.definition_page.specs.BlockPieces.{leaf_block_pieces}
-use Rattle.definition_page.specs.Page.{Heading, PageLeaf}
-use Rattle.event_meaning.specs.Blocks.{heading_atx_of}
-use Rattle.event_meaning.specs.Children.{text_in}
-use Rattle.event_meaning.specs.Texts.{inlines_of}
-use Rattle.html_bytes.specs.Pieces.{in_bytes}
-use Rattle.html_leaves.specs.Prints.{layout_after, page_view}
-use Rattle.compile_texts.specs.Texts.{text_kids}
 use Rattle.compile_blocks.proofs.Ranks.{size_parts}
-use Rattle.compile_texts.proofs.TextKids.{text_law, text_sound}
 use Rattle.compile_blocks.proofs.printer.LeafPrinter.heading_atx.Goals as goal
 
 pub returns-clause-printed : goal.returns-clause-printed

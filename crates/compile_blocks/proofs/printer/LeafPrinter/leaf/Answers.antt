@@ -1,18 +1,13 @@
 use Rattle.std.proofs.Common.{◌≡◌, ℕ, List, refl, sym, ap, ◌∙◌, subst}
-use Rattle.std.specs.Result.{OnOk}
-use Rattle.markdown_options.specs.declared.line_ending.LineEnding.{LineEnding}
+use Rattle.compile_blocks.proofs.Prelude.{code_fenced_of, ending_of, first_pieces, in_bytes, kind_of, layout_after, leaf_block_pieces, LineEnding}
+use Rattle.compile_blocks.proofs.Prelude.{math_flow_of, one, OnOk, page_view, raw_lines, raw_parts}
 use Rattle.event_grammar.specs.Trees.{Around}
 use Rattle.event_meaning.specs.Children.{text_of}
-use Rattle.event_meaning.specs.Raw.{ending_of, raw_lines, raw_parts}
-use Rattle.definition_page.specs.BlockPieces.{leaf_block_pieces}
 use Rattle.definition_page.specs.Page as page
 use Rattle.definition_page.specs.Page.{Html, IndentedCode}
-use Rattle.compile_levels.specs.Kinds.{kind_of}
 use Rattle.compile_levels.specs.declared.kind.BlockKind.TheVariants as k
-use Rattle.event_meaning.specs.Blocks.{one, code_fenced_of, math_flow_of}
-use Rattle.html_bytes.specs.Pieces.{Piece, in_bytes}
-use Rattle.html_leaves.specs.Prints.{page_view, layout_after}
-use Rattle.compile_blocks.specs.Leaf.{place_of, first_pieces}
+use Rattle.html_bytes.specs.Pieces.{Piece}
+use Rattle.compile_blocks.specs.Leaf.{place_of}
 use Rattle.compile_blocks.proofs.LeafLaw.{leaf_law, nothing_by, ending_law, html_name, atx_name}
 use Rattle.compile_raw.proofs.Sound.{inner_sound}
 use Rattle.compile_raw.specs.Sound.{AreSound}

@@ -1,11 +1,5 @@
 use Rattle.std.proofs.Common.{◌≡◌, ◌∷◌, ◌∙◌, Bool, false, if◌then◌else◌, sym, ap, subst, codes}
-use Rattle.std.specs.Result.{OnOk}
-use Rattle.definition_page.specs.InlinePieces.{element, inline_pieces}
-use Rattle.definition_page.specs.Pieces.{Fresh}
-use Rattle.definition_page.specs.Tags.{bare_tag}
-use Rattle.event_meaning.specs.Texts.{inlines_of}
-use Rattle.html_bytes.specs.Pieces.{in_bytes}
-use Rattle.html_leaves.specs.Prints.{layout_after, page_view}
+use Rattle.compile_blocks.proofs.Prelude.{bare_tag, element, Fresh, in_bytes, inline_pieces, inlines_of, layout_after, OnOk, page_view}
 use Rattle.compile_blocks.proofs.Laid.{paragraph_laid}
 use Rattle.compile_blocks.proofs.printer.LeafPrinter.paragraph.Goals as goal
 

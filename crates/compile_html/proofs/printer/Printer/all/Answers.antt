@@ -1,6 +1,5 @@
 use Rattle.std.proofs.Common.{◌≡◌, ℕ, ◌-◌, List, [], ◌∷◌, length, refl, sym, ap, ◌∙◌, subst, arith}
-use Rattle.engine_events.specs.declared.event.Event.{Event}
-use Rattle.compile_html.specs.Going.{GoesOn}
+use Rattle.compile_html.proofs.Prelude.{Event, GoesOn}
 use Rattle.compile_html.proofs.Going.{at_end}
 use Rattle.compile_html.proofs.Reading.{first_and_rest, none_left}
 use Rattle.compile_html.proofs.printer.Printer.all.Goals as goal

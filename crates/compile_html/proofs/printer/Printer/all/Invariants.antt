@@ -1,11 +1,8 @@
 use Rattle.std.proofs.Common.{◌≡◌, ◌≤◌, List, length}
 use Rattle.definition_inline.specs.Definition.{Definition}
-use Rattle.definition_page.specs.InlinePieces.{Meaning}
-use Rattle.html_bytes.specs.Layout.{LayoutState}
-use Rattle.html_leaves.specs.Prints.{KeepsEnding}
+use Rattle.compile_html.proofs.Prelude.{GoesOn, KeepsEnding, LayoutState, Meaning}
 use Rattle.compile_texts.specs.Meant.{IsMeant}
 use Rattle.compile_rows.specs.Columns.{AreCounted}
-use Rattle.compile_html.specs.Going.{GoesOn}
 use Rattle.compile_html.proofs.printer.Printer.all.Given as goal
 
 -- what is left to print is what is left of the page

@@ -1,10 +1,8 @@
 use Rattle.std.proofs.Common.{sym, subst}
 use Rattle.std.specs.Result.{OnOk}
-use Rattle.html_bytes.specs.Pieces.{in_bytes}
+use Rattle.compile_html.proofs.Prelude.{closing, holder_view, in_bytes}
 use Rattle.html_leaves.specs.Prints.{LaysOut}
-use Rattle.event_meaning.specs.Left.{closing}
 use Rattle.compile_levels.specs.declared.level.Holder.{Holder}
-use Rattle.compile_html.specs.Frames.{holder_view}
 use Rattle.compile_html.proofs.printer.Printer.close.Goals as goal
 
 pub returns-in-Quote-clause-printed : goal.returns-in-Quote-clause-printed

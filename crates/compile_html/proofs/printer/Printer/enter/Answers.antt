@@ -1,13 +1,6 @@
 use Rattle.std.proofs.Common.{◌≡◌, true, false, List, ◌∷◌, ◌++◌, reverse, refl, sym, ap, ◌∙◌}
 use Rattle.engine_events.specs.declared.event.Kind.TheVariants.{Exit}
-use Rattle.compile_raw.proofs.Sound.{first_sound}
-use Rattle.event_grammar.specs.Trees.{Node, Around, events_of}
-use Rattle.compile_levels.specs.Levels.{begins}
-use Rattle.compile_levels.specs.declared.level.Level.{Level}
-use Rattle.event_meaning.specs.Left.{has_begun, left_events}
-use Rattle.event_meaning.proofs.Steps.{with_siblings}
-use Rattle.compile_html.specs.Opened.{Opened, opened}
-use Rattle.compile_html.specs.declared.printer.Printer.{Printer}
+use Rattle.compile_html.proofs.Prelude.{Around, begins, events_of, first_sound, has_begun, left_events, Level, Node, Opened, opened, Printer, with_siblings}
 use Rattle.compile_html.proofs.Frames.{begins_is}
 use Rattle.compile_html.proofs.Going.{entering, after_enter, content_step, pass_step}
 use Rattle.compile_html.proofs.Reading.{rest_after}

@@ -1,19 +1,9 @@
 use Rattle.std.proofs.Common.{◌≡◌, true, not, List, None, ◌∷◌, ◌++◌, sym, ap, ◌∙◌, subst}
-use Rattle.engine_events.specs.declared.event.Event.{Event}
+use Rattle.compile_html.proofs.Prelude.{AreWithin, Around, BlockKind, Event, events_of, first_sound, GoesOn, is_leaf, kind_of, left_events, next_loose, Node}
+use Rattle.compile_html.proofs.Prelude.{opened_of, Printer, with_siblings}
 use Rattle.engine_events.specs.declared.event.Kind.TheVariants.{Exit}
-use Rattle.compile_raw.proofs.Sound.{first_sound}
-use Rattle.compile_blocks.specs.Leaf.{is_leaf}
-use Rattle.event_grammar.specs.Trees.{Node, Around, events_of}
-use Rattle.compile_levels.specs.Kinds.{kind_of}
-use Rattle.compile_levels.specs.declared.kind.BlockKind.{BlockKind}
 use Rattle.compile_levels.specs.declared.level.Holder.TheVariants as holders
-use Rattle.event_meaning.specs.Left.{left_events}
-use Rattle.event_meaning.proofs.Steps.{with_siblings}
-use Rattle.compile_written.specs.Within.{AreWithin}
-use Rattle.compile_html.specs.Going.{GoesOn}
 use Rattle.compile_html.specs.Opened.{within as within_kind}
-use Rattle.compile_html.specs.Views.{opened_of, next_loose}
-use Rattle.compile_html.specs.declared.printer.Printer.{Printer}
 use Rattle.compile_html.proofs.Going.{entering, after_enter}
 use Rattle.compile_html.proofs.Entering.{leaf_kind, quote_enters, footnote_enters, item_enters, unordered_enters, ordered_enters}
 use Rattle.compile_html.proofs.printer.Printer.enter_content.Goals as goal

@@ -1,20 +1,11 @@
 use Rattle.std.proofs.Common.{◌≡◌, ℕ, ◌-◌, ◌^◌, OnOk, List, Some, not, min, drop, ap, ◌∙◌, subst}
-use Rattle.engine_events.specs.declared.event.Event.{Event}
+use Rattle.compile_html.proofs.Prelude.{AreWithin, Event, HaveNumbers, kids_in, list_number, ListOf, Names, next_loose, Nodes, number_of, opened_of, opening}
+use Rattle.compile_html.proofs.Prelude.{Prints, within}
 use Rattle.engine_events.specs.declared.event.Name.TheVariants as n
-use Rattle.definition_block.specs.ListItem.{number_of}
-use Rattle.definition_inline.specs.CharacterReference.{Names}
-use Rattle.event_grammar.specs.Trees.{Nodes}
 use Rattle.compile_levels.specs.declared.kind.BlockKind.TheVariants as kinds
 use Rattle.compile_levels.specs.declared.level.Holder.TheVariants as holders
-use Rattle.event_meaning.specs.Blocks.{list_number}
-use Rattle.event_meaning.specs.Children.{kids_in}
-use Rattle.event_meaning.specs.Left.{ListOf, opening}
 use Rattle.compile_written.specs.Child.{from_child, text_first}
-use Rattle.compile_written.specs.Within.{AreWithin}
 use Rattle.compile_written.proofs.ChildLaw.{kids_within, text_in_is}
-use Rattle.compile_html.specs.Numbers.{HaveNumbers}
-use Rattle.compile_html.specs.Opened.{within}
-use Rattle.compile_html.specs.Views.{opened_of, Prints, next_loose}
 use Rattle.compile_html.proofs.ItemNumbers.{first_fits}
 use Rattle.compile_html.proofs.printer.Printer.enter_ordered_list.Goals as goal
 

@@ -1,13 +1,7 @@
 use Rattle.std.proofs.Common.{◌≡◌, Bool, true, false, not, List, sym, ap, ◌∙◌, subst}
-use Rattle.markdown_options.specs.declared.line_ending.LineEnding.{LineEnding}
-use Rattle.markdown_options.specs.LineEndings.{ending_bytes}
-use Rattle.engine_events.specs.declared.event.Event.{Event}
-use Rattle.definition_page.specs.BlockPieces.{fresh_unless}
-use Rattle.html_bytes.specs.Pieces.{in_bytes}
-use Rattle.html_leaves.specs.Prints.{layout_after, page_view, with_fresh}
+use Rattle.compile_html.proofs.Prelude.{ending_bytes, ends_in, Event, fresh_unless, GoesOn, in_bytes, layout_after, LineEnding, page_view}
+use Rattle.html_leaves.specs.Prints.{with_fresh}
 use Rattle.engine_events.specs.declared.event.Name.TheVariants.{BlankLineEnding}
-use Rattle.event_meaning.specs.Children.{ends_in}
-use Rattle.compile_html.specs.Going.{GoesOn}
 use Rattle.compile_html.proofs.printer.Printer.events.Goals as goal
 
 pub returns-in_ok-fresh-clause-printed : goal.returns-in_ok-fresh-clause-printed

@@ -1,22 +1,9 @@
 use Rattle.std.proofs.Common.{◌≡◌, Bool, true, List, ◌∷◌, ◌++◌, reverse, refl, ap, ◌∙◌, subst}
-use Rattle.engine_events.specs.declared.event.Event.{Event}
+use Rattle.compile_html.proofs.Prelude.{Around, block_of, blocks_from, Event, events_of, first_pieces, first_sound, is_document, is_leaf, LeafPlace}
+use Rattle.compile_html.proofs.Prelude.{left_events, Level, level_document, level_of, level_passed, Node, Opened, opened, passed_events, Printer, Prints}
+use Rattle.compile_html.proofs.Prelude.{Reads, start_of, text_of, with_siblings}
 use Rattle.engine_events.specs.declared.event.Kind.TheVariants.{Exit}
-use Rattle.compile_raw.proofs.Sound.{first_sound}
-use Rattle.compile_blocks.specs.Leaf.{is_leaf, first_pieces}
 use Rattle.compile_raw.specs.Sound.{StandsAt}
-use Rattle.compile_blocks.specs.declared.printer.LeafPlace.{LeafPlace}
-use Rattle.event_grammar.specs.Trees.{Node, Around, events_of}
-use Rattle.compile_levels.specs.Levels.{is_document as level_document, passed as level_passed}
-use Rattle.compile_levels.specs.Siblings.{Reads}
-use Rattle.compile_levels.specs.declared.level.Level.{Level}
-use Rattle.event_meaning.specs.Blocks.{start_of, block_of, blocks_from}
-use Rattle.event_meaning.specs.Children.{text_of}
-use Rattle.event_meaning.specs.Left.{is_document, left_events}
-use Rattle.event_meaning.proofs.Steps.{with_siblings, passed_events}
-use Rattle.compile_html.specs.Frames.{level_of}
-use Rattle.compile_html.specs.Opened.{Opened, opened}
-use Rattle.compile_html.specs.Views.{Prints}
-use Rattle.compile_html.specs.declared.printer.Printer.{Printer}
 use Rattle.compile_html.proofs.Frames.{holder_document}
 use Rattle.compile_html.proofs.Going.{entering, after_enter, leaf_step}
 use Rattle.compile_html.proofs.Reading.{reads_node, rest_after, from_index}

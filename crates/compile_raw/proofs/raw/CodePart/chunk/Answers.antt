@@ -1,9 +1,5 @@
 use Rattle.std.proofs.Common.{◌≡◌, ◌∷◌, ◌++◌, ◌-◌, ℕ, List, [], codes, sym, ap, ◌∙◌}
-use Rattle.std.specs.List.{repeat}
-use Rattle.event_grammar.specs.Points.{bytes_between}
-use Rattle.event_meaning.specs.Children.{columns_after}
-use Rattle.event_meaning.specs.Raw.{Chunk}
-use Rattle.compile_written.specs.Strings.{valid}
+use Rattle.compile_raw.proofs.Prelude.{bytes_between, Chunk, columns_after, repeat, valid}
 use Rattle.compile_raw.proofs.Pieces.{not_cut_spaced, spaced_read, text_read, valid_text}
 use Rattle.compile_raw.proofs.raw.CodePart.chunk.Goals as goal
 

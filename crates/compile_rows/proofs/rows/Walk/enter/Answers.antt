@@ -1,7 +1,5 @@
 use Rattle.std.proofs.Common.{◌∙◌, sym, ap}
-use Rattle.inline_rows.specs.View.{rows_view}
-use Rattle.compile_rows.specs.Rows.{enter_rows}
-use Rattle.compile_written.specs.Strings.{valid}
+use Rattle.compile_rows.proofs.Prelude.{enter_rows, rows_view, valid}
 use Rattle.compile_rows.proofs.Pushed.{along}
 use Rattle.compile_rows.proofs.RowParts.{data_row}
 use Rattle.compile_rows.proofs.rows.Walk.enter.Goals as goal

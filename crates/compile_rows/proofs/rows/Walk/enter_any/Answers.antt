@@ -1,12 +1,5 @@
 use Rattle.std.proofs.Common.{◌≡◌, ◌∙◌, ◌++◌, refl, sym, ap, subst, drop, List}
-use Rattle.std.specs.Prelude.{OnOk}
-use Rattle.engine_events.specs.declared.event.Event.{Event}
-use Rattle.inline_rows.specs.InlineRows.{InlineRow}
-use Rattle.inline_rows.specs.View.{rows_view}
-use Rattle.compile_strings.specs.RawTexts.{sequence_of}
-use Rattle.compile_rows.specs.Rows.{enter_rows}
-use Rattle.compile_strings.specs.Spelled.{first_raw, raws_view}
-use Rattle.compile_rows.specs.declared.rows.Walk.{Walk}
+use Rattle.compile_rows.proofs.Prelude.{enter_rows, Event, first_raw, InlineRow, OnOk, raws_view, rows_view, sequence_of, Walk}
 use Rattle.compile_rows.proofs.Ahead.{enter_left, strings_of, raw_of}
 use Rattle.compile_rows.proofs.rows.Walk.enter_any.Goals as goal
 

@@ -1,7 +1,5 @@
 use Rattle.std.proofs.Common.{◌∙◌, ◌∷◌, [], sym, arith}
-use Rattle.inline_rows.specs.InlineRows.{Leave}
-use Rattle.inline_rows.specs.View.{rows_view}
-use Rattle.compile_rows.specs.Rows.{exit_rows}
+use Rattle.compile_rows.proofs.Prelude.{exit_rows, Leave, rows_view}
 use Rattle.compile_rows.proofs.Pushed.{along}
 use Rattle.compile_rows.proofs.RowParts.{leave_rows}
 use Rattle.compile_rows.proofs.rows.Walk.exit.Goals as goal

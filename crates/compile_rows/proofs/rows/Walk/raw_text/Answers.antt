@@ -1,7 +1,5 @@
 use Rattle.std.proofs.Common.{◌≡◌, ◌∙◌, [], false, sym, ap, Some, None}
-use Rattle.std.specs.Option.{option_map}
-use Rattle.compile_strings.specs.RawTexts.{sequence_of, raw_after}
-use Rattle.compile_strings.specs.Spelled.{raws_view}
+use Rattle.compile_rows.proofs.Prelude.{option_map, raw_after, raws_view, sequence_of}
 use Rattle.compile_rows.proofs.Ahead.{next_is, joined_as, raw_as}
 use Rattle.compile_strings.proofs.WholeLaw.{whole_law}
 use Rattle.compile_rows.proofs.rows.Walk.raw_text.Goals as goal

@@ -1,5 +1,5 @@
 use Rattle.std.proofs.Common.{◌∙◌, ◌≤◌, length, ap, arith}
-use Rattle.event_grammar.specs.Phases.{phase_at}
+use Rattle.compile_strings.proofs.Prelude.{phase_at}
 use Rattle.compile_strings.proofs.ColumnsLaw.{next_phase, end_phase}
 use Rattle.compile_strings.proofs.columns.Columns.reach.Goals as goal
 

@@ -1,10 +1,5 @@
 use Rattle.std.proofs.Common.{◌∙◌, ◌+◌, [], drop, refl, sym, subst, List}
-use Rattle.definition_inline.specs.Targets.{linked_at, leads_to, linked_by}
-use Rattle.compile_strings.specs.Joined.{HaveTargets}
-use Rattle.compile_strings.specs.Spelled.{Spelled}
-use Rattle.compile_strings.specs.declared.label_end.Held.{Held}
-use Rattle.compile_strings.specs.declared.spelled.SpelledStrings.{SpelledStrings}
-use Rattle.compile_strings.specs.LabelEnd.{IsHeld}
+use Rattle.compile_strings.proofs.Prelude.{HaveTargets, Held, IsHeld, leads_to, linked_at, linked_by, Spelled, SpelledStrings}
 use Rattle.compile_strings.proofs.HeldLaw.{exit_open, enter_open, note_open}
 use Rattle.compile_strings.proofs.JoinedLaw.{targets_more, raws_on}
 use Rattle.compile_strings.proofs.PassLaw.{targets_media}

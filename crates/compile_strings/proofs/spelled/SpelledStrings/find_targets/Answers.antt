@@ -1,11 +1,6 @@
 use Rattle.std.proofs.Common.{◌≡◌, ◌∙◌, ◌+◌, ◌-◌, ◌++◌, ℕ, List, drop, length, map, sym, ap, subst, string_bytes, arith}
-use Rattle.std.specs.Prelude.{reverse}
-use Rattle.std.proofs.lemmas.List.{drop_all}
-use Rattle.definition_inline.specs.Targets.{linked_at, leads_to, linked_by}
-use Rattle.compile_strings.specs.Joined.{HaveTargets}
-use Rattle.compile_strings.specs.LabelEnd.{AreHeld}
-use Rattle.compile_strings.specs.Spelled.{Spelled, target_view, targets_by}
-use Rattle.compile_strings.specs.declared.spelled.SpelledTarget.{SpelledTarget}
+use Rattle.compile_strings.proofs.Prelude.{AreHeld, drop_all, HaveTargets, leads_to, linked_at, linked_by, reverse, Spelled, SpelledTarget, target_view}
+use Rattle.compile_strings.proofs.Prelude.{targets_by}
 use Rattle.compile_strings.proofs.HeldLaw.{held_at_end}
 use Rattle.compile_strings.proofs.spelled.SpelledStrings.find_targets.Goals as goal
 

@@ -1,12 +1,6 @@
 use Rattle.std.proofs.Common.{◌≡◌, ◌≤◌, ℕ, List, [], drop, length}
-use Rattle.definition_inline.specs.Definition.{Definition}
-use Rattle.definition_inline.specs.Targets.{labels_of, linked_at, linked_by, leads_to}
-use Rattle.event_grammar.specs.InGrammar.{PlacesFit}
-use Rattle.event_grammar.specs.declared.spot.Spot.{Spot}
+use Rattle.compile_strings.proofs.Prelude.{AreHeld, Definition, HaveRaws, HaveTargets, labels_of, leads_to, linked_at, linked_by, PlacesFit, Spot, targets_by}
 use Rattle.inline_labels.specs.Table.{HasLabels}
-use Rattle.compile_strings.specs.Joined.{HaveRaws, HaveTargets}
-use Rattle.compile_strings.specs.LabelEnd.{AreHeld}
-use Rattle.compile_strings.specs.Spelled.{targets_by}
 use Rattle.compile_strings.proofs.spelled.SpelledStrings.find_targets.Given as goal
 
 -- the last events were read

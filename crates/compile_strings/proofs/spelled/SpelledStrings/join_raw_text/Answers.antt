@@ -1,6 +1,5 @@
 use Rattle.std.proofs.Common.{◌∙◌, false}
-use Rattle.std.proofs.lemmas.Str.{IsUtf8-string_bytes}
-use Rattle.compile_strings.specs.RawTexts.{raw_after}
+use Rattle.compile_strings.proofs.Prelude.{IsUtf8-string_bytes, raw_after}
 use Rattle.compile_strings.proofs.JoinedLaw.{raws_more}
 use Rattle.compile_strings.proofs.spelled.SpelledStrings.join_raw_text.Goals as goal
 

@@ -1,9 +1,5 @@
 use Rattle.std.proofs.Common.{◌∙◌, ◌+◌, ℕ, List, sym, ap, subst, get_or, drop}
-use Rattle.std.proofs.lemmas.List.{take_rest}
-use Rattle.engine_events.specs.declared.event.Event.{Event}
-use Rattle.event_grammar.proofs.Runs.{no_event}
-use Rattle.compile_strings.specs.Joined.{HaveRaws}
-use Rattle.compile_strings.specs.Spelled.{raws_by, raws_next}
+use Rattle.compile_strings.proofs.Prelude.{Event, HaveRaws, no_event, raws_by, raws_next, take_rest}
 use Rattle.compile_strings.proofs.PassLaw.{raws_are}
 use Rattle.compile_strings.proofs.spelled.SpelledStrings.join_raw_texts.Goals as goal
 use Rattle.compile_strings.proofs.spelled.SpelledStrings.join_raw_texts.Goals.{in-Some+in_ok-join_raw_text, in_default}

@@ -1,7 +1,5 @@
 use Rattle.std.proofs.Common.{◌≡◌, ◌≤◌, ◌-◌, ℕ, List, drop, length}
-use Rattle.compile_strings.specs.Columns.{AreCounted}
-use Rattle.compile_strings.specs.Joined.{HaveRaws}
-use Rattle.compile_strings.specs.Spelled.{raws_by}
+use Rattle.compile_strings.proofs.Prelude.{AreCounted, HaveRaws, raws_by}
 use Rattle.compile_strings.proofs.spelled.SpelledStrings.join_raw_texts.Given as goal
 
 -- what was joined, with the raw texts that are left, is all

@@ -1,6 +1,5 @@
 use Rattle.std.proofs.Common.{◌∙◌}
-use Rattle.definition_inline.specs.Targets.{linked_at, leads_to, linked_by}
-use Rattle.compile_strings.specs.Spelled.{targets_by, raws_by}
+use Rattle.compile_strings.proofs.Prelude.{leads_to, linked_at, linked_by, raws_by, targets_by}
 use Rattle.compile_strings.proofs.JoinedLaw.{targets_view_is, raws_view_is, no_raws}
 use Rattle.compile_strings.proofs.spelled.SpelledStrings.read.Goals as goal
 

@@ -1,25 +1,8 @@
 use Rattle.std.proofs.Common.{◌≡◌, ◌∙◌, ℕ, Bool, false, true, List, sym, ap, subst}
-use Rattle.std.specs.List.{fold}
-use Rattle.std.specs.Result.{OnOk}
-use Rattle.engine_events.specs.declared.event.Event.{Event}
-use Rattle.markdown_options.specs.LineEndings.{ending_bytes}
-use Rattle.definition_inline.specs.CharacterReference.{Names}
-use Rattle.definition_inline.specs.Targets.{labels_of, leads_to, linked_at, linked_by}
-use Rattle.definition_page.specs.InlinePieces.{Meaning, inline_counts}
-use Rattle.event_grammar.specs.InGrammar.{PlacesFit}
-use Rattle.event_meaning.specs.Texts.{inlines_of}
-use Rattle.compile_rows.specs.Columns.{AreCounted}
-use Rattle.compile_rows.specs.Texts.{HaveEndings}
-use Rattle.compile_written.specs.Texts.{AreTexts}
-use Rattle.html_bytes.specs.Layout.{lay}
-use Rattle.html_bytes.specs.Pieces.{in_bytes}
-use Rattle.html_footnotes.specs.Output.{output_view}
-use Rattle.html_inline.specs.GfmTable.{parts_in_cell}
-use Rattle.html_inline.specs.Opens.{place_target}
-use Rattle.html_inline.specs.Prints.{meaning_by}
-use Rattle.inline_labels.specs.Table.{HasLabels}
-use Rattle.inline_rows.specs.InlineRows.{inline_rows}
-use Rattle.inline_rows.specs.View.{rows_view}
+use Rattle.compile_texts.proofs.Prelude.{AreCounted, AreTexts, ending_bytes, Event, fold, HasLabels, HaveEndings, in_bytes, inline_rows, inlines_of, labels_of}
+use Rattle.compile_texts.proofs.Prelude.{lay, leads_to, linked_at, linked_by, Meaning, meaning_by, Names, OnOk, output_view, parts_in_cell, place_target}
+use Rattle.compile_texts.proofs.Prelude.{PlacesFit, rows_view}
+use Rattle.definition_page.specs.InlinePieces.{inline_counts}
 use Rattle.compile_texts.proofs.TextLaid.{places_law, meaning_law}
 use Rattle.compile_texts.proofs.text.TextPrinter.count_text.Goals as goal
 

@@ -1,7 +1,6 @@
 use Rattle.std.proofs.Common.{◌≡◌, take}
-use Rattle.std.specs.Prelude.{map}
+use Rattle.compile_written.proofs.Prelude.{map, target_view}
 use Rattle.inline_links.specs.View.{link_texts_view}
-use Rattle.compile_written.specs.Definition.{target_view}
 use Rattle.compile_written.proofs.definition.Definitions.links.Given as goal
 
 -- the links of the targets before

@@ -1,14 +1,10 @@
 use Rattle.std.proofs.Common.{◌≡◌, ◌++◌, ◌∷◌, [], ℕ, List, sym, ap, ap₂, ◌∙◌, arith, length, subst}
-use Rattle.std.specs.Prelude.{map}
-use Rattle.std.proofs.lemmas.List.{length-map, map-append}
-use Rattle.definition_text.specs.Content.{content_codes}
-use Rattle.definition_inline.specs.Definition.{Definition}
+use Rattle.compile_written.proofs.Prelude.{content_codes, Definition, definition_after, Event, HasLabels, label_string, map, map-append, target_view}
+use Rattle.std.proofs.lemmas.List.{length-map}
 use Rattle.definition_inline.specs.Inline.{LinkTexts}
 use Rattle.definition_inline.specs.Targets.{labels_of}
-use Rattle.engine_events.specs.declared.event.Event.{Event}
-use Rattle.inline_labels.specs.Table.{HasLabels}
 use Rattle.event_references.specs.Views.{text_first, text_at}
-use Rattle.compile_written.specs.Definition.{definition_after, label_string, leads, target_view}
+use Rattle.compile_written.specs.Definition.{leads}
 use Rattle.compile_written.proofs.definition.Definitions.read.Goals as goal
 
 pub returns : goal.returns

@@ -1,5 +1,5 @@
 use Rattle.std.proofs.Common.{◌∙◌, ap, sym, refl, subst}
-use Rattle.compile_written.specs.GfmFootnoteDefinition.{Held, HasNotes, notes, begun, label_at}
+use Rattle.compile_written.proofs.Prelude.{begun, HasNotes, Held, label_at, notes}
 use Rattle.compile_written.proofs.FootnoteLoops.{enters}
 use Rattle.compile_written.proofs.gfm_footnote_definition.Walk.enter.Goals as goal
 

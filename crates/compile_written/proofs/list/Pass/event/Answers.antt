@@ -1,9 +1,6 @@
 use Rattle.std.proofs.Common.{◌∙◌, sym, ap}
-use Rattle.engine_events.specs.declared.event.Kind.{Kind}
+use Rattle.compile_written.proofs.Prelude.{Kind, pass_next, pass_view, Spot, spot_of}
 use Rattle.engine_events.specs.declared.event.Kind.TheVariants as kinds
-use Rattle.event_grammar.specs.Checks.{spot_of}
-use Rattle.event_grammar.specs.declared.spot.Spot.{Spot}
-use Rattle.compile_written.specs.List.{pass_next, pass_view}
 use Rattle.compile_written.proofs.list.Pass.event.Goals as goal
 
 pub returns-in_ok-enter-in-Enter : goal.returns-in_ok-enter-in-Enter

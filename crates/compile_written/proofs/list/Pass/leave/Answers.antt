@@ -1,6 +1,5 @@
 use Rattle.std.proofs.Common.{◌∷◌, arith}
-use Rattle.std.specs.Prelude.{reverse}
-use Rattle.compile_written.specs.List.{around}
+use Rattle.compile_written.proofs.Prelude.{around, reverse}
 use Rattle.compile_written.proofs.OpenLevels.{left_level, left_outer}
 use Rattle.compile_written.proofs.list.Pass.leave.Goals as goal
 

@@ -1,5 +1,4 @@
-use Rattle.std.specs.Prelude.{reverse}
-use Rattle.compile_written.specs.List.{around}
+use Rattle.compile_written.proofs.Prelude.{around, reverse}
 use Rattle.compile_written.proofs.list.Pass.others.Goals as goal
 
 pub returns-clause-passed : goal.returns-clause-passed

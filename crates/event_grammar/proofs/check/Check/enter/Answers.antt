@@ -1,5 +1,4 @@
-use Rattle.std.specs.Prelude.{map, reverse}
-use Rattle.event_grammar.specs.CheckViews.{open_view}
+use Rattle.event_grammar.proofs.Prelude.{map, open_view, reverse}
 use Rattle.event_grammar.proofs.Leaves.{stays}
 use Rattle.event_grammar.proofs.check.Check.enter.Goals as goal
 

@@ -1,6 +1,5 @@
 use Rattle.std.proofs.Common.{◌∙◌, refl, sym}
-use Rattle.std.specs.Prelude.{map, reverse}
-use Rattle.event_grammar.specs.CheckViews.{open_view}
+use Rattle.event_grammar.proofs.Prelude.{map, open_view, reverse}
 use Rattle.event_grammar.proofs.Leaves.{stands}
 use Rattle.event_grammar.proofs.check.Check.enter_between.Goals as goal
 

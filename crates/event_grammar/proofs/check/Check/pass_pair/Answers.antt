@@ -1,9 +1,6 @@
 use Rattle.std.proofs.Common.{◌∙◌, sym, ap}
-use Rattle.std.specs.Prelude.{map, reverse}
+use Rattle.event_grammar.proofs.Prelude.{is_not, map, open_view, reverse, taken_view}
 use Rattle.std.specs.Option.{option_map}
-use Rattle.event_grammar.specs.CheckViews.{open_view}
-use Rattle.event_grammar.specs.SlotViews.{taken_view}
-use Rattle.event_grammar.specs.Voids.{is_not}
 use Rattle.event_grammar.proofs.Alone.{alone}
 use Rattle.event_grammar.proofs.NameRules.{void_is}
 use Rattle.event_grammar.proofs.Passes.{passes_taken, passes_between, stands_on}

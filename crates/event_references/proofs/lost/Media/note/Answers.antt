@@ -1,5 +1,5 @@
 use Rattle.std.proofs.Common.{◌∙◌, sym}
-use Rattle.event_references.specs.Views.{text_at, media_view}
+use Rattle.event_references.proofs.Prelude.{media_view, text_at}
 use Rattle.event_references.proofs.Parts.{noted_none}
 use Rattle.event_references.proofs.lost.Media.note.Goals as goal
 

@@ -1,10 +1,9 @@
 use Rattle.std.proofs.Common.{◌≡◌, ◌++◌, ◌==◌, false, length, codes, sym, ap, ◌∙◌, subst, append_assoc}
-use Rattle.std.specs.Result.{OnOk}
+use Rattle.html_blocks.proofs.Prelude.{document_by, OnOk, page_view}
 use Rattle.definition_text.specs.Encode.{encode}
 use Rattle.html_bytes.specs.Document.{info_of}
 use Rattle.html_bytes.specs.Layout.{with_text}
-use Rattle.html_contents.specs.Texts.{document_by}
-use Rattle.html_leaves.specs.Prints.{page_view, with_bytes}
+use Rattle.html_leaves.specs.Prints.{with_bytes}
 use Rattle.html_rows.proofs.CodeFencedLemmas.{class_some}
 use Rattle.html_blocks.proofs.printer.LeafPrinter.class.Goals as goal
 

@@ -1,10 +1,7 @@
 use Rattle.std.proofs.Common.{◌≡◌, ◌∙◌, subst}
-use Rattle.std.specs.Result.{OnOk}
-use Rattle.text_pieces.specs.Pieces.{piece_lines}
-use Rattle.html_leaves.specs.Prints.{page_view}
-use Rattle.html_rows.proofs.CodeFencedLemmas.{closed_laid, open_laid}
+use Rattle.html_blocks.proofs.Prelude.{closed_laid, document_by, OnOk, page_view, piece_lines}
+use Rattle.html_rows.proofs.CodeFencedLemmas.{open_laid}
 use Rattle.html_blocks.proofs.printer.LeafPrinter.fenced_code.Goals as goal
-use Rattle.html_contents.specs.Texts.{document_by}
 
 pub returns-then-closed-clause-printed : goal.returns-then-closed-clause-printed
 returns-then-closed-clause-printed g c = λ ds clear.

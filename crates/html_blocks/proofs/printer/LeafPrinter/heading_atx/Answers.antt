@@ -1,12 +1,5 @@
 use Rattle.std.proofs.Common.{◌≡◌, [], ◌∷◌, subst}
-use Rattle.std.specs.Result.{OnOk}
-use Rattle.markdown_options.specs.LineEndings.{ending_bytes}
-use Rattle.definition_text.specs.BlockLines.{own_lines}
-use Rattle.text_pieces.specs.Pieces.{piece_line}
-use Rattle.html_contents.specs.Texts.{document_by}
-use Rattle.html_footnotes.specs.Output.{output_view}
-use Rattle.html_leaves.specs.Prints.{page_view}
-use Rattle.html_rows.proofs.ParagraphLaid.{heading_laid}
+use Rattle.html_blocks.proofs.Prelude.{document_by, ending_bytes, heading_laid, OnOk, output_view, own_lines, page_view, piece_line}
 use Rattle.html_blocks.proofs.printer.LeafPrinter.heading_atx.Goals as goal
 
 pub returns-clause-printed : goal.returns-clause-printed

@@ -1,12 +1,6 @@
 use Rattle.std.proofs.Common.{◌≡◌, ap, ◌∙◌, subst}
-use Rattle.std.specs.Result.{OnOk}
+use Rattle.html_blocks.proofs.Prelude.{document_by, heading_laid, layout_after, OnOk, own_lines, page_view, piece_lines, text_of}
 use Rattle.markdown_options.specs.declared.line_ending.LineEnding.{LineEnding}
-use Rattle.definition_text.specs.BlockLines.{own_lines}
-use Rattle.text_pieces.specs.Pieces.{piece_lines}
-use Rattle.html_bytes.specs.Document.{text_of}
-use Rattle.html_contents.specs.Texts.{document_by}
-use Rattle.html_leaves.specs.Prints.{layout_after, page_view}
-use Rattle.html_rows.proofs.ParagraphLaid.{heading_laid}
 use Rattle.html_blocks.proofs.printer.LeafPrinter.heading_setext.Goals as goal
 
 pub returns-clause-printed : goal.returns-clause-printed

@@ -1,14 +1,8 @@
 use Rattle.std.proofs.Common.{◌≡◌, ◌∙◌, sym, subst, List}
 use Rattle.std.proofs.lemmas.List.{length-map}
-use Rattle.std.specs.Result.{OnOk}
-use Rattle.markdown_options.specs.LineEndings.{ending_bytes}
+use Rattle.html_blocks.proofs.Prelude.{document_by, ending_bytes, layout_after, OnOk, output_view, own_lines, page_view, piece_line, piece_lines, text_of}
 use Rattle.text_pieces.proofs.Pieces.{no_piece}
-use Rattle.html_bytes.specs.Document.{text_of}
-use Rattle.html_contents.specs.Texts.{document_by}
-use Rattle.definition_text.specs.BlockLines.{BlockLine, own_lines}
-use Rattle.text_pieces.specs.Pieces.{piece_line, piece_lines}
-use Rattle.html_footnotes.specs.Output.{output_view}
-use Rattle.html_leaves.specs.Prints.{layout_after, page_view}
+use Rattle.definition_text.specs.BlockLines.{BlockLine}
 use Rattle.html_looseness.specs.Printable.{AreHeadingLines}
 use Rattle.html_rows.proofs.Lines.{one_line, several_lines}
 use Rattle.html_blocks.proofs.printer.LeafPrinter.heading_text.Goals as goal

@@ -1,7 +1,5 @@
 use Rattle.std.proofs.Common.{◌≡◌, subst}
-use Rattle.std.specs.Result.{OnOk}
-use Rattle.html_contents.specs.Texts.{document_by}
-use Rattle.html_leaves.specs.Prints.{page_view}
+use Rattle.html_blocks.proofs.Prelude.{document_by, OnOk, page_view}
 use Rattle.html_rows.proofs.CodeFencedLemmas.{tags_laid}
 use Rattle.html_blocks.proofs.printer.LeafPrinter.start_code.Goals as goal
 

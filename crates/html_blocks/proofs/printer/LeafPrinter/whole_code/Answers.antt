@@ -1,9 +1,5 @@
 use Rattle.std.proofs.Common.{◌≡◌, true, refl, subst}
-use Rattle.std.specs.Result.{OnOk}
-use Rattle.text_pieces.specs.Pieces.{whole_lines}
-use Rattle.html_contents.specs.Texts.{document_by}
-use Rattle.html_leaves.specs.Prints.{page_view}
-use Rattle.html_rows.proofs.CodeFencedLemmas.{closed_laid}
+use Rattle.html_blocks.proofs.Prelude.{closed_laid, document_by, OnOk, page_view, whole_lines}
 use Rattle.html_blocks.proofs.printer.LeafPrinter.whole_code.Goals as goal
 
 pub returns-clause-printed : goal.returns-clause-printed

@@ -1,15 +1,6 @@
 use Rattle.std.proofs.Common.{◌≡◌, Bool, sym, subst}
-use Rattle.std.specs.Result.{OnOk}
-use Rattle.markdown_options.specs.LineEndings.{ending_bytes}
-use Rattle.definition_block.specs.Tree.{Paragraph}
-use Rattle.definition_text.specs.BlockLines.{own_lines}
-use Rattle.text_pieces.specs.Pieces.{whole_lines}
-use Rattle.html_bytes.specs.Html.{leaf_bytes}
-use Rattle.html_contents.specs.Texts.{document_by}
-use Rattle.html_looseness.specs.Levels.{standing_first}
-use Rattle.html_footnotes.specs.Output.{output_view}
-use Rattle.html_leaves.specs.Prints.{layout_after, page_view}
-use Rattle.html_rows.proofs.ParagraphLaid.{loose_laid}
+use Rattle.html_blocks.proofs.Prelude.{document_by, ending_bytes, layout_after, leaf_bytes, loose_laid, OnOk, output_view, own_lines, page_view, Paragraph}
+use Rattle.html_blocks.proofs.Prelude.{standing_first, whole_lines}
 use Rattle.html_blocks.proofs.printer.LeafPrinter.whole_paragraph.Goals as goal
 
 pub returns-then-tight-clause-printed : goal.returns-then-tight-clause-printed

@@ -1,16 +1,8 @@
 use Rattle.std.proofs.Common.{◌≡◌, subst, ◌∙◌}
-use Rattle.std.specs.List.{fold}
-use Rattle.std.specs.Prelude.{OnOk}
-use Rattle.definition_inline.specs.Scan.{inlines}
-use Rattle.definition_page.specs.GfmTable.{in_cell}
-use Rattle.text_pieces.specs.Pieces.{piece_line}
+use Rattle.html_contents.proofs.Prelude.{context_of, document_by, fold, in_cell, inlines, lay, OnOk, output_view, piece_line, reading_of}
 use Rattle.definition_page.specs.InlinePieces.{inline_counts}
-use Rattle.definition_page.specs.Read.{context_of}
-use Rattle.html_bytes.specs.Document.{reading_of, document_meaning}
-use Rattle.html_bytes.specs.Layout.{lay}
+use Rattle.html_bytes.specs.Document.{document_meaning}
 use Rattle.html_bytes.specs.Pieces.{in_bytes}
-use Rattle.html_footnotes.specs.Output.{output_view}
-use Rattle.html_contents.specs.Texts.{document_by}
 use Rattle.html_contents.proofs.Contents.{line_alone}
 use Rattle.html_contents.proofs.texts.Texts.count_cell.Goals as goal
 

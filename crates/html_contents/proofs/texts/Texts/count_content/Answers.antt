@@ -1,15 +1,8 @@
 use Rattle.std.proofs.Common.{ap, ◌∙◌}
-use Rattle.definition_page.specs.Read.{context_of}
-use Rattle.html_bytes.specs.Document.{document, reading_of}
-use Rattle.definition_inline.specs.Scan.{inlines, inlines_from}
-use Rattle.definition_inline.specs.Targets.{linked_at, linked_by}
-use Rattle.inline_content.specs.View.{content_view}
-use Rattle.html_inline.specs.Opens.{place_target}
+use Rattle.html_contents.proofs.Prelude.{content_view, context_of, document, found_rows, inlines, inlines_from, linked_at, linked_by, place_target, reading_of}
+use Rattle.html_contents.proofs.Prelude.{rows_view, text_tables}
 use Rattle.inline_rows.specs.InlineRows.{inline_rows}
-use Rattle.inline_rows.specs.View.{rows_view}
 use Rattle.definition_inline.specs.Targets.{leads_to}
-use Rattle.definition_page.specs.TextTables.{text_tables}
-use Rattle.inline_parser.specs.Found.{found_rows}
 use Rattle.html_contents.proofs.Places.{same_place, same_rows}
 use Rattle.html_contents.proofs.texts.Texts.count_content.Goals as goal
 

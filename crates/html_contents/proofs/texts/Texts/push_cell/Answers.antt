@@ -1,14 +1,5 @@
 use Rattle.std.proofs.Common.{◌≡◌, subst}
-use Rattle.std.specs.List.{fold}
-use Rattle.std.specs.Prelude.{OnOk}
-use Rattle.definition_inline.specs.Scan.{inlines}
-use Rattle.definition_page.specs.GfmTable.{in_cell}
-use Rattle.text_pieces.specs.Pieces.{piece_line}
-use Rattle.definition_page.specs.Read.{context_of}
-use Rattle.html_bytes.specs.Document.{reading_of, structure_pieces}
-use Rattle.html_bytes.specs.Layout.{lay}
-use Rattle.html_footnotes.specs.Output.{output_view}
-use Rattle.html_contents.specs.Texts.{document_by}
+use Rattle.html_contents.proofs.Prelude.{context_of, document_by, fold, in_cell, inlines, lay, OnOk, output_view, piece_line, reading_of, structure_pieces}
 use Rattle.html_contents.proofs.Contents.{line_alone}
 use Rattle.html_contents.proofs.texts.Texts.push_cell.Goals as goal
 

@@ -1,15 +1,10 @@
 use Rattle.std.proofs.Common.{◌≡◌, OnOk, ap, sym, subst, ◌∙◌, drop}
-use Rattle.std.specs.List.{fold}
+use Rattle.html_contents.proofs.Prelude.{check_size, content_view, context_of, document_by, fold, inlines_from, lay, output_view, reading_of, structure_pieces}
+use Rattle.html_contents.proofs.Prelude.{view_at}
 use Rattle.definition_text.specs.Content.{content_codes}
-use Rattle.definition_inline.specs.GfmTaskListItem.{check_size}
-use Rattle.definition_inline.specs.Scan.{inlines_from, without_indent}
-use Rattle.definition_page.specs.Read.{context_of}
-use Rattle.html_bytes.specs.Document.{reading_of, structure_pieces}
-use Rattle.html_bytes.specs.Layout.{lay, with_text}
-use Rattle.html_footnotes.specs.Output.{output_view}
-use Rattle.html_contents.specs.Texts.{document_by}
+use Rattle.definition_inline.specs.Scan.{without_indent}
+use Rattle.html_bytes.specs.Layout.{with_text}
 use Rattle.html_contents.proofs.Checks.{text_alone, text_checked}
-use Rattle.inline_content.specs.View.{content_view, view_at}
 use Rattle.inline_parser.proofs.Views.{codes_left, view_next, after_next}
 use Rattle.html_contents.proofs.texts.Texts.push_checked.Goals as goal
 

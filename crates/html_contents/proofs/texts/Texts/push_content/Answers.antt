@@ -1,12 +1,5 @@
 use Rattle.std.proofs.Common.{◌≡◌, OnOk, subst}
-use Rattle.std.specs.List.{fold}
-use Rattle.definition_inline.specs.Scan.{inlines_from}
-use Rattle.definition_page.specs.Read.{context_of}
-use Rattle.html_bytes.specs.Document.{reading_of, structure_pieces}
-use Rattle.html_bytes.specs.Layout.{lay}
-use Rattle.html_footnotes.specs.Output.{output_view}
-use Rattle.html_inline.specs.GfmTable.{parts_in_cell}
-use Rattle.html_contents.specs.Texts.{document_by}
+use Rattle.html_contents.proofs.Prelude.{context_of, document_by, fold, inlines_from, lay, output_view, parts_in_cell, reading_of, structure_pieces}
 use Rattle.html_contents.proofs.texts.Texts.push_content.Goals as goal
 
 pub returns : goal.returns

@@ -1,13 +1,6 @@
 use Rattle.std.proofs.Common.{sym, ap, ◌∙◌}
-use Rattle.definition_page.specs.Read.{context_of}
-use Rattle.html_bytes.specs.Document.{document, reading_of}
-use Rattle.definition_inline.specs.Scan.{inlines_from}
-use Rattle.definition_inline.specs.Targets.{linked_at, linked_by}
-use Rattle.definition_page.specs.TextTables.{text_tables}
-use Rattle.inline_content.specs.View.{view_at}
-use Rattle.html_inline.specs.Opens.{place_target}
-use Rattle.inline_parser.specs.Found.{found_rows}
-use Rattle.inline_rows.specs.View.{rows_view}
+use Rattle.html_contents.proofs.Prelude.{context_of, document, found_rows, inlines_from, linked_at, linked_by, place_target, reading_of, rows_view}
+use Rattle.html_contents.proofs.Prelude.{text_tables, view_at}
 use Rattle.html_contents.proofs.Places.{same_place, same_rows}
 use Rattle.html_contents.proofs.texts.Texts.push_from.Goals as goal
 

@@ -1,14 +1,7 @@
 use Rattle.std.proofs.Common.{◌≡◌, OnOk, subst, ◌∙◌}
-use Rattle.std.specs.List.{fold}
-use Rattle.definition_inline.specs.Scan.{inlines}
+use Rattle.html_contents.proofs.Prelude.{content_view, context_of, document_by, fold, inlines, lay, output_view, parts_in_cell, reading_of, structure_pieces}
 use Rattle.definition_inline.specs.Targets.{Targets}
-use Rattle.definition_page.specs.Read.{context_of}
-use Rattle.html_bytes.specs.Document.{reading_of, structure_pieces}
-use Rattle.html_bytes.specs.Layout.{lay}
-use Rattle.html_footnotes.specs.Output.{output_view}
-use Rattle.html_inline.specs.GfmTable.{parts_in_cell}
-use Rattle.inline_content.specs.View.{content_view}
-use Rattle.html_contents.specs.Texts.{KnowsTargets, LaysOut, document_by}
+use Rattle.html_contents.specs.Texts.{KnowsTargets, LaysOut}
 use Rattle.html_contents.proofs.texts.Texts.push_lines.Goals as goal
 
 pub returns-in-Some : goal.returns-in-Some

@@ -1,7 +1,5 @@
 use Rattle.std.proofs.Common.{◌≡◌, ◌+◌, ◌-◌, ◌<◌, List, length, map, ap, ◌∙◌, arith, vec_len}
-use Rattle.std.proofs.lemmas.List.{length-map}
-use Rattle.html_bytes.specs.Layout.{NoteCalls, once_more}
-use Rattle.html_footnotes.specs.Calls.{called_view, number_of, AreNumbers}
+use Rattle.html_footnotes.proofs.Prelude.{AreNumbers, called_view, length-map, NoteCalls, number_of, once_more}
 use Rattle.html_footnotes.proofs.Numbers.{Counted, counted_again, counted_first, found, number_read}
 use Rattle.html_footnotes.proofs.calls.Calls.count.Given.{Over}
 use Rattle.html_footnotes.proofs.calls.Calls.count.Goals as goal

@@ -1,7 +1,5 @@
 use Rattle.std.proofs.Common.{◌≡◌, ◌+◌, ◌-◌, ◌<◌, List, length, map, ap, ◌∙◌, arith}
-use Rattle.std.proofs.lemmas.List.{length-map}
-use Rattle.html_bytes.specs.Layout.{NoteCalls, latest_call}
-use Rattle.html_footnotes.specs.Calls.{called_view, number_of}
+use Rattle.html_footnotes.proofs.Prelude.{called_view, latest_call, length-map, NoteCalls, number_of}
 use Rattle.html_footnotes.proofs.Numbers.{found, number_read, within_table}
 use Rattle.html_footnotes.proofs.Rows.{row_latest}
 use Rattle.html_footnotes.proofs.calls.Calls.latest.Goals as goal

@@ -1,9 +1,7 @@
 use Rattle.std.proofs.Common.{◌≡◌, ◌++◌, ℕ, List, map, reverse, string_bytes, ap, ◌∙◌}
-use Rattle.std.proofs.lemmas.Result.{on_ok_weaker}
-use Rattle.definition_page.specs.GfmLabelStartFootnote.{Call, call_pieces}
-use Rattle.html_bytes.specs.Pieces.{pieces_html}
-use Rattle.html_bytes.specs.Layout.{NoteCalls, LayoutState, layout_state, latest_call}
-use Rattle.html_footnotes.specs.Footnotes.{call_view}
+use Rattle.html_footnotes.proofs.Prelude.{Call, call_view, latest_call, NoteCalls, on_ok_weaker, pieces_html}
+use Rattle.definition_page.specs.GfmLabelStartFootnote.{call_pieces}
+use Rattle.html_bytes.specs.Layout.{LayoutState, layout_state}
 use Rattle.html_footnotes.proofs.output.Output.call.Goals as goal
 
 pub returns : goal.returns

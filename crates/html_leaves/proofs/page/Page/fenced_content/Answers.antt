@@ -1,17 +1,11 @@
 use Rattle.std.proofs.Common.{◌≡◌, ◌||◌, if◌then◌else◌, ◌<◌, ◌-◌, Option, Some, length, sym, ap, ◌∙◌, subst, arith}
 use Rattle.std.specs.List.{slice_get}
-use Rattle.std.specs.Result.{OnOk}
+use Rattle.html_leaves.proofs.Prelude.{code_of, ending_bytes, ending_text, last_ending, LineEnding, OnOk, own_lines, page_view, piece_line, piece_lines}
+use Rattle.html_leaves.proofs.Prelude.{with_bytes, with_fresh}
 use Rattle.std.proofs.lemmas.List.{length-map}
 use Rattle.std.proofs.lemmas.Option.{slice_get_within, get_or_from_slice_get}
-use Rattle.markdown_options.specs.declared.line_ending.LineEnding.{LineEnding}
-use Rattle.markdown_options.specs.LineEndings.{ending_bytes}
 use Rattle.text_pieces.specs.declared.piece.Piece.{Piece}
-use Rattle.definition_text.specs.Lines.{ending_text}
-use Rattle.definition_text.specs.BlockLines.{own_lines, last_ending}
-use Rattle.html_leaves.specs.CodeLines.{code_of}
-use Rattle.text_pieces.specs.Pieces.{piece_line, piece_lines}
 use Rattle.text_pieces.proofs.OwnLines.{last_piece_ending}
-use Rattle.html_leaves.specs.Prints.{page_view, with_bytes, with_fresh}
 use Rattle.html_leaves.proofs.CodeFencedLemmas.{content_ending, content_laid}
 use Rattle.html_leaves.proofs.page.Page.fenced_content.Goals as goal
 use Rattle.html_leaves.proofs.page.Page.fenced_content.Goals.{then-top, else-top, then-whole, else-whole}

@@ -1,11 +1,5 @@
 use Rattle.std.proofs.Common.{◌≡◌, sym, ap, ◌∙◌, subst}
-use Rattle.std.specs.Result.{OnOk}
-use Rattle.markdown_options.specs.declared.configuration.CompileOptions.{CompileOptions}
-use Rattle.markdown_options.specs.LineEndings.{ending_bytes}
-use Rattle.definition_text.specs.BlockLines.{own_lines}
-use Rattle.text_pieces.specs.Pieces.{piece_lines}
-use Rattle.html_leaves.specs.CodeLines.{html_of}
-use Rattle.html_leaves.specs.Prints.{page_view, with_bytes, with_fresh}
+use Rattle.html_leaves.proofs.Prelude.{CompileOptions, ending_bytes, html_of, OnOk, own_lines, page_view, piece_lines, with_bytes, with_fresh}
 use Rattle.html_leaves.proofs.LeafLaid.{html_laid}
 use Rattle.html_leaves.proofs.page.Page.html_block.Goals as goal
 

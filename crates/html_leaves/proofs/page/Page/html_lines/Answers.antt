@@ -1,4 +1,4 @@
-use Rattle.html_footnotes.specs.Output.{output_view}
+use Rattle.html_leaves.proofs.Prelude.{output_view}
 use Rattle.html_leaves.proofs.Laid.{text_laid}
 use Rattle.html_leaves.proofs.page.Page.html_lines.Goals as goal
 

@@ -1,11 +1,5 @@
 use Rattle.std.proofs.Common.{◌≡◌, sym, ap, ◌∙◌, subst, codes}
-use Rattle.std.specs.Result.{OnOk}
-use Rattle.markdown_options.specs.declared.line_ending.LineEnding.{LineEnding}
-use Rattle.markdown_options.specs.LineEndings.{ending_bytes}
-use Rattle.definition_text.specs.BlockLines.{own_lines}
-use Rattle.text_pieces.specs.Pieces.{piece_lines}
-use Rattle.html_leaves.specs.CodeLines.{code_of}
-use Rattle.html_leaves.specs.Prints.{page_view, with_bytes, with_tag}
+use Rattle.html_leaves.proofs.Prelude.{code_of, ending_bytes, LineEnding, OnOk, own_lines, page_view, piece_lines, with_bytes, with_tag}
 use Rattle.html_leaves.proofs.LeafLaid.{indented_laid}
 use Rattle.html_leaves.proofs.page.Page.indented_code.Goals as goal
 

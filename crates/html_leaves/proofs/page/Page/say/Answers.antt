@@ -1,5 +1,5 @@
 use Rattle.std.proofs.Common.{string_bytes}
-use Rattle.html_footnotes.specs.Output.{output_view}
+use Rattle.html_leaves.proofs.Prelude.{output_view}
 use Rattle.html_leaves.proofs.Laid.{pushed}
 use Rattle.html_leaves.proofs.page.Page.say.Goals as goal
 

@@ -1,5 +1,4 @@
-use Rattle.std.specs.Prelude.{[]}
-use Rattle.markdown_options.specs.Defaults.{default_compile_options}
+use Rattle.html_leaves.proofs.Prelude.{[], default_compile_options}
 use Rattle.html_leaves.proofs.page.Page.start_footnote.Goals as goal
 
 -- nothing of it depends on the options, nor on the default ending

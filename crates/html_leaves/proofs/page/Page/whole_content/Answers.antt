@@ -1,9 +1,6 @@
 use Rattle.std.proofs.Common.{◌≡◌, ◌<◌, length, get_or, ℕ, sym, ap, ◌∙◌, subst, arith}
-use Rattle.std.specs.Result.{OnOk}
+use Rattle.html_leaves.proofs.Prelude.{ending_bytes, LineEnding, OnOk, page_view, with_fresh}
 use Rattle.std.proofs.lemmas.Bool.{eqb-false}
-use Rattle.markdown_options.specs.declared.line_ending.LineEnding.{LineEnding}
-use Rattle.markdown_options.specs.LineEndings.{ending_bytes}
-use Rattle.html_leaves.specs.Prints.{page_view, with_fresh}
 use Rattle.html_leaves.proofs.CodeFencedLemmas.{text_content}
 use Rattle.html_leaves.proofs.page.Page.whole_content.Goals as goal
 

@@ -1,11 +1,5 @@
 use Rattle.std.proofs.Common.{◌≡◌, Bool, string_bytes, sym, ap, ◌∙◌, subst}
-use Rattle.std.specs.List.{fold}
-use Rattle.std.specs.Result.{IfOk}
-use Rattle.markdown_options.specs.declared.line_ending.LineEnding.{LineEnding}
-use Rattle.markdown_options.specs.LineEndings.{ending_bytes}
-use Rattle.html_bytes.specs.Html.{last_piece}
-use Rattle.html_bytes.specs.Layout.{LayoutState, with_footnotes, lay}
-use Rattle.html_leaves.specs.Prints.{page_view}
+use Rattle.html_page.proofs.Prelude.{ending_bytes, fold, IfOk, last_piece, lay, LayoutState, LineEnding, page_view, with_footnotes}
 use Rattle.html_blocks.specs.declared.printer.LeafPrinter.{LeafPrinter}
 use Rattle.html_page.proofs.printer.Printer.finish.Goals as goal
 use Rattle.html_page.proofs.printer.Printer.finish.Goals.{then-blank+in_ok-fresh, else-blank}

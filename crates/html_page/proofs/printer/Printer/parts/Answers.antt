@@ -1,18 +1,10 @@
 use Rattle.std.proofs.Common.{◌≡◌, List, [], sym, ap, ◌∙◌, take, drop, arith, length, length-drop, subst, vec_len}
 use Rattle.std.proofs.lemmas.Bool.{eqb-true}
-use Rattle.std.proofs.lemmas.List.{nil_from_length}
+use Rattle.html_page.proofs.Prelude.{ArePrintable, BlockLine, document_by, ending_bytes, LineEnding, nil_from_length, piece_lines, print_all, print_row}
+use Rattle.html_page.proofs.Prelude.{printer_view, PrinterView, Row, row_size, rows_size, rows_value}
 use Rattle.std.proofs.lemmas.List.Sums.{fold-append, sum_by-take-drop}
-use Rattle.markdown_options.specs.declared.line_ending.LineEnding.{LineEnding}
-use Rattle.markdown_options.specs.LineEndings.{ending_bytes}
-use Rattle.block_rows.specs.declared.row.Row.{Row}
 use Rattle.text_pieces.specs.declared.piece.Piece.{Piece}
-use Rattle.definition_text.specs.BlockLines.{BlockLine}
-use Rattle.block_rows.specs.Rows.{BlockRow, rows_value, rows_size, row_size}
-use Rattle.text_pieces.specs.Pieces.{piece_lines}
-use Rattle.html_looseness.specs.Printable.{ArePrintable}
-use Rattle.html_rows.specs.Printing.{PrinterView, print_row, print_all}
-use Rattle.html_page.specs.PrinterView.{printer_view}
-use Rattle.html_contents.specs.Texts.{document_by}
+use Rattle.block_rows.specs.Rows.{BlockRow}
 use Rattle.html_rows.proofs.RowSteps.{shown_from, printable_front, printable_rest}
 use Rattle.html_page.proofs.printer.Printer.parts.Goals as goal
 

@@ -1,12 +1,6 @@
 use Rattle.std.proofs.Common.{◌≡◌, ◌≤◌, vec_len}
-use Rattle.markdown_options.specs.LineEndings.{ending_bytes}
-use Rattle.definition_inline.specs.Targets.{Targets}
-use Rattle.html_contents.specs.Texts.{KnowsTargets, document_by}
-use Rattle.block_rows.specs.Rows.{rows_size, rows_value}
-use Rattle.text_pieces.specs.Pieces.{piece_lines}
-use Rattle.html_looseness.specs.Printable.{ArePrintable}
-use Rattle.html_rows.specs.Printing.{print_all}
-use Rattle.html_page.specs.PrinterView.{printer_view}
+use Rattle.html_page.proofs.Prelude.{ArePrintable, document_by, ending_bytes, KnowsTargets, piece_lines, print_all, printer_view, rows_size, rows_value}
+use Rattle.html_page.proofs.Prelude.{Targets}
 use Rattle.html_page.proofs.printer.Printer.parts.Given as goal
 
 -- what is printed of the rows that are left, after what is printed so far, is what is printed of all

@@ -1,18 +1,11 @@
 use Rattle.std.proofs.Common.{◌≡◌, ◌∙◌, ap, sym, subst}
 use Rattle.std.specs.Prelude.{reverse}
-use Rattle.markdown_options.specs.LineEndings.{ending_bytes}
-use Rattle.html_bytes.specs.Layout.{LayoutState}
-use Rattle.block_rows.specs.declared.row.Row.{Row}
+use Rattle.html_page.proofs.Prelude.{document_by, ending_bytes, LayoutState, page_view, piece_lines, print_row, printer_view, Row, row_value}
 use Rattle.block_rows.specs.declared.row.Row.TheVariants as row
-use Rattle.block_rows.specs.Rows.{row_value}
-use Rattle.text_pieces.specs.Pieces.{piece_lines}
 use Rattle.html_looseness.specs.declared.level.Level.{Level}
 use Rattle.html_looseness.specs.Levels.{level_after}
-use Rattle.html_leaves.specs.Prints.{page_view}
-use Rattle.html_rows.specs.Printing.{printer_at, print_row}
-use Rattle.html_page.specs.PrinterView.{printer_view}
+use Rattle.html_rows.specs.Printing.{printer_at}
 use Rattle.html_page.proofs.printer.Printer.row.Goals as goal
-use Rattle.html_contents.specs.Texts.{document_by}
 
 pub returns-in_ok-line_ending-in-Ending-clause-printed :
     goal.returns-in_ok-line_ending-in-Ending-clause-printed

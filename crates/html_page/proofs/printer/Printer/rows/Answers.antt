@@ -1,16 +1,9 @@
 use Rattle.std.proofs.Common.{◌≡◌, ◌+◌, List, sym, ap, ◌∙◌, take, drop, get_or, arith, length, ◌-◌, subst}
-use Rattle.std.proofs.lemmas.List.{take_rest}
-use Rattle.markdown_options.specs.declared.line_ending.LineEnding.{LineEnding}
-use Rattle.markdown_options.specs.LineEndings.{ending_bytes}
-use Rattle.block_rows.specs.declared.row.Row.{Row}
+use Rattle.html_page.proofs.Prelude.{BlockLine, document_by, ending_bytes, LineEnding, piece_line, piece_lines, print_all, print_row, printer_view}
+use Rattle.html_page.proofs.Prelude.{PrinterView, Row, row_size, row_value, rows_value, take_rest}
 use Rattle.block_rows.specs.declared.row.Row.TheVariants.{Paragraph}
-use Rattle.definition_text.specs.BlockLines.{BlockLine}
-use Rattle.block_rows.specs.Rows.{RowsValue, row_value, rows_value, row_size}
-use Rattle.text_pieces.specs.Pieces.{piece_lines, piece_line}
+use Rattle.block_rows.specs.Rows.{RowsValue}
 use Rattle.html_looseness.specs.Printable.{IsPrintableRow}
-use Rattle.html_rows.specs.Printing.{PrinterView, print_row, print_all}
-use Rattle.html_page.specs.PrinterView.{printer_view}
-use Rattle.html_contents.specs.Texts.{document_by}
 use Rattle.block_rows.proofs.RowSteps.{shown_more, taken_more, left_more}
 use Rattle.html_rows.proofs.RowSteps.{printed_more, printable_at}
 use Rattle.html_page.proofs.printer.Printer.rows.Goals as goal

@@ -1,11 +1,5 @@
 use Rattle.std.proofs.Common.{◌≡◌, ◌+◌, take, drop}
-use Rattle.markdown_options.specs.LineEndings.{ending_bytes}
-use Rattle.definition_inline.specs.Targets.{Targets}
-use Rattle.html_contents.specs.Texts.{KnowsTargets, document_by}
-use Rattle.block_rows.specs.Rows.{rows_size, rows_value}
-use Rattle.text_pieces.specs.Pieces.{piece_lines}
-use Rattle.html_rows.specs.Printing.{print_all}
-use Rattle.html_page.specs.PrinterView.{printer_view}
+use Rattle.html_page.proofs.Prelude.{document_by, ending_bytes, KnowsTargets, piece_lines, print_all, printer_view, rows_size, rows_value, Targets}
 use Rattle.html_page.proofs.printer.Printer.rows.Given as goal
 
 -- the rows so far are printed, and the others take their lines from those that are left

@@ -1,6 +1,5 @@
 use Rattle.std.proofs.Common.{◌≡◌, ◌++◌, ◌∙◌, OnOk, ap, arith, subst, sym, take}
-use Rattle.inline_rows.specs.View.{data_rows, rows_view}
-use Rattle.inline_addresses.specs.Addresses.{run_linked}
+use Rattle.inline_addresses.proofs.Prelude.{data_rows, rows_view, run_linked}
 use Rattle.inline_addresses.proofs.Walks.{inside_run, rows_more}
 use Rattle.inline_addresses.proofs.walk.Walk.end_run.Goals as goal
 

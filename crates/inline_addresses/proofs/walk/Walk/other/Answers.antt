@@ -1,8 +1,6 @@
 use Rattle.std.proofs.Common.{◌+◌, ◌++◌, ◌∷◌, ◌∙◌, [], ap, drop, sym, take}
-use Rattle.std.specs.List.{flat_map}
+use Rattle.inline_addresses.proofs.Prelude.{flat_map, linked_rows, row_depth, row_linked, row_view, rows_view}
 use Rattle.std.proofs.lemmas.List.{drop-drop}
-use Rattle.inline_rows.specs.View.{row_view, rows_view}
-use Rattle.inline_addresses.specs.Addresses.{linked_rows, row_depth, row_linked}
 use Rattle.inline_addresses.proofs.Walks.{other_row}
 use Rattle.inline_addresses.proofs.walk.Walk.other.Goals as goal
 

@@ -1,6 +1,5 @@
 use Rattle.std.proofs.Common.{◌≡◌, ◌++◌, Some, ap, subst, sym, take}
-use Rattle.inline_rows.specs.View.{rows_view}
-use Rattle.inline_addresses.specs.Addresses.{row_text, text_or_end, IsNext}
+use Rattle.inline_addresses.proofs.Prelude.{IsNext, row_text, rows_view, text_or_end}
 use Rattle.inline_addresses.proofs.Walks.{next_taken, text_row}
 use Rattle.inline_addresses.proofs.walk.Walk.step.Goals as goal
 

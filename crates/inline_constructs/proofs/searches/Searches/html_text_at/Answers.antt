@@ -1,5 +1,5 @@
 use Rattle.std.proofs.Common.{◌≡◌, None, sym, subst, arith}
-use Rattle.inline_constructs.specs.HtmlText.{html_after}
+use Rattle.inline_constructs.proofs.Prelude.{html_after}
 use Rattle.inline_constructs.proofs.HtmlTextLemmas.{are_bytes}
 use Rattle.inline_constructs.proofs.Searching.{html_lacks}
 use Rattle.inline_constructs.proofs.searches.Searches.html_text_at.Goals as goal

@@ -1,9 +1,6 @@
 use Rattle.std.proofs.Common.{◌∙◌, sym, ap, subst}
-use Rattle.std.specs.Prelude.{codes}
+use Rattle.inline_constructs.proofs.Prelude.{after_text, begins_with, begins_with_letter, codes, IsRest}
 use Rattle.std.proofs.lemmas.Bool.{leb-true}
-use Rattle.inline_links.specs.Codes.{IsRest}
-use Rattle.definition_text.specs.Bytes.{begins_with, begins_with_letter}
-use Rattle.definition_inline.specs.HtmlText.{after_text}
 use Rattle.inline_constructs.proofs.Searching.{rest_after_text, no_comment_end, no_instruction_end, no_cdata_end, no_declaration_end}
 use Rattle.inline_constructs.proofs.searches.Searches.lacks_end.Goals as goal
 

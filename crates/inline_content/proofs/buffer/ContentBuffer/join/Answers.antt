@@ -1,17 +1,10 @@
 use Rattle.std.proofs.Common.{◌≡◌, ◌++◌, ◌∷◌, [], ◌+◌, Option, sym, ap, ◌∙◌, length, take, get_or, string_bytes, arith}
-use Rattle.std.specs.Prelude.{map}
-use Rattle.std.specs.List.{flat_map}
-use Rattle.std.proofs.lemmas.List.{map_more, take_all, length-append}
-use Rattle.markdown_options.specs.declared.line_ending.LineEnding.{LineEnding}
-use Rattle.definition_text.specs.Lines.{ending_text}
-use Rattle.definition_text.specs.Columns.{code_byte}
-use Rattle.definition_text.specs.BlockLines.{BlockLine, last_ending}
-use Rattle.definition_text.specs.Content.{content_text, line_text}
-use Rattle.text_pieces.specs.Pieces.{piece_line, piece_lines}
+use Rattle.inline_content.proofs.Prelude.{BlockLine, code_byte, codes_with_marks, content_text, ending_text, flat_map, last_ending, length-append, line_text}
+use Rattle.inline_content.proofs.Prelude.{LineEnding, map, mark_of, marks_of, piece_lines}
+use Rattle.std.proofs.lemmas.List.{map_more, take_all}
+use Rattle.text_pieces.specs.Pieces.{piece_line}
 use Rattle.text_pieces.proofs.Pieces.{no_piece}
 use Rattle.text_pieces.proofs.OwnLines.{last_ending_more, lines_more, with_last_ending}
-use Rattle.inline_content.specs.Lines.{mark_of, marks_of}
-use Rattle.inline_content.specs.View.{codes_with_marks}
 use Rattle.inline_content.proofs.Lined.{content_is, content_lines_apart, lines_agree, marks_more}
 use Rattle.inline_content.proofs.buffer.ContentBuffer.join.Goals as goal
 

@@ -1,12 +1,6 @@
 use Rattle.std.proofs.Common.{◌≡◌, ◌≤◌, string_bytes, length, take}
 use Rattle.std.specs.List.{All}
-use Rattle.std.specs.List.Sorted.{IsNonDecreasingBy}
-use Rattle.definition_text.specs.BlockLines.{last_ending}
-use Rattle.text_pieces.specs.Pieces.{piece_lines}
-use Rattle.definition_text.specs.Content.{content_text}
-use Rattle.inline_content.specs.declared.mark.Mark.{Mark}
-use Rattle.inline_content.specs.Lines.{marks_of}
-use Rattle.inline_content.specs.Marks.{mark_place}
+use Rattle.inline_content.proofs.Prelude.{content_text, IsNonDecreasingBy, last_ending, Mark, mark_place, marks_of, piece_lines}
 use Rattle.inline_content.proofs.buffer.ContentBuffer.join.Given as goal
 
 -- the lines so far are there and marked, and the ending of the last one waits

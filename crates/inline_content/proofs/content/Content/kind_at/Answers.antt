@@ -1,7 +1,7 @@
 use Rattle.std.proofs.Common.{rules, of_calls, nat_lt, arith}
 use Rattle.std.proofs.lemmas.Fn.{always_returns_same}
 use Rattle.markdown_options.specs.declared.beside.Kind.TheVariants.{Whitespace}
-use Rattle.inline_content.specs.declared.mark.Mark.{Mark}
+use Rattle.inline_content.proofs.Prelude.{Mark}
 use Rattle.inline_content.proofs.Marked.{parted, kind_found, kind_missing}
 use Rattle.inline_content.proofs.content.Content.kind_at.Goals.{else-found-self-via-then-found-self+else-self-found, else-found-self-via-else-found-self}
 use Rattle.inline_content.proofs.content.Content.kind_at.Goals as goal

@@ -1,7 +1,6 @@
 use Rattle.std.proofs.Common.{◌≡◌, ℕ, ◌<◌, ◌-◌, eqb, get_or, take, false, inl, inr, sym, ap, ◌∙◌, arith, subst}
-use Rattle.std.proofs.lemmas.Bool.{or_from, ne_eqb}
+use Rattle.inline_content.proofs.Prelude.{ends_line, ne_eqb, or_from}
 use Rattle.std.proofs.lemmas.List.{length-take-le}
-use Rattle.definition_text.specs.Lines.{ends_line}
 use Rattle.inline_content.proofs.Places.{place_ending, place_character}
 use Rattle.inline_content.proofs.content.Content.kind_before.Goals.{then-character-eq10-via-then-character-eq10}
 use Rattle.inline_content.proofs.content.Content.kind_before.Goals.{then-character-eq10-via-else-character-eq10+then-character-eq13}

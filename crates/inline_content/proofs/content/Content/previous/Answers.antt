@@ -1,5 +1,5 @@
 use Rattle.std.proofs.Common.{◌-◌, Some, get_or, length, sym, ap, ◌∙◌, subst, arith, inl, inr}
-use Rattle.std.specs.Str.{IsUtf8}
+use Rattle.inline_content.proofs.Prelude.{IsUtf8}
 use Rattle.inline_content.proofs.Utf8Bytes.{utf8_bytes}
 use Rattle.inline_content.proofs.PreviousCodes.{none_after, some_after}
 use Rattle.inline_content.proofs.content.Content.previous.Goals as goal

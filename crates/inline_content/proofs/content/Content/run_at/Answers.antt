@@ -1,11 +1,6 @@
 use Rattle.std.proofs.Common.{◌≡◌, ℕ, ◌<◌, ◌==◌, true, false, Some, List, [], ◌∷◌, get_or, length, drop, sym, ap, ◌∙◌, subst, arith}
-use Rattle.std.specs.List.{prefix_len}
-use Rattle.std.specs.Str.{IsUtf8}
-use Rattle.std.proofs.lemmas.Bool.{eqb-true, true≢false}
-use Rattle.definition_text.specs.Content.{content_codes}
-use Rattle.definition_text.specs.InlineCode.{first_kind}
-use Rattle.definition_inline.specs.Attention.{Run, is_marker, run_between}
-use Rattle.inline_content.specs.View.{line_rest}
+use Rattle.inline_content.proofs.Prelude.{content_codes, eqb-true, first_kind, is_marker, IsUtf8, line_rest, prefix_len, run_between, true≢false}
+use Rattle.definition_inline.specs.Attention.{Run}
 use Rattle.inline_content.proofs.Runs.{no_run, a_run, run_boundary}
 use Rattle.inline_content.proofs.content.Content.run_at.Goals.{then-is_empty-via-then-is_empty, then-is_empty-via-else-is_empty+then-not-is_marker}
 use Rattle.inline_content.proofs.content.Content.run_at.Goals as goal

@@ -1,18 +1,9 @@
 use Rattle.std.proofs.Common.{Option, Some, eqb, sym, ap, ◌∙◌, subst, take, drop, get_or}
-use Rattle.std.proofs.lemmas.Bool.{and_parts, eqb-true}
-use Rattle.definition_text.specs.Content.{content_codes}
+use Rattle.inline_parser.proofs.Prelude.{and_parts, content_codes, context_by, ended_here, eqb-true, formed_in, IsAfterEnd, IsFormed, IsPlace, LabelForm}
+use Rattle.inline_parser.proofs.Prelude.{labels_of, leads_to, linked_at, linked_by, read_tokens, size_before, text_items, unformed_in, view_at}
 use Rattle.definition_inline.specs.LabelEnd.{Leads, Calls}
-use Rattle.inline_label_ends.specs.declared.gfm_label_start_footnote.LabelForm.{LabelForm}
 use Rattle.definition_inline.specs.Scan as scan
-use Rattle.definition_inline.specs.Scan.{read_tokens}
-use Rattle.definition_inline.specs.Targets.{leads_to}
-use Rattle.definition_inline.specs.Targets.{linked_at, linked_by, labels_of}
-use Rattle.inline_content.specs.View.{view_at}
-use Rattle.inline_leaves.specs.Leaves.{text_items, size_before}
-use Rattle.inline_parser.specs.Scanned.{context_by, IsPlace}
-use Rattle.inline_reading.specs.Shows.{ended_here}
-use Rattle.inline_reading.specs.Shows.{formed_in, unformed_in, StartsBefore}
-use Rattle.inline_label_ends.specs.Ends.{IsFormed, IsAfterEnd}
+use Rattle.inline_reading.specs.Shows.{StartsBefore}
 use Rattle.inline_label_ends.proofs.Leading.{target_leads}
 use Rattle.inline_parser.proofs.Placed as placed
 use Rattle.inline_parser.proofs.Follow as follow

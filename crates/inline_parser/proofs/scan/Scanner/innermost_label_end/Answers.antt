@@ -1,15 +1,8 @@
 use Rattle.std.proofs.Common.{◌≡◌, ◌-◌, ap, ap₂, subst, sym, ◌∙◌, length, drop, List, Option, None, Some}
 use Rattle.std.specs.Prelude.{IfOk}
 use Rattle.std.specs.List.{slice_get}
-use Rattle.definition_text.specs.Content.{text_before, content_codes}
-use Rattle.definition_inline.specs.LabelEnd.{LinkOrCall}
-use Rattle.definition_inline.specs.Scan.{formed_at}
-use Rattle.definition_inline.specs.Targets.{labels_of}
-use Rattle.inline_label_ends.specs.Ends.{IsFormed}
-use Rattle.inline_reading.specs.declared.label.OpenLabel.{OpenLabel}
-use Rattle.inline_parser.specs.Scanned.{context_by}
-use Rattle.inline_reading.specs.Shows.{ended_here}
-use Rattle.inline_reading.specs.Shows.{start_view}
+use Rattle.inline_parser.proofs.Prelude.{content_codes, context_by, ended_here, formed_at, IsFormed, labels_of, LinkOrCall, OpenLabel, start_view}
+use Rattle.definition_text.specs.Content.{text_before}
 use Rattle.inline_reading.proofs.Ended as ended
 use Rattle.inline_parser.proofs.scan.Scanner.innermost_label_end.Goals as goal
 

@@ -1,13 +1,7 @@
 use Rattle.std.proofs.Common.{◌≡◌, sym, ap, ◌∙◌, length, take, drop, None}
-use Rattle.definition_text.specs.Content.{content_codes}
+use Rattle.inline_parser.proofs.Prelude.{content_codes, context_by, leads_to, linked_at, linked_by, read_tokens, start_bytes, start_view, text_items, view_at}
+use Rattle.inline_parser.proofs.Prelude.{with_open_label}
 use Rattle.definition_inline.specs.Scan as scan
-use Rattle.definition_inline.specs.Scan.{read_tokens, start_bytes}
-use Rattle.definition_inline.specs.Targets.{leads_to}
-use Rattle.definition_inline.specs.Targets.{linked_at, linked_by}
-use Rattle.inline_content.specs.View.{view_at}
-use Rattle.inline_leaves.specs.Leaves.{text_items}
-use Rattle.inline_parser.specs.Scanned.{context_by}
-use Rattle.inline_reading.specs.Shows.{start_view, with_open_label}
 use Rattle.inline_parser.proofs.Follow as follow
 use Rattle.inline_parser.proofs.Follow.{on_ok}
 use Rattle.inline_parser.proofs.scan.Scanner.label_or_byte.Goals as goal

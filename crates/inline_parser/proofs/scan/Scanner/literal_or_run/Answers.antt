@@ -1,11 +1,6 @@
 use Rattle.std.proofs.Common.{IfSome, sym, ap, ◌∙◌, subst}
 use Rattle.definition_inline.specs.Scan as scan
-use Rattle.definition_inline.specs.Scan.{read_tokens}
-use Rattle.definition_inline.specs.Targets.{leads_to}
-use Rattle.definition_inline.specs.Targets.{linked_at, linked_by}
-use Rattle.inline_content.specs.View.{view_at}
-use Rattle.inline_leaves.specs.Leaves.{leaf_items, parts_of, found_leaf, IsAfter}
-use Rattle.inline_parser.specs.Scanned.{context_by}
+use Rattle.inline_parser.proofs.Prelude.{context_by, found_leaf, IsAfter, leads_to, leaf_items, linked_at, linked_by, parts_of, read_tokens, view_at}
 use Rattle.inline_parser.proofs.Follow as follow
 use Rattle.inline_parser.proofs.Follow.{on_ok}
 use Rattle.inline_parser.proofs.scan.Scanner.literal_or_run.Goals as goal

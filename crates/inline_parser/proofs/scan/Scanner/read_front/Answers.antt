@@ -1,12 +1,7 @@
 use Rattle.std.proofs.Common.{◌<◌, ap, ◌∙◌, arith, take}
 use Rattle.definition_inline.specs.Scan as scan
-use Rattle.definition_inline.specs.Scan.{read_tokens}
-use Rattle.definition_inline.specs.Targets.{leads_to}
-use Rattle.definition_inline.specs.Targets.{linked_at, linked_by}
+use Rattle.inline_parser.proofs.Prelude.{context_by, leads_to, linked_at, linked_by, read_tokens, text_items, view_at}
 use Rattle.text_bytes.proofs.Ascii.{boundary_before}
-use Rattle.inline_content.specs.View.{view_at}
-use Rattle.inline_leaves.specs.Leaves.{text_items}
-use Rattle.inline_parser.specs.Scanned.{context_by}
 use Rattle.inline_parser.proofs.Follow as follow
 use Rattle.inline_parser.proofs.Follow.{on_ok}
 use Rattle.inline_parser.proofs.scan.Scanner.read_front.Goals as goal

@@ -1,12 +1,6 @@
 use Rattle.std.proofs.Common.{[], ◌∷◌, ap, ◌∙◌}
 use Rattle.definition_inline.specs.Scan as scan
-use Rattle.definition_inline.specs.Scan.{read_tokens}
-use Rattle.definition_inline.specs.Spans.{Delimiters}
-use Rattle.definition_inline.specs.Targets.{leads_to}
-use Rattle.definition_inline.specs.Targets.{linked_at, linked_by}
-use Rattle.inline_runs.specs.View.{run_view}
-use Rattle.inline_content.specs.View.{view_at}
-use Rattle.inline_parser.specs.Scanned.{context_by}
+use Rattle.inline_parser.proofs.Prelude.{context_by, Delimiters, leads_to, linked_at, linked_by, read_tokens, run_view, view_at}
 use Rattle.inline_parser.proofs.Follow as follow
 use Rattle.inline_parser.proofs.Follow.{on_ok}
 use Rattle.inline_parser.proofs.scan.Scanner.run_or_label.Goals as goal

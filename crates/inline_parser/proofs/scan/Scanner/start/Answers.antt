@@ -1,8 +1,6 @@
 use Rattle.std.proofs.Common.{◌≡◌, ◌≤◌, ◌∙◌, subst, ap, arith, length, drop}
-use Rattle.std.specs.Str.{IsUtf8}
+use Rattle.inline_parser.proofs.Prelude.{IsUtf8, Shows, start_bytes, start_view, with_open_label}
 use Rattle.std.proofs.lemmas.Str.{IsCharBoundary-from_drop}
-use Rattle.definition_inline.specs.Scan.{start_bytes}
-use Rattle.inline_reading.specs.Shows.{Shows, with_open_label, start_view}
 use Rattle.inline_parser.proofs.Placed.{place_after, labels_after, whole_rest}
 use Rattle.inline_parser.proofs.scan.Scanner.start.Goals as goal
 

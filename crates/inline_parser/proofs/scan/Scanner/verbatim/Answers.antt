@@ -1,9 +1,5 @@
 use Rattle.std.proofs.Common.{◌≡◌, ℕ, List, subst, sym}
-use Rattle.definition_text.specs.Encode.{encode}
-use Rattle.definition_inline.specs.Scan.{read_tokens}
-use Rattle.inline_leaves.specs.Leaves.{text_items, IsAfter}
-use Rattle.inline_reading.specs.Shows.{Shows}
-use Rattle.inline_text.proofs.Verbatim.{front_same}
+use Rattle.inline_parser.proofs.Prelude.{encode, front_same, IsAfter, read_tokens, Shows, text_items}
 use Rattle.inline_parser.proofs.Placed.{place_after, labels_after}
 use Rattle.inline_parser.proofs.scan.Scanner.verbatim.Goals as goal
 

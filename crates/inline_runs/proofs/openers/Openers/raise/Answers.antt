@@ -1,6 +1,6 @@
 use Rattle.std.proofs.Common.{◌<◌, ℕ, ap, sym, subst, length, false}
-use Rattle.std.proofs.lemmas.List.Elements.{All-set, All-push}
-use Rattle.inline_runs.specs.Floors.{FitsAt, AreOpenersAt, IsFloorOf}
+use Rattle.inline_runs.proofs.Prelude.{All-push, AreOpenersAt, FitsAt, IsFloorOf}
+use Rattle.std.proofs.lemmas.List.Elements.{All-set}
 use Rattle.inline_runs.proofs.Floors.{new_floor}
 use Rattle.inline_runs.proofs.openers.Openers.raise.Goals as goal
 

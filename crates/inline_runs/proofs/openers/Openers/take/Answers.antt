@@ -1,6 +1,6 @@
 use Rattle.std.proofs.Common.{◌-◌, refl, ap, sym, ◌∙◌, map}
 use Rattle.std.proofs.lemmas.List.{take-map}
-use Rattle.inline_runs.specs.Floors.{opener_view}
+use Rattle.inline_runs.proofs.Prelude.{opener_view}
 use Rattle.inline_runs.proofs.Floors.{known_taken}
 use Rattle.inline_runs.proofs.openers.Openers.take.Goals as goal
 

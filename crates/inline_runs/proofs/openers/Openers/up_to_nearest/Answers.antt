@@ -1,5 +1,5 @@
 use Rattle.std.proofs.Common.{sym, ◌∙◌}
-use Rattle.inline_runs.specs.Floors.{placed_view}
+use Rattle.inline_runs.proofs.Prelude.{placed_view}
 use Rattle.inline_runs.proofs.Eligible.{searched, none_for}
 use Rattle.inline_runs.proofs.openers.Openers.up_to_nearest.Goals as goal
 

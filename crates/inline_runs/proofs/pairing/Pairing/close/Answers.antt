@@ -1,10 +1,8 @@
 use Rattle.std.proofs.Common.{◌≡◌, ℕ, List, ◌-◌, ◌≤◌, ◌<◌, sym, ap, ◌∙◌, arith, true, subst, slice_index_or}
-use Rattle.definition_inline.specs.Pairing.{OpenRun as PlacedOf, is_eligible, taken_by}
-use Rattle.inline_runs.specs.FoundPairs.{up_to_nearest}
+use Rattle.inline_runs.proofs.Prelude.{is_eligible, openers_view, placed_view, PlacedOf, taken_by, takes_left, takes_some, up_to_nearest}
 use Rattle.inline_runs.proofs.NearestOpener.{nearest_eligible}
-use Rattle.definition_inline.proofs.PairBytes.{takes_some, takes_left, takes_opener}
+use Rattle.definition_inline.proofs.PairBytes.{takes_opener}
 use Rattle.inline_runs.specs.View.{bytes_by}
-use Rattle.inline_runs.specs.Floors.{placed_view, openers_view}
 use Rattle.inline_runs.proofs.pairing.Pairing.close.Goals as goal
 
 -- the nearest opener may pair with the run

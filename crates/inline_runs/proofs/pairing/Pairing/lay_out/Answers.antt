@@ -1,6 +1,5 @@
 use Rattle.std.proofs.Common.{◌+◌, ap, ◌∙◌}
-use Rattle.inline_runs.specs.View.{runs_view}
-use Rattle.inline_runs.specs.Paired.{run_sizes}
+use Rattle.inline_runs.proofs.Prelude.{run_sizes, runs_view}
 use Rattle.inline_runs.proofs.Views.{size_at}
 use Rattle.inline_runs.proofs.pairing.Pairing.lay_out.Goals as goal
 

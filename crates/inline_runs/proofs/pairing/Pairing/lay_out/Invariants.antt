@@ -1,7 +1,5 @@
 use Rattle.std.proofs.Common.{◌≡◌, length}
-use Rattle.inline_runs.specs.View.{runs_view}
-use Rattle.inline_runs.specs.Laid.{AreLaid, AreTexts}
-use Rattle.inline_runs.specs.Paired.{run_sizes}
+use Rattle.inline_runs.proofs.Prelude.{AreLaid, AreTexts, run_sizes, runs_view}
 use Rattle.inline_runs.proofs.pairing.Pairing.lay_out.Given as goal
 
 -- of the runs so far it is known what they become

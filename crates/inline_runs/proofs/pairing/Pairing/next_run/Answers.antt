@@ -1,13 +1,9 @@
 use Rattle.std.proofs.Common.{◌≡◌, ◌<◌, ◌++◌, List, sym, ap, ap₂, ◌∙◌, arith, subst}
 use Rattle.std.proofs.lemmas.Result.{on_ok_weaker}
-use Rattle.definition_inline.specs.Pairing.{OpenRun as PlacedOf, Pair as PairOf, taken_by}
-use Rattle.inline_runs.specs.FoundPairs.{Pairing as PairingOf, pairing, next_run, with_pair, nearest}
-use Rattle.definition_inline.specs.Pairing.{without, openers_of}
-use Rattle.inline_runs.specs.FoundPairs.{up_to_nearest}
+use Rattle.inline_runs.proofs.Prelude.{IsSound, nearest, next_run, openers_view, pairing, PairingOf, PairOf, pairs_view, placed_view, PlacedOf, state}
+use Rattle.inline_runs.proofs.Prelude.{taken_by, up_to_nearest, with_pair, without}
+use Rattle.definition_inline.specs.Pairing.{openers_of}
 use Rattle.inline_runs.proofs.ClosingRuns.{next_run_pairs, next_run_opens}
-use Rattle.inline_runs.specs.View.{pairs_view}
-use Rattle.inline_runs.specs.Floors.{placed_view, openers_view}
-use Rattle.inline_runs.specs.Paired.{state, IsSound}
 use Rattle.inline_runs.proofs.pairing.Pairing.next_run.Goals as goal
 
 -- one pair of a run

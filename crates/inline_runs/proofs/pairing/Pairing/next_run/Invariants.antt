@@ -1,7 +1,5 @@
 use Rattle.std.proofs.Common.{◌≡◌}
-use Rattle.inline_runs.specs.FoundPairs.{next_run}
-use Rattle.inline_runs.specs.Floors.{placed_view}
-use Rattle.inline_runs.specs.Paired.{state, IsSound}
+use Rattle.inline_runs.proofs.Prelude.{IsSound, next_run, placed_view, state}
 use Rattle.inline_runs.proofs.pairing.Pairing.next_run.Given as goal
 
 -- what is left of the run does to what is there what the run does to what was there

@@ -1,6 +1,5 @@
 use Rattle.std.proofs.Common.{◌<◌, sym, ap, ◌∙◌, subst, length}
-use Rattle.inline_runs.specs.Threads.{IsEnds}
-use Rattle.inline_runs.specs.Laid.{IsLaid}
+use Rattle.inline_runs.proofs.Prelude.{IsEnds, IsLaid}
 use Rattle.inline_runs.proofs.Views.{closed_is, opened_is, rows_are}
 use Rattle.inline_runs.proofs.pairing.Pairing.spans.Goals as goal
 

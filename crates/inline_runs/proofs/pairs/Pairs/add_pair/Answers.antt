@@ -1,8 +1,5 @@
 use Rattle.std.proofs.Common.{◌≡◌, ◌+◌, ◌∷◌, [], length, subst, sym, ap, ◌∙◌, set}
-use Rattle.std.proofs.lemmas.List.{get_or_default, length-append}
-use Rattle.inline_runs.specs.declared.pair.Pair.{Pair}
-use Rattle.inline_runs.specs.declared.pairs.Ends.{Ends}
-use Rattle.inline_runs.specs.Threads.{AreThreaded}
+use Rattle.inline_runs.proofs.Prelude.{AreThreaded, Ends, get_or_default, length-append, Pair}
 use Rattle.inline_runs.proofs.Threads.{threaded_close}
 use Rattle.inline_runs.proofs.pairs.Pairs.add_pair.Goals as goal
 

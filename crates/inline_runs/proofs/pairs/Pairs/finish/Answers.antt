@@ -1,5 +1,5 @@
 use Rattle.std.proofs.Common.{◌≡◌, length, subst, sym, ◌∙◌}
-use Rattle.inline_runs.specs.Threads.{AreThreaded}
+use Rattle.inline_runs.proofs.Prelude.{AreThreaded}
 use Rattle.inline_runs.proofs.Threads.{threaded_finish}
 use Rattle.inline_runs.proofs.pairs.Pairs.finish.Goals as goal
 

@@ -1,6 +1,5 @@
 use Rattle.std.proofs.Common.{◌≡◌, ◌++◌, ◌∷◌, [], sym, ap, ◌∙◌, subst, get_or, length, reverse, refl}
-use Rattle.inline_runs.specs.Threads.{IsEnds, IsLast, opened_by}
-use Rattle.inline_runs.specs.Laid.{AreLaid, AreTexts, text_at}
+use Rattle.inline_runs.proofs.Prelude.{AreLaid, AreTexts, IsEnds, IsLast, opened_by, text_at}
 use Rattle.inline_runs.proofs.Texts.{text_is, text_pushed, laid_pushed}
 use Rattle.inline_runs.proofs.spans.OpenedPairs.add.Given.{Over}
 use Rattle.inline_runs.proofs.spans.OpenedPairs.add.Goals as goal

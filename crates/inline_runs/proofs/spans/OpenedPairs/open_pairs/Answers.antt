@@ -1,6 +1,5 @@
 use Rattle.std.proofs.Common.{◌≡◌, false, ◌-◌, ◌<◌, ◌≤◌, sym, subst, get_or, arith, length}
-use Rattle.std.proofs.lemmas.List.{get_or_default}
-use Rattle.inline_runs.specs.declared.pair.Pair.{Pair}
+use Rattle.inline_runs.proofs.Prelude.{get_or_default, Pair}
 use Rattle.inline_runs.proofs.Opened.{IsOpened, one_opened, earlier_less}
 use Rattle.inline_runs.proofs.spans.OpenedPairs.open_pairs.Goals as goal
 

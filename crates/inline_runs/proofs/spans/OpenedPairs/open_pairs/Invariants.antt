@@ -1,5 +1,5 @@
 use Rattle.std.proofs.Common.{◌≡◌, ◌≤◌, ℕ, length}
-use Rattle.inline_runs.specs.Threads.{IsLast}
+use Rattle.inline_runs.proofs.Prelude.{IsLast}
 use Rattle.inline_runs.proofs.Opened.{IsOpened}
 use Rattle.inline_runs.proofs.spans.OpenedPairs.open_pairs.Given as goal
 

@@ -1,7 +1,5 @@
 use Rattle.std.proofs.Common.{◌≡◌, ◌∙◌, refl, sym, true, false}
-use Rattle.markdown_engine.specs.Machine.{view_config, read_with, source}
-use Rattle.markdown_engine.specs.Resolving.{found_in}
-use Rattle.markdown_engine.specs.VirtualText.{text_to}
+use Rattle.markdown_engine.proofs.Prelude.{found_in, read_with, source, text_to, view_config}
 use Rattle.markdown_engine.proofs.Push.{not_refused, same_read, unless_refused}
 use Rattle.markdown_engine.proofs.Resolves.{read_well, settled_at, completed_all, completed_if, completed_none, all_at}
 use Rattle.markdown_engine.proofs.tokenizer.Tokenizer.complete.Goals as goal

@@ -1,6 +1,5 @@
 use Rattle.std.proofs.Common.{refl, length, inl, inr}
-use Rattle.markdown_engine.specs.Machine.{view_config, read_with, source}
-use Rattle.markdown_engine.specs.VirtualText.{text_to}
+use Rattle.markdown_engine.proofs.Prelude.{read_with, source, text_to, view_config}
 use Rattle.markdown_engine.proofs.Order.{read_whole}
 use Rattle.markdown_engine.proofs.Push.{ended_valid, flushed, flushed_as}
 use Rattle.markdown_engine.proofs.Total.{feeds_to, has_outcome}

@@ -1,7 +1,5 @@
 use Rattle.std.proofs.Common.{inl, inr}
-use Rattle.std.proofs.lemmas.Result.{IfOk-weaker}
-use Rattle.markdown_engine.specs.Machine.{read_with}
-use Rattle.markdown_engine.specs.Resolving.{found_in}
+use Rattle.markdown_engine.proofs.Prelude.{found_in, IfOk-weaker, read_with}
 use Rattle.markdown_engine.proofs.Computing.{flushed_reading, if_err}
 use Rattle.markdown_engine.proofs.tokenizer.Tokenizer.flush.Goals as goal
 

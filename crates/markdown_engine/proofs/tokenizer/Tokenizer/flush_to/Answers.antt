@@ -1,5 +1,5 @@
 use Rattle.std.proofs.Common.{refl}
-use Rattle.std.proofs.lemmas.Result.{IfOk-weaker}
+use Rattle.markdown_engine.proofs.Prelude.{IfOk-weaker}
 use Rattle.markdown_engine.proofs.Resolves.{completed_as}
 use Rattle.markdown_engine.proofs.tokenizer.Tokenizer.flush_to.Goals as goal
 

@@ -1,9 +1,5 @@
 use Rattle.std.proofs.Common.{◌≡◌, ◌∙◌, ◌≤◌, refl, sym, subst, true, false, inl, inr, length, arith}
-use Rattle.engine_events.specs.declared.place.Point.{Point}
-use Rattle.markdown_engine.specs.VirtualText.{Walks, is_before, place_in}
-use Rattle.markdown_engine.specs.Laws.{remaining}
-use Rattle.markdown_engine.specs.Order.{Reaches}
-use Rattle.markdown_engine.specs.OrderLaws.{reaches_on, stays}
+use Rattle.markdown_engine.proofs.Prelude.{is_before, place_in, Point, Reaches, reaches_on, remaining, stays, Walks}
 use Rattle.markdown_engine.proofs.Starts.{start_less, start_reaches}
 use Rattle.markdown_engine.proofs.tokenizer.Tokenizer.move_to.Goals as goal
 

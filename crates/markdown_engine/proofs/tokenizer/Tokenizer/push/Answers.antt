@@ -1,9 +1,7 @@
 use Rattle.std.proofs.Common.{◌≡◌, ◌∙◌, ◌⊎◌, ℕ, inl, inr, true, false, Bool, length, refl, subst, sym}
-use Rattle.engine_events.specs.declared.state.State.{State}
+use Rattle.markdown_engine.proofs.Prelude.{IsRefused, MovesOn, read_with, State, Tokenizer, view_config}
 use Rattle.engine_events.specs.declared.state.State.TheVariants as states
-use Rattle.markdown_engine.specs.declared.tokenizer.Tokenizer.{Tokenizer}
-use Rattle.markdown_engine.specs.Laws.{MovesOn}
-use Rattle.markdown_engine.specs.Machine.{HasReached, IsRefused, view_config, read_with}
+use Rattle.markdown_engine.specs.Machine.{HasReached}
 use Rattle.markdown_engine.proofs.Push.{not_refused, only_memory, opened_valid, pushed_as, same_cut, same_read, unless_refused, valid_at, valid_or_refused}
 use Rattle.markdown_engine.proofs.Computing.{stays_unless}
 use Rattle.markdown_engine.proofs.tokenizer.Tokenizer.push.Goals as goal

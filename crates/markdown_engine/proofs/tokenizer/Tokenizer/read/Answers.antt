@@ -1,6 +1,6 @@
 use Rattle.engine_events.specs.declared.state.State.TheVariants as states
 use Rattle.std.proofs.Common.{◌∙◌, inl, inr, length, true, false, refl, sym}
-use Rattle.markdown_engine.specs.Machine.{view_config, read_with, source}
+use Rattle.markdown_engine.proofs.Prelude.{read_with, source, view_config}
 use Rattle.markdown_engine.proofs.tokenizer.Tokenizer.read.Goals as goal
 use Rattle.markdown_engine.proofs.Push.{handing, same_read, shown_resumed, answers_at, valid_at, turn_pop, turn_retry}
 use Rattle.markdown_engine.proofs.Push.{turn_next, smaller_next, smaller_pop, smaller_retry, valid_fed}

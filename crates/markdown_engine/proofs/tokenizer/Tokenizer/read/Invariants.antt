@@ -1,4 +1,4 @@
-use Rattle.markdown_engine.specs.Machine.{read_with, view_config, Turn, weight}
+use Rattle.markdown_engine.proofs.Prelude.{read_with, Turn, view_config, weight}
 use Rattle.markdown_engine.proofs.tokenizer.Tokenizer.read.Given as goal
 
 abbrev pub invariant-turns : goal.invariant-turns

@@ -1,4 +1,4 @@
-use Rattle.markdown_engine.specs.Machine.{view_config, read_with, source}
+use Rattle.markdown_engine.proofs.Prelude.{read_with, source, view_config}
 use Rattle.markdown_engine.proofs.Push.{at_once}
 use Rattle.markdown_engine.proofs.Total.{has_whole_run}
 use Rattle.markdown_engine.proofs.tokenizer.Tokenizer.read_at_once.Goals as goal

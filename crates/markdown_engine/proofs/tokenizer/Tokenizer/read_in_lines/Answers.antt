@@ -1,7 +1,5 @@
 use Rattle.std.proofs.Common.{◌≡◌, inl, inr, refl, length, ap, ◌∙◌, subst, sym, ℕ, ◌⊎◌, ◌<◌, false, arith}
-use Rattle.markdown_engine.specs.Machine.{read_with, view_config, source, IsRefused, HasFlushed, GoesOn}
-use Rattle.markdown_engine.specs.Reading.{seen_as}
-use Rattle.markdown_engine.specs.VirtualText.{Source, text_to, with_skip}
+use Rattle.markdown_engine.proofs.Prelude.{GoesOn, HasFlushed, IsRefused, read_with, seen_as, Source, source, text_to, view_config, with_skip}
 use Rattle.markdown_engine.proofs.Push.{around, same_read, flushed_at, joined, skipped_as, whole_of, skip_goes_on, within, not_refused, only_memory}
 use Rattle.markdown_engine.proofs.Push.{unless_error, valid_alone, valid_later}
 use Rattle.markdown_engine.proofs.tokenizer.Tokenizer.read_in_lines.Goals as goal

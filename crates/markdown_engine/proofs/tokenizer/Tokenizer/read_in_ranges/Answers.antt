@@ -1,7 +1,5 @@
 use Rattle.std.proofs.Common.{◌≡◌, ℕ, ◌⊎◌, ◌+◌, inl, inr, refl, false, length, subst, sym, drop, arith}
-use Rattle.std.proofs.lemmas.List.{drop_more}
-use Rattle.markdown_engine.specs.Machine.{view_config, read_with, source, HasFlushed, IsRefused}
-use Rattle.markdown_engine.specs.VirtualText.{Source, text_to}
+use Rattle.markdown_engine.proofs.Prelude.{drop_more, HasFlushed, IsRefused, read_with, Source, source, text_to, view_config}
 use Rattle.markdown_engine.proofs.Push.{around, at_once, flushed_at, joined_ranges, next_cut, not_refused}
 use Rattle.markdown_engine.proofs.Push.{nothing_read, only_memory, pushed_as, range_read, same_read}
 use Rattle.markdown_engine.proofs.Push.{valid_alone, valid_at, valid_or_refused}

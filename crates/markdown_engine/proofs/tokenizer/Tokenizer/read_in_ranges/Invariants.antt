@@ -1,5 +1,5 @@
 use Rattle.std.proofs.Common.{drop}
-use Rattle.markdown_engine.specs.Machine.{read_with}
+use Rattle.markdown_engine.proofs.Prelude.{read_with}
 use Rattle.markdown_engine.proofs.Push.{Ranging}
 use Rattle.markdown_engine.proofs.tokenizer.Tokenizer.read_in_ranges.Given as goal
 

@@ -1,7 +1,5 @@
 use Rattle.std.proofs.Common.{◌≡◌, ◌+◌, drop, subst, sym, List}
-use Rattle.std.proofs.lemmas.List.{drop_more}
-use Rattle.engine_events.specs.declared.resolve.Name.{Name as Resolver}
-use Rattle.markdown_engine.specs.Machine.{view_config, read_with}
+use Rattle.markdown_engine.proofs.Prelude.{drop_more, read_with, Resolver, view_config}
 use Rattle.markdown_engine.specs.Resolving.{found_of}
 use Rattle.markdown_engine.proofs.Push.{same_read}
 use Rattle.markdown_engine.proofs.Resolves.{resolved_at, resolving_on, settled_at}

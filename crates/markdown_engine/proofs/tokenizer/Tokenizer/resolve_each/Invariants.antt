@@ -1,5 +1,5 @@
 use Rattle.std.proofs.Common.{drop}
-use Rattle.markdown_engine.specs.Machine.{read_with}
+use Rattle.markdown_engine.proofs.Prelude.{read_with}
 use Rattle.markdown_engine.proofs.Resolves.{ResolvingOn}
 use Rattle.markdown_engine.proofs.tokenizer.Tokenizer.resolve_each.Given as goal
 

@@ -1,12 +1,8 @@
 use Rattle.std.proofs.Common.{◌≡◌, ◌+◌, ◌-◌, ◌++◌, ◌∷◌, [], List, sym, ap, ◌∙◌, subst, take, drop, get_or, arith, length}
 use Rattle.std.proofs.lemmas.List.{take_rest, take_all}
-use Rattle.block_rows.specs.declared.row.Row.{Row}
+use Rattle.parse_events.proofs.Prelude.{BlockLine, HasLabels, piece_line, piece_lines, Row, row_size, row_value, rows_value, RowsValue, taken_more}
 use Rattle.block_rows.specs.declared.row.Row.TheVariants.{Paragraph}
-use Rattle.definition_text.specs.BlockLines.{BlockLine}
-use Rattle.block_rows.specs.Rows.{RowsValue, row_value, rows_value, row_size}
-use Rattle.text_pieces.specs.Pieces.{piece_lines, piece_line}
-use Rattle.block_rows.proofs.RowSteps.{shown_more, taken_more, left_more}
-use Rattle.parse_events.specs.Labels.{HasLabels}
+use Rattle.block_rows.proofs.RowSteps.{shown_more, left_more}
 use Rattle.parse_events.proofs.LabelRows.{one_row_more}
 use Rattle.parse_events.proofs.labels.Labels.of_rows.Goals as goal
 

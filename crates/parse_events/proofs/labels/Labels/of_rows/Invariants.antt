@@ -1,7 +1,5 @@
 use Rattle.std.proofs.Common.{◌≡◌, ◌≤◌, ◌+◌, length, take, drop}
-use Rattle.block_rows.specs.Rows.{rows_size, rows_value}
-use Rattle.text_pieces.specs.Pieces.{piece_lines}
-use Rattle.parse_events.specs.Labels.{HasLabels}
+use Rattle.parse_events.proofs.Prelude.{HasLabels, piece_lines, rows_size, rows_value}
 use Rattle.parse_events.proofs.labels.Labels.of_rows.Given as goal
 
 -- the labels of the rows so far are there, and the others take their lines from those that are left

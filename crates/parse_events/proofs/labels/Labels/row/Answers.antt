@@ -1,11 +1,8 @@
 use Rattle.std.proofs.Common.{◌≡◌, ℕ, ◌++◌, ◌∷◌, [], List, sym, ap, ◌∙◌, subst, take}
-use Rattle.std.specs.Prelude.{OnOk, map}
+use Rattle.parse_events.proofs.Prelude.{defined_in, definition_on, normal_labels, OnOk, own_label, own_lines, piece_line, piece_lines, Row, row_definitions}
+use Rattle.parse_events.proofs.Prelude.{row_value}
+use Rattle.std.specs.Prelude.{map}
 use Rattle.std.proofs.lemmas.List.{take-map}
-use Rattle.definition_text.specs.BlockLines.{own_lines}
-use Rattle.text_pieces.specs.Pieces.{piece_line, piece_lines}
-use Rattle.block_rows.specs.declared.row.Row.{Row}
-use Rattle.block_rows.specs.Rows.{definition_on, row_definitions, row_value}
-use Rattle.parse_events.specs.Labels.{defined_in, normal_labels, own_label}
 use Rattle.parse_events.proofs.LabelRows.{one_label}
 use Rattle.parse_events.proofs.labels.Labels.row.Goals as goal
 

@@ -1,6 +1,5 @@
 use Rattle.std.proofs.Common.{◌≡◌, false, vec_len}
-use Rattle.parse_events.specs.Closing.{Keeps}
-use Rattle.parse_events.specs.Opened.{ends_in_list}
+use Rattle.parse_events.proofs.Prelude.{ends_in_list, Keeps}
 use Rattle.parse_events.proofs.parser.Parser.begin_block.Given as goal
 
 abbrev pub invariant-loop-self : goal.invariant-loop-self

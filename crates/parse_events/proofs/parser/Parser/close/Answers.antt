@@ -1,5 +1,5 @@
 use Rattle.std.proofs.Common.{refl, sym, ◌∙◌}
-use Rattle.std.proofs.lemmas.List.{append-nil}
+use Rattle.parse_events.proofs.Prelude.{append-nil}
 use Rattle.parse_events.proofs.Held.{exit_kept, kept_open}
 use Rattle.parse_events.proofs.parser.Parser.close.Goals as goal
 

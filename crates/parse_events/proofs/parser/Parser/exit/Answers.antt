@@ -1,6 +1,6 @@
 use Rattle.parse_events.proofs.Held.{kept_both, kept_open, kept_then}
 use Rattle.std.proofs.Common.{false, refl}
-use Rattle.block_starts.specs.View.{container_view}
+use Rattle.parse_events.proofs.Prelude.{container_view}
 use Rattle.parse_events.proofs.ExitRows.{item_exited, item_kind, none_exits, other_exits, other_kind}
 use Rattle.parse_events.proofs.parser.Parser.exit.Goals as goal
 

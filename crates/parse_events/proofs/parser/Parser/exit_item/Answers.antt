@@ -1,4 +1,4 @@
-use Rattle.std.proofs.lemmas.Result.{on_ok_weaker}
+use Rattle.parse_events.proofs.Prelude.{on_ok_weaker}
 use Rattle.std.proofs.Common.{refl}
 use Rattle.parse_events.proofs.ExitRows.{list_ended, list_goes_on}
 use Rattle.parse_events.proofs.parser.Parser.exit_item.Goals as goal

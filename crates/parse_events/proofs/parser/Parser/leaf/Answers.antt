@@ -1,11 +1,5 @@
 use Rattle.std.proofs.Common.{refl, sym, subst}
-use Rattle.std.proofs.lemmas.Result.{on_ok_weaker}
-use Rattle.definition_block.specs.Tree.{Leaf, LeafBlock}
-use Rattle.text_pieces.specs.Pieces.{piece_lines}
-use Rattle.block_rows.specs.Rows.{BlockRow, Single}
-use Rattle.parse_leaves.specs.Rows.{WritesRow}
-use Rattle.parse_leaves.specs.Texts.{reading_by}
-use Rattle.parse_events.specs.Parsing.{GoesOnInLine}
+use Rattle.parse_events.proofs.Prelude.{BlockRow, GoesOnInLine, Leaf, LeafBlock, on_ok_weaker, piece_lines, reading_by, Single, WritesRow}
 use Rattle.parse_events.proofs.Held.{walk_kept_then}
 use Rattle.parse_events.proofs.LeafRows.{leaf_goes_on, no_table, table_goes_on, table_of}
 use Rattle.parse_events.proofs.parser.Parser.leaf.Goals as goal

@@ -1,5 +1,5 @@
 use Rattle.std.proofs.Common.{Bool, refl, sym, ap, ◌∙◌}
-use Rattle.parse_events.specs.Closing.{more_if}
+use Rattle.parse_events.proofs.Prelude.{more_if}
 use Rattle.parse_events.proofs.parser.Parser.open_if.Goals as goal
 
 pub returns-then-not-starts : goal.returns-then-not-starts

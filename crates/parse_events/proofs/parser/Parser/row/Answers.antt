@@ -1,10 +1,5 @@
 use Rattle.std.proofs.Common.{sym, ap, subst}
-use Rattle.std.proofs.lemmas.Result.{on_ok_weaker}
-use Rattle.text_pieces.specs.Pieces.{piece_lines}
-use Rattle.block_rows.specs.Rows.{BlockRow, row_value}
-use Rattle.block_rows.specs.declared.row.Row.{Row}
-use Rattle.parse_leaves.specs.Texts.{reading_by}
-use Rattle.parse_events.specs.Parsing.{GoesOn}
+use Rattle.parse_events.proofs.Prelude.{BlockRow, GoesOn, on_ok_weaker, piece_lines, reading_by, Row, row_value}
 use Rattle.parse_events.proofs.BegunRows.{begun_goes_on}
 use Rattle.parse_events.proofs.Held.{kept_then}
 use Rattle.parse_events.proofs.LeafRows.{other_row}

@@ -1,11 +1,5 @@
 use Rattle.std.proofs.Common.{sym, ap, subst}
-use Rattle.std.proofs.lemmas.Result.{on_ok_weaker}
-use Rattle.definition_block.specs.Tree.{Leaf}
-use Rattle.text_pieces.specs.Pieces.{piece_lines}
-use Rattle.block_rows.specs.Rows.{BlockRow, Single, first_codes, row_value}
-use Rattle.block_rows.specs.declared.row.Row.{Row}
-use Rattle.parse_leaves.specs.Texts.{reading_by}
-use Rattle.parse_events.specs.Parsing.{GoesOnInLine}
+use Rattle.parse_events.proofs.Prelude.{BlockRow, first_codes, GoesOnInLine, Leaf, on_ok_weaker, piece_lines, reading_by, Row, row_value, Single}
 use Rattle.parse_events.proofs.LeafRows.{leaf_row, no_ending}
 use Rattle.parse_events.proofs.parser.Parser.row_in_line.Goals as goal
 

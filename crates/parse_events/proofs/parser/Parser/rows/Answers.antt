@@ -1,11 +1,7 @@
 use Rattle.std.proofs.Common.{◌+◌, rules, List, arith, drop, refl, subst}
 use Rattle.std.proofs.lemmas.List.{drop_all}
-use Rattle.block_rows.specs.declared.row.Row.{Row}
+use Rattle.parse_events.proofs.Prelude.{IsAmongRows, piece_lines, reading_by, Row, taken_more}
 use Rattle.block_rows.specs.declared.row.Row.TheVariants.{Paragraph}
-use Rattle.block_rows.proofs.RowSteps.{taken_more}
-use Rattle.text_pieces.specs.Pieces.{piece_lines}
-use Rattle.parse_leaves.specs.Texts.{reading_by}
-use Rattle.parse_events.specs.Document.{IsAmongRows}
 use Rattle.parse_events.proofs.Blocks.{row_written}
 use Rattle.parse_events.proofs.Held.{kept_both}
 use Rattle.parse_events.proofs.parser.Parser.rows.Goals as goal

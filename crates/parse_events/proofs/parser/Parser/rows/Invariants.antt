@@ -1,12 +1,8 @@
 use Rattle.std.proofs.Common.{◌≤◌, ◌+◌, ℕ, List, length, drop}
 use Rattle.definition_block.specs.Blocks.{Blocks}
 use Rattle.definition_inline.specs.Targets.{Targets}
-use Rattle.block_rows.specs.Rows.{rows_size}
-use Rattle.event_grammar.specs.Trees.{Nodes}
-use Rattle.text_pieces.specs.Pieces.{piece_lines}
-use Rattle.parse_leaves.specs.Texts.{KnowsTargets, reading_by}
-use Rattle.parse_events.specs.Closing.{Keeps}
-use Rattle.parse_events.specs.Document.{IsAmongRows}
+use Rattle.parse_events.proofs.Prelude.{IsAmongRows, Keeps, Nodes, piece_lines, reading_by, rows_size}
+use Rattle.parse_leaves.specs.Texts.{KnowsTargets}
 use Rattle.parse_events.proofs.parser.Parser.rows.Given as goal
 
 -- the rows to come take their lines from those that are left, and what is open beside containers and lists is as before; it is the innermost; all rows before

@@ -1,6 +1,5 @@
 use Rattle.std.proofs.Common.{◌≡◌, suc, drop, ap, subst, ◌∙◌, arith}
-use Rattle.std.specs.Str.{IsUtf8}
-use Rattle.inline_content.proofs.Utf8Bytes.{utf8_bytes}
+use Rattle.parse_inline.proofs.Prelude.{IsUtf8, utf8_bytes}
 use Rattle.parse_inline.proofs.Places.{byte_at, cut_after}
 use Rattle.parse_inline.proofs.reading.Reading.rest.Goals as goal
 

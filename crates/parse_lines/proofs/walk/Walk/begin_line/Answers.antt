@@ -1,10 +1,6 @@
 use Rattle.std.proofs.Common.{ℕ, ◌++◌, ◌-◌, ap, ◌∙◌, length}
-use Rattle.block_starts.specs.View.{rest_of}
-use Rattle.parse_lines.specs.Standing.{standing}
+use Rattle.parse_lines.proofs.Prelude.{ending_text, on_ok_weaker, rest_of, rest_start, standing, written_to}
 use Rattle.parse_lines.proofs.Steps.{begins_line, both_ok}
-use Rattle.std.proofs.lemmas.Result.{on_ok_weaker}
-use Rattle.definition_text.specs.Lines.{ending_text}
-use Rattle.parse_lines.specs.Ends.{rest_start, written_to}
 use Rattle.parse_lines.proofs.Ends.{after_in_line, start_line}
 use Rattle.parse_lines.proofs.Written.{line_ready}
 use Rattle.parse_lines.proofs.walk.Walk.begin_line.Goals as goal

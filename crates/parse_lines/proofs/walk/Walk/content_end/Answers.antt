@@ -1,7 +1,5 @@
 use Rattle.std.proofs.Common.{◌≡◌, ◌+◌, ◌-◌, ◌<◌, sym, ap, ◌∙◌, ◌^◌, arith, rules}
-use Rattle.parse_output.specs.declared.end.End.{End}
-use Rattle.parse_output.specs.Ends.{end_at}
-use Rattle.parse_lines.specs.Content.{end_after}
+use Rattle.parse_lines.proofs.Prelude.{End, end_after, end_at}
 use Rattle.parse_lines.proofs.Ahead.{after_bytes, after_columns, after_tab}
 use Rattle.parse_lines.proofs.walk.Walk.content_end.Goals as goal
 

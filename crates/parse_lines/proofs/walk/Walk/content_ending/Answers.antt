@@ -1,5 +1,5 @@
 use Rattle.std.proofs.Common.{refl, arith, length-append}
-use Rattle.markdown_options.specs.LineEndings.{ending_bytes}
+use Rattle.parse_lines.proofs.Prelude.{ending_bytes}
 use Rattle.parse_lines.proofs.ContentLines.{writes_ending}
 use Rattle.parse_lines.proofs.walk.Walk.content_ending.Goals as goal
 

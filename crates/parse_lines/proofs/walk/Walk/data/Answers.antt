@@ -1,6 +1,5 @@
 use Rattle.std.proofs.Common.{arith, length-append}
-use Rattle.parse_output.specs.Forest.{data_nodes}
-use Rattle.parse_output.specs.Written.{end_in}
+use Rattle.parse_lines.proofs.Prelude.{data_nodes, end_in}
 use Rattle.parse_output.proofs.Joined.{flat_data}
 use Rattle.parse_lines.proofs.InLine.{writes_next, writes_nothing}
 use Rattle.parse_lines.proofs.Steps.{both_ok}

@@ -1,12 +1,6 @@
 use Rattle.std.proofs.Common.{◌≡◌, ℕ, ◌+◌, ◌-◌, ◌^◌, ◌<◌, ap, ◌∙◌, sym, subst, arith, length}
-use Rattle.std.proofs.lemmas.Result.{on_ok_weaker}
-use Rattle.parse_output.specs.declared.end.End.{End}
-use Rattle.parse_output.specs.Ends.{Follows, end_at}
-use Rattle.parse_output.specs.Forest.{void_nodes}
-use Rattle.parse_output.specs.Written.{Writes}
-use Rattle.parse_lines.specs.Ends.{written_to}
+use Rattle.parse_lines.proofs.Prelude.{End, end_at, Follows, on_ok_weaker, standing, void_nodes, Writes, written_to}
 use Rattle.parse_lines.proofs.Written.{ending_end}
-use Rattle.parse_lines.specs.Standing.{standing}
 use Rattle.parse_lines.proofs.Steps.{both_ok, line_ends}
 use Rattle.parse_lines.proofs.walk.Walk.ending.Goals as goal
 

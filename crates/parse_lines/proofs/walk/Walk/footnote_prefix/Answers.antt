@@ -1,8 +1,5 @@
 use Rattle.std.proofs.Common.{ℕ, ◌+◌, ap, refl, sym, ◌∙◌, subst, drop, length}
-use Rattle.definition_text.specs.Columns.{whole}
-use Rattle.block_starts.specs.View.{rest_of}
-use Rattle.parse_lines.specs.Ends.{rest_start}
-use Rattle.parse_lines.specs.Standing.{Standing}
+use Rattle.parse_lines.proofs.Prelude.{rest_of, rest_start, Standing, whole}
 use Rattle.parse_lines.proofs.Markers.{footnote_starts}
 use Rattle.parse_lines.proofs.PrefixNodes.{WritesTo, footnote_written}
 use Rattle.parse_lines.proofs.Steps.{both_ok}

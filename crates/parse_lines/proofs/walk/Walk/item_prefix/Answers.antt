@@ -1,9 +1,5 @@
 use Rattle.std.proofs.Common.{ap, ◌∙◌, subst}
-use Rattle.std.specs.List.{prefix_len}
-use Rattle.block_starts.specs.View.{rest_of}
-use Rattle.definition_block.specs.ListItem.{is_digit}
-use Rattle.parse_lines.specs.Ends.{rest_start}
-use Rattle.parse_lines.specs.Standing.{Standing}
+use Rattle.parse_lines.proofs.Prelude.{is_digit, prefix_len, rest_of, rest_start, Standing}
 use Rattle.parse_lines.proofs.Markers.{item_starts}
 use Rattle.parse_lines.proofs.PrefixNodes.{WritesTo, item_written}
 use Rattle.parse_lines.proofs.Steps.{both_ok}

@@ -1,7 +1,5 @@
 use Rattle.std.proofs.Common.{ap, ◌∙◌, subst, List}
-use Rattle.markdown_options.specs.declared.container.Container.{Container as CodeContainer}
-use Rattle.block_starts.specs.View.{container_view, container_views}
-use Rattle.parse_lines.specs.Standing.{standing, AreQuotesWithin}
+use Rattle.parse_lines.proofs.Prelude.{AreQuotesWithin, CodeContainer, container_view, container_views, standing}
 use Rattle.parse_lines.proofs.Containers.{views_more}
 use Rattle.parse_lines.proofs.Steps.{leaves}
 use Rattle.parse_lines.proofs.walk.Walk.leave.Goals as goal

@@ -1,10 +1,6 @@
 use Rattle.std.proofs.Common.{◌∷◌}
 use Rattle.engine_events.specs.declared.event.Name.TheVariants.{LineEnding}
-use Rattle.parse_output.specs.Forest.{void_nodes}
-use Rattle.parse_output.proofs.Written.{writes_both}
-use Rattle.parse_lines.specs.Ends.{line_after, written_to}
-use Rattle.std.proofs.lemmas.Result.{on_ok_weaker}
-use Rattle.parse_lines.specs.Standing.{standing}
+use Rattle.parse_lines.proofs.Prelude.{line_after, on_ok_weaker, standing, void_nodes, writes_both, written_to}
 use Rattle.parse_lines.proofs.Steps.{line_passes}
 use Rattle.parse_lines.proofs.walk.Walk.next_line.Goals as goal
 

@@ -1,10 +1,5 @@
 use Rattle.std.proofs.Common.{◌≡◌, false, Some, refl, sym, subst}
-use Rattle.markdown_options.specs.declared.container.Container.{Container as CodeContainer}
-use Rattle.definition_block.specs.ContainerLine.{container_line}
-use Rattle.definition_block.specs.Containers.{continues}
-use Rattle.block_starts.specs.View.{container_view, rest_of}
-use Rattle.parse_lines.specs.declared.walk.Walk.{Walk}
-use Rattle.parse_lines.specs.Ends.{WritesQuiet, rest_start, written_to}
+use Rattle.parse_lines.proofs.Prelude.{CodeContainer, container_line, container_view, continues, rest_of, rest_start, Walk, WritesQuiet, written_to}
 use Rattle.parse_lines.proofs.Suffixes.{continues_white}
 use Rattle.parse_lines.proofs.Containers.{no_quote}
 use Rattle.parse_lines.proofs.Written.{space_written}

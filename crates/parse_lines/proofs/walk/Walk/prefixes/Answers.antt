@@ -1,17 +1,9 @@
 use Rattle.std.proofs.Common.{◌≡◌, ◌+◌, ◌≤◌, ◌∷◌, List, sym, ap, ◌∙◌, subst, arith, drop, length, false, ℕ, refl}
-use Rattle.std.proofs.lemmas.List.{length-map}
-use Rattle.markdown_options.specs.declared.configuration.Constructs.{Constructs}
-use Rattle.definition_text.specs.Columns.{Rest, whole}
-use Rattle.definition_block.specs.Container.{Container}
-use Rattle.definition_block.specs.ContainerLine.{container_line}
-use Rattle.definition_block.specs.Containers.{continues}
-use Rattle.block_starts.specs.View.{rest_of, container_view, container_views, line_if}
-use Rattle.parse_lines.specs.Standing.{Standing, standing}
-use Rattle.parse_lines.specs.Steps.{with_rest}
+use Rattle.parse_lines.proofs.Prelude.{Constructs, Container, container_line, container_view, container_views, continues, drop-drop, length-map, Rest, rest_of}
+use Rattle.parse_lines.proofs.Prelude.{rest_start, standing, Standing, whole, with_rest}
+use Rattle.block_starts.specs.View.{line_if}
 use Rattle.parse_lines.proofs.Containers.{views_get, nothing_blank}
 use Rattle.parse_lines.proofs.Prefixes.{IsRead, read_none, read_more, read_stopped, read_all, read_nothing}
-use Rattle.std.proofs.lemmas.List.{drop-drop}
-use Rattle.parse_lines.specs.Ends.{rest_start}
 use Rattle.parse_lines.proofs.Suffixes.{continues_end}
 use Rattle.parse_lines.proofs.Quiet.{quiet_both, quiet_none}
 use Rattle.parse_lines.proofs.walk.Walk.prefixes.Goals as goal

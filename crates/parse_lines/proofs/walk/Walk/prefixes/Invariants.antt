@@ -1,8 +1,6 @@
 use Rattle.std.proofs.Common.{◌≡◌}
-use Rattle.block_starts.specs.View.{container_views, rest_of}
+use Rattle.parse_lines.proofs.Prelude.{container_views, rest_of, standing, with_rest}
 use Rattle.parse_lines.specs.Open.{still_open}
-use Rattle.parse_lines.specs.Standing.{standing}
-use Rattle.parse_lines.specs.Steps.{with_rest}
 use Rattle.parse_lines.specs.Ends.{WritesPrefixes}
 use Rattle.parse_lines.proofs.Prefixes.{IsRead}
 use Rattle.parse_lines.proofs.walk.Walk.prefixes.Given as goal

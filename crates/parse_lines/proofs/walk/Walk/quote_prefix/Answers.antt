@@ -1,19 +1,8 @@
 use Rattle.std.proofs.Common.{◌≡◌, ℕ, true, refl, sym, ap, ◌∙◌, subst, length}
 use Rattle.std.specs.Prelude.{◌-◌}
 use Rattle.engine_events.specs.declared.event.Name.TheVariants.{SpaceOrTab}
-use Rattle.std.specs.List.{list_all}
-use Rattle.definition_text.specs.Columns.{bare, bytes_of, is_white}
-use Rattle.parse_output.specs.Joined.{text_between}
-use Rattle.definition_block.specs.ContainerLine.{container_line}
-use Rattle.block_starts.specs.View.{rest_of}
-use Rattle.event_grammar.specs.Trees.{Nodes, Nil}
-use Rattle.parse_output.specs.declared.end.End.{End}
-use Rattle.parse_output.specs.Ends.{Follows, end_at}
-use Rattle.parse_output.specs.Forest.{one}
-use Rattle.parse_output.specs.Written.{Writes}
-use Rattle.parse_output.proofs.Written.{writes_both}
-use Rattle.parse_lines.specs.Standing.{Standing}
-use Rattle.parse_lines.specs.Ends.{rest_start, written_to}
+use Rattle.parse_lines.proofs.Prelude.{bare, bytes_of, container_line, End, end_at, Follows, is_white, list_all, Nil, Nodes, one, rest_of, rest_start}
+use Rattle.parse_lines.proofs.Prelude.{Standing, text_between, Writes, writes_both, written_to}
 use Rattle.parse_lines.proofs.Quiet.{no_void, quiet_both, quiet_prefix, quiet_space}
 use Rattle.parse_lines.proofs.Steps.{both_ok}
 use Rattle.parse_lines.proofs.Suffixes.{quote_starts}

@@ -1,14 +1,10 @@
 use Rattle.std.proofs.Common.{true, Some, refl, ap, ◌∙◌, sym, subst}
-use Rattle.markdown_options.specs.declared.container.Container.{Container as CodeContainer}
+use Rattle.parse_lines.proofs.Prelude.{bare, bytes_of, CodeContainer, container_start, container_view, container_views, rest_of, standing, Standing}
+use Rattle.parse_lines.proofs.Prelude.{started_if, StartsOf, with_container}
 use Rattle.markdown_options.specs.declared.container.Container.TheVariants as code
 use Rattle.engine_events.specs.declared.event.Name.TheVariants.{ListItem}
-use Rattle.definition_text.specs.Columns.{bare, bytes_of}
-use Rattle.definition_block.specs.ContainerStart.{container_start}
 use Rattle.parse_lines.proofs.Starts.{container_written}
-use Rattle.block_starts.specs.View.{container_view, container_views, rest_of, started_if}
 use Rattle.parse_lines.specs.Kinds.{is_item}
-use Rattle.parse_lines.specs.Standing.{Standing, standing}
-use Rattle.parse_lines.specs.Steps.{StartsOf, with_container}
 use Rattle.parse_lines.proofs.Containers.{quotes_other}
 use Rattle.parse_lines.proofs.Steps.{container_starts}
 use Rattle.parse_lines.proofs.walk.Walk.start_item.Goals as goal

@@ -1,13 +1,7 @@
 use Rattle.std.proofs.Common.{◌≡◌, true, Some, ap, ◌∙◌, sym, subst, arith, length}
-use Rattle.std.proofs.lemmas.List.{length-map}
-use Rattle.markdown_options.specs.declared.container.Container.{Container as CodeContainer}
+use Rattle.parse_lines.proofs.Prelude.{CodeContainer, container_start, container_view, container_views, is_quote, length-map, Quote, rest_of, standing}
+use Rattle.parse_lines.proofs.Prelude.{Standing, started_if, StartsOf, with_container}
 use Rattle.engine_events.specs.declared.event.Name.TheVariants.{BlockQuote}
-use Rattle.definition_block.specs.Container.{Quote}
-use Rattle.definition_block.specs.ContainerStart.{container_start}
-use Rattle.block_starts.specs.View.{container_view, container_views, rest_of, started_if}
-use Rattle.parse_laid.specs.EmptyRests.{is_quote}
-use Rattle.parse_lines.specs.Standing.{Standing, standing}
-use Rattle.parse_lines.specs.Steps.{StartsOf, with_container}
 use Rattle.parse_lines.proofs.Containers.{quotes_last}
 use Rattle.parse_lines.proofs.Starts.{container_written}
 use Rattle.parse_lines.proofs.Steps.{container_starts}

@@ -1,7 +1,5 @@
 use Rattle.std.proofs.Common.{arith, length-append}
-use Rattle.parse_output.specs.Forest.{void_nodes}
-use Rattle.parse_output.specs.Written.{end_in}
-use Rattle.parse_output.proofs.Joined.{flat_void}
+use Rattle.parse_lines.proofs.Prelude.{end_in, flat_void, void_nodes}
 use Rattle.parse_lines.proofs.InLine.{writes_next}
 use Rattle.parse_lines.proofs.Steps.{both_ok}
 use Rattle.parse_lines.proofs.walk.Walk.text.Goals as goal

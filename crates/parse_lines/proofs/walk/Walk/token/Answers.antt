@@ -1,10 +1,5 @@
 use Rattle.std.proofs.Common.{◌+◌, ◌^◌, ◌<◌, ap, ◌∙◌, sym, subst}
-use Rattle.std.proofs.lemmas.Result.{on_ok_weaker}
-use Rattle.parse_output.specs.declared.end.End.{End}
-use Rattle.parse_output.specs.Ends.{Follows, end_at}
-use Rattle.parse_output.specs.Forest.{void_nodes}
-use Rattle.parse_output.specs.Written.{Writes}
-use Rattle.parse_lines.specs.Ends.{written_to}
+use Rattle.parse_lines.proofs.Prelude.{End, end_at, Follows, on_ok_weaker, void_nodes, Writes, written_to}
 use Rattle.parse_lines.proofs.walk.Walk.token.Goals as goal
 
 pub returns-clause-written : goal.returns-clause-written

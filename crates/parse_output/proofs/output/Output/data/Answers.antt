@@ -1,6 +1,5 @@
 use Rattle.std.proofs.Common.{◌≡◌, ◌+◌, ◌-◌, length, get_or, set, arith, refl, sym, subst, ap, ◌∙◌}
-use Rattle.parse_output.specs.Ends.{first_end}
-use Rattle.parse_output.specs.Forest.{AreInOrder, IsData, forest}
+use Rattle.parse_output.proofs.Prelude.{AreInOrder, first_end, forest, IsData}
 use Rattle.parse_output.proofs.Forests.{longer}
 use Rattle.parse_output.proofs.output.Output.data.Goals as goal
 

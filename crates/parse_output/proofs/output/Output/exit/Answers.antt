@@ -1,7 +1,6 @@
 use Rattle.std.proofs.Common.{sym, subst, ap, ◌∙◌}
 use Rattle.parse_output.specs.declared.draft.Draft.TheVariants as draft
-use Rattle.parse_output.specs.Ends.{first_end}
-use Rattle.parse_output.specs.Forest.{AreInOrder, forest}
+use Rattle.parse_output.proofs.Prelude.{AreInOrder, first_end, forest}
 use Rattle.parse_output.proofs.Forests.{exited_forest, order_more}
 use Rattle.parse_output.proofs.output.Output.exit.Goals as goal
 

@@ -1,6 +1,5 @@
 use Rattle.std.proofs.Common.{◌≡◌, true, false, sym, subst, ap, ◌∙◌, ◌++◌, ◌∷◌, [], rules}
-use Rattle.parse_output.specs.Ends.{first_end, same_end}
-use Rattle.parse_output.specs.Forest.{AreInOrder, forest}
+use Rattle.parse_output.proofs.Prelude.{AreInOrder, first_end, forest, same_end}
 use Rattle.parse_output.proofs.Forests.{same_forest, void_forest, void_order}
 use Rattle.parse_output.proofs.output.Output.token.Goals as goal
 

@@ -1,6 +1,5 @@
 use Rattle.std.proofs.Common.{◌+◌, ◌-◌, false, arith, refl, inl, sym, ap, ◌∙◌}
-use Rattle.parse_output.specs.Ends.{columns_before, end_at}
-use Rattle.parse_output.specs.Spots.{spot, spot_at}
+use Rattle.parse_output.proofs.Prelude.{columns_before, end_at, spot, spot_at}
 use Rattle.parse_output.proofs.Ends.{place_reached, spot_reached}
 use Rattle.parse_output.proofs.Plain.{one_passed, passed_at_once, plain_within}
 use Rattle.parse_output.proofs.spot.Place.pass.Goals as goal

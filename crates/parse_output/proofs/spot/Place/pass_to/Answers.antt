@@ -1,6 +1,5 @@
 use Rattle.std.proofs.Common.{◌≡◌, arith, sym, ap, ◌∙◌}
-use Rattle.parse_output.specs.Ends.{columns_before, end_at, end_columns, index_spot}
-use Rattle.parse_output.specs.Spots.{spot_at}
+use Rattle.parse_output.proofs.Prelude.{columns_before, end_at, end_columns, index_spot, spot_at}
 use Rattle.parse_output.proofs.Ends.{place_index, place_reached, spot_reached}
 use Rattle.parse_output.proofs.spot.Place.pass_to.Goals as goal
 
