@@ -3,8 +3,8 @@ ghost use Rattle.markdown_options.specs.Mdx.{HasNoMdx};
 
 use crate::asserts::assert_no_fault;
 use crate::wrong::wrong_of;
-use markdown_by_events::to_html_by_events;
 use markdown::RunError;
+use markdown_by_events::to_html_by_events;
 use markdown_options::Options;
 use markdown_tables::Builtin;
 use parse_events::SIZE_MAX;
