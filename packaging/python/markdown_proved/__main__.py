@@ -1,24 +1,72 @@
-"""Reads Markdown from standard input, and writes its HTML to standard output.
+"""Reads Markdown from a file or from standard input, and writes its HTML to standard output.
 
-    python -m markdown_proved [--gfm] [--mark] [--dangerous] [--plain]
+    python -m markdown_proved [--gfm] [--mark] [--math] [--frontmatter] [--dangerous] [--plain] [FILE]
+
+The exit status is 0 if the whole HTML was written, 2 for a wrong command line, and 1 for any other fault.
 """
+import argparse
 import sys
 
-from . import DANGEROUS, GFM, MARK, PLAIN, to_html
+from . import DANGEROUS, FRONTMATTER, GFM, MARK, MATH, PLAIN, __version__, to_html
 
-FLAGS = {"--gfm": GFM, "--mark": MARK, "--dangerous": DANGEROUS, "--plain": PLAIN}
+FLAGS = {
+    "gfm": (GFM, "read GitHub Flavored Markdown"),
+    "mark": (MARK, "read ==text== as marked text"),
+    "math": (MATH, "read $a$, and blocks between lines of $$, as math"),
+    "frontmatter": (FRONTMATTER, "leave out metadata at the start of the input, between lines of --- or +++"),
+    "dangerous": (DANGEROUS, "keep raw HTML and URLs with any protocol; only for input from trusted authors"),
+    "plain": (PLAIN, "turn every construct off, also with other options"),
+}
+
+
+def arguments() -> argparse.Namespace:
+    """The command line. If it is wrong, or asks for help or the version, the process ends."""
+    parser = argparse.ArgumentParser(
+        "markdown_proved", description="Converts Markdown to safe HTML on standard output.", allow_abbrev=False
+    )
+    for name, (_, meaning) in FLAGS.items():
+        parser.add_argument(f"--{name}", action="store_true", help=meaning)
+    parser.add_argument("--version", action="version", version=f"%(prog)s {__version__}", help="print the version")
+    parser.add_argument("file", metavar="FILE", nargs="?", default="-", help="the file to read; - is standard input")
+    return parser.parse_args()
+
+
+def read(name: str) -> bytes:
+    """All bytes of the file, or of standard input."""
+    is_input = name == "-"
+    with open(0 if is_input else name, "rb", closefd=not is_input) as file:
+        return file.read()
+
+
+def write(html: bytes) -> None:
+    """Writes to standard output. Closes the buffer, so that nothing is left to write when the process ends."""
+    with open(1, "wb", closefd=False) as out:
+        out.write(html)
+
+
+def convert(words: argparse.Namespace) -> str:
+    """Converts, and returns the fault, or nothing."""
+    flags = sum(flag for name, (flag, _) in FLAGS.items() if getattr(words, name))
+    try:
+        text = read(words.file)
+    except OSError:
+        return "cannot read"
+    try:
+        write(to_html(text, flags))
+    except OSError:
+        return "cannot write"
+    except ValueError as fault:
+        return str(fault)
+    return ""
 
 
 def main() -> int:
-    flags = 0
-    for word in sys.argv[1:]:
-        if word not in FLAGS:
-            print("markdown_proved: wrong command line", file=sys.stderr)
-            return 2
-        flags |= FLAGS[word]
+    words = arguments()
     try:
-        sys.stdout.buffer.write(to_html(sys.stdin.buffer.read(), flags))
-    except ValueError as fault:
+        fault = convert(words)
+    except MemoryError:
+        fault = "out of memory"
+    if fault:
         print(f"markdown_proved: {fault}", file=sys.stderr)
         return 1
     return 0
