@@ -6,7 +6,7 @@ usage: docs/events.py            writes them
 
 The grammar is read from crates/event_grammar/src, the example's list from the stored run of crates/tests_events. Both ways
 fail where a name has no row and isn't void, or a row names what is no event, and where the header for C, the specification of
-its numbers or the example in Python has other names.
+its numbers or the modules for Python and Rust have other names.
 """
 import os
 import re
@@ -20,7 +20,8 @@ NAMES = os.path.join(TOP, "crates", "engine_events", "src", "event.rt")
 LISTS = {
     "include/markdown.h": r'EACH\(\w+, "(\w+)", \d+\)',
     "crates/markdown_c/specs/EventNumbers.antt": r"(?m)^name_number names\.(\w+) = \d+$",
-    "examples/python/markdown_c.py": r"\b([A-Z]\w+)(?=[ \n])",
+    "packaging/python/markdown_proved/_names.py": r"\b([A-Z]\w+)(?=[ \n])",
+    "examples/rust/names.rs": r'"([A-Z]\w+)"',
 }
 HEADER = os.path.join(TOP, "include", "markdown.h")
 # The numbers of the header that are released.
@@ -55,7 +56,7 @@ def event_names():
 
 
 def check_lists():
-    """Fails where a list for C or Python has other names, or another order or number."""
+    """Fails where a list for C, Python or Rust has other names, or another order or number."""
     for path, form in LISTS.items():
         text = text_of(os.path.join(TOP, path))
         if path.endswith(".py"):

@@ -82,8 +82,12 @@ fi
 if works rustc --version; then
     check "Rust" rustc --edition 2021 -O -L "$library/lib" -o "$scratch/rust" "$here/rust/convert.rs"
     tries "Rust" "$scratch/rust"
+    check "Rust: events" rustc --edition 2021 -O -L "$library/lib" -o "$scratch/rust_events" "$here/rust/list_events.rs"
+    check "Rust: events" lists_events "$scratch/rust_events"
 fi
 if works python3 -c 'import ctypes'; then
+    PYTHONPATH=$here/../packaging/python PYTHONDONTWRITEBYTECODE=1
+    export PYTHONPATH PYTHONDONTWRITEBYTECODE
     tries "Python" python3 "$here/python/convert.py" "$library/lib/libmarkdown-proved.so"
     check "Python: contents" lists_contents python3 "$here/python/contents.py" "$library/lib/libmarkdown-proved.so"
 fi

@@ -40,8 +40,9 @@ metadata = f"""\
 Metadata-Version: 2.1
 Name: markdown-proved
 Version: {version}
-Summary: Markdown to HTML, by a proved converter
+Summary: Markdown to HTML and to events, by a proved converter
 License: MIT
+Keywords: markdown,commonmark,gfm,html
 Requires-Python: >=3.8
 Classifier: License :: OSI Approved :: MIT License
 Classifier: Operating System :: POSIX :: Linux
@@ -51,11 +52,16 @@ Classifier: Typing :: Typed
 """
 if os.environ.get("HOMEPAGE"):
     metadata += f"Project-URL: Homepage, {os.environ['HOMEPAGE']}\n"
+metadata += "Description-Content-Type: text/markdown\n\n" + read(f"{top}/packaging/python/README.md").decode()
 wheel = f"Wheel-Version: 1.0\nGenerator: wheel.py\nRoot-Is-Purelib: false\nTag: {tag}\n"
-files = {f"{NAME}/{name}": read(f"{top}/packaging/python/{NAME}/{name}") for name in ("__init__.py", "__main__.py", "py.typed")}
+modules = f"{top}/packaging/python/{NAME}"
+files = {f"{NAME}/{name}": read(f"{modules}/{name}") for name in sorted(os.listdir(modules)) if name.endswith((".py", ".typed"))}
+if f'__version__: Final = "{version}"'.encode() not in files[f"{NAME}/_library.py"]:
+    sys.exit(f"wheel.py: _library.py has another version than {version}")
 files[f"{NAME}/libmarkdown-proved.so"] = read(library)
 files[f"{info}/METADATA"] = metadata.encode()
 files[f"{info}/WHEEL"] = wheel.encode()
+files[f"{info}/entry_points.txt"] = f"[console_scripts]\nmarkdown-proved = {NAME}.__main__:main\n".encode()
 files[f"{info}/LICENSE"] = read(f"{top}/LICENSE")
 files[f"{info}/NOTICES"] = read(f"{folder}/share/doc/markdown-proved/NOTICES")
 rows = [f"{name},sha256={digest(data)},{len(data)}" for name, data in files.items()]

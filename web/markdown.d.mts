@@ -23,22 +23,53 @@ export declare const MARK: 1024;
 /** GitHub Flavored Markdown: the sum of the flags that GitHub turns on. */
 export declare const GFM: 996;
 
+/** What differs from safe CommonMark. Each is off by default. */
+export interface Options {
+    /** A sum of flags, which the other options add to, or take from. */
+    flags?: number;
+    /** What GitHub turns on: strikethrough, task list items, tables, links, footnotes, tag filter. */
+    gfm?: boolean;
+    /** Keep HTML and every protocol of the input. Only for input from trusted authors. */
+    dangerous?: boolean;
+    /** Turn every construct off: the input is paragraphs. This wins over the options below. */
+    plain?: boolean;
+    /** `~~a~~` and `~a~` are struck through. */
+    strikethrough?: boolean;
+    /** `$a$` and `$$a$$` are math, and so is a block between lines of `$$`. */
+    math?: boolean;
+    /** Skip metadata at the start of the input, between lines of `---` or of `+++`. */
+    frontmatter?: boolean;
+    /** An item that begins with `[ ]` or `[x]` has a check box. */
+    taskListItems?: boolean;
+    /** A row of delimiters below a line, as `| - | - |`, makes a table. */
+    tables?: boolean;
+    /** `www.a.b`, `https://a.b` and `a@b.c` are links. */
+    autolinkLiterals?: boolean;
+    /** `[^a]` calls the footnote that `[^a]: b` defines. */
+    footnotes?: boolean;
+    /** With `dangerous`: escape `<` before nine names, as `script`. */
+    tagfilter?: boolean;
+    /** `==a==` is marked text. */
+    mark?: boolean;
+}
+
 /** An instance of the library. It keeps nothing between calls. */
 export interface Markdown {
     /** The version, as `0.1.0`. */
     readonly version: string;
     /**
-     * Returns the HTML of `text`. Without flags it is safe to show. A lone surrogate in `text` is converted to U+FFFD.
-     * @param flags a sum of flags
+     * Returns the HTML of `text`. Without options it is safe to show. A lone surrogate in `text` is converted to U+FFFD.
+     * @param options an object, or a sum of flags
+     * @throws TypeError for a text of another type, and for an unknown option or one of a wrong type
      * @throws Error "wrong flags", "input is too large" or "out of memory"
      */
-    toHtml(text: string, flags?: number): string;
+    toHtml(text: string, options?: Options | number): string;
     /**
      * Returns the HTML of a text in UTF-8, in UTF-8.
-     * @param flags a sum of flags
+     * @param options an object, or a sum of flags
      * @throws Error "input is not UTF-8", and as `toHtml`
      */
-    convert(text: Uint8Array, flags?: number): Uint8Array;
+    convert(text: Uint8Array, options?: Options | number): Uint8Array;
 }
 
 /**

@@ -1,13 +1,20 @@
 // Markdown to HTML: the library as a WebAssembly module, for browsers and Node.
 //
-//     import { load, GFM } from "./markdown.mjs";
+//     import { load } from "./markdown.mjs";
 //     const markdown = await load();
-//     markdown.toHtml("# Hello, *world*", GFM);
+//     markdown.toHtml("# Hello, *world*", { gfm: true });
 
 // Flags, to be added up. include/markdown.h says what each does.
 export const DANGEROUS = 1, PLAIN = 2, STRIKETHROUGH = 4, MATH = 8, FRONTMATTER = 16, TASK_LIST_ITEMS = 32, TABLES = 64;
 export const AUTOLINK_LITERALS = 128, FOOTNOTES = 256, TAGFILTER = 512, MARK = 1024;
 export const GFM = STRIKETHROUGH + TASK_LIST_ITEMS + TABLES + AUTOLINK_LITERALS + FOOTNOTES + TAGFILTER;
+
+// Options by their names. That of GitHub comes first, so that the others may turn off what it turns on.
+const FLAGS = {
+    gfm: GFM, dangerous: DANGEROUS, plain: PLAIN, strikethrough: STRIKETHROUGH, math: MATH, frontmatter: FRONTMATTER,
+    taskListItems: TASK_LIST_ITEMS, tables: TABLES, autolinkLiterals: AUTOLINK_LITERALS, footnotes: FOOTNOTES,
+    tagfilter: TAGFILTER, mark: MARK,
+};
 
 const OK = 0, ROOM = 1;
 const WRONG_FLAGS = "wrong flags", OUT_OF_MEMORY = "out of memory";
@@ -22,6 +29,23 @@ const encoder = new TextEncoder();
 const decoder = new TextDecoder("utf-8", { ignoreBOM: true });
 
 const roundUp = (n, to) => Math.ceil(n / to) * to;
+
+// Returns the sum of flags of options: an object, or a sum.
+function flagsOf(options = {}) {
+    const given = typeof options === "number" ? { flags: options } : options;
+    if (given === null || typeof given !== "object") throw new TypeError("options must be an object or a sum of flags");
+    for (const [name, value] of Object.entries(given)) {
+        if (name === "flags" || value === undefined) continue;
+        if (!Object.keys(FLAGS).includes(name)) throw new TypeError(`unknown option ${name}`);
+        if (typeof value !== "boolean") throw new TypeError(`${name} must be a boolean`);
+    }
+    const { flags = 0 } = given;
+    if (flags >>> 0 !== flags) throw new Error(WRONG_FLAGS);
+    return Object.entries(FLAGS).reduce((sum, [name, flag]) => {
+        if (given[name] === undefined) return sum;
+        return given[name] ? sum | flag : sum & ~flag;
+    }, flags);
+}
 
 // A heap in the module's own memory. Only the block allocated last is freed by itself: a call keeps nothing, so `reset` frees
 // everything before the next one.
@@ -110,12 +134,14 @@ class Markdown {
         return [version >> 16, version >> 8 & 255, version & 255].join(".");
     }
 
-    toHtml(text, flags = 0) {
-        return decoder.decode(this.convert(encoder.encode(text), flags));
+    toHtml(text, options) {
+        if (typeof text !== "string") throw new TypeError("the text must be a string");
+        return decoder.decode(this.convert(encoder.encode(text), options));
     }
 
-    convert(text, flags = 0) {
-        if (flags >>> 0 !== flags) throw new Error(WRONG_FLAGS);
+    convert(text, options) {
+        if (!(text instanceof Uint8Array)) throw new TypeError("the text must be a Uint8Array");
+        const flags = flagsOf(options) >>> 0;
         try {
             const html = this.#convert(text, flags);
             if (this.#exports.memory.buffer.byteLength > KEPT) this.#replace();

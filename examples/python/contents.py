@@ -6,7 +6,7 @@
 import re
 import sys
 
-import markdown_c
+from markdown_proved import FRONTMATTER, GFM, load
 
 HEADINGS = {"HeadingAtx", "HeadingSetext"}
 TARGETS = {"Resource", "Reference"}
@@ -22,7 +22,7 @@ def escape(text):
 def headings(library, text):
     """The rank, line and title of each heading of a text; the title is Markdown."""
     targets = start = rank = is_title = 0
-    for event in markdown_c.events(library, text, markdown_c.GFM + markdown_c.FRONTMATTER):
+    for event in library.events(text, GFM | FRONTMATTER):
         if event.name in TARGETS:
             targets += 1 if event.enters else -1
         if event.name in TITLES:
@@ -47,5 +47,5 @@ def headings(library, text):
 
 library, path = sys.argv[1:]
 with open(path, "rb") as file:
-    for rank, line, title in headings(markdown_c.load(library), file.read()):
+    for rank, line, title in headings(load(library), file.read()):
         sys.stdout.buffer.write(f"{'  ' * (rank - 1)}- [{title}]({path}#L{line})\n".encode())

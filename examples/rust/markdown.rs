@@ -75,7 +75,7 @@ impl Flags {
         }
     }
 
-    fn sum(self) -> u32 {
+    pub(crate) fn sum(self) -> u32 {
         [
             (self.dangerous, calls::DANGEROUS),
             (self.plain, calls::PLAIN),
@@ -113,6 +113,15 @@ impl fmt::Display for Fault {
 
 impl std::error::Error for Fault {}
 
+/// Why a call with this status has no result.
+pub(crate) fn fault_of(status: u32) -> Fault {
+    match status {
+        calls::SIZE => Fault::Size,
+        calls::UTF8 | calls::FLAGS => unreachable!("a text is UTF-8, and the flags are known"),
+        _ => Fault::Memory,
+    }
+}
+
 /// The HTML of a text.
 pub fn to_html(text: &str, flags: Flags) -> Result<String, Fault> {
     let mut page = vec![0; text.len() + text.len() / 4 + 64];
@@ -135,9 +144,7 @@ pub fn to_html(text: &str, flags: Flags) -> Result<String, Fault> {
                 return Ok(String::from_utf8(page).expect("a page is UTF-8"));
             }
             calls::ROOM => page.resize(length, 0),
-            calls::SIZE => return Err(Fault::Size),
-            calls::UTF8 | calls::FLAGS => unreachable!("a text is UTF-8, and the flags are known"),
-            _ => return Err(Fault::Memory),
+            _ => return Err(fault_of(status)),
         }
     }
 }

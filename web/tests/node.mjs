@@ -52,6 +52,11 @@ check("safe", markdown.toHtml("<b>a</b> [b](javascript:c)") === '<p>&lt;b&gt;a&l
 check("plain", markdown.toHtml("# a", PLAIN) === "<p># a</p>");
 check("an empty text", markdown.toHtml("") === "");
 check("a page far longer than its text", markdown.toHtml('"'.repeat(1000)) === `<p>${"&quot;".repeat(1000)}</p>`);
+check("options", markdown.toHtml("~~a~~ www.b.c", { gfm: true, autolinkLiterals: false }) === "<p><del>a</del> www.b.c</p>");
+check("flags and options", markdown.toHtml("~~a~~ ==b==", { flags: GFM, mark: true }) === "<p><del>a</del> <mark>b</mark></p>");
+check("an unknown option", fault(() => markdown.toHtml("", { gmf: true })) === "unknown option gmf");
+check("an option of a wrong type", fault(() => markdown.toHtml("", { gfm: 1 })) === "gfm must be a boolean");
+check("a text of a wrong type", fault(() => markdown.toHtml(3)) === "the text must be a string");
 check("wrong flags", fault(() => markdown.toHtml("a", 2048)) === "wrong flags" && fault(() => markdown.toHtml("a", 2 ** 32)) === "wrong flags");
 check("no UTF-8", fault(() => markdown.convert(new Uint8Array([97, 255]))) === "input is not UTF-8");
 

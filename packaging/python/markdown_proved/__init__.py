@@ -1,90 +1,98 @@
-"""Markdown to HTML, by a proved converter.
+"""Markdown to HTML and to events, by a proved converter.
 
-    >>> from markdown_proved import GFM, to_html
+    >>> from markdown_proved import events, to_html
     >>> to_html("# Hello, *world*")
     '<h1>Hello, <em>world</em></h1>'
-    >>> to_html("~~a~~ www.example.com", GFM)
+    >>> to_html("~~a~~ www.example.com", gfm=True)
     '<p><del>a</del> <a href="http://www.example.com">www.example.com</a></p>'
+    >>> [event.text for event in events("# a *b*") if event.enters and event.name == "Emphasis"]
+    ['*b*']
 
-Without flags the input is CommonMark 0.31.2 and the HTML is safe to show: HTML in the input is escaped, and URLs with a protocol
-that isn't allowed become empty. Flags are added up:
+Without options the input is CommonMark 0.31.2 and the HTML is safe to show: HTML in the input is escaped, and URLs with a protocol
+that isn't allowed become empty.
 
-DANGEROUS           keep HTML and every protocol of the input; only for input from trusted authors
-PLAIN               turn every construct off: the input is paragraphs; this wins over the flags below
-STRIKETHROUGH       ``~~a~~`` and ``~a~`` are struck through
-MATH                ``$a$`` is math, and so is a block between lines of ``$$``
-FRONTMATTER         skip metadata at the start, between lines of ``---`` or of ``+++``
-TASK_LIST_ITEMS     an item that begins with ``[ ]`` or ``[x]`` has a check box
-TABLES              a row of delimiters below a line, as ``| - | - |``, makes a table
-AUTOLINK_LITERALS   ``www.a.b``, ``https://a.b`` and ``a@b.c`` are links
-FOOTNOTES           ``[^a]`` calls the footnote that ``[^a]: b`` defines
-TAGFILTER           with DANGEROUS: escape ``<`` before nine names, as ``script``
-MARK                ``==a==`` is marked text
-GFM                 what GitHub turns on: the six flags for strikethrough, task list items, tables, links, footnotes, tag filter
+A text is a ``str``, or ``bytes``, ``bytearray`` or ``memoryview`` in UTF-8. What is returned of a ``str`` is ``str``, and of the
+others ``bytes``. Offsets always count bytes of UTF-8. Threads may call at the same time; a call doesn't hold the interpreter's lock
+while the library works.
 
-Threads may call at the same time; a call doesn't hold the interpreter's lock while it converts.
+Options are keywords, each described in ``ReadOptions`` and ``Options``. Flags may be added up, too: ``to_html(text, GFM | MATH)``.
 """
-import ctypes
+from __future__ import annotations
+
+import functools
 import os
-from typing import Final, Union, overload
+from typing import TYPE_CHECKING, Any, Final, Iterator, Union, overload
+
+from ._library import Event, Flags, Library
+from ._library import __version__ as __version__
+
+if TYPE_CHECKING:
+    from typing_extensions import Unpack
+
+    from ._library import Options, ReadOptions
 
 __all__ = [
-    "to_html", "DANGEROUS", "PLAIN", "STRIKETHROUGH", "MATH", "FRONTMATTER", "TASK_LIST_ITEMS", "TABLES", "AUTOLINK_LITERALS",
-    "FOOTNOTES", "TAGFILTER", "MARK", "GFM",
+    "to_html", "events", "load", "Event", "Flags", "Library", "DANGEROUS", "PLAIN", "STRIKETHROUGH", "MATH", "FRONTMATTER", "TASK_LIST_ITEMS", "TABLES", "AUTOLINK_LITERALS", "FOOTNOTES",
+    "TAGFILTER", "MARK", "GFM",
 ]
 
-DANGEROUS: Final = 1
-PLAIN: Final = 2
-STRIKETHROUGH: Final = 4
-MATH: Final = 8
-FRONTMATTER: Final = 16
-TASK_LIST_ITEMS: Final = 32
-TABLES: Final = 64
-AUTOLINK_LITERALS: Final = 128
-FOOTNOTES: Final = 256
-TAGFILTER: Final = 512
-MARK: Final = 1024
-GFM: Final = STRIKETHROUGH + TASK_LIST_ITEMS + TABLES + AUTOLINK_LITERALS + FOOTNOTES + TAGFILTER
+DANGEROUS: Final = Flags.DANGEROUS
+PLAIN: Final = Flags.PLAIN
+STRIKETHROUGH: Final = Flags.STRIKETHROUGH
+MATH: Final = Flags.MATH
+FRONTMATTER: Final = Flags.FRONTMATTER
+TASK_LIST_ITEMS: Final = Flags.TASK_LIST_ITEMS
+TABLES: Final = Flags.TABLES
+AUTOLINK_LITERALS: Final = Flags.AUTOLINK_LITERALS
+FOOTNOTES: Final = Flags.FOOTNOTES
+TAGFILTER: Final = Flags.TAGFILTER
+MARK: Final = Flags.MARK
+GFM: Final = Flags.GFM
 
-_OK, _ROOM, _MEMORY = 0, 1, 5
-_FAULTS = {2: "input is not UTF-8", 3: "wrong flags", 4: "input is too large"}
-
-_library = ctypes.CDLL(os.path.join(os.path.dirname(os.path.abspath(__file__)), "libmarkdown-proved.so"))
-_size = ctypes.c_size_t
-_convert = _library.markdown_convert
-_convert.restype = ctypes.c_uint32
-_convert.argtypes = [ctypes.c_char_p, _size, ctypes.c_uint32, ctypes.c_char_p, _size, ctypes.POINTER(_size)]
-_version = _library.markdown_version
-_version.restype = ctypes.c_uint32
-_version.argtypes = []
-
-__version__: Final[str] = ".".join(str(part) for part in _version().to_bytes(4, "big")[1:])
+_Bytes = Union[bytes, bytearray, memoryview]
 
 
-@overload
-def to_html(text: str, flags: int = ...) -> str: ...
+def load(path: Union[str, "os.PathLike[str]"]) -> Library:
+    """Return the shared library at ``path``, which ``./install.sh --library`` makes. Its methods are the functions of this module.
+
+    Raises OSError if it can't be loaded, and ImportError if it is of another version than this module.
+    """
+    return Library(path)
+
+
+@functools.lru_cache(maxsize=None)
+def _own() -> Library:
+    """The library in this package."""
+    return Library(os.path.join(os.path.dirname(os.path.abspath(__file__)), "libmarkdown-proved.so"))
 
 
 @overload
-def to_html(text: bytes, flags: int = ...) -> bytes: ...
+def to_html(text: str, flags: int = ..., **options: Unpack[Options]) -> str: ...
 
 
-def to_html(text: Union[str, bytes], flags: int = 0) -> Union[str, bytes]:
-    """Return the HTML of ``text``: a str for a str, and bytes for bytes in UTF-8.
+@overload
+def to_html(text: _Bytes, flags: int = ..., **options: Unpack[Options]) -> bytes: ...
+
+
+def to_html(text: Union[str, _Bytes], flags: int = 0, **options: Unpack[Options]) -> Any:
+    """Return the HTML of ``text``.
 
     Raises ValueError for wrong flags, for input that isn't UTF-8 and for input that is too large, and MemoryError.
     """
-    if not 0 <= flags < 1 << 32:
-        raise ValueError(_FAULTS[3])
-    given = text.encode() if isinstance(text, str) else text
-    length = _size(len(given) + len(given) // 4 + 64)
-    status = _ROOM
-    while status == _ROOM:
-        page = ctypes.create_string_buffer(length.value)
-        status = _convert(given, len(given), flags, page, len(page), ctypes.byref(length))
-    if status == _MEMORY:
-        raise MemoryError
-    if status != _OK:
-        raise ValueError(_FAULTS[status])
-    html = ctypes.string_at(page, length.value)
-    return html.decode() if isinstance(text, str) else html
+    return _own().to_html(text, flags, **options)
+
+
+@overload
+def events(text: str, flags: int = ..., **options: Unpack[ReadOptions]) -> Iterator[Event[str]]: ...
+
+
+@overload
+def events(text: _Bytes, flags: int = ..., **options: Unpack[ReadOptions]) -> Iterator[Event[bytes]]: ...
+
+
+def events(text: Union[str, _Bytes], flags: int = 0, **options: Unpack[ReadOptions]) -> Any:
+    """Return the events of ``text``, in order: what begins and ends where.
+
+    Raises the errors of ``to_html``, before the first event.
+    """
+    return _own().events(text, flags, **options)

@@ -1,0 +1,69 @@
+"""Tries the calls of the installed module. The last line is ``N passed, M failed``.
+
+    python calls.py
+"""
+import sys
+from typing import Any, Callable, Type
+
+import markdown_proved
+from markdown_proved import GFM, MATH, Flags, events, to_html
+
+passed = failed = 0
+
+
+def check(what: str, found: object, wanted: object) -> None:
+    global passed, failed
+    if found == wanted:
+        passed += 1
+    else:
+        failed += 1
+        print(f"failed: {what}: {found!r}, not {wanted!r}", file=sys.stderr)
+
+
+def fault(call: Callable[..., Any], *arguments: Any, **options: Any) -> "tuple[Type[BaseException], str]":
+    """The kind and the words of the error that a call raises."""
+    try:
+        call(*arguments, **options)
+    except Exception as error:
+        return type(error), str(error)
+    return BaseException, "no error"
+
+
+for text in ("~~a~~", b"~~a~~", bytearray(b"~~a~~"), memoryview(b"~~a~~")):
+    wanted = "<p><del>a</del></p>"
+    check(f"a {type(text).__name__}", to_html(text, gfm=True), wanted if isinstance(text, str) else wanted.encode())
+check("a view with gaps", to_html(memoryview(b"a-b-c")[::2]), b"<p>abc</p>")
+check("an empty text", to_html(""), "")
+check("a page far longer than its text", to_html('"' * 1000), f"<p>{'&quot;' * 1000}</p>")
+check("flags", to_html("~~a~~ $b$", GFM | MATH), '<p><del>a</del> <code class="language-math math-inline">b</code></p>')
+check("a flag that is turned off", to_html("~~a~~", GFM, strikethrough=False), "<p>~~a~~</p>")
+check("a keyword beside gfm", to_html("~~a~~\n\na | b\n-|-", gfm=True, tables=False), "<p><del>a</del></p>\n<p>a | b\n-|-</p>")
+check("dangerous", to_html("a <b>", dangerous=True), "<p>a <b></p>")
+check("plain", to_html("*a*", plain=True), "<p>*a*</p>")
+check("the sum of GitHub", int(Flags.GFM), 996)
+
+CALLS = ((to_html, "to_html"), (events, "events"))
+for call, name in CALLS:
+    check(f"{name}: a wrong type", fault(call, 3), (TypeError, "text must be str, bytes, bytearray or memoryview, not int"))
+    check(f"{name}: a wrong keyword", fault(call, "", gmf=True), (TypeError, f"{name}() got an unexpected keyword argument 'gmf'"))
+    check(f"{name}: a wrong value", fault(call, "", gfm=1), (TypeError, "gfm must be a bool, not int"))
+    check(f"{name}: flags of a wrong type", fault(call, "", "gfm"), (TypeError, "flags must be an int, not str"))
+    check(f"{name}: wrong flags", fault(call, "", 2048), (ValueError, "wrong flags"))
+    check(f"{name}: no UTF-8", fault(call, b"\xff"), (ValueError, "input is not UTF-8"))
+
+found = list(events("> # é *b*\n"))
+check("events", [(event.kind, event.name) for event in found[:3]], [("enter", "BlockQuote"), ("enter", "BlockQuotePrefix"), ("enter", "BlockQuoteMarker")])
+emphasis = [event for event in found if event.name == "Emphasis"]
+check("places", [(event.enters, event.offset, event.line, event.column, event.columns) for event in emphasis], [(True, 7, 1, 8, 0), (False, 10, 1, 11, 0)])
+check("texts", [event.text for event in emphasis], ["*b*", "*b*"])
+check("texts of bytes", [event.text for event in events("é *b*".encode()) if event.name == "Emphasis"], [b"*b*", b"*b*"])
+check("an event, shown", repr(emphasis[0]), "<enter Emphasis 1:8>")
+check("no events", list(events("")), [])
+voids = [enter.text for enter, leave in zip(found, found[1:]) if enter.enters and not leave.enters]
+check("the texts of void events", "".join(voids), "> # é *b*\n")
+check("many events", sum(event.enters for event in events("*a* " * 20000)) > 100000, True)
+check("the version", markdown_proved.__version__.count("."), 2)
+check("a library that isn't there", fault(markdown_proved.load, "no.so")[0], OSError)
+
+print(f"{passed} passed, {failed} failed")
+sys.exit(failed != 0)
