@@ -11,10 +11,11 @@ version=$(sed -n 's/^#define MARKDOWN_VERSION_TEXT "\(.*\)"$/\1/p' "$top/include
 scratch=$(mktemp -d)
 trap 'rm -rf "$scratch"' EXIT
 mkdir "$scratch/package"
-cp "$folder/markdown.wasm" "$folder/markdown.mjs" "$folder/markdown.d.mts" "$folder/NOTICES" "$top/LICENSE" "$scratch/package"
+cp "$folder/markdown.wasm" "$folder/markdown.mjs" "$folder/markdown.d.mts" "$folder/NOTICES" "$top/LICENSE" \
+    "$top/packaging/node/README.md" "$top/packaging/node/cli.mjs" "$scratch/package"
+chmod +x "$scratch/package/cli.mjs"
 # Where the source is, if $HOMEPAGE says so.
 sed "s/@VERSION@/$version/; s|@HOMEPAGE@|${HOMEPAGE:-}|; ${HOMEPAGE:+#}/\"homepage\"/d" "$top/packaging/node/package.json" > "$scratch/package/package.json"
-cp "$top/packaging/node/README.md" "$scratch/package"
 path=$out/markdown-proved-$version.tgz
 tar --sort=name --owner=0 --group=0 --numeric-owner --mtime=@0 --mode=a+rX,u+w,go-w -C "$scratch" -cf - package | gzip -9n > "$path"
 echo "$path"
