@@ -19,6 +19,7 @@ use Rattle.parse_open.proofs.Texts.{texts_are_spelled}
 use Rattle.parse_events.specs.Parsed.{AreEventsOf}
 use Rattle.parse_events.specs.Stands.{IsAt}
 use Rattle.parse_events.proofs.NestedLaw.{nested}
+use Rattle.event_tokens.specs.Bytes.{HaveTheirBytes}
 
 -- ---- the end of the text
 
@@ -88,19 +89,33 @@ written_same {A} text bytes out own es events bytes_are out_is same written orde
     (subst (λ (bs : List ℕ). IsInOrder bs out → (end_in out).index ≡ length bs → bytewise (tree es) ≡ (forest_in bs out).kids) bytes_are written) in
     ap (λ (xs : List Event). bytewise (tree xs)) same ∙ all order end
 
+-- the same, where all of the text is written
+tokens_same : {A : Type 0} (text bytes : List ℕ) (out own : Output A) (es events : List Event) → bytes ≡ text → out ≡ own → events ≡ es
+    → (IsInOrder bytes out → (end_in out).index ≡ length bytes → HaveTheirBytes bytes es)
+    → IsInOrder text own → (end_in own).index ≡ length text → HaveTheirBytes text events
+tokens_same {A} text bytes out own es events bytes_are out_is same written order end =
+    let all : IsInOrder text own → (end_in own).index ≡ length text → HaveTheirBytes text es =
+    subst (λ (o : Output A). IsInOrder text o → (end_in o).index ≡ length text → HaveTheirBytes text es) out_is
+    (subst (λ (bs : List ℕ). IsInOrder bs out → (end_in out).index ≡ length bs → HaveTheirBytes bs es) bytes_are written) in
+    subst (HaveTheirBytes text) (sym same) (all order end)
+
 -- what is finished of a walk after the rows of a text is the list of its events
 pub are_events : {A : Type 0} (tables : TextTables) (options : ParseOptions) (text : List ℕ) (old w : Walk A)
     (start : StandsBefore options.constructs text (kind_before_text text) (without_mark text) old) (bytes : List ℕ) (out : Output A) (es events : List Event)
     → bytes ≡ text → out ≡ w.out → events ≡ es → open_in w.out ≡ [] → ArePlaced bytes es → HaveChildren es → unmatched es ≡ open_in out
-    → (IsInOrder bytes out → (end_in out).index ≡ length bytes → bytewise (tree es) ≡ (forest_in bytes out).kids) → MatchesGrammar tables.names text events
+    → (IsInOrder bytes out → (end_in out).index ≡ length bytes → bytewise (tree es) ≡ (forest_in bytes out).kids)
+    → (IsInOrder bytes out → (end_in out).index ≡ length bytes → HaveTheirBytes bytes es) → MatchesGrammar tables.names text events
     → Stands (reading tables options (document_targets (text_blocks options text))) text start.front
     (opened (group_items (bare_blocks (text_blocks options text))) [] []) [] (Between []) w
     → AreEventsOf tables options text events
-are_events {A} tables options text old w start bytes out es events bytes_are out_is same none placed children matched written right st =
+are_events {A} tables options text old w start bytes out es events bytes_are out_is same none placed children matched written tokens right st =
     record {
       placed = subst (λ (bs : List ℕ). ArePlaced bs events) bytes_are (subst (λ (xs : List Event). ArePlaced bytes xs) (sym same) placed);
       nested = nested events (ap unmatched same ∙ matched ∙ ap (λ (o : Output A). open_in o) out_is ∙ none);
       children = subst HaveChildren (sym same) children;
+      tokens =
+          tokens_same text bytes out w.out es events bytes_are out_is same tokens st.order
+          (all_written text (opened (group_items (bare_blocks (text_blocks options text))) [] []) w st.at);
       grammar = right;
       spelled =
           parsed_spelled tables options text (kind_before_text text) (without_mark text) old w start events refl refl st right

@@ -1,7 +1,7 @@
 -- A walk stands after the ending of a line, if that is written.
 use Rattle.std.proofs.Common.{◌≡◌, inl, inr, ◌<◌, ◌+◌, ◌-◌, ℕ, zero, suc, ◌||◌, Bool, true, false, List, [], ◌∷◌, ◌++◌, Option, None, Some, refl, sym, ap, ◌∙◌, subst, arith, length, length-append, get_or, append_assoc, reverse}
 use Rattle.parse_events.proofs.Prelude.{AreEnding, AreMute, AreQuiet, Around, AtEnding, Between, Block, Blocks, Cons, ConsBlock, Container, End, end_at}
-use Rattle.parse_events.proofs.Prelude.{Ending, ending_text, ends_in_blank, ends_unclosed, EndsLine, Follows, forest_in, growth, Growth, HasSameOpen}
+use Rattle.parse_events.proofs.Prelude.{Ending, ending_text, ends_in_blank, ends_unclosed, EndsLine, forest_in, growth, Growth, HasSameOpen}
 use Rattle.parse_events.proofs.Prelude.{if◌then◌else◌, IsAfterOther, IsBegun, IsInLine, join, kids_of, LevelsGoOn, line_after, line_at, LineEnding, LineRest}
 use Rattle.parse_events.proofs.Prelude.{lines_are_counted, list_any, Name, named, Nil, NoBlock, Node, Nodes, one, one_block, Opened, opened, Reading}
 use Rattle.parse_events.proofs.Prelude.{same_name, Spells, Standing, standing, Stands, StandsAt, true≢false, void_nodes, Walk, with_nodes, WritesEnding}
@@ -10,10 +10,10 @@ use Rattle.definition_text.specs.Lines.{ends_line}
 use Rattle.engine_events.specs.declared.event.Name.TheVariants as n
 use Rattle.event_grammar.specs.References.{named_in}
 use Rattle.parse_lines.specs.Quiet.{AreOfPrefix, IsVoidOf}
-use Rattle.parse_lines.proofs.Ends.{end_to_next}
 use Rattle.parse_lines.proofs.Spots.{get_front, get_over}
 use Rattle.parse_output.proofs.Forests.{append-nil}
 use Rattle.parse_events.proofs.LastBlank.{ending_ends}
+use Rattle.parse_raw.proofs.Bytes.{ending_token, line_ending_fits}
 
 -- ---- quiet nodes are mute
 
@@ -127,9 +127,7 @@ module _ {A : Type 0} (r : Reading) (text : List ℕ) (front : Nodes) (go : Leve
       → IsApart text old.line_end
       → Stands r text front (opened (join o.kids (one_block (Ending ending))) o.outer o.places) within (Between left) new
   ending_stands o within ending left old new outside st wr other was ends writes same after are apart =
-      let follows : Follows text (written_to old) (line_after old) =
-      subst (λ (x : End). Follows text x (line_after old)) (sym wr) (end_to_next text (standing old) st.line) in
-      let written = writes text ending left st was.order follows in
+      let written = writes text ending left st was.order (ending_token text n.LineEnding old line_ending_fits st.line wr) in
       record {
         constructs = same.0 ∙ was.constructs;
         around = ap reverse same.1 ∙ was.around;

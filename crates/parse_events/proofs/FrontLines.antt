@@ -4,6 +4,7 @@ use Rattle.parse_events.proofs.Prelude.{after_frontmatter, after_return, cases_B
 use Rattle.parse_events.proofs.Prelude.{in_first_line, joined, lines, lines_joined, text_line, TextLine}
 use Rattle.markdown_options.specs.declared.line_ending.LineEnding.TheVariants.{CarriageReturnLineFeed, CarriageReturn, LineFeed}
 use Rattle.parse_raw.proofs.MetadataLines.{front_lines}
+use Rattle.parse_raw.proofs.Runs.{metadata_size}
 
 abbrev Line : Type 0
 Line = TextLine
@@ -141,7 +142,7 @@ front_parts on text left others found is =
           sym (lines_joined text) ∙ ap joined parts ∙ joined_both front others
           ∙ ap (λ (xs : List ℕ). joined front ++ xs) (ap joined (sym is) ∙ lines_joined left);
       own = lines_of_front text front others parts;
-      some = omega (arith, size, fl.first_size);
+      some = omega (arith, size, metadata_size fl.first.content fl.first_is);
     }
 
 -- where nothing is left out of a text, no frontmatter is found

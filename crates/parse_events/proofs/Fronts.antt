@@ -1,5 +1,5 @@
 -- What is in front of the blocks of a text is written: a byte order mark and frontmatter.
-use Rattle.std.proofs.Common.{◌≡◌, inl, inr, ◌<◌, ◌≤◌, ◌+◌, ◌-◌, ◌^◌, ℕ, Bool, true, false, ◌&&◌, List, [], ◌∷◌, ◌++◌, Option, None, Some, eqb, refl, sym, ap, ap₂, ◌∙◌, subst, arith, length, get_or, length-append}
+use Rattle.std.proofs.Common.{◌≡◌, inl, inr, ◌<◌, ◌≤◌, ◌+◌, ◌-◌, ◌^◌, ℕ, Bool, true, false, ◌&&◌, List, [], ◌∷◌, ◌++◌, Option, None, Some, eqb, refl, sym, ap, ap₂, ◌∙◌, subst, arith, length, get_or, length-append, take}
 use Rattle.parse_events.proofs.Prelude.{after_frontmatter, and_parts, append, append-assoc, AreEnding, AreQuiet, Between, Blocks, blocks, cases_Bool}
 use Rattle.parse_events.proofs.Prelude.{cond-false, cond-true, Constructs, End, end_at, eqb-true, fold, Follows, forest_in, growth, Growth, if◌then◌else◌}
 use Rattle.parse_events.proofs.Prelude.{IsFront, IsInOrder, joined, Kind, LineEnding, lines, named, Nil, Node, node_name, Nodes, one, Standing, standing}
@@ -10,6 +10,9 @@ use Rattle.definition_inline.specs.CharacterReference.{Names}
 use Rattle.definition_block.specs.Definitions.{DefinitionCut, cut_into}
 use Rattle.definition_block.specs.Tree.{children, children_after, with_paragraph}
 use Rattle.definition_block.specs.Tree as tree
+use Rattle.std.proofs.Math.Seq.{take-append_seam}
+use Rattle.event_tokens.specs.Tokens.{is_token}
+use Rattle.parse_output.specs.Joined.{text_between}
 use Rattle.engine_events.specs.Columns.{between, mark_size}
 use Rattle.engine_events.specs.declared.event.Name.TheVariants as n
 use Rattle.parse_lines.specs.Standing.{IsLineStart}
@@ -32,12 +35,14 @@ pub record MarkParts (text : List ℕ) : Type 0 where
   pub mark : List ℕ
   pub parts : text ≡ mark ++ without_mark text
   pub first : IsLineStart text (length mark)
+  pub fits : is_token n.ByteOrderMark mark ≡ true
 
 no_mark : (text : List ℕ) → has_mark text ≡ false → mark_size text ≡ 0 → MarkParts text
 no_mark text none size = record {
   mark = [];
   parts = sym (cond-false (has_mark text) _ _ none);
   first = record { column = refl; mark = omega (arith, size); apart = λ some. absurd (omega (arith, some)) };
+  fits = refl;
 }
 
 pub mark_parts : (text : List ℕ) → MarkParts text
@@ -50,6 +55,7 @@ mark_parts (a ∷ b ∷ c ∷ others) =
     elim (cases_Bool test) [
       | inl is ↦
           let size : mark_size text ≡ 3 = cond-true test _ _ is in
+          let first = and_parts (eqb a 239) (eqb b 187) (and_parts (eqb a 239 && eqb b 187) (eqb c 191) is).0 in
           let last : c ≡ 191 = eqb-true c 191 (and_parts (eqb a 239 && eqb b 187) (eqb c 191) is).1 in
           record {
             mark = a ∷ b ∷ c ∷ [];
@@ -59,6 +65,9 @@ mark_parts (a ∷ b ∷ c ∷ others) =
               mark = omega (arith, size);
               apart = λ some return feed. absurd (omega (arith, last, return));
             };
+            fits =
+                ap₂ (λ (x : ℕ) (xs : List ℕ). is_token n.ByteOrderMark (x ∷ xs)) (eqb-true a 239 first.0)
+                (ap₂ (λ (x y : ℕ). x ∷ y ∷ []) (eqb-true b 187 first.1) last);
           }
       | inr isnt ↦ no_mark text isnt (cond-false test _ _ isnt)
     ]
@@ -131,7 +140,12 @@ module _ {A : Type 0} where
         columns = λ at. omega arith;
         whole = inl refl;
       }) in
-      let written = writes short text order follows in
+      let reached : (written_to old).index + size ≡ length mp.mark = omega (arith, zero, sizes, long) in
+      let none : length mp.mark - 0 ≡ length mp.mark = omega arith in
+      let between_is : text_between text (written_to old) to ≡ mp.mark =
+      ap₂ (text_between text) start (ap (λ (k : ℕ). end_at k 0) reached)
+      ∙ ap (between 0 (length mp.mark)) parts ∙ ap (λ (k : ℕ). take k (mp.mark ++ rest)) none ∙ take-append_seam mp.mark rest in
+      let written = writes short text order (record { follows = follows; bytes = ap (is_token n.ByteOrderMark) between_is ∙ mp.fits }) in
       let nodes = void_nodes text n.ByteOrderMark (written_to old) to in
       let st : StandsAt text (Between (unread before (lines rest))) (standing old) = begins text mp.mark before fits refl bytes parts mp.first in
       record {

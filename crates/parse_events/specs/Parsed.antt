@@ -4,6 +4,7 @@ use Rattle.markdown_options.specs.declared.configuration.ParseOptions.{ParseOpti
 use Rattle.definition_page.specs.TextTables.{TextTables}
 use Rattle.engine_events.specs.declared.event.Event.{Event}
 use Rattle.event_check.specs.Matches.{MatchesGrammar}
+use Rattle.event_tokens.specs.Bytes.{HaveTheirBytes}
 use Rattle.event_meaning.specs.Spelled.{spelled}
 use Rattle.parse_alike.specs.Spelled.{IsPageOfText}
 use Rattle.parse_output.specs.Children.{HaveChildren}
@@ -13,11 +14,12 @@ use Rattle.parse_events.specs.Labels.{definition_labels, footnote_labels, text_b
 use Rattle.parse_events.specs.Nested.{IsNested}
 use Rattle.parse_events.specs.State.{IsReadBy, definitions_of, footnotes_of}
 
--- these events are placed in the text, well nested and in the grammar, and spell its page
+-- these events are placed in the text, well nested and in the grammar, have bytes that their names may have, and spell its page
 pub record AreEventsOf (tables : TextTables) (options : ParseOptions) (text : List ℕ) (events : List Event) : Type 0 where
   pub placed : ArePlaced text events
   pub nested : IsNested events
   pub children : HaveChildren events
+  pub tokens : HaveTheirBytes text events
   pub grammar : MatchesGrammar tables.names text events
   pub spelled : IsPageOfText tables options text (spelled tables.names events text)
 

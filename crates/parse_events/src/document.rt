@@ -20,6 +20,7 @@ ghost use Rattle.parse_leaves.specs.Texts.{KnowsTargets, reading_by};
 ghost use Rattle.parse_events.specs.Nested.{IsNested};
 ghost use Rattle.parse_events.specs.Labels.{begun_in, defined_in, definition_labels, footnote_labels, text_blocks};
 ghost use Rattle.parse_events.specs.State.{IsReadBy, definitions_of, footnotes_of};
+ghost use Rattle.event_tokens.specs.Bytes.{HaveTheirBytes};
 
 use crate::in_grammar::in_grammar;
 use crate::labels::Labels;
@@ -60,6 +61,7 @@ pub fn parse<'a, T: Tables, A: Allocator + Clone>(
     ensures placed { IfOk result (λ parsed. ArePlaced value.now parsed.0.items) }
     ensures nested { IfOk result (λ parsed. IsNested parsed.0.items) }
     ensures children { IfOk result (λ parsed. HaveChildren parsed.0.items) }
+    ensures tokens { IfOk result (λ parsed. HaveTheirBytes value.now parsed.0.items) }
     ensures grammar { IfOk result (λ parsed. MatchesGrammar (T.reference_of tables.now) value.now parsed.0.items) }
     ensures spelled { IfOk result (λ parsed. let names = T.reference_of tables.now in
         IsPageOfText (text_tables names (T.punctuation_of tables.now)) options.now value.now (spelled names parsed.0.items value.now)) }

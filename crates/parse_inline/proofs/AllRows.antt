@@ -1,5 +1,10 @@
 -- From before all rows of a text to after them.
 use Rattle.std.proofs.Common.{◌≡◌, ◌+◌, ◌≤◌, ◌||◌, ℕ, zero, suc, true, false, List, [], ◌∷◌, ◌++◌, inl, inr, drop, length, map, refl, sym, ap, subst, ◌∙◌, arith}
+use Rattle.std.proofs.Common.{ap₂, Bool}
+use Rattle.std.specs.Prelude.{◌&&◌}
+use Rattle.std.specs.List.{list_all}
+use Rattle.parse_lines.specs.Content.{HasBytes, StandsInLine}
+use Rattle.parse_lines.proofs.Bytes.{has_kind}
 use Rattle.parse_inline.proofs.Prelude.{append-nil, AreBytesAt, AreLaid, ArePartsAlike, AreWritten, Around, cases_Bool, codes_of, cond-false, cond-true}
 use Rattle.parse_inline.proofs.Prelude.{cond_both, Constructs, content_codes, End, end_after, end_in, ends_line, enter_at, eqb-true, exit_at, filled}
 use Rattle.parse_inline.proofs.Prelude.{held_levels, hole_of, indent, InlineCode, InlineContext, InlineRow, Inlines, inlines_from, inlines_of, is_eol}
@@ -147,6 +152,33 @@ white_left (c ∷ cs) none = elim (cases_Bool (is_white c.code)) [
       absurd cc
 ]
 
+white_all : (xs : List InlineCode) → [] ≡ drop (indent (codes_of xs)) xs → list_all is_white (codes_of xs) ≡ true
+white_all [] none = refl
+white_all (c ∷ cs) none = elim (cases_Bool (is_white c.code)) [
+  | inl white ↦
+      let more : indent (codes_of (c ∷ cs)) ≡ suc (indent (codes_of cs)) =
+      cond-true (is_white c.code) (1 + indent (codes_of cs)) 0 white ∙ (let one : 1 + indent (codes_of cs) ≡ suc (indent (codes_of cs)) = omega arith in one) in
+      ap₂ (λ (s t : Bool). s && t) white (white_all cs (none ∙ ap (λ n. drop n (c ∷ cs)) more))
+  | inr other ↦
+      let first : indent (codes_of (c ∷ cs)) ≡ 0 = cond-false (is_white c.code) (1 + indent (codes_of cs)) 0 other in
+      let empty : [] ≡ c ∷ cs = none ∙ ap (λ n. drop n (c ∷ cs)) first in
+      absurd cc
+]
+
+left_white : (context : InlineContext) (left : List ℕ) (place : List InlineCode) → AreBytesAt left place → MayBeSpaces context.options.constructs place []
+    → list_all is_white left ≡ true
+left_white context left place at spaces =
+    let codes : list_any is_eol (content_codes left) ≡ false = ap (list_any is_eol) (sym at) ∙ none place spaces in
+    ap (list_all is_white) (sym (line_bytes left codes) ∙ sym at) ∙ all place spaces
+  where
+    none : (xs : List InlineCode) → MayBeSpaces context.options.constructs xs [] → list_any is_eol (codes_of xs) ≡ false
+    none xs (inl empty) = ap (λ ys. list_any is_eol (codes_of ys)) empty
+    none xs (inr spaces) = white_left xs (spaces_after context xs [] spaces)
+
+    all : (xs : List InlineCode) → MayBeSpaces context.options.constructs xs [] → list_all is_white (codes_of xs) ≡ true
+    all xs (inl empty) = ap (λ ys. list_all is_white (codes_of ys)) empty
+    all xs (inr spaces) = white_all xs (spaces_after context xs [] spaces)
+
 left_dark : (context : InlineContext) (left : List ℕ) (place : List InlineCode) → AreBytesAt left place → MayBeSpaces context.options.constructs place []
     → list_any ends_line left ≡ false
 left_dark context left place at spaces =
@@ -171,7 +203,10 @@ pub all_written : {A : Type 0} (s : Setting) (first : Walk A) (held : List opene
 all_written s first held old new size d is does =
     let dark = left_dark s.context d.left d.place d.stands.codes d.spaces in
     let st : StandsInContent s.text (d.left ++ []) s.stop old = subst (λ bs. StandsInContent s.text bs s.stop old) (sym (append-nil d.left)) d.stands.stands in
-    let w = texting s.text s.stop old new n.SpaceOrTab size d.left [] is dark refl does st in
+    let white = left_white s.context d.left d.place d.stands.codes d.spaces in
+    let may : (line : List ℕ) → StandsInLine s.text (d.left ++ line) old → HasBytes s.text n.SpaceOrTab size old =
+    λ line here. has_kind s.text d.left line size old is_white is here white in
+    let w = texting s.text s.stop old new n.SpaceOrTab size d.left [] is dark refl may does st in
     let ns = void_nodes s.text n.SpaceOrTab (end_in old.out) (end_after (end_in old.out) (length d.left)) in
     let all =
     more_parts s.context s.text s.stop false s.is inline.Nil s.bytes d.left d.left [] first old new ns d.parts (sym (append-nil d.left)) w.writes

@@ -1,5 +1,7 @@
 -- What is written of an autolink (CommonMark 6.5).
 use Rattle.std.proofs.Common.{◌≡◌, ◌<◌, ℕ, Bool, true, false, ◌||◌, List, [], ◌∷◌, ◌++◌, refl, ap, ap₂, subst, ◌∙◌, append_assoc, length, arith}
+use Rattle.event_tokens.specs.Tokens.{is_token}
+use Rattle.parse_lines.proofs.Bytes.{has_bytes}
 use Rattle.parse_inline.proofs.Prelude.{Anywhere, append, ArePlain, Around, End, end_after, end_in, ends_line, enter_at, EntersInLine, exit_at, ExitsInLine}
 use Rattle.parse_inline.proofs.Prelude.{in_angles, inlines_of, IsWhole, leaves, line_in_content, list_any, list_any-append, Name, Names, Nodes, one}
 use Rattle.parse_inline.proofs.Prelude.{plain_both, plain_none, plain_one, same_name, standing, StandsInContent, StandsInLine, still_whole, Stop, text_of}
@@ -39,6 +41,10 @@ address_prefix : (email : Bool) → same_name (address_name email) n.BlockQuoteP
 address_prefix true = refl
 address_prefix false = refl
 
+address_may : (email : Bool) (bytes : List ℕ) → is_token (address_name email) bytes ≡ true
+address_may true bytes = refl
+address_may false bytes = refl
+
 module _ {A : Type 0} (names : Names) (text : List ℕ) (stop : Stop) where
   pub autolink_front : (email : Bool) (name : Name) (a b c d e f : Walk A) (address content : List ℕ) (size : ℕ) → name ≡ address_name email
       → size ≡ length address
@@ -54,11 +60,16 @@ module _ {A : Type 0} (names : Names) (text : List ℕ) (stop : Stop) where
       let ahead = line_in_content text stop a (in_angles address) content st inner in
       let line = ahead.line in
       let entered = enters (in_angles address ++ line) ahead.stands in
-      let m = first (60 ∷ []) ((address ++ 62 ∷ []) ++ line) refl refl entered.stands in
+      let m = first (60 ∷ []) ((address ++ 62 ∷ []) ++ line) refl refl entered.stands
+      (has_bytes text (60 ∷ []) ((address ++ 62 ∷ []) ++ line) 1 b n.AutolinkMarker refl entered.stands (ap (λ (y : End). y.owed) entered.end ∙ whole) refl) in
       let at_value = subst (λ xs. StandsInLine text xs c) (append_assoc address (62 ∷ []) line) m.stands in
       let prefix : same_name name n.BlockQuotePrefix ≡ false = ap (λ x. same_name x n.BlockQuotePrefix) named ∙ address_prefix email in
-      let v = value address (62 ∷ line) is prefix at_value in
-      let l = second (62 ∷ []) line refl refl v.stands in
+      let inside_c : IsWhole c = ap (λ (y : End). y.owed) m.end ∙ still_whole (end_in b.out) 1 (ap (λ (y : End). y.owed) entered.end ∙ whole) in
+      let may = ap (λ x. is_token x address) named ∙ address_may email address in
+      let v = value address (62 ∷ line) is prefix at_value (has_bytes text address (62 ∷ line) size c name is at_value inside_c may) in
+      let l =
+      second (62 ∷ []) line refl refl v.stands (has_bytes text (62 ∷ []) line 1 d n.AutolinkMarker refl v.stands
+      (ap (λ (y : End). y.owed) v.end ∙ still_whole (end_in c.out) (length address) inside_c) refl) in
       let x = exits line l.stands in
       let owed = λ (y : End). y.owed in
       let whole_b : IsWhole b = ap owed entered.end ∙ whole in

@@ -1,5 +1,10 @@
 -- What calls of a walk write of a content: a mark, the start and the end of a span, of a label.
 use Rattle.std.proofs.Common.{◌≡◌, ℕ, false, List, [], ◌∷◌, ◌++◌, length, refl, ap, subst, ◌∙◌, arith}
+use Rattle.std.proofs.Common.{true}
+use Rattle.std.specs.Prelude.{not}
+use Rattle.event_tokens.specs.Tokens.{is_token}
+use Rattle.parse_lines.specs.Content.{HasBytes}
+use Rattle.parse_lines.proofs.Bytes.{dark_line, has_bytes, has_kind}
 use Rattle.parse_inline.proofs.Prelude.{append, ArePlain, Around, contents_around, contents_both, data_nodes, End, end_after, end_in, ends_line, EndsLabel}
 use Rattle.parse_inline.proofs.Prelude.{enter_at, EntersInContent, EntersInLine, EntersLabel, EntersSpan, exit_at, ExitsInContent, ExitsInLine, is_listed}
 use Rattle.parse_inline.proofs.Prelude.{IsWhole, LeavesSpan, line_enters, line_exits, line_in_content, list_any, Name, Nodes, plain_one, same_name}
@@ -31,12 +36,14 @@ abbrev pub DoesText : {A : Type 0} → Name → ℕ → Walk A → Walk A → Ty
 DoesText name size a b =
     (standing b ≡ standing a)
     × ((text front line : List ℕ) → size ≡ length front → same_name name n.BlockQuotePrefix ≡ false → StandsInLine text (front ++ line) a
+    → HasBytes text name size a
     → WritesInLine text front (void_nodes text name (end_in a.out) (end_after (end_in a.out) size)) line a b)
 
 abbrev pub DoesData : {A : Type 0} → ℕ → Walk A → Walk A → Type 0
 DoesData size a b =
     (standing b ≡ standing a)
     × ((text front line : List ℕ) → size ≡ length front → StandsInLine text (front ++ line) a
+    → HasBytes text n.Data size a
     → WritesInLine text front (data_nodes text (end_in a.out) (end_after (end_in a.out) size)) line a b)
 
 whole_after : (e : End) (count : ℕ) → e.owed ≡ 0 → (end_after e count).owed ≡ 0
@@ -51,6 +58,18 @@ pub record IsMark (name : Name) : Type 0 where
 sequence_no_quote : (s : Span) → same_name (sequence_name s) n.BlockQuotePrefix ≡ false
 sequence_no_quote span.Emphasis = refl
 sequence_no_quote other = refl
+
+-- the sequence of a span may be any bytes
+pub sequence_may : (s : Span) (bytes : List ℕ) → is_token (sequence_name s) bytes ≡ true
+sequence_may span.Emphasis bytes = refl
+sequence_may span.Strong bytes = refl
+sequence_may span.Strikethrough bytes = refl
+sequence_may span.Mark bytes = refl
+
+-- a mark outside of a tab may have its bytes
+pub may_have : {A : Type 0} (text : List ℕ) (w : Walk A) (name : Name) (size : ℕ) (front : List ℕ) → size ≡ length front → IsWhole w
+    → is_token name front ≡ true → (line : List ℕ) → StandsInLine text (front ++ line) w → HasBytes text name size w
+may_have text w name size front is whole may line st = has_bytes text front line size w name is st whole may
 
 module _ {A : Type 0} (text : List ℕ) (stop : Stop) where
   pub entering : (a b : Walk A) (name : Name) (content : List ℕ) → DoesEnter name a b → StandsInContent text content stop a
@@ -67,13 +86,14 @@ module _ {A : Type 0} (text : List ℕ) (stop : Stop) where
     pub whole : IsWhole a → IsWhole b
 
   pub texting : (a b : Walk A) (name : Name) (size : ℕ) (front content : List ℕ) → size ≡ length front → list_any ends_line front ≡ false
-      → same_name name n.BlockQuotePrefix ≡ false → DoesText name size a b → StandsInContent text (front ++ content) stop a
+      → same_name name n.BlockQuotePrefix ≡ false → (((line : List ℕ) → StandsInLine text (front ++ line) a → HasBytes text name size a))
+      → DoesText name size a b → StandsInContent text (front ++ content) stop a
       → IsWritten (void_next text name (length front) a) front content a b
-  texting a b name size front content is dark other does st =
+  texting a b name size front content is dark other may does st =
       let ahead = line_in_content text stop a front content st dark in
       let writes : WritesInLine text front (void_next text name (length front) a) ahead.line a b =
       subst (λ count. WritesInLine text front (void_nodes text name (end_in a.out) (end_after (end_in a.out) count)) ahead.line a b) is
-      (does.1 text front ahead.line is other ahead.stands) in
+      (does.1 text front ahead.line is other ahead.stands (may ahead.line ahead.stands)) in
       record {
         writes = ahead.lifts (void_next text name (length front) a) b does.0 writes;
         whole = λ whole. ap (λ (e : End). e.owed) writes.end ∙ whole_after (end_in a.out) (length front) whole;
@@ -86,7 +106,7 @@ module _ {A : Type 0} (text : List ℕ) (stop : Stop) where
       let ahead = line_in_content text stop a front content st dark in
       let writes : WritesInLine text front (data_nodes text (end_in a.out) (end_after (end_in a.out) (length front))) ahead.line a b =
       subst (λ count. WritesInLine text front (data_nodes text (end_in a.out) (end_after (end_in a.out) count)) ahead.line a b) is
-      (does.1 text front ahead.line is ahead.stands) in
+      (does.1 text front ahead.line is ahead.stands (has_kind text front ahead.line size a (λ c. not (ends_line c)) is ahead.stands (dark_line front dark))) in
       record {
         writes = ahead.lifts (data_nodes text (end_in a.out) (end_after (end_in a.out) (length front))) b does.0 writes;
         whole = λ whole. ap (λ (e : End). e.owed) writes.end ∙ whole_after (end_in a.out) (length front) whole;
@@ -172,7 +192,8 @@ module _ {A : Type 0} (text : List ℕ) (stop : Stop) where
       → EntersSpan text s front content stop a d
   span_entered a b c d s size front content is dark first second third st whole =
       let enters = entering a b (span_name s) (front ++ content) first st in
-      let sequence = texting b c (sequence_name s) size front content is dark (sequence_no_quote s) second enters.stands in
+      let sequence = texting b c (sequence_name s) size front content is dark (sequence_no_quote s)
+      (may_have text b (sequence_name s) size front is (entered_whole a b (span_name s) (front ++ content) enters whole) (sequence_may s front)) second enters.stands in
       let starts = entering c d (text_name s) content third sequence.writes.stands in
       record {
         outer = b;
@@ -189,7 +210,8 @@ module _ {A : Type 0} (text : List ℕ) (stop : Stop) where
       → LeavesSpan text s front content stop a d
   span_left a b c d s size front content is dark first second third st whole =
       let ends = exiting a b (text_name s) (front ++ content) first st in
-      let sequence = texting b c (sequence_name s) size front content is dark (sequence_no_quote s) second ends.stands in
+      let sequence = texting b c (sequence_name s) size front content is dark (sequence_no_quote s)
+      (may_have text b (sequence_name s) size front is (exited_whole a b (text_name s) (front ++ content) ends whole) (sequence_may s front)) second ends.stands in
       let leaves = exiting c d (span_name s) content third sequence.writes.stands in
       record {
         inner = b;

@@ -1,6 +1,7 @@
 -- What is written of the check of a task list item (GFM 5.3).
 use Rattle.std.proofs.Common.{inl, inr, ◌≡◌, ℕ, Bool, true, false, List, [], ◌∷◌, ◌++◌, None, Some, is_some, refl, sym, ap, ap₂, subst, ◌∙◌}
 use Rattle.std.proofs.Common.{append_assoc, drop, take, length, arith}
+use Rattle.event_tokens.specs.Tokens.{is_token}
 use Rattle.parse_inline.proofs.Prelude.{and_parts, Anywhere, append, AreBytes, ArePartsAlike, ArePlain, AreQuiet, Around, begins_with_eol, bytes_drop}
 use Rattle.parse_inline.proofs.Prelude.{cases_Bool, codes_split, cond-false, cond-true, Cons, Constructs, content_codes, contents_around, contents_both}
 use Rattle.parse_inline.proofs.Prelude.{default_constructs, drop-append_seam, End, end_in, Ending, ending_bytes, ending_step, ends_line, enter_at}
@@ -65,6 +66,10 @@ value_sought : (done : Bool) → is_listed sought_names (check_name done) ≡ fa
 value_sought true = refl
 value_sought false = refl
 
+value_may : (done : Bool) (bytes : List ℕ) → is_token (check_name done) bytes ≡ true
+value_may true bytes = refl
+value_may false bytes = refl
+
 module _ {A : Type 0} (names : Names) (text : List ℕ) (stop : Stop) where
   -- one byte
   pub value_byte : (a b : Walk A) (done : Bool) (name : Name) (byte : ℕ) (content : List ℕ) → name ≡ check_name done → ends_line byte ≡ false
@@ -74,7 +79,8 @@ module _ {A : Type 0} (names : Names) (text : List ℕ) (stop : Stop) where
       let t =
       token_in names text stop a b name (byte ∷ []) content 1 refl (omega arith) (or_from (ends_line byte) false dark refl)
       (ap (λ x. same_name x n.Data) is ∙ value_data done)
-      (ap (λ x. same_name x n.BlockQuotePrefix) is ∙ value_prefix done) st whole same written in
+      (ap (λ x. same_name x n.BlockQuotePrefix) is ∙ value_prefix done)
+      (ap (λ x. is_token x (byte ∷ [])) is ∙ value_may done (byte ∷ [])) st whole same written in
       let node = token text name (end_in a.out).index 1 in
       record {
         node = node;
@@ -108,10 +114,10 @@ module _ {A : Type 0} (names : Names) (text : List ℕ) (stop : Stop) where
       let front = 91 ∷ (value ++ 93 ∷ []) in
       let all : 91 ∷ (value ++ 93 ∷ content) ≡ front ++ content = ap (λ xs. 91 ∷ xs) (sym (append_assoc value (93 ∷ []) content)) in
       let entered = line_enters text stop a b n.GfmTaskListItemCheck (front ++ content) (subst (λ xs. StandsInContent text xs stop a) all st) same_b enters in
-      let t = token_in names text stop b c n.GfmTaskListItemMarker (91 ∷ []) ((value ++ 93 ∷ []) ++ content) 1 refl (omega arith) refl refl refl entered.stands
+      let t = token_in names text stop b c n.GfmTaskListItemMarker (91 ∷ []) ((value ++ 93 ∷ []) ++ content) 1 refl (omega arith) refl refl refl refl entered.stands
       (ap (λ (x : End). x.owed) entered.end ∙ whole) same_c first in
       let v = valued (subst (λ xs. StandsInContent text xs stop c) (append_assoc value (93 ∷ []) content) t.writes.stands) t.whole in
-      let u = token_in names text stop d e n.GfmTaskListItemMarker (93 ∷ []) content 1 refl (omega arith) refl refl refl v.writes.stands
+      let u = token_in names text stop d e n.GfmTaskListItemMarker (93 ∷ []) content 1 refl (omega arith) refl refl refl refl v.writes.stands
       (dark_whole text 93 content stop d refl v.writes.stands) same_e second in
       let exited = line_exits text stop e f n.GfmTaskListItemCheck content u.writes.stands same_f exits in
       let t_node = token text n.GfmTaskListItemMarker (end_in b.out).index 1 in
@@ -200,7 +206,8 @@ module _ {A : Type 0} (names : Names) (text : List ℕ) (stop : Stop) where
   pub value_read : (a b : Walk A) (done : Bool) (name : Name) (bytes value content : List ℕ) (found : Ending) → name ≡ check_name done → AreBytes bytes
       → IsValueOf bytes value content → ReadsEnding bytes found → StandsInContent text bytes stop a
       → ((ending : LineEnding) → found.size ≡ length (ending_bytes ending) → IsApart ending content → same_name name n.Data ≡ false
-      → same_name name n.BlockQuotePrefix ≡ false → StandsInContent text (ending_bytes ending ++ content) stop a
+      → same_name name n.BlockQuotePrefix ≡ false → is_token name (ending_bytes ending) ≡ true
+      → StandsInContent text (ending_bytes ending ++ content) stop a
       → WritesEndingIn text name ending content stop a b)
       → WritesValue text done value content stop a b
   value_read a b done name bytes value content found is small of reads st written =
@@ -219,7 +226,9 @@ module _ {A : Type 0} (names : Names) (text : List ℕ) (stop : Stop) where
       subst (λ xs. WritesValue text done xs content stop a b) value_is
       (value_ending names text stop a b done name found.ending content is
       (written found.ending step.is (subst (IsApart found.ending) rest step.apart) (ap (λ x. same_name x n.Data) is ∙ value_data done)
-      (ap (λ x. same_name x n.BlockQuotePrefix) is ∙ value_prefix done) (subst (λ xs. StandsInContent text xs stop a) parts st)))
+      (ap (λ x. same_name x n.BlockQuotePrefix) is ∙ value_prefix done)
+      (ap (λ x. is_token x (ending_bytes found.ending)) is ∙ value_may done (ending_bytes found.ending))
+      (subst (λ xs. StandsInContent text xs stop a) parts st)))
 
   pub value_other : (a b : Walk A) (done : Bool) (name : Name) (bytes value content : List ℕ) → name ≡ check_name done → IsValueOf bytes value content
       → begins_with_eol (content_codes bytes) ≡ false → StandsInContent text bytes stop a → IsWhole a → standing b ≡ standing a → WritesNext text name 1 a b

@@ -1,5 +1,9 @@
 -- What is written of a construct in a content, step by step.
 use Rattle.std.proofs.Common.{inl, inr, ◌≡◌, ℕ, ◌<◌, Bool, false, ◌||◌, List, [], ◌∷◌, ◌++◌, refl, sym, ap, ap₂, subst, ◌∙◌, length}
+use Rattle.std.proofs.Common.{true}
+use Rattle.event_tokens.specs.Tokens.{is_token}
+use Rattle.parse_lines.specs.Content.{HasBytes}
+use Rattle.parse_lines.proofs.Bytes.{has_bytes}
 use Rattle.parse_inline.proofs.Prelude.{append, AreBytesAt, AreNext, ArePartsAlike, AreQuiet, Around, cond_both, Cons, contents_both, End, end_after, end_at}
 use Rattle.parse_inline.proofs.Prelude.{end_in, ends_line, enter_at, exit_at, InlineCode, InlineLeaf, inlines_of, is_listed, IsWhole, kids_of, Leaf, leaves}
 use Rattle.parse_inline.proofs.Prelude.{line_in_content, LineEnd, list_any, Meaning, Name, Names, Nil, Node, node_name, Nodes, one, part, plain_both}
@@ -46,6 +50,7 @@ void_spells names text linked name bytes (Around enter kids exit) named empty is
 abbrev pub WritesNext : {A : Type 0} → List ℕ → Name → ℕ → Walk A → Walk A → Type 0
 WritesNext text name size a b =
     (bytes line : List ℕ) → size ≡ length bytes → same_name name n.BlockQuotePrefix ≡ false → StandsInLine text (bytes ++ line) a
+    → HasBytes text name size a
     → WritesInLine text bytes (void_nodes text name (end_in a.out) (end_after (end_in a.out) size)) line a b
 
 -- what is next outside of a tab
@@ -92,11 +97,12 @@ module _ {A : Type 0} (names : Names) (text : List ℕ) (stop : Stop) where
     pub read : text_of text (token text name (end_in a.out).index (length front)) ≡ front
 
   pub token_in : (a b : Walk A) (name : Name) (front content : List ℕ) (size : ℕ) → size ≡ length front → 0 < length front → list_any ends_line front ≡ false
-      → same_name name n.Data ≡ false → same_name name n.BlockQuotePrefix ≡ false → StandsInContent text (front ++ content) stop a → IsWhole a
+      → same_name name n.Data ≡ false → same_name name n.BlockQuotePrefix ≡ false → is_token name front ≡ true
+      → StandsInContent text (front ++ content) stop a → IsWhole a
       → standing b ≡ standing a → WritesNext text name size a b → TokenIn name front content a b
-  token_in a b name front content size is some dark no_data no_prefix st whole same written =
+  token_in a b name front content size is some dark no_data no_prefix may st whole same written =
       let ahead = line_in_content text stop a front content st dark in
-      let w = written front ahead.line is no_prefix ahead.stands in
+      let w = written front ahead.line is no_prefix ahead.stands (has_bytes text front ahead.line size a name is ahead.stands whole may) in
       let e = end_in a.out in
       let nodes : void_nodes text name e (end_after e size) ≡ one (token text name e.index (length front)) =
       ap (λ k. void_nodes text name e (end_after e k)) is ∙ void_one text name e (length front) whole some no_data in
@@ -108,12 +114,12 @@ module _ {A : Type 0} (names : Names) (text : List ℕ) (stop : Stop) where
 
   pub token_front : (a b : Walk A) (name : Name) (front content : List ℕ) (size : ℕ) (MayBe : Bool → Type 0) (ls : List InlineLeaf) → size ≡ length front
       → 0 < length front → list_any ends_line front ≡ false → same_name name n.Data ≡ false → same_name name n.BlockQuotePrefix ≡ false
-      → is_listed sought_names name ≡ false
+      → is_listed sought_names name ≡ false → is_token name front ≡ true
       → ((linked : Bool) → MayBe linked → texts.append (text_part names text linked name front Nil inline.Nil) inline.Nil ≡ leaves ls)
       → StandsInContent text (front ++ content) stop a → IsWhole a → standing b ≡ standing a → WritesNext text name size a b
       → WritesFront names text front content MayBe ls stop a b
-  token_front a b name front content size MayBe ls is some dark no_data no_prefix unsought spells st whole same written =
-      let t = token_in a b name front content size is some dark no_data no_prefix st whole same written in
+  token_front a b name front content size MayBe ls is some dark no_data no_prefix unsought may spells st whole same written =
+      let t = token_in a b name front content size is some dark no_data no_prefix may st whole same written in
       let node = token text name (end_in a.out).index (length front) in
       record {
         nodes = one node;

@@ -1,6 +1,11 @@
 -- What is written of each construct that holds no other, where it is laid.
 use Rattle.std.proofs.Common.{inl, inr, ◌≡◌, append_assoc, eqb, ℕ, ◌<◌, Bool, true, false, List, [], ◌∷◌, ◌++◌, refl, sym, ap, ap₂, subst, ◌∙◌, take}
 use Rattle.std.proofs.Common.{drop, length, map, arith}
+use Rattle.std.specs.Prelude.{not}
+use Rattle.event_tokens.specs.Tokens.{is_token}
+use Rattle.parse_lines.specs.Content.{HasBytes}
+use Rattle.parse_lines.proofs.Bytes.{has_kind}
+use Rattle.parse_lines.proofs.Bytes.{dark_line as none_ends}
 use Rattle.parse_inline.proofs.Prelude.{Anywhere, AreBytesAt, AreCodes, AreCutBetween, ArePartsAlike, bare, cases_Bool, codes_of, codes_split, content_codes}
 use Rattle.parse_inline.proofs.Prelude.{contents_none, Data, data_nodes, End, end_after, end_in, ending_bytes, EndNoLine, ends_line, Escape, escaped}
 use Rattle.parse_inline.proofs.Prelude.{html_leaves, if◌then◌else◌, in_angles, indent, inline_bytes_law, InlineCode, InlineContext, InlineLeaf, is_eol}
@@ -95,6 +100,7 @@ record LiteralName (kind : LiteralKind) (name : Name) : Type 0 where
   no_data : same_name name n.Data ≡ false
   no_prefix : same_name name n.BlockQuotePrefix ≡ false
   unsought : is_listed sought_names name ≡ false
+  may : (bytes : List ℕ) → is_token name bytes ≡ true
   spells : (names : Names) (text front : List ℕ) (linked : Bool) → linked ≡ false
       → texts.append (text_part names text linked name front Nil inline.Nil) inline.Nil ≡ leaves (inline.Literal (kind_view kind) front ∷ [])
 
@@ -106,19 +112,19 @@ outside kind front linked is =
 literal_of_kind : (kind : LiteralKind) (name : Name) → is_listed (literal_names kind) name ≡ true → LiteralName kind name
 literal_of_kind Www name listed =
     one_of (LiteralName Www) n.GfmAutolinkLiteralWww [] name
-    (record { no_data = refl; no_prefix = refl; unsought = refl; spells = λ names text front linked is. outside inline.Www front linked is })
+    (record { no_data = refl; no_prefix = refl; unsought = refl; may = λ bytes. refl; spells = λ names text front linked is. outside inline.Www front linked is })
     (λ none. absurd (true≢false (sym none))) listed
 literal_of_kind Email name listed =
     one_of (LiteralName Email) n.GfmAutolinkLiteralEmail [] name
-    (record { no_data = refl; no_prefix = refl; unsought = refl; spells = λ names text front linked is. outside inline.Email front linked is })
+    (record { no_data = refl; no_prefix = refl; unsought = refl; may = λ bytes. refl; spells = λ names text front linked is. outside inline.Email front linked is })
     (λ none. absurd (true≢false (sym none))) listed
 literal_of_kind Protocol name listed =
     one_of (LiteralName Protocol) n.GfmAutolinkLiteralMailto (n.GfmAutolinkLiteralXmpp ∷ n.GfmAutolinkLiteralProtocol ∷ []) name
-    (record { no_data = refl; no_prefix = refl; unsought = refl; spells = λ names text front linked is. outside inline.Protocol front linked is })
+    (record { no_data = refl; no_prefix = refl; unsought = refl; may = λ bytes. refl; spells = λ names text front linked is. outside inline.Protocol front linked is })
     (one_of (LiteralName Protocol) n.GfmAutolinkLiteralXmpp (n.GfmAutolinkLiteralProtocol ∷ []) name
-    (record { no_data = refl; no_prefix = refl; unsought = refl; spells = λ names text front linked is. outside inline.Protocol front linked is })
+    (record { no_data = refl; no_prefix = refl; unsought = refl; may = λ bytes. refl; spells = λ names text front linked is. outside inline.Protocol front linked is })
     (one_of (LiteralName Protocol) n.GfmAutolinkLiteralProtocol [] name
-    (record { no_data = refl; no_prefix = refl; unsought = refl; spells = λ names text front linked is. outside inline.Protocol front linked is })
+    (record { no_data = refl; no_prefix = refl; unsought = refl; may = λ bytes. refl; spells = λ names text front linked is. outside inline.Protocol front linked is })
     (λ none. absurd (true≢false (sym none))))) listed
 
 -- a construct of this shape, where these bytes are ahead
@@ -174,6 +180,7 @@ module _ {A : Type 0} (names : Names) (text bytes : List ℕ) (from to : List In
 
   pub data_part : (front : List ℕ) → IsData front from to → standing b ≡ standing a
       → ((xs line : List ℕ) → length front ≡ length xs → StandsInLine text (xs ++ line) a
+      → HasBytes text n.Data (length front) a
       → WritesInLine text xs (data_nodes text (end_in a.out) (end_after (end_in a.out) (length front))) line a b)
       → WritesLeaves names text bytes Anywhere (map Data front) to stop a b
   data_part front is same written =
@@ -182,7 +189,9 @@ module _ {A : Type 0} (names : Names) (text bytes : List ℕ) (from to : List In
       leaves_first front Anywhere (map Data front) (codes_first front bytes from to at is.codes is.inline)
       (λ here.
       let ahead = line_in_content text stop a front content here dark in
-      let w = written front ahead.line refl ahead.stands in
+      let w =
+      written front ahead.line refl ahead.stands
+      (has_kind text front ahead.line (length front) a (λ c. not (ends_line c)) refl ahead.stands (none_ends front dark)) in
       record {
         nodes = data_nodes text (end_in a.out) (end_after (end_in a.out) (length front));
         writes = ahead.lifts _ b same w;
@@ -205,13 +214,14 @@ module _ {A : Type 0} (names : Names) (text bytes : List ℕ) (from to : List In
   pub token_part : (name : Name) (front : List ℕ) (MayBe : Bool → Type 0) (l : InlineLeaf) → IsText front from to → ((m m' : Meaning)
       → ArePartsAlike m m' (leaves (l ∷ [])) (leaves (l ∷ [])))
       → same_name name n.Data ≡ false → same_name name n.BlockQuotePrefix ≡ false → is_listed sought_names name ≡ false
+      → is_token name front ≡ true
       → ((linked : Bool) → MayBe linked → texts.append (text_part names text linked name front Nil inline.Nil) inline.Nil ≡ leaves (l ∷ []))
       → standing b ≡ standing a → WritesNext text name (length front) a b → WritesLeaves names text bytes MayBe (l ∷ []) to stop a b
-  token_part name front MayBe l is alike no_data no_prefix unsought spells same written =
+  token_part name front MayBe l is alike no_data no_prefix unsought may spells same written =
       leaves_first front MayBe (l ∷ []) (codes_first front bytes from to at is.codes is.inline)
       (λ here. token_front names text stop a b name front (drop (length front) bytes) (length front) MayBe (l ∷ []) refl is.some
       (dark_text front is.inline) no_data no_prefix
-      unsought spells here whole same written)
+      unsought may spells here whole same written)
       (l ∷ []) alike
 
   pub literal_part : (kind : LiteralKind) (name : Name) (front : List ℕ) → is_listed (literal_names kind) name ≡ true → IsText front from to
@@ -222,6 +232,7 @@ module _ {A : Type 0} (names : Names) (text bytes : List ℕ) (from to : List In
       let known = literal_of_kind kind name listed in
       let l = inline.Literal (kind_view kind) front in
       token_part name front (λ linked. linked ≡ false) l is (λ m m'. leaf_alike m m' l (leaves (l ∷ [])) refl) known.no_data known.no_prefix known.unsought
+      (known.may front)
       (λ linked outer. known.spells names text front linked outer) same written
 
   pub escaped_break_part : IsText (92 ∷ []) from to → standing b ≡ standing a → WritesNext text n.HardBreakEscape 1 a b
@@ -229,7 +240,7 @@ module _ {A : Type 0} (names : Names) (text bytes : List ℕ) (from to : List In
   escaped_break_part is same written =
       token_part n.HardBreakEscape (92 ∷ []) Anywhere inline.EscapedBreak is
       (λ m m'. leaf_alike m m' inline.EscapedBreak (leaves (inline.EscapedBreak ∷ [])) refl) refl refl
-      refl (λ linked may. refl) same written
+      refl refl (λ linked may. refl) same written
 
   pub break_part : (size : ℕ) → size ≡ indent bytes → AreAllSpaces from to → standing b ≡ standing a → WritesNext text n.HardBreakTrailing size a b
       → WritesLeaves names text bytes Anywhere (inline.TrailingBreak ∷ []) to stop a b
@@ -240,7 +251,7 @@ module _ {A : Type 0} (names : Names) (text bytes : List ℕ) (from to : List In
       (sym (indent_parts bytes))
       (break_bytes_law bytes from to at all)
       (token_front names text stop a b n.HardBreakTrailing front (bare bytes) size Anywhere (inline.TrailingBreak ∷ []) (is ∙ indent_size bytes) some
-      (indent_dark bytes) refl refl refl
+      (indent_dark bytes) refl refl refl refl
       (λ linked may. refl) (subst (λ xs. StandsInContent text xs stop a) (sym (indent_parts bytes)) st) whole same written)
       (λ m m'. leaf_alike m m' inline.TrailingBreak (leaves (inline.TrailingBreak ∷ [])) refl)
 

@@ -1,5 +1,9 @@
 -- What is written of a line ending with the spaces and tabs around it (CommonMark 6.8).
 use Rattle.std.proofs.Common.{◌≡◌, ℕ, zero, suc, ◌≤◌, Bool, false, List, [], ◌∷◌, ◌++◌, refl, sym, ap, ap₂, subst, ◌∙◌, append_assoc, take, drop, length, arith}
+use Rattle.std.proofs.Common.{true}
+use Rattle.std.specs.List.{list_all}
+use Rattle.parse_lines.proofs.Bytes.{has_kind}
+use Rattle.parse_lines.proofs.White.{all_prefix}
 use Rattle.parse_inline.proofs.Prelude.{after_bytes, after_tab, Anywhere, append, ArePlain, bare, Cons, contents_both, drop-append_seam, End, end_after}
 use Rattle.parse_inline.proofs.Prelude.{end_at, end_in, ending_bytes, ends_line, indent, inlines_of, is_listed, is_white, leaves, length-take-le, line_end}
 use Rattle.parse_inline.proofs.Prelude.{line_ending_code, line_in_content, LineEnd, LineEnding, list_any, Names, one, owed_indent, plain_both, plain_none}
@@ -46,15 +50,19 @@ ending_leaves endings.LineFeed = refl
 ending_leaves endings.CarriageReturn = refl
 ending_leaves endings.CarriageReturnLineFeed = refl
 
+-- white space comes first
+pub indent_all : (bytes : List ℕ) → list_all is_white (take (indent bytes) bytes) ≡ true
+indent_all bytes = all_prefix is_white (indent bytes) bytes (omega arith)
+
 module _ {A : Type 0} (text : List ℕ) (stop : Stop) where
   -- white space
   pub space_in : (a b : Walk A) (bytes content : List ℕ) (size : ℕ) → size ≡ length bytes → list_any ends_line bytes ≡ false
-      → StandsInContent text (bytes ++ content) stop a → standing b ≡ standing a → WritesNext text n.SpaceOrTab size a b
+      → list_all is_white bytes ≡ true → StandsInContent text (bytes ++ content) stop a → standing b ≡ standing a → WritesNext text n.SpaceOrTab size a b
       → WritesInContent text bytes (void_nodes text n.SpaceOrTab (end_in a.out) (end_after (end_in a.out) size)) content stop a b
       × (end_in b.out ≡ end_after (end_in a.out) (length bytes))
-  space_in a b bytes content size is dark st same written =
+  space_in a b bytes content size is dark white st same written =
       let ahead = line_in_content text stop a bytes content st dark in
-      let w = written bytes ahead.line is refl ahead.stands in
+      let w = written bytes ahead.line is refl ahead.stands (has_kind text bytes ahead.line size a is_white is ahead.stands white) in
       (ahead.lifts _ b same w, w.end)
 
   -- a line ending by this name is plain, and spells itself
@@ -86,11 +94,11 @@ module _ {A : Type 0} (text : List ℕ) (stop : Stop) where
       let eb = ending_bytes ending in
       let all : bytes ≡ white ++ (eb ++ rest) = sym (indent_parts bytes) ∙ ap (λ xs. white ++ xs) parts in
       let (w, e) =
-      space_in a b white (eb ++ rest) before (size ∙ indent_size bytes) (indent_dark bytes)
+      space_in a b white (eb ++ rest) before (size ∙ indent_size bytes) (indent_dark bytes) (indent_all bytes)
       (subst (λ xs. StandsInContent text xs stop a) all st) same_b first in
       let ended = ends w.stands in
       let at_more = subst (λ xs. StandsInContent text xs stop c) (sym (indent_parts rest)) ended.writes.stands in
-      let (x, f) = space_in c d more (bare rest) after (later ∙ indent_size rest) (indent_dark rest) at_more same_d last in
+      let (x, f) = space_in c d more (bare rest) after (later ∙ indent_size rest) (indent_dark rest) (indent_all rest) at_more same_d last in
       let a_end = end_in a.out in
       let b_end = end_after a_end before in
       let c_end = end_in c.out in

@@ -1,6 +1,11 @@
 -- What is written of a part of a line of raw text, or of a line ending in it (CommonMark 6.1 and 6.6).
 use Rattle.std.proofs.Common.{inl, inr, ◌≡◌, ℕ, zero, suc, ◌+◌, ◌≤◌, ◌<◌, Bool, true, false, not, cond, ◌||◌, List, [], ◌∷◌, ◌++◌, refl, sym, ap, ap₂}
 use Rattle.std.proofs.Common.{subst, ◌∙◌, append_assoc, take, drop, length, map, arith}
+use Rattle.std.specs.List.{list_all}
+use Rattle.event_tokens.specs.Tokens.{is_token}
+use Rattle.parse_output.specs.Joined.{text_between}
+use Rattle.parse_lines.specs.Content.{HasBytes}
+use Rattle.parse_lines.proofs.Bytes.{dark_line as none_ends, ending_may, has_kind}
 use Rattle.parse_inline.proofs.Prelude.{after_bytes, after_return_code, append, append-nil, AreBytes, AreCutBetween, AreNamed, AreNext, AreQuiet, Around, bare}
 use Rattle.parse_inline.proofs.Prelude.{begins_with_eol, BeginsDark, cases_Bool, code_part, code_parts, code_space, cond-false, cond-true, cond_both, Cons}
 use Rattle.parse_inline.proofs.Prelude.{content_codes, contents_both, default_constructs, Each, End, end_after, end_at, end_in, Ending, ending_bytes}
@@ -21,7 +26,7 @@ use Rattle.event_meaning.specs.Texts as texts
 use Rattle.parse_inline.proofs.Fronts.{WritesNext, next_here}
 use Rattle.parse_inline.proofs.HtmlLines.{BeginsBare, BeginsEnding, EndsNoLine, IsWhite, html_chunk, html_ending}
 use Rattle.parse_inline.proofs.Kids.{codes_same, html_append, named_both, void_some}
-use Rattle.parse_inline.proofs.LineEnds.{ending_leaves, ending_plain, indent_parts, indent_size, indent_dark, space_in}
+use Rattle.parse_inline.proofs.LineEnds.{ending_leaves, ending_plain, indent_all, indent_parts, indent_size, indent_dark, space_in}
 use Rattle.parse_inline.proofs.Spaced.{spaced_token}
 
 -- ---- names
@@ -35,6 +40,16 @@ pub chunk_prefix : (name : Name) → IsChunk name → same_name name n.BlockQuot
 chunk_prefix name (inl (inl is)) = ap (λ x. same_name x n.BlockQuotePrefix) is
 chunk_prefix name (inl (inr is)) = ap (λ x. same_name x n.BlockQuotePrefix) is
 chunk_prefix name (inr is) = ap (λ x. same_name x n.BlockQuotePrefix) is
+
+-- a chunk may be any bytes without a line ending
+chunk_may : {A : Type 0} (name : Name) → IsChunk name → (text : List ℕ) (size : ℕ) (w : Walk A)
+    → list_all (λ c. not (ends_line c)) (text_between text (end_in w.out) (end_after (end_in w.out) size)) ≡ true → HasBytes text name size w
+chunk_may name (inl (inl is)) text size w dark =
+    ap (λ x. is_token x (text_between text (end_in w.out) (end_after (end_in w.out) size))) is ∙ dark
+chunk_may name (inl (inr is)) text size w dark =
+    ap (λ x. is_token x (text_between text (end_in w.out) (end_after (end_in w.out) size))) is ∙ dark
+chunk_may name (inr is) text size w dark =
+    ap (λ x. is_token x (text_between text (end_in w.out) (end_after (end_in w.out) size))) is ∙ dark
 
 pub chunk_sought : (name : Name) → IsChunk name → is_listed sought_names name ≡ false
 chunk_sought name (inl (inl is)) = ap (is_listed sought_names) is
@@ -282,7 +297,7 @@ white_named name text from to =
 abbrev pub EndsNext : {A : Type 0} → List ℕ → ℕ → Walk A → Walk A → Type 0
 EndsNext text size a b =
     (content : List ℕ) (stop : Stop) (ending : LineEnding) → size ≡ length (ending_bytes ending) → IsApart ending content
-    → same_name n.LineEnding n.Data ≡ false → same_name n.LineEnding n.BlockQuotePrefix ≡ false
+    → same_name n.LineEnding n.Data ≡ false → same_name n.LineEnding n.BlockQuotePrefix ≡ false → is_token n.LineEnding (ending_bytes ending) ≡ true
     → StandsInContent text (ending_bytes ending ++ content) stop a → WritesEndingIn text n.LineEnding ending content stop a b
 
 module _ {A : Type 0} (names : Names) (text : List ℕ) (stop : Stop) where
@@ -300,7 +315,9 @@ module _ {A : Type 0} (names : Names) (text : List ℕ) (stop : Stop) where
       let parts : bytes ≡ front ++ rest = sym (take-append-drop size bytes) in
       let at = subst (λ xs. StandsInContent text xs stop a) (ap (λ xs. xs ++ content) parts ∙ append_assoc front rest content) st in
       let ahead = line_in_content text stop a front (rest ++ content) at dark in
-      let w = written front ahead.line length_is (chunk_prefix name chunk) ahead.stands in
+      let may = has_kind text front ahead.line size a (λ c. not (ends_line c)) length_is ahead.stands (none_ends front dark) in
+      let w =
+      written front ahead.line length_is (chunk_prefix name chunk) ahead.stands (chunk_may name chunk text size a may) in
       let e = end_in a.out in
       let node = Around (enter_at text name e) Nil (exit_at text name (end_after e size)) in
       let inline_front = dark_line front dark in
@@ -358,7 +375,7 @@ module _ {A : Type 0} (names : Names) (text : List ℕ) (stop : Stop) where
       record {
         parts = step.parts;
         is = step.is;
-        ends = ends (rest ++ content) stop found.ending step.is apart refl refl (subst (λ xs. StandsInContent text xs stop a) ahead st);
+        ends = ends (rest ++ content) stop found.ending step.is apart refl refl (ending_may found.ending) (subst (λ xs. StandsInContent text xs stop a) ahead st);
       }
 
   ending_named : (name : Name) (a b : Walk A) (ending : LineEnding) (content : List ℕ) (w : WritesEndingIn text n.LineEnding ending content stop a b)
@@ -405,7 +422,7 @@ module _ {A : Type 0} (names : Names) (text : List ℕ) (stop : Stop) where
       let split : rest ++ content ≡ more ++ (bare rest ++ content) =
       ap (λ xs. xs ++ content) (sym (indent_parts rest)) ∙ append_assoc more (bare rest) content in
       let at = subst (λ xs. StandsInContent text xs stop b) split w.writes.stands in
-      let (spaces, _) = space_in text stop b c more (bare rest ++ content) white (white_is ∙ indent_size rest) (indent_dark rest) at same written in
+      let (spaces, _) = space_in text stop b c more (bare rest ++ content) white (white_is ∙ indent_size rest) (indent_dark rest) (indent_all rest) at same written in
       let first = subst (λ xs. WritesInContent text eb (Cons w.node w.quiet) xs stop a b) split w.writes in
       let b_end = end_in b.out in
       let c_end = end_after b_end white in

@@ -1,6 +1,7 @@
 -- What is written of code and math (CommonMark 6.1).
 use Rattle.std.proofs.Common.{inl, inr, ◌≡◌, ◌⊎◌, ℕ, suc, ◌+◌, ◌-◌, ◌≤◌, ◌<◌, Bool, true, false, not, ◌&&◌, ◌||◌, List, [], ◌∷◌, ◌++◌, Some, refl}
 use Rattle.std.proofs.Common.{sym, ap, ap₂, subst, ◌∙◌, append_assoc, drop, take, length, arith}
+use Rattle.event_tokens.specs.Tokens.{is_token}
 use Rattle.parse_inline.proofs.Prelude.{after_return_code, and_parts, Anywhere, append, AreBytesAt, AreCutBetween, ArePartsAlike, Around, cases_Bool, code_of}
 use Rattle.parse_inline.proofs.Prelude.{cond-false, cond-true, content_codes, contents_around, contents_both, End, end_in, ends_line, enter_at, EntersInLine}
 use Rattle.parse_inline.proofs.Prelude.{eqb-true, exit_at, ExitsInLine, InlineCode, inlines_of, is_listed, is_white, IsChunk, IsCodeChunk, IsWhole, leaves}
@@ -56,6 +57,7 @@ record RawNames (text sequence chunk : Name) : Type 0 where
   sequence_prefix : same_name sequence n.BlockQuotePrefix ≡ false
   sequence_sought : is_listed sought_names sequence ≡ false
   sequence_other : is_listed (line_names chunk) sequence ≡ false
+  sequence_may : (bytes : List ℕ) → is_token sequence bytes ≡ true
   spells : (names : Names) (bytes : List ℕ) (linked : Bool) (from to : End) (kids : Nodes)
       → inlines_of names bytes linked (one (Around (enter_at bytes text from) kids (exit_at bytes text to))) ≡ leaves (raw_leaf text (code_of names bytes sequence kids) ∷ [])
   alike : (m m' : Meaning) (printed : List ℕ) → ArePartsAlike m m' (leaves (raw_leaf text printed ∷ [])) (leaves (raw_leaf text printed ∷ []))
@@ -72,6 +74,7 @@ raw_names text sequence chunk are =
       sequence_prefix = refl;
       sequence_sought = refl;
       sequence_other = refl;
+      sequence_may = λ bytes. refl;
       spells = λ names bytes linked from to kids. refl;
       alike = λ m m' printed. leaf_alike m m' (inline.Code printed) (leaves (inline.Code printed ∷ [])) refl;
     })
@@ -84,6 +87,7 @@ raw_names text sequence chunk are =
       sequence_prefix = refl;
       sequence_sought = refl;
       sequence_other = refl;
+      sequence_may = λ bytes. refl;
       spells = λ names bytes linked from to kids. refl;
       alike = λ m m' printed. leaf_alike m m' (inline.Math printed) (leaves (inline.Math printed ∷ [])) refl;
     })
@@ -220,6 +224,7 @@ module _ {A : Type 0} (names : Names) (text : List ℕ) (stop : Stop) where
       let t =
       token_in names text stop b c sequence opening tail size opening_size
       (omega (arith, some, opening_size)) opening_dark known.sequence_data known.sequence_prefix
+      (known.sequence_may opening)
       (subst (λ xs. StandsInContent text xs stop b) parts entered.stands) (ap (λ (x : End). x.owed) entered.end ∙ whole) same_c first in
       let (others, begins) = run_first marker raw.end (omega (arith, next.size_is, some)) in
       let cut : AreCutBetween inner (closing ++ after) =
@@ -231,6 +236,7 @@ module _ {A : Type 0} (names : Names) (text : List ℕ) (stop : Stop) where
       let u =
       token_in names text stop d e sequence closing after size closing_size
       (omega (arith, some, closing_size)) closing_dark known.sequence_data known.sequence_prefix
+      (known.sequence_may closing)
       w.writes.stands whole_d same_e second in
       let exited = line_exits text stop e f name after u.writes.stands same_f exits in
       let t_node = token text sequence (end_in b.out).index (length opening) in

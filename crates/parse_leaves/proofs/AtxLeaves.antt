@@ -12,6 +12,9 @@ use Rattle.std.proofs.lemmas.List.Sums.{prefix_len-le-length}
 use Rattle.engine_events.specs.declared.event.Name.TheVariants as n
 use Rattle.definition_page.specs.Page as page
 use Rattle.parse_laid.specs.Leaves.{IsAtxLaid}
+use Rattle.std.specs.Prelude.{codes}
+use Rattle.parse_raw.proofs.Runs.{run_fits}
+use Rattle.parse_leaves.specs.Atx.{EndsHeading}
 use Rattle.parse_leaves.proofs.AtxLists.{atx_front, atx_on, text_bytes}
 use Rattle.parse_leaves.proofs.AtxParts.{hash_named, hash_within, space_within}
 use Rattle.parse_leaves.proofs.TextLeaves.{none_alike, open_both}
@@ -67,7 +70,7 @@ module _ {A : Type 0} (text : List ℕ) where
       → IsOnLine text here.beside.ending left (piece.text.now ++ behind) d
       → WritesHeadingText r.parse.constructs r.tables.names text (read_text r (own_lines (piece_line piece ∷ []))) here.beside.ending left behind d e)
       → closing ≡ drop (length piece.text.now) after
-      → (IsOnLine text here.beside.ending left closing e → WritesClosing text here.beside.ending left e f) → ExitCall text n.HeadingAtx f new
+      → (EndsHeading closing → IsOnLine text here.beside.ending left closing e → WritesClosing text here.beside.ending left e f) → ExitCall text n.HeadingAtx f new
       → StandsAt text (Within here left) (standing old) → IsWrittenToRest old → IsInOrder text old.out
       → IsAtxLaid old.on.now (around (standing old)) rank (own_lines (piece_line piece ∷ [])) (Within here left) to
       → WritesLeaf r.parse.constructs r.tables.names text top (page.Heading rank (read_text r (own_lines (piece_line piece ∷ [])))) [] to old new
@@ -87,10 +90,11 @@ module _ {A : Type 0} (text : List ℕ) where
       let fits : size ≤ length bytes =
       subst (λ bs. size ≤ length bs) (sym all)
       (subst (λ k. k ≤ length line) (sym size_is) (prefix_len-le-length (λ x. x == number_sign) line)) in
+      let hash = run_fits (codes "#") number_sign bytes size refl (omega (arith, size_is, ap (run number_sign) all)) in
       -- what is left of the line at each walk
       let on_a : IsOnLine text ending left bytes a = subst (λ bs. IsOnLine text ending left bs a) (sym all) white.on in
       let on_b = entered_on text ending left a b n.HeadingAtx bytes enter on_a in
-      let first = some_on text ending left b c n.HeadingAtxSequence bytes size refl fits token on_b in
+      let first = some_on text ending left b c n.HeadingAtxSequence bytes size refl hash fits token on_b in
       let gap = writes_d (subst (λ bs. IsOnLine text ending left bs c) (sym is_rest) first.on) in
       let k = run number_sign line in
       let front = atx_front (drop k line) in
@@ -108,7 +112,7 @@ module _ {A : Type 0} (text : List ℕ) where
       let t = writes_e behind plain.0 plain.1 (subst (λ bs. IsOnLine text ending left bs d) ahead gap.on) in
       let closing_is : closing ≡ behind =
       is_closing ∙ ap (drop (length piece.text.now)) (is_after ∙ ahead) ∙ drop-append_seam piece.text.now behind in
-      let cl = writes_f (subst (λ bs. IsOnLine text ending left bs e) (sym closing_is) t.line.on) in
+      let cl = writes_f (subst EndsHeading (sym closing_is) front.2) (subst (λ bs. IsOnLine text ending left bs e) (sym closing_is) t.line.on) in
       -- the nodes
       let i = (written_to b).index in
       let j = (written_to c).index in

@@ -3,12 +3,17 @@ use Rattle.std.proofs.Common.{◌≡◌, ℕ, zero, suc, ◌-◌, ◌<◌, Bool,
 use Rattle.parse_leaves.proofs.Prelude.{append_assoc, AreContentLines, Atx, bare, bytes_of, cases_Bool, cond-false, cond-true, Constructs, ends_line}
 use Rattle.parse_leaves.proofs.Prelude.{HaveNoEnding, heading_atx, is_tab_column, is_white, list_any, number_sign, or_parts, Piece, piece_line, piece_lines}
 use Rattle.parse_leaves.proofs.Prelude.{Rest, run, small_indent, tab_column, take-append-drop, true≢false}
-use Rattle.std.specs.List.{suffix_len}
+use Rattle.parse_leaves.proofs.Prelude.{eqb-true}
+use Rattle.std.proofs.lemmas.Bool.{and_parts}
+use Rattle.std.proofs.Common.{◌+◌}
+use Rattle.std.specs.List.{list_all, suffix_len}
 use Rattle.std.specs.Prelude.{not}
 use Rattle.definition_text.specs.Columns.{trim}
 use Rattle.definition_text.specs.Runs.{after_run}
 use Rattle.definition_block.specs.HeadingAtx.{atx, atx_of, begins_apart, ends_apart, without_closing, without_run}
-use Rattle.parse_leaves.proofs.Starts.{BeginsDark, count_dark, start_dark, white_count}
+use Rattle.parse_leaves.specs.Atx.{EndsHeading}
+use Rattle.parse_raw.proofs.Bytes.{all_drop, suffix_passes}
+use Rattle.parse_leaves.proofs.Starts.{BeginsDark, count_dark, count_white, start_dark, white_count}
 
 dark_take : (k : ℕ) (bs : List ℕ) → BeginsDark bs → BeginsDark (take k bs)
 dark_take zero bs dark = tt
@@ -20,19 +25,42 @@ dark_none [] dark = refl
 dark_none (b ∷ bs) dark = count_dark b bs dark
 
 -- what is trimmed begins with its text, where it begins with no space
-trim_front : (bs : List ℕ) → BeginsDark bs → (others : List ℕ) × (bs ≡ trim bs ++ others)
+trim_front : (bs : List ℕ) → BeginsDark bs → (others : List ℕ) × (bs ≡ trim bs ++ others) × (list_all is_white others ≡ true)
 trim_front bs dark =
     let rest = drop (white_count bs) bs in
     let k = length rest - suffix_len is_white rest in
     let same : rest ≡ bs = ap (λ n. drop n bs) (dark_none bs dark) in
-    (drop k rest, sym (take-append-drop k rest ∙ same))
+    (drop k rest, sym (take-append-drop k rest ∙ same), suffix_passes is_white rest)
+
+after_hashes : (h v : List ℕ) → list_all (λ b. eqb b number_sign) h ≡ true → list_all is_white v ≡ true → list_all is_white (after_run number_sign (h ++ v)) ≡ true
+after_hashes [] v hashes white = all_drop is_white (run number_sign v) v white
+after_hashes (x ∷ h) v hashes white =
+    let parts = and_parts (eqb x number_sign) (list_all (λ b. eqb b number_sign) h) hashes in
+    let one : run number_sign (x ∷ (h ++ v)) ≡ suc (run number_sign (h ++ v)) =
+    cond-true (eqb x number_sign) (1 + run number_sign (h ++ v)) 0 parts.0 ∙ omega arith in
+    ap (λ (n : ℕ). list_all is_white (drop n (x ∷ (h ++ v)))) one ∙ after_hashes h v parts.1 white
+
+-- white space, a run of `#`, and white space
+ends_heading : (w h v : List ℕ) → list_all is_white w ≡ true → list_all (λ b. eqb b number_sign) h ≡ true → list_all is_white v ≡ true
+    → EndsHeading (w ++ (h ++ v))
+ends_heading [] [] v front hashes white = all_drop is_white (run number_sign (drop (white_count v) v)) (drop (white_count v) v) (all_drop is_white (white_count v) v white)
+ends_heading [] (x ∷ h) v front hashes white =
+    let parts = and_parts (eqb x number_sign) (list_all (λ b. eqb b number_sign) h) hashes in
+    let dark : is_white x ≡ false = ap is_white (eqb-true x number_sign parts.0) in
+    ap (λ (n : ℕ). list_all is_white (after_run number_sign (drop n (x ∷ (h ++ v))))) (count_dark x (h ++ v) dark)
+    ∙ after_hashes (x ∷ h) v hashes white
+ends_heading (x ∷ w) h v front hashes white =
+    let parts = and_parts (is_white x) (list_all is_white w) front in
+    ap (λ (n : ℕ). list_all is_white (after_run number_sign (drop n (x ∷ (w ++ (h ++ v)))))) (count_white x (w ++ (h ++ v)) parts.0)
+    ∙ ends_heading w h v parts.1 hashes white
 
 -- the text of a heading is at the front of what follows the white space
-pub atx_front : (bs : List ℕ) → (others : List ℕ) × (drop (white_count bs) bs ≡ without_closing (trim bs) ++ others)
+pub atx_front : (bs : List ℕ) → (others : List ℕ) × (drop (white_count bs) bs ≡ without_closing (trim bs) ++ others) × EndsHeading others
 atx_front bs =
     let rest = drop (white_count bs) bs in
     let k = length rest - suffix_len is_white rest in
     let text = trim bs in
+    let last = suffix_passes is_white rest in
     let first : rest ≡ text ++ drop k rest = sym (take-append-drop k rest) in
     let m = length text - suffix_len (λ b. eqb b number_sign) text in
     let before = without_run text in
@@ -45,10 +73,12 @@ atx_front bs =
             ∙ append_assoc (trim before ++ third.0) (drop m text) (drop k rest)
             ∙ append_assoc (trim before) third.0 (drop m text ++ drop k rest)
             ∙ ap (λ (xs : List ℕ). xs ++ (third.0 ++ (drop m text ++ drop k rest))) (sym (cond-true (ends_apart before) (trim before) text apart)),
+        ends_heading third.0 (drop m text) (drop k rest) third.2 (suffix_passes (λ b. eqb b number_sign) text) last,
       )
       | inr other ↦ (
         drop k rest,
         first ∙ ap (λ (xs : List ℕ). xs ++ drop k rest) (sym (cond-false (ends_apart before) (trim before) text other)),
+        ends_heading [] [] (drop k rest) refl refl last,
       )
     ]
 

@@ -6,6 +6,12 @@ use Rattle.parse_leaves.proofs.Prelude.{is_tab_column, IsOnLine, LineEnding, Lin
 use Rattle.parse_leaves.proofs.Prelude.{or_parts, own_lines, Piece, piece_line, read_content, read_text, Reading, some_on, Standing, standing, StandsInContent}
 use Rattle.parse_leaves.proofs.Prelude.{Stop, tab_column, text_within, ToCall, TokenCall, tokens, Walk, whole_end, Writes, WritesClosing, WritesContentIn}
 use Rattle.parse_leaves.proofs.Prelude.{WritesHeadingText, WritesOnLine, written_to}
+use Rattle.parse_leaves.proofs.Prelude.{is_white, number_sign, run}
+use Rattle.std.proofs.Common.{true}
+use Rattle.std.specs.List.{list_all}
+use Rattle.std.specs.Prelude.{codes}
+use Rattle.definition_text.specs.Runs.{after_run}
+use Rattle.parse_raw.proofs.Runs.{run_fits}
 use Rattle.markdown_options.specs.declared.beside.Kind.TheVariants.{Whitespace}
 use Rattle.engine_events.specs.declared.event.Name.TheVariants as n
 use Rattle.definition_inline.specs.GfmAutolinkLiteral.{linked_literals, with_literals}
@@ -38,14 +44,15 @@ space_alone names text index (b ∷ bs) = refl
 module _ {A : Type 0} (text : List ℕ) (ending : Option LineEnding) (left : List LineRest) where
   -- what follows the text
   pub closing_written : (old a b new : Walk A) (bytes : List ℕ) (k : ℕ) → k ≤ length (drop (indent bytes) bytes)
+      → k ≡ run number_sign (drop (indent bytes) bytes) → list_all is_white (after_run number_sign (drop (indent bytes) bytes)) ≡ true
       → WritesOnLine text ending left (tokens text n.SpaceOrTab (written_to old).index (take (indent bytes) bytes)) (drop (indent bytes) bytes) old a
       → TokenCall n.HeadingAtxSequence k a b → ToCall n.SpaceOrTab (end_at b.line_end 0) b new → WritesClosing text ending left old new
-  closing_written old a b new bytes k few first token to_end =
+  closing_written old a b new bytes k few sized white first token to_end =
       let front = take (indent bytes) bytes in
       let rest = drop (indent bytes) bytes in
-      let second = some_on text ending left a b n.HeadingAtxSequence rest k refl few token first.on in
+      let second = some_on text ending left a b n.HeadingAtxSequence rest k refl (run_fits (codes "#") number_sign rest k refl (omega (arith, sized))) few token first.on in
       let last = drop k rest in
-      let third = all_on text ending left b new n.SpaceOrTab last refl to_end second.on in
+      let third = all_on text ending left b new n.SpaceOrTab last refl (ap (λ (i : ℕ). list_all is_white (drop i rest)) sized ∙ white) to_end second.on in
       let ns = tokens text n.SpaceOrTab (written_to old).index front in
       let hs = tokens text n.HeadingAtxSequence (written_to a).index (take k rest) in
       let ss = tokens text n.SpaceOrTab (written_to b).index last in

@@ -11,6 +11,12 @@ use Rattle.parse_leaves.proofs.Prelude.{Node, Nodes, none-some, one, or_parts, o
 use Rattle.parse_leaves.proofs.Prelude.{SpellsLeaf, standing, Standing, StandsAt, StandsInContent, StandsInLine, Stop, take-append-drop, text_stop, true≢false}
 use Rattle.parse_leaves.proofs.Prelude.{void_nodes, Walk, Within, Writes, writes_around, writes_both, WritesInLine, WritesRow}
 use Rattle.std.specs.Option.{option_map, option_or}
+use Rattle.std.specs.List.{list_all}
+use Rattle.std.specs.Prelude.{◌&&◌}
+use Rattle.std.proofs.lemmas.Bool.{or_from}
+use Rattle.parse_lines.specs.Content.{HasBytes}
+use Rattle.parse_lines.proofs.Bytes.{has_kind}
+use Rattle.parse_lines.proofs.Spots.{bytes_after, bytes_before}
 use Rattle.std.specs.Str.{IsCharBoundary, IsUtf8}
 use Rattle.std.proofs.lemmas.Bool.{eqb-false}
 use Rattle.std.proofs.lemmas.Str.{IsCharBoundary-start}
@@ -222,6 +228,35 @@ next_bytes text (b ∷ bs) more i next =
     let same : i + 1 + length bs ≡ i + length (b ∷ bs) = omega arith in
     next.0 ∙ ap (λ ys. b ∷ ys) (next_bytes text bs more (i + 1) next.1 ∙ ap (λ k. bs ++ drop k text) same)
 
+-- bytes of a text
+bytes_of_next : (text bs more : List ℕ) (i : ℕ) → AreBytes text → AreNext text (end_at i 0) (bs ++ more) → AreBytes bs
+bytes_of_next text bs more i bytes next =
+    bytes_before bs (drop (i + length bs) text) (
+    subst AreBytes (next_bytes text bs more i next) (bytes_after (take i text) (drop i text) (subst AreBytes (sym (take-append-drop i text)) bytes))
+    )
+
+-- only spaces and tabs are left of a line of which a definition is read
+white_end : (bs : List ℕ) → AreBytes bs → list_any ends_line bs ≡ false → next_line bs ≡ Some [] → list_all is_white bs ≡ true
+white_end [] bytes dark is = refl
+white_end (b ∷ bs) bytes dark is =
+    let parts = or_parts (ends_line b) (list_any ends_line bs) dark in
+    elim (cases_Bool (is_white b)) [
+      | inl white ↦
+          let more = white_end bs (λ k. bytes (suc k)) parts.1 (sym (ap (λ k. next_line_after (drop k (b ∷ bs))) (count_white b bs white)) ∙ is) in
+          ap₂ (λ (s t : Bool). s && t) white more
+      | inr other ↦
+          let here : next_line_after (b ∷ bs) ≡ Some [] = sym (ap (λ k. next_line_after (drop k (b ∷ bs))) (count_dark b bs other)) ∙ is in
+          let small : b < 256 = bytes 0 in
+          let eol : is_eol b ≡ false = or_from (ends_line b) (eqb b 257) parts.0 (ne_eqb b 257 (λ e. omega (arith, e, small))) in
+          let none : None ≡ Some [] = sym (cond-false (is_eol b) (Some bs) None eol) ∙ here in
+          absurd (cc)
+    ]
+
+white_left : (bs : List ℕ) → AreBytes bs → list_any ends_line bs ≡ false → next_line (content_codes bs) ≡ Some [] → list_all is_white bs ≡ true
+white_left bs bytes dark is =
+    let codes : content_codes bs ≡ bs = ap content_codes (sym (append-nil bs)) ∙ dark_codes bs [] dark ∙ append-nil bs in
+    white_end bs bytes dark (ap next_line (sym codes) ∙ is)
+
 on_one_line : (text bs more : List ℕ) (i end : ℕ) → AreNext text (end_at i 0) (bs ++ more) → list_any ends_line bs ≡ false → end ≡ i + length bs
     → IsOnOneLine text i end
 on_one_line text bs more i end next dark is =
@@ -286,14 +321,14 @@ module _ {A : Type 0} (text : List ℕ) where
       (label destination : List Code) (title : Option (List Code)) (old s t a b c e : Walk A) (here : LineRest) (left : List LineRest) (to : Place)
       → HaveTextsOfBytes names → content ≡ content_text ls → white ≡ white_count content → rest ≡ drop white content → size ≡ length content - c.place
       → standing s ≡ standing old → BeginsContent old s → standing t ≡ standing s
-      → ((front line : List ℕ) → white ≡ length front → same_name n.SpaceOrTab n.BlockQuotePrefix ≡ false → StandsInLine text (front ++ line) s
+      → ((front line : List ℕ) → white ≡ length front → same_name n.SpaceOrTab n.BlockQuotePrefix ≡ false → StandsInLine text (front ++ line) s → HasBytes text n.SpaceOrTab white s
       → WritesInLine text front (void_nodes text n.SpaceOrTab (end_in s.out) (end_after (end_in s.out) white)) line s t)
       → standing a ≡ standing t → ((line : List ℕ) → StandsInLine text line t → EntersInLine text n.Definition line t a)
       → ((d : Definition) (stop : Stop) → IsDefinition (content_codes rest) d → StandsInContent text rest stop a → IsWhole a
       → WritesParts text rest (SpellsDefinition on names text d) stop a b)
       → standing c ≡ standing b → ((line : List ℕ) → StandsInLine text line b → ExitsInLine text n.Definition line b c)
       → standing e ≡ standing c
-      → ((front line : List ℕ) → size ≡ length front → same_name n.SpaceOrTab n.BlockQuotePrefix ≡ false → StandsInLine text (front ++ line) c
+      → ((front line : List ℕ) → size ≡ length front → same_name n.SpaceOrTab n.BlockQuotePrefix ≡ false → StandsInLine text (front ++ line) c → HasBytes text n.SpaceOrTab size c
       → WritesInLine text front (void_nodes text n.SpaceOrTab (end_in c.out) (end_after (end_in c.out) size)) line c e)
       → StandsAt text (Within here left) (standing old) → IsWrittenToRest old → IsInOrder text old.out
       → IsWrittenLaid old.on.now (around (standing old)) (DefinitionLeaf (own_lines ls) label destination title) (Within here left) to
@@ -329,18 +364,22 @@ module _ {A : Type 0} (text : List ℕ) where
       let ahead =
       line_in_content text stop c parts.after [] (subst (λ ys. StandsInContent text ys stop c) (sym (append-nil parts.after)) exited.stands) dark in
       let behind = void_nodes text n.SpaceOrTab (end_in c.out) (end_after (end_in c.out) size) in
-      let in_line = writes_e parts.after ahead.line left_is refl ahead.stands in
-      let last = ahead.lifts behind e same_e in_line in
-      let done = content_done text stop e last.stands in
       let i = (end_in b.out).index in
       let end_c : end_in c.out ≡ end_at i 0 = exited.end ∙ ap (end_at i) parts.whole in
+      let next : AreNext text (end_at i 0) (parts.after ++ ahead.line) =
+      subst (λ (x : End). AreNext text x (parts.after ++ ahead.line)) (sym ahead.stands.at ∙ end_c) ahead.stands.next in
+      let bytes = bytes_of_next text parts.after ahead.line i at.line.over.bytes next in
+      let white_after = white_left parts.after bytes dark parts.last in
+      let in_line =
+      writes_e parts.after ahead.line left_is refl ahead.stands
+      (has_kind text parts.after ahead.line size c is_white left_is ahead.stands white_after) in
+      let last = ahead.lifts behind e same_e in_line in
+      let done = content_done text stop e last.stands in
       let end_e : end_in e.out ≡ end_at (i + length parts.after) 0 =
       in_line.end ∙ ap (λ (x : End). end_after x (length parts.after)) end_c ∙ after_bytes i (length parts.after) in
       let index : (end_in e.out).index ≡ e.line_end = omega (arith, done.index) in
       let from = end_in entered.space in
       let to_end = end_in b.out in
-      let next : AreNext text (end_at i 0) (parts.after ++ ahead.line) =
-      subst (λ (x : End). AreNext text x (parts.after ++ ahead.line)) (sym ahead.stands.at ∙ end_c) ahead.stands.next in
       record {
         before = entered.before;
         are_quiet = entered.are_quiet;

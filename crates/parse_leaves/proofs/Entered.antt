@@ -7,10 +7,12 @@ use Rattle.parse_leaves.proofs.Prelude.{rest_of, same_name, Standing, standing, 
 use Rattle.parse_leaves.proofs.Prelude.{void_nodes, Walk, Within, Writes, WritesInLine}
 use Rattle.engine_events.specs.declared.event.Name.TheVariants.{BlockQuotePrefix, SpaceOrTab}
 use Rattle.parse_output.specs.declared.output.Output.{Output}
+use Rattle.parse_lines.specs.Content.{HasBytes}
 use Rattle.parse_lines.proofs.Ahead.{follows_after}
+use Rattle.parse_lines.proofs.Bytes.{has_kind}
 use Rattle.parse_leaves.proofs.Indents.{void_quiet}
 use Rattle.parse_leaves.proofs.Lines.{lines_ahead}
-use Rattle.parse_leaves.proofs.Starts.{count_dark, count_white, white_count, white_fits, white_in_line}
+use Rattle.parse_leaves.proofs.Starts.{count_dark, count_white, white_count, white_fits, white_front, white_in_line}
 
 white_more : (bs cs : List ℕ) → white_count bs ≤ white_count (bs ++ cs)
 white_more [] cs = omega arith
@@ -51,7 +53,7 @@ module _ {A : Type 0} (text : List ℕ) where
   -- an event is entered in the lines of a text after so many spaces and tabs
   pub white_entered : (a b c d : Walk A) (name : Name) (white : ℕ) (here : LineRest) (left after : List LineRest) (others : List BlockLine)
       → standing b ≡ standing a → BeginsContent a b → white ≤ white_count (content_text (rest_line here.rest here.beside ∷ others)) → standing c ≡ standing b
-      → ((front line : List ℕ) → white ≡ length front → same_name SpaceOrTab BlockQuotePrefix ≡ false → StandsInLine text (front ++ line) b
+      → ((front line : List ℕ) → white ≡ length front → same_name SpaceOrTab BlockQuotePrefix ≡ false → StandsInLine text (front ++ line) b → HasBytes text SpaceOrTab white b
       → WritesInLine text front (void_nodes text SpaceOrTab (end_in b.out) (end_after (end_in b.out) white)) line b c)
       → standing d ≡ standing c → ((line : List ℕ) → StandsInLine text line c → EntersInLine text name line c d)
       → StandsAt text (Within here left) (standing a) → IsWrittenToRest a → IsInOrder text a.out
@@ -71,7 +73,9 @@ module _ {A : Type 0} (text : List ℕ) where
       line_in_content text stop b front (drop white content) (subst (λ bs. StandsInContent text bs stop b) (sym (take-append-drop white content)) stands)
       (white_in_line 0 white content (omega (arith, few))) in
       let nodes = void_nodes text SpaceOrTab (end_in b.out) (end_after (end_in b.out) white) in
-      let in_line_writes = writes front ahead.line (sym size) refl ahead.stands in
+      let in_line_writes =
+      writes front ahead.line (sym size) refl ahead.stands
+      (has_kind text front ahead.line white b is_white (sym size) ahead.stands (white_front 0 white content (omega (arith, few)))) in
       let written = ahead.lifts nodes c same_c in_line_writes in
       let entered = line_enters text stop c d name (drop white content) written.stands same_d enters in
       let place : d.place ≡ white = omega (arith, entered.place, written.place, begun.1, size) in
@@ -99,7 +103,7 @@ module _ {A : Type 0} (text : List ℕ) where
   -- the white space is that of the first line
   pub text_entered : (a b c d : Walk A) (name : Name) (white : ℕ) (here : LineRest) (left after : List LineRest) (others : List BlockLine)
       → standing b ≡ standing a → BeginsContent a b → white ≡ white_count (map code_byte (block_codes (rest_of b.rest))) → standing c ≡ standing b
-      → ((front line : List ℕ) → white ≡ length front → same_name SpaceOrTab BlockQuotePrefix ≡ false → StandsInLine text (front ++ line) b
+      → ((front line : List ℕ) → white ≡ length front → same_name SpaceOrTab BlockQuotePrefix ≡ false → StandsInLine text (front ++ line) b → HasBytes text SpaceOrTab white b
       → WritesInLine text front (void_nodes text SpaceOrTab (end_in b.out) (end_after (end_in b.out) white)) line b c)
       → standing d ≡ standing c → ((line : List ℕ) → StandsInLine text line c → EntersInLine text name line c d)
       → StandsAt text (Within here left) (standing a) → IsWrittenToRest a → IsInOrder text a.out

@@ -6,8 +6,9 @@ use Rattle.parse_leaves.proofs.Prelude.{Stop, true≢false, void_nodes, Walk, wi
 use Rattle.engine_events.specs.declared.event.Name.TheVariants.{BlockQuotePrefix, SpaceOrTab}
 use Rattle.parse_output.specs.Ends.{same_end}
 use Rattle.parse_output.specs.Forest.{cut}
-use Rattle.parse_lines.specs.Content.{IsNext}
-use Rattle.parse_leaves.proofs.Starts.{BeginsDark, start_dark, white_count, white_fits, white_in_line, white_parts}
+use Rattle.parse_lines.specs.Content.{HasBytes, IsNext}
+use Rattle.parse_lines.proofs.Bytes.{has_kind}
+use Rattle.parse_leaves.proofs.Starts.{BeginsDark, start_dark, white_count, white_fits, white_front, white_in_line, white_parts}
 
 pub void_quiet : (text : List ℕ) (from to : End) → AreQuiet (void_nodes text SpaceOrTab from to)
 void_quiet text from to = one_or_none (same_end to from)
@@ -40,7 +41,7 @@ module _ {A : Type 0} (text : List ℕ) (stop : Stop) where
   -- the spaces and tabs at the start of a content, but for those that are written
   pub white_written : (old new : Walk A) (content start : List ℕ) (size : ℕ) → start ≡ without_white content
       → size ≡ (length content - length start) - old.place → standing new ≡ standing old
-      → ((front line : List ℕ) → size ≡ length front → same_name SpaceOrTab BlockQuotePrefix ≡ false → StandsInLine text (front ++ line) old
+      → ((front line : List ℕ) → size ≡ length front → same_name SpaceOrTab BlockQuotePrefix ≡ false → StandsInLine text (front ++ line) old → HasBytes text SpaceOrTab size old
       → WritesInLine text front (void_nodes text SpaceOrTab (end_in old.out) (end_after (end_in old.out) size)) line old new)
       → StandsInContent text (drop old.place content) stop old → old.place ≤ white_count content → WritesWhite text content stop old new
   white_written old new content start size is count same writes st le =
@@ -56,7 +57,8 @@ module _ {A : Type 0} (text : List ℕ) (stop : Stop) where
       line_in_content text stop old front (without_white content) (subst (λ bs. StandsInContent text bs stop old) parts st)
       (white_in_line old.place (n - old.place) content (omega (arith, le))) in
       let nodes = void_nodes text SpaceOrTab (end_in old.out) (end_after (end_in old.out) size) in
-      let written = ahead.lifts nodes new same (writes front ahead.line size_is refl ahead.stands) in
+      let written = ahead.lifts nodes new same (writes front ahead.line size_is refl ahead.stands
+      (has_kind text front ahead.line size old is_white size_is ahead.stands (white_front old.place (n - old.place) content (omega (arith, le))))) in
       record {
         front = front;
         parts = parts;

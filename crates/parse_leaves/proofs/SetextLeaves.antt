@@ -2,13 +2,20 @@
 use Rattle.std.proofs.Common.{◌≡◌, ℕ, suc, ◌+◌, ◌<◌, Bool, true, false, ◌&&◌, eqb, if◌then◌else◌, leb, List, [], ◌∷◌, ◌++◌, Option, None, Some, refl, sym, ap, ◌∙◌, inl, inr, subst, length, get_or, drop, reverse, arith}
 use Rattle.parse_leaves.proofs.Prelude.{append, AreMeanings, ArePartsAlike, ArePlain, AreQuiet, around, Around, AtEnding, bare, Between, BlockLine, bytes_of}
 use Rattle.parse_leaves.proofs.Prelude.{cases_Bool, cond-false, cond-true, Cons, Constructs, Container, content_text, cut_one, End, end_at, end_in, enter_at}
-use Rattle.parse_leaves.proofs.Prelude.{EntersAt, EntersText, eqb-true, exit_at, Exits, Follows, HasSameOpen, inline_content, Inlines, inlines_of, is_white}
+use Rattle.parse_leaves.proofs.Prelude.{EntersAt, EntersText, eqb-true, exit_at, Exits, HasSameOpen, inline_content, Inlines, inlines_of, is_white}
 use Rattle.parse_leaves.proofs.Prelude.{IsInOrder, IsQuiet, IsWrittenToRest, kids_in, last_ending, line_left, LineEnding, LineRest, Meaning, named, named_both}
 use Rattle.parse_leaves.proofs.Prelude.{Names, Nil, Node, node_name, Nodes, one, own_lines, Place, prefix_len, prefixed, read_content, read_text, Reading}
 use Rattle.parse_leaves.proofs.Prelude.{Rest, same_name, small_indent, SpellsLeaf, standing, Standing, StandsAt, Stop, text_in, true≢false, void_nodes, Walk}
 use Rattle.parse_leaves.proofs.Prelude.{whole_end, Within, Writes, writes_around, writes_both, WritesContentIn, WritesLeaf, WritesUnderline, written_to}
 use Rattle.std.specs.List.{list_all}
 use Rattle.markdown_options.specs.declared.beside.Kind.TheVariants.{Whitespace}
+use Rattle.parse_leaves.proofs.Prelude.{run}
+use Rattle.std.proofs.lemmas.Bool.{and_parts}
+use Rattle.std.specs.Prelude.{codes}
+use Rattle.definition_text.specs.Runs.{after_run}
+use Rattle.event_tokens.specs.Tokens.{is_among}
+use Rattle.parse_raw.proofs.Bytes.{ending_token, line_ending_fits}
+use Rattle.parse_leaves.specs.Entered.{AreUnderline}
 use Rattle.engine_events.specs.declared.event.Name.TheVariants as n
 use Rattle.definition_text.specs.Runs.{is_run}
 use Rattle.definition_block.specs.HeadingSetext.{underline, underline_of}
@@ -20,7 +27,6 @@ use Rattle.parse_laid.specs.Leaves.{IsSetextLaid}
 use Rattle.parse_laid.specs.Places.{InAll, IsOn}
 use Rattle.parse_lines.specs.Ends.{WritesNextLine, line_after}
 use Rattle.parse_lines.specs.Steps.{PassesLine}
-use Rattle.parse_lines.proofs.Ends.{end_to_next}
 use Rattle.parse_raw.proofs.Nodes.{child_append, quiet_definitions, void_cases}
 use Rattle.parse_leaves.proofs.TextLeaves.{enters_lines, none_alike, open_both}
 
@@ -57,6 +63,23 @@ rank_of bs rank is = elim (cases_Bool (is_run 1 61 bs)) [
         let two : 2 ≡ rank =
         some_same 2 rank (sym (cond-false (is_run 1 61 bs) (Some 1) _ other ∙ cond-true (is_run 1 45 bs) (Some 2) None second) ∙ is) in
         (found.0, ap (λ b. if eqb b 45 then 2 else 1) found.1 ∙ two)
+    | inr none ↦
+        absurd (none_some rank (sym (cond-false (is_run 1 61 bs) (Some 1) _ other ∙ cond-false (is_run 1 45 bs) (Some 2) None none) ∙ is))
+  ]
+]
+
+underline_by : (byte : ℕ) (bs : List ℕ) → is_among (codes "=-") byte ≡ true → is_run 1 byte bs ≡ true → AreUnderline bs
+underline_by byte bs among is =
+    let first = (run_first byte bs is).1 in (
+      ap (is_among (codes "=-")) first ∙ among,
+      ap (λ (b : ℕ). list_all is_white (after_run b bs)) first ∙ (and_parts (leb 1 (run byte bs)) (list_all is_white (after_run byte bs)) is).1,
+    )
+
+underline_bytes : (bs : List ℕ) (rank : ℕ) → underline_of bs ≡ Some rank → AreUnderline bs
+underline_bytes bs rank is = elim (cases_Bool (is_run 1 61 bs)) [
+  | inl first ↦ underline_by 61 bs refl first
+  | inr other ↦ elim (cases_Bool (is_run 1 45 bs)) [
+    | inl second ↦ underline_by 45 bs refl second
     | inr none ↦
         absurd (none_some rank (sym (cond-false (is_run 1 61 bs) (Some 1) _ other ∙ cond-false (is_run 1 45 bs) (Some 2) None none) ∙ is))
   ]
@@ -141,7 +164,7 @@ module _ {A : Type 0} (text : List ℕ) where
       → HasSameOpen (standing b) (standing c) → IsOn old.on.now (around (standing old)) (Between after) (InAll under) others
       → underline old.on.now under.rest ≡ Some rank
       → ((here : LineRest) (left : List LineRest) → StandsAt text (Within here left) (standing c) → IsWrittenToRest c → IsInOrder text c.out
-      → 0 < length (bytes_of (bare here.rest)) → WritesUnderline text here left c d)
+      → 0 < length (bytes_of (bare here.rest)) → AreUnderline (bytes_of (bare here.rest)) → WritesUnderline text here left c d)
       → standing new ≡ standing d → written_to new ≡ written_to d → (IsInOrder text d.out → Exits text n.HeadingSetext d.out new.out)
       → WritesLeaf r.parse.constructs r.tables.names text top (page.Heading rank is) [] (AtEnding under.beside.ending others) old new
   setext_on r top rank is here left [] ending content old a b c d new under others entered writes passes next_written kept is_on found
@@ -155,8 +178,7 @@ module _ {A : Type 0} (text : List ℕ) where
       let t = writes text stop entered.stands entered.white in
       let at_end : written_to b ≡ end_at b.line_end 0 = whole_end (end_in b.out) t.whole ∙ ap (λ k. end_at k 0) (omega (arith, t.index)) in
       let to = line_after b in
-      let follows : Follows text (written_to b) to = subst (λ (e : End). Follows text e to) (sym at_end) (end_to_next text (standing b) t.at.line) in
-      let done = next_written text ending next after t.at t.writes.order follows in
+      let done = next_written text ending next after t.at t.writes.order (ending_token text n.LineEnding b line_ending_fits t.at.line at_end) in
       let quiet = done.0 in
       let ab : HasSameOpen (standing old) (standing b) = open_both (standing old) (standing a) (standing b) entered.around t.around in
       let line : line_left (prefixed b.on.now (around (standing b)) next) ≡ under =
@@ -167,7 +189,8 @@ module _ {A : Type 0} (text : List ℕ) where
       (subst (λ ls. StandsAt text (Within (line_left (prefixed b.on.now (around (standing b)) next)) ls) (standing c)) is_on.1
       (passes text ending next after t.at)) in
       let rank_found = rank_of (bytes_of (bare under.rest)) rank (underlined old.on.now under.rest rank found) in
-      let u = under_written under others within done.4 done.1.order rank_found.0 in
+      let are = underline_bytes (bytes_of (bare under.rest)) rank (underlined old.on.now under.rest rank found) in
+      let u = under_written under others within done.4 done.1.order rank_found.0 are in
       let void = void_nodes text n.LineEnding (written_to b) to in
       let text_node = Around (enter_at text n.HeadingSetextText t.from) t.nodes (exit_at text n.HeadingSetextText t.to) in
       let kids = heading_kids text text_node (written_to b) to quiet u.before u.node in
@@ -206,7 +229,7 @@ module _ {A : Type 0} (text : List ℕ) where
       → WritesContentIn r n.HeadingSetextText (content_text ls) (read_content r false (inline_content r.tables.is_punctuation Whitespace (own_lines ls))) a b
       → PassesLine (standing b) (standing c) → WritesNextLine b c → HasSameOpen (standing b) (standing c)
       → ((here : LineRest) (left : List LineRest) → StandsAt text (Within here left) (standing c) → IsWrittenToRest c → IsInOrder text c.out
-      → 0 < length (bytes_of (bare here.rest)) → WritesUnderline text here left c d)
+      → 0 < length (bytes_of (bare here.rest)) → AreUnderline (bytes_of (bare here.rest)) → WritesUnderline text here left c d)
       → standing new ≡ standing d → written_to new ≡ written_to d → (IsInOrder text d.out → Exits text n.HeadingSetext d.out new.out)
       → WritesLeaf r.parse.constructs r.tables.names text top (page.Heading rank (read_text r (own_lines ls))) [] to old new
   setext_written r top rank here left to ls old a b c d new at to_rest order laid enters writes passes next kept under same end exits =

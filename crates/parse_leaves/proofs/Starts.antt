@@ -3,6 +3,8 @@ use Rattle.std.proofs.Common.{◌≡◌, ℕ, zero, suc, ◌+◌, ◌-◌, ◌�
 use Rattle.parse_leaves.proofs.Prelude.{after_return_code, block_codes, bytes_of, cases_Bool, code_byte, code_bytes, cond-false, cond-true, content_codes}
 use Rattle.parse_leaves.proofs.Prelude.{drop-drop, ends_line, eqb-true, is_tab_column, is_white, list_any, ne_eqb, prefix_len, Rest, take-append-drop}
 use Rattle.parse_leaves.proofs.Prelude.{true≢false}
+use Rattle.std.specs.List.{list_all}
+use Rattle.parse_lines.proofs.White.{all_prefix}
 use Rattle.definition_text.specs.Ascii.{space}
 use Rattle.inline_links.specs.Codes.{IsRest}
 use Rattle.parse_leaves.proofs.Decoded.{AreSingle, same_bytes}
@@ -107,6 +109,15 @@ white_in_line zero (suc n) (b ∷ bs) le = elim (cases_Bool (is_white b)) [
 ]
 white_in_line (suc k) n (b ∷ bs) le = elim (cases_Bool (is_white b)) [
   | inl white ↦ white_in_line k n bs (omega (arith, le, count_white b bs white))
+  | inr dark ↦ absurd (omega (arith, le, count_dark b bs dark))
+]
+
+-- so many spaces and tabs from a place on
+pub white_front : (k n : ℕ) (bs : List ℕ) → k + n ≤ white_count bs → list_all is_white (take n (drop k bs)) ≡ true
+white_front zero n bs le = all_prefix is_white n bs (omega (arith, le))
+white_front (suc k) n [] le = absurd (omega (arith, le))
+white_front (suc k) n (b ∷ bs) le = elim (cases_Bool (is_white b)) [
+  | inl white ↦ white_front k n bs (omega (arith, le, count_white b bs white))
   | inr dark ↦ absurd (omega (arith, le, count_dark b bs dark))
 ]
 

@@ -4,6 +4,13 @@ use Rattle.parse_leaves.proofs.Prelude.{all_on, append, AreNext, Around, around_
 use Rattle.parse_leaves.proofs.Prelude.{exit_at, ExitCall, IsInOrder, IsOnLine, IsWrittenToRest, length-take-le, LineRest, named, named_both, next_parts, Node}
 use Rattle.parse_leaves.proofs.Prelude.{Nodes, on_end, on_line_both, one, rest_of, run, some_on, Standing, standing, StandsAt, take-append-drop, text_in}
 use Rattle.parse_leaves.proofs.Prelude.{ToCall, token_text, TokenCall, tokens, Walk, white_ahead, Within, writes_both, WritesUnderline, written_to}
+use Rattle.parse_leaves.proofs.Prelude.{is_white}
+use Rattle.std.proofs.Common.{true}
+use Rattle.std.specs.List.{list_all}
+use Rattle.std.specs.Prelude.{codes}
+use Rattle.event_tokens.specs.Tokens.{is_among}
+use Rattle.parse_raw.proofs.Runs.{run_fits}
+use Rattle.parse_leaves.specs.Entered.{AreUnderline}
 use Rattle.engine_events.specs.declared.event.Name.TheVariants as n
 use Rattle.parse_leaves.proofs.TextLeaves.{open_both}
 use Rattle.parse_raw.proofs.Tokens.{run_some}
@@ -35,8 +42,8 @@ module _ {A : Type 0} (text : List ℕ) where
       → marker ≡ get_or bytes 0 0 → size ≡ run marker bytes → size ≤ length bytes → TokenCall n.HeadingSetextUnderlineSequence size b c
       → ToCall n.SpaceOrTab (end_at c.line_end 0) c d → ExitCall text n.HeadingSetextUnderline d new
       → StandsAt text (Within here left) (standing old) → IsWrittenToRest old → IsInOrder text old.out → 0 < length (bytes_of (bare here.rest))
-      → WritesUnderline text here left old new
-  underline_written old a b c d new here left bytes size marker to_bare is_bytes enter is_marker is_size fits token to_end exit at at_rest order some =
+      → AreUnderline (bytes_of (bare here.rest)) → WritesUnderline text here left old new
+  underline_written old a b c d new here left bytes size marker to_bare is_bytes enter is_marker is_size fits token to_end exit at at_rest order some are =
       let ending = here.beside.ending in
       let white = white_ahead text old a here left at at_rest order to_bare.0 to_bare.1 to_bare.2 in
       let all : bytes ≡ bytes_of (bare here.rest) = is_bytes ∙ ap (λ r. bytes_of (bare r)) at.rest in
@@ -48,8 +55,12 @@ module _ {A : Type 0} (text : List ℕ) where
       let j = (written_to c).index in
       let sequence = tokens text n.HeadingSetextUnderlineSequence i front in
       let space = tokens text n.SpaceOrTab j rest in
-      let first = some_on text ending left b c n.HeadingSetextUnderlineSequence bytes size refl fits token on_b in
-      let last = all_on text ending left c d n.SpaceOrTab rest refl to_end first.on in
+      let own : AreUnderline bytes = subst AreUnderline (sym all) are in
+      let blank : list_all is_white rest ≡ true =
+      ap (λ (k : ℕ). list_all is_white (drop k bytes)) (is_size ∙ ap (λ (x : ℕ). run x bytes) is_marker) ∙ own.1 in
+      let first = some_on text ending left b c n.HeadingSetextUnderlineSequence bytes size refl (run_fits (codes "=-") marker bytes size (ap (is_among (codes "=-")) is_marker ∙ own.0) (omega (arith, is_size)))
+      fits token on_b in
+      let last = all_on text ending left c d n.SpaceOrTab rest refl blank to_end first.on in
       let kids = on_line_both text ending left rest [] sequence space b c d first last in
       let whole = around_on text ending left a b d new n.HeadingSetextUnderline [] (append sequence space) refl enter on_a.before.order kids exit in
       let node = Around (enter_at text n.HeadingSetextUnderline (end_in a.out)) (append sequence space) (exit_at text n.HeadingSetextUnderline (end_in d.out)) in

@@ -1,5 +1,9 @@
 -- What is written of a heading by `#` (CommonMark 4.2).
-use Rattle.std.specs.Prelude.{◌≡◌, ℕ, false, List, [], Option}
+use Rattle.std.specs.Prelude.{◌≡◌, ℕ, true, false, List, [], Option, drop}
+use Rattle.std.specs.List.{list_all}
+use Rattle.definition_text.specs.Ascii.{number_sign}
+use Rattle.definition_text.specs.Columns.{indent, is_white}
+use Rattle.definition_text.specs.Runs.{after_run}
 use Rattle.markdown_options.specs.declared.configuration.Constructs.{Constructs}
 use Rattle.markdown_options.specs.declared.line_ending.LineEnding.{LineEnding}
 use Rattle.engine_events.specs.declared.event.Name.TheVariants as n
@@ -24,6 +28,10 @@ pub record WritesHeadingText {A : Type 0} (on : Constructs) (names : Names) (tex
   pub spells : (others : Nodes) → text_within names text false others ≡ NoInlines → (m m' : Meaning) → AreMeanings on names m m'
       → ArePartsAlike m m' is (text_within names text false (append nodes others))
   pub definitions : named n.Definition nodes ≡ []
+
+-- spaces and tabs, a run of `#`, and again spaces and tabs: what may follow the text
+abbrev pub EndsHeading : List ℕ → Type 0
+EndsHeading bytes = list_all is_white (after_run number_sign (drop (indent bytes) bytes)) ≡ true
 
 -- What follows the text is written, up to the end of the line, and spells nothing.
 pub record WritesClosing {A : Type 0} (text : List ℕ) (ending : Option LineEnding) (left : List LineRest) (old new : Walk A) : Type 0 where

@@ -1,12 +1,14 @@
 -- The start of a block that holds a text (CommonMark 4.3 and 4.8).
-use Rattle.std.specs.Prelude.{◌≡◌, ◌≤◌, ◌+◌, ℕ, false, List, [], ◌∷◌, drop, slice_index}
-use Rattle.std.specs.List.{prefix_len}
+use Rattle.std.specs.Prelude.{◌≡◌, ◌≤◌, ◌+◌, ℕ, true, false, List, [], ◌∷◌, codes, drop, slice_index}
+use Rattle.std.specs.List.{list_all, prefix_len}
 use Rattle.markdown_options.specs.declared.configuration.Constructs.{Constructs}
 use Rattle.engine_events.specs.declared.event.Name.{Name}
 use Rattle.engine_events.specs.declared.event.Name.TheVariants as n
 use Rattle.definition_text.specs.BlockLines.{BlockLine, last_ending}
 use Rattle.definition_text.specs.Columns.{bare, bytes_of, is_white}
 use Rattle.definition_text.specs.Content.{content_text}
+use Rattle.definition_text.specs.Runs.{after_run}
+use Rattle.event_tokens.specs.Tokens.{is_among}
 use Rattle.definition_block.specs.Tree.{rest_line}
 use Rattle.definition_inline.specs.CharacterReference.{Names}
 use Rattle.definition_inline.specs.Inline.{Inlines}
@@ -77,6 +79,10 @@ abbrev pub WritesContentIn : {A : Type 0} → Reading → Name → List ℕ → 
 WritesContentIn r name content is old new =
     (text : List ℕ) (stop : Stop) → StandsInContent text (drop old.place content) stop old → old.place ≤ prefix_len is_white content
     → WritesTextIn r.parse.constructs r.tables.names text name is stop old new
+
+-- bytes of an underline: its first byte, again and again, and then only spaces and tabs (CommonMark 4.3)
+abbrev pub AreUnderline : List ℕ → Type 0
+AreUnderline bytes = (is_among (codes "=-") (slice_index bytes 0) ≡ true) × (list_all is_white (after_run (slice_index bytes 0) bytes) ≡ true)
 
 -- The underline of a heading is written, and all of its line (CommonMark 4.3).
 pub record WritesUnderline {A : Type 0} (text : List ℕ) (here : LineRest) (left : List LineRest) (old new : Walk A) : Type 0 where

@@ -15,7 +15,7 @@ ghost use Rattle.parse_output.specs.Children.{holds_blocks, may_enter};
 ghost use Rattle.parse_laid.specs.Places.{LineRest};
 ghost use Rattle.parse_lines.specs.Ends.{written_to};
 ghost use Rattle.parse_lines.specs.Open.{still_open};
-ghost use Rattle.parse_leaves.specs.Atx.{WritesClosing, WritesHeadingText};
+ghost use Rattle.parse_leaves.specs.Atx.{EndsHeading, WritesClosing, WritesHeadingText};
 ghost use Rattle.parse_raw.specs.Before.{IsOnLine, WritesOnLine, tokens};
 ghost use Rattle.parse_leaves.specs.Headings.{WritesAtxHeading};
 ghost use Rattle.parse_leaves.specs.Texts.{KnowsTargets, reading_by};
@@ -91,8 +91,8 @@ fn push_closing<A: Allocator>(walk: &mut Walk<'_, A>, bytes: &[u8]) -> Result<()
     requires space { may_enter (still_open walk.old) SpaceOrTab ≡ true }
     requires child { may_enter (still_open walk.old) HeadingAtxSequence ≡ true }
     ensures open { OnOk result (still_open walk.new ≡ still_open walk.old) }
-    ensures written { OnOk result ((text : List ℕ) (ending : Option LineEnding) (left : List LineRest) → IsOnLine text ending left bytes.now walk.old →
-        WritesClosing text ending left walk.old walk.new) }
+    ensures written { OnOk result ((text : List ℕ) (ending : Option LineEnding) (left : List LineRest) → EndsHeading bytes.now
+        → IsOnLine text ending left bytes.now walk.old → WritesClosing text ending left walk.old walk.new) }
 {
     let closing = push_white(walk, bytes)?;
     walk.token(Name::HeadingAtxSequence, run(b'#', closing))?;

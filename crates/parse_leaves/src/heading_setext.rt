@@ -14,7 +14,7 @@ ghost use Rattle.parse_laid.specs.Places.{LineRest, Within};
 ghost use Rattle.parse_lines.specs.Ends.{IsWrittenToRest};
 ghost use Rattle.parse_lines.specs.Open.{still_open};
 ghost use Rattle.parse_lines.specs.Standing.{StandsAt, standing};
-ghost use Rattle.parse_leaves.specs.Entered.{WritesUnderline};
+ghost use Rattle.parse_leaves.specs.Entered.{AreUnderline, WritesUnderline};
 ghost use Rattle.parse_leaves.specs.Headings.{WritesSetextHeading};
 ghost use Rattle.parse_leaves.specs.Texts.{KnowsTargets, reading_by};
 
@@ -63,7 +63,8 @@ fn push_underline<A: Allocator>(walk: &mut Walk<'_, A>) -> Result<(), AllocError
     requires space { may_enter (still_open walk.old) SpaceOrTab ≡ true }
     ensures open { OnOk result (still_open walk.new ≡ still_open walk.old) }
     ensures written { OnOk result ((text : List ℕ) (here : LineRest) (left : List LineRest) → StandsAt text (Within here left) (standing walk.old)
-        → IsWrittenToRest walk.old → IsInOrder text walk.old.out → 0 < length (bytes_of (bare here.rest)) → WritesUnderline text here left walk.old walk.new) }
+        → IsWrittenToRest walk.old → IsInOrder text walk.old.out → 0 < length (bytes_of (bare here.rest)) → AreUnderline (bytes_of (bare here.rest))
+        → WritesUnderline text here left walk.old walk.new) }
 {
     let bytes = walk.white()?.as_bytes();
     walk.enter(Name::HeadingSetextUnderline)?;

@@ -1,4 +1,5 @@
 -- A content, from line to line.
+use Rattle.parse_lines.proofs.Prelude.{IsToken, is_token}
 use Rattle.parse_lines.proofs.Prelude.{AreNext, AreTaken, around, Around, AtEnding, BeginsLine, Between, block_codes, BlockLine, bytes_of, cases_Bool}
 use Rattle.parse_lines.proofs.Prelude.{code_byte, cond-false, cond-true, Cons, Constructs, Container, content_end_in, content_from, drop-append_seam, End}
 use Rattle.parse_lines.proofs.Prelude.{end_after, end_at, end_in, ending_bytes, ending_text, ends_line, EndsLine, enter_at, eqb-true, exit_at, flat_text}
@@ -134,12 +135,12 @@ some_bytes CarriageReturnLineFeed = omega arith
 module _ {A : Type 0} (text : List ℕ) (stop : Stop) where
   pub writes_ending : (name : Name) (ending : LineEnding) (content : List ℕ) (old mid begun new : Walk A) (size : ℕ) → size ≡ length (ending_bytes ending)
       → IsApart ending content → same_name name n.Data ≡ false → same_name name n.BlockQuotePrefix ≡ false
-      → StandsInContent text (ending_bytes ending ++ content) stop old
+      → is_token name (ending_bytes ending) ≡ true → StandsInContent text (ending_bytes ending ++ content) stop old
       → EndsLine (standing old) (standing mid) → WritesEnding name old mid → HasSameOpen (standing old) (standing mid)
       → BeginsLine (standing mid) (standing begun) → WritesLine mid begun → HasSameOpen (standing mid) (standing begun)
       → standing new ≡ standing begun → new.out ≡ begun.out → new.place ≡ old.place + size → new.line_place ≡ new.place
       → new.line_start ≡ rest_start begun.line_end (rest_of begun.rest) → WritesEndingIn text name ending content stop old new
-  writes_ending name ending content old mid begun new size sized apart other quote st ends ending_written open_mid begins line_written open_begun same out place
+  writes_ending name ending content old mid begun new size sized apart other quote may st ends ending_written open_mid begins line_written open_begun same out place
       line_place line_start =
       let on = old.on.now in
       let containers = around (standing old) in
@@ -160,9 +161,7 @@ module _ {A : Type 0} (text : List ℕ) (stop : Stop) where
       let order = st.stands.order in
       let follows : Follows text (written_to old) (line_after old) =
       subst (λ (x : End). Follows text x (line_after old)) (sym here_end) (end_to_next text (standing old) st.at.line) in
-      let ended = ending_written text st.ending (first ∷ others) at order follows in
       let between = ends text st.ending (first ∷ others) at in
-      let began = line_written text first others between ended.1 ended.0.order in
       let here = line_left (prefixed on containers first) in
       let here_same : line_left (prefixed mid.on.now (around (standing mid)) first) ≡ here =
       ap₂ (λ (o : Constructs) (cs : List Container). line_left (prefixed o (reverse cs) first)) open_mid.0 open_mid.1 in
@@ -197,6 +196,10 @@ module _ {A : Type 0} (text : List ℕ) (stop : Stop) where
       let ending_is : ending_text old.ending ≡ ending_bytes ending = ap ending_text (st.at.ending ∙ found.0) in
       let bytes : text_between text from to ≡ ending_bytes ending =
       ap (λ (x : End). text_between text x to) here_end ∙ ending_between text (standing old) st.at.line ∙ ending_is in
+      let token : IsToken text name from to =
+      record { follows = follows; bytes = ap (is_token name) bytes ∙ may } in
+      let ended = ending_written text st.ending (first ∷ others) at order token in
+      let began = line_written text first others between ended.1 ended.0.order in
       let reach = (ending_end text (standing old) st.at.line).0 in
       let further : from.index < to.index =
       omega (arith, ap (λ (x : End). x.index) here_end, reach, ap length ending_is, some_bytes ending) in

@@ -1,9 +1,14 @@
 -- Bytes of a line that are no white space, by their columns.
 use Rattle.std.proofs.Common.{◌≡◌, ℕ, ◌+◌, ◌-◌, ◌<◌, ◌≤◌, ◌^◌, zero, suc, Bool, false, not, List, [], ◌∷◌, refl, sym, ap, ◌∙◌, subst, arith, drop, take, length}
+use Rattle.parse_lines.proofs.Prelude.{IsToken}
 use Rattle.parse_lines.proofs.Prelude.{bytes_of, cond-false, cond-true, drop-drop, End, end_at, end_in, Follows, is_byte, is_tab_column, is_white, IsInOrder}
 use Rattle.parse_lines.proofs.Prelude.{IsLineOf, list_any, Name, or_parts, Output, prefix_len, Rest, rest_start, void_nodes, whole, Writes}
 use Rattle.engine_events.specs.declared.event.Name.TheVariants.{SpaceOrTab}
+use Rattle.std.proofs.Common.{ap₂, true}
+use Rattle.parse_lines.proofs.Prelude.{is_token, list_all, text_between}
+use Rattle.parse_lines.proofs.Between.{rests_between}
 use Rattle.parse_lines.proofs.Columns.{dark_is_byte, dark_owes_none}
+use Rattle.parse_lines.proofs.White.{all_filter}
 use Rattle.parse_lines.proofs.ContentLines.{start_owed}
 use Rattle.parse_lines.proofs.Ends.{left_within, line_follows, start_whole}
 
@@ -82,35 +87,41 @@ module _ (text before content after : List ℕ) (line_end : ℕ) (line : IsLineO
       pub at : end_in o ≡ column_end n
       pub order : IsInOrder text o
 
-    pub token_step : (name : Name) (n k : ℕ) (a b : Output A) → IsDark n k → IsAtColumn n a
+    pub token_step : (name : Name) (n k : ℕ) (a b : Output A) → IsDark n k → is_token name (take k (drop n (whole content))) ≡ true → IsAtColumn n a
         → ((end_in a).index + k < 2 ^ 64 → end_in b ≡ end_at ((end_in a).index + k) 0)
-        → ((end_in a).index + k < 2 ^ 64 → IsInOrder text a → Follows text (end_in a) (end_at ((end_in a).index + k) 0)
+        → ((end_in a).index + k < 2 ^ 64 → IsInOrder text a → IsToken text name (end_in a) (end_at ((end_in a).index + k) 0)
         → Writes text a b (void_nodes text name (end_in a) (end_at ((end_in a).index + k) 0)))
         → Writes text a b (void_nodes text name (column_end n) (column_end (n + k))) × IsAtColumn (n + k) b
-    token_step name n k a b dark at ends writes =
+    token_step name n k a b dark may at ends writes =
         let to = further n k dark in
         let there : end_at ((end_in a).index + k) 0 ≡ column_end (n + k) = ap (λ (e : End). end_at (e.index + k) 0) at.at ∙ to.there in
         let follows = line_follows text before content after line_end n (n + k) line end (omega arith) in
         let fits : (end_in a).index + k < 2 ^ 64 = omega (arith, ap (λ (e : End). e.index) there, follows.within, line.fits) in
         let first : Follows text (end_in a) (end_at ((end_in a).index + k) 0) =
         subst (λ (e : End). Follows text e (end_at ((end_in a).index + k) 0)) (sym at.at) (subst (Follows text (column_end n)) (sym there) follows) in
-        let written = writes fits at.order first in (
+        let bytes : text_between text (end_in a) (end_at ((end_in a).index + k) 0) ≡ take k (drop n (whole content)) =
+        ap₂ (text_between text) at.at there ∙ rests_between text before content after line_end line end n k ∙ dark_bytes (take k (drop n (whole content))) dark.dark in
+        let written = writes fits at.order (record { follows = first; bytes = ap (is_token name) bytes ∙ may }) in (
           subst (λ (e : End). Writes text a b (void_nodes text name e (column_end (n + k)))) at.at
               (subst (λ (e : End). Writes text a b (void_nodes text name (end_in a) e)) there written),
           record { at = ends fits ∙ there; order = written.order },
         )
 
-    pub space_step : (n k : ℕ) (rest : Rest) (a b : Output A) → rest ≡ drop (n + k) (whole content) → IsAtColumn n a
+    pub space_step : (n k : ℕ) (rest : Rest) (a b : Output A) → rest ≡ drop (n + k) (whole content)
+        → list_all is_white (take k (drop n (whole content))) ≡ true → IsAtColumn n a
         → end_in b ≡ rest_start line_end rest
-        → (IsInOrder text a → Follows text (end_in a) (rest_start line_end rest)
+        → (IsInOrder text a → IsToken text SpaceOrTab (end_in a) (rest_start line_end rest)
         → Writes text a b (void_nodes text SpaceOrTab (end_in a) (rest_start line_end rest)))
         → Writes text a b (void_nodes text SpaceOrTab (column_end n) (column_end (n + k))) × IsAtColumn (n + k) b
-    space_step n k rest a b is at ends writes =
+    space_step n k rest a b is white at ends writes =
         let there : rest_start line_end rest ≡ column_end (n + k) = ap (rest_start line_end) is in
         let follows = line_follows text before content after line_end n (n + k) line end (omega arith) in
         let first : Follows text (end_in a) (rest_start line_end rest) =
         subst (λ (e : End). Follows text e (rest_start line_end rest)) (sym at.at) (subst (Follows text (column_end n)) (sym there) follows) in
-        let written = writes at.order first in (
+        let bytes : text_between text (end_in a) (rest_start line_end rest) ≡ bytes_of (take k (drop n (whole content))) =
+        ap₂ (text_between text) at.at there ∙ rests_between text before content after line_end line end n k in
+        let may = ap (list_all is_white) bytes ∙ all_filter is_white is_byte (take k (drop n (whole content))) white in
+        let written = writes at.order (record { follows = first; bytes = may }) in (
           subst (λ (e : End). Writes text a b (void_nodes text SpaceOrTab e (column_end (n + k)))) at.at
               (subst (λ (e : End). Writes text a b (void_nodes text SpaceOrTab (end_in a) e)) there written),
           record { at = ends ∙ there; order = written.order },

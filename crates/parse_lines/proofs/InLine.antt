@@ -1,6 +1,8 @@
 -- What is written of a line of a content, one after another.
 use Rattle.std.proofs.Common.{◌≡◌, ℕ, ◌+◌, ◌-◌, ◌^◌, ◌<◌, false, List, [], ◌∷◌, ◌++◌, refl, sym, ap, ap₂, subst, ◌∙◌, length, length-append, arith}
 use Rattle.std.proofs.Math.Nat.{sub_self}
+use Rattle.std.proofs.Common.{true}
+use Rattle.parse_lines.proofs.Prelude.{IsToken, is_token, HasBytes}
 use Rattle.parse_lines.proofs.Prelude.{append, AreJoined, AreNext, Around, between_both, byte_nodes, content_end_in, cut, data_nodes, edge, End, end_after}
 use Rattle.parse_lines.proofs.Prelude.{end_columns, end_edge, end_in, enter_at, EntersInLine, exit_at, ExitsInLine, flat_around, flat_both, flat_text, Follows}
 use Rattle.parse_lines.proofs.Prelude.{IsInOrder, joined_both, joined_cut, joined_onward, Name, Nil, Nodes, none_between, Output, same_name, spot}
@@ -53,13 +55,13 @@ module _ {A : Type 0} (text : List ℕ) where
       }
 
   -- the next bytes
-  pub writes_next : (w : Walk A) (out : Output A) (front line : List ℕ) (size more : ℕ) (end : End) (nodes : End → Nodes) → size ≡ length front
-      → StandsInLine text (front ++ line) w → more ≡ w.place + size
+  pub writes_next : (w : Walk A) (out : Output A) (front line : List ℕ) (name : Name) (size more : ℕ) (end : End) (nodes : End → Nodes) → size ≡ length front
+      → StandsInLine text (front ++ line) w → HasBytes text name size w → more ≡ w.place + size
       → ((end_after w.line_start (more - w.line_place)).index < 2 ^ 61 → end ≡ end_after w.line_start (more - w.line_place)) → end_in out ≡ end
-      → (IsInOrder text w.out → Follows text (end_in w.out) end → Writes text w.out out (nodes end))
+      → (IsInOrder text w.out → IsToken text name (end_in w.out) end → Writes text w.out out (nodes end))
       → ((to : End) → Follows text (end_in w.out) to → flat_text text (nodes to) ≡ text_between text (end_in w.out) to)
       → WritesInLine text front (nodes (end_after (end_in w.out) size)) line w (record w { out = out; place = more })
-  writes_next w out front line size more end nodes is st on ends at writes spells =
+  writes_next w out front line name size more end nodes is st bytes on ends at writes spells =
       let from = content_end_in w in
       let there : end_after w.line_start (more - w.line_place) ≡ end_after from (length front) =
       after_more w.line_start w.line_place w.place size more st.place on ∙ ap (end_after from) is in
@@ -69,9 +71,11 @@ module _ {A : Type 0} (text : List ℕ) where
       let reached : end ≡ end_after from (length front) = ends within ∙ there in
       let here : end_after from (length front) ≡ end_after (end_in w.out) size =
       ap₂ end_after (sym st.at) (sym is) in
-      let written : Writes text w.out out (nodes end) = writes st.order (subst (λ a. Follows text a end) (sym st.at)
-      (subst (Follows text from) (sym reached) follows)) in
       let all = reached ∙ here in
+      let written : Writes text w.out out (nodes end) = writes st.order (record {
+        follows = subst (λ a. Follows text a end) (sym st.at) (subst (Follows text from) (sym reached) follows);
+        bytes = subst (λ (e : End). is_token name (text_between text (end_in w.out) e) ≡ true) (sym all) bytes;
+      }) in
       let now : Writes text w.out out (nodes (end_after (end_in w.out) size)) = subst (λ e. Writes text w.out out (nodes e)) all written in
       let to : Follows text (end_in w.out) (end_after (end_in w.out) size) =
       subst (λ a. Follows text a (end_after (end_in w.out) size)) (sym st.at) (subst (Follows text from) here follows) in

@@ -13,6 +13,7 @@ pub mod Ahead
 pub mod InLine
 pub mod Next
 pub mod SameText
+pub mod Bytes
 pub mod InContent
 pub mod Between
 pub mod Sizes

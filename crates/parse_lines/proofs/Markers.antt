@@ -8,6 +8,9 @@ use Rattle.parse_lines.proofs.Prelude.{is_byte, is_digit, is_eol, is_footnote_la
 use Rattle.parse_lines.proofs.Prelude.{ItemParts, Kind, label_before, label_end, left_bracket, list_any, Marker, marker, marker_of, may_escape, nat_tests}
 use Rattle.parse_lines.proofs.Prelude.{number_of, Option, or_parts, ordered_marker, Part, plus, prefix_len, Quote, quote_or, quote_prefix, Rest, right_bracket}
 use Rattle.parse_lines.proofs.Prelude.{right_parenthesis, small_indent, starts, take-append_seam, true≢false, with_colon, ◌==◌}
+use Rattle.std.specs.Prelude.{codes}
+use Rattle.std.proofs.lemmas.Bool.{leb-true}
+use Rattle.event_tokens.specs.Tokens.{is_among}
 use Rattle.definition_inline.specs.Label.{is_label}
 use Rattle.parse_lines.proofs.Columns.{dark_is_byte}
 use Rattle.parse_lines.proofs.Suffixes.{after_byte_is}
@@ -20,6 +23,8 @@ pub record IsMarked (start : Rest) (m : Marker) : Type 0 where
   pub after : drop (prefix_len is_digit start) start ≡ code ∷ m.rest
   pub dark : is_white code ≡ false
   pub other : is_digit code ≡ false
+  pub is_marker : is_among (codes "-+*.)") code ≡ true
+  pub few : prefix_len is_digit start ≤ 9
   pub number : (k : ℕ) → m.number ≡ Some k → (k ≡ number_of (take (prefix_len is_digit start) start)) × (0 < prefix_len is_digit start)
 
 bullet_marked : (start : Rest) (m : Marker) → prefix_len is_digit start ≡ 0 → bullet start ≡ Some m → IsMarked start m
@@ -36,15 +41,17 @@ bullet_marked (code ∷ codes) m none is =
             after = ap (λ (k : ℕ). drop k (code ∷ codes)) none ∙ ap (λ (x : Marker). code ∷ x.rest) same;
             dark = dark;
             other = other;
+            is_marker = grind (arith, nat_tests, h);
+            few = omega (arith, none);
             number = λ k e2. let no : None ≡ Some k = ap (λ (x : Marker). x.number) same ∙ e2 in absurd (cc);
           }
       | inr h ↦ let e : None ≡ Some m = sym (cond-false ((code == hyphen) || (code == plus) || (code == asterisk)) _ _ h) ∙ is in absurd (cc)
     ]
 
-number_marked : (start rest : Rest) (m : Marker) → 0 < prefix_len is_digit start → drop (prefix_len is_digit start) start ≡ rest
+number_marked : (start rest : Rest) (m : Marker) → 0 < prefix_len is_digit start → prefix_len is_digit start ≤ 9 → drop (prefix_len is_digit start) start ≡ rest
     → after_number (number_of (take (prefix_len is_digit start) start)) (prefix_len is_digit start) rest ≡ Some m → IsMarked start m
-number_marked start [] m some at is = absurd (cc)
-number_marked start (code ∷ codes) m some at is =
+number_marked start [] m some few at is = absurd (cc)
+number_marked start (code ∷ codes) m some few at is =
     let number = number_of (take (prefix_len is_digit start) start) in
     let digits = prefix_len is_digit start in
     elim (cases_Bool ((code == dot) || (code == right_parenthesis))) [
@@ -58,6 +65,8 @@ number_marked start (code ∷ codes) m some at is =
             after = at ∙ ap (λ (x : Marker). code ∷ x.rest) same;
             dark = dark;
             other = other;
+            is_marker = grind (arith, nat_tests, h);
+            few = few;
             number = λ k e2. let both : Some number ≡ Some k = ap (λ (x : Marker). x.number) same ∙ e2 in let is_k : k ≡ number = cc in (is_k, some);
           }
       | inr h ↦ let e : None ≡ Some m = sym (cond-false ((code == dot) || (code == right_parenthesis)) _ _ h) ∙ is in absurd (cc)
@@ -72,7 +81,7 @@ marked start m is =
           let ordered : ordered_marker digits start ≡ Some m = sym (cond-false (digits == 0) _ _ h) ∙ is in
           let some : 0 < digits = grind (arith, nat_tests, h) in
           (elim (cases_Bool (leb digits 9)) [
-            | inl t ↦ number_marked start (drop digits start) m some refl (sym (cond-true (leb digits 9) _ _ t) ∙ ordered)
+            | inl t ↦ number_marked start (drop digits start) m some (leb-true digits 9 t) refl (sym (cond-true (leb digits 9) _ _ t) ∙ ordered)
             | inr t ↦ let e : None ≡ Some m = sym (cond-false (leb digits 9) _ _ t) ∙ ordered in absurd (cc)
           ])
     ]

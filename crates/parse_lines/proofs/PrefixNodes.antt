@@ -1,6 +1,12 @@
 -- What is written of the markers of items and footnote definitions.
 use Rattle.std.proofs.Common.{◌≡◌, ℕ, ◌+◌, ◌<◌, ◌^◌, zero, suc, Bool, true, false, ◌&&◌, ◌||◌, List, [], ◌∷◌, ◌++◌, None, Some, inl, inr, refl, sym, ap, ap₂, ◌∙◌, subst}
+use Rattle.std.proofs.lemmas.Bool.{le-leb}
+use Rattle.std.specs.Prelude.{leb, not}
+use Rattle.std.proofs.lemmas.List.{length-take-le}
+use Rattle.parse_lines.proofs.Prelude.{ends_line, is_token, list_all}
+use Rattle.parse_lines.proofs.White.{all_prefix, gap_white}
 use Rattle.std.proofs.Common.{arith, append_assoc, drop, take, length, length-append}
+use Rattle.parse_lines.proofs.Prelude.{IsToken}
 use Rattle.parse_lines.proofs.Prelude.{append, append-nil-list, AreJoined, Around, bare, byte_nodes, bytes_of, cases_Bool, cond-false, cond-true, Cons}
 use Rattle.parse_lines.proofs.Prelude.{content_codes, drop-append_seam, drop-drop, End, end_at, end_edge, end_in, enter_at, Enters, exit_at, Exits, flat_void}
 use Rattle.parse_lines.proofs.Prelude.{Follows, gap, indent, is_digit, is_eol, is_space, is_tab_column, is_white, IsInOrder, IsLineOf, ItemParts, list_any}
@@ -80,11 +86,11 @@ column content line_end k = rest_start line_end (drop k (whole content))
 abbrev pub WritesToken : {A : Type 0} → List ℕ → Name → ℕ → Output A → Output A → Type 0
 WritesToken text name k a b =
     ((end_in a).index + k < 2 ^ 64 → end_in b ≡ end_at ((end_in a).index + k) 0)
-    × ((end_in a).index + k < 2 ^ 64 → IsInOrder text a → Follows text (end_in a) (end_at ((end_in a).index + k) 0)
+    × ((end_in a).index + k < 2 ^ 64 → IsInOrder text a → IsToken text name (end_in a) (end_at ((end_in a).index + k) 0)
     → Writes text a b (void_nodes text name (end_in a) (end_at ((end_in a).index + k) 0)))
 
 abbrev pub WritesTo : {A : Type 0} → List ℕ → Output A → Output A → End → Type 0
-WritesTo text a b to = IsInOrder text a → Follows text (end_in a) to → Writes text a b (void_nodes text n.SpaceOrTab (end_in a) to)
+WritesTo text a b to = IsInOrder text a → IsToken text n.SpaceOrTab (end_in a) to → Writes text a b (void_nodes text n.SpaceOrTab (end_in a) to)
 
 abbrev pub WritesSpaceTo : {A : Type 0} → List ℕ → End → Output A → Output A → Type 0
 WritesSpaceTo text to a b =
@@ -132,14 +138,23 @@ module _ {A : Type 0} (text before content after : List ℕ) (line_end : ℕ) (l
       let rest_at : rest ≡ drop ((first + d0 + 1) + gap m.rest) (whole content) =
       is.rest_is ∙ ap (drop (gap m.rest)) (sym (ap (drop 1) after_digits) ∙ drop-drop 1 (first + d0) (whole content))
       ∙ drop-drop (gap m.rest) (first + d0 + 1) (whole content) in
+      let digits_may : is_token n.ListItemValue (take d0 (drop first (whole content))) ≡ true =
+      ap (λ (xs : Rest). is_token n.ListItemValue (take d0 xs)) (sym here_at)
+      ∙ ap₂ (λ (k : ℕ) (b : Bool). leb k 9 && b) (length-take-le d0 here (omega (arith, are.within))) (all_prefix is_digit d0 here (omega arith))
+      ∙ ap (λ (b : Bool). b && true) (le-leb d0 9 mark.few) in
+      let marker_may : is_token n.ListItemMarker (take 1 (drop (first + d0) (whole content))) ≡ true =
+      ap (λ (xs : Rest). is_token n.ListItemMarker (take 1 xs)) after_digits ∙ ap (λ (b : Bool). b && true) mark.is_marker in
+      let after_marker : drop (first + d0 + 1) (whole content) ≡ m.rest = sym (drop-drop 1 (first + d0) (whole content)) ∙ ap (drop 1) after_digits in
+      let gap_may : list_all is_white (take (gap m.rest) (drop (first + d0 + 1) (whole content))) ≡ true =
+      ap (λ (xs : Rest). list_all is_white (take (gap m.rest) xs)) after_marker ∙ gap_white m.rest in
       let entered = enters.0 order in
       let at_b : IsAtColumn text before content after line_end line end first b =
       record { at = enters.1 ∙ from ∙ ap (rest_start line_end) here_at; order = entered.order } in
       let value_d0 : WritesToken text n.ListItemValue d0 b c = subst (λ (j : ℕ). WritesToken text n.ListItemValue j b c) same value in
-      let one_step = token_step text before content after line_end line end n.ListItemValue first d0 b c dark_digits at_b value_d0.0 value_d0.1 in
-      let two_step = token_step text before content after line_end line end n.ListItemMarker (first + d0) 1 c d dark_marker one_step.1 marker.0 marker.1 in
+      let one_step = token_step text before content after line_end line end n.ListItemValue first d0 b c dark_digits digits_may at_b value_d0.0 value_d0.1 in
+      let two_step = token_step text before content after line_end line end n.ListItemMarker (first + d0) 1 c d dark_marker marker_may one_step.1 marker.0 marker.1 in
       let last_step =
-      space_step text before content after line_end line end (first + d0 + 1) (gap m.rest) rest d e rest_at two_step.1 space.0 space.1 in
+      space_step text before content after line_end line end (first + d0 + 1) (gap m.rest) rest d e rest_at gap_may two_step.1 space.0 space.1 in
       let e0 = column content line_end first in
       let e1 = column content line_end (first + d0) in
       let e2 = column content line_end (first + d0 + 1) in
@@ -220,6 +235,15 @@ codes_are (x ∷ xs) h =
     let first = (or_parts ((x == 10) || (x == 13)) (x == 257) ends).0 in
     cond-false (x == 13) _ _ (or_parts (x == 10) (x == 13) first).1 ∙ ap (λ (ys : List ℕ). x ∷ ys) (codes_are xs parts.1)
 
+-- no line ends in what has no space
+no_endings : (xs : List ℕ) → list_any is_space xs ≡ false → list_all (λ b. not (ends_line b)) xs ≡ true
+no_endings [] dark = refl
+no_endings (x ∷ xs) dark =
+    let parts = or_parts (is_space x) (list_any is_space xs) dark in
+    let ends = (or_parts (is_white x) (is_eol x) parts.0).1 in
+    let first = (or_parts ((x == 10) || (x == 13)) (x == 257) ends).0 in
+    ap₂ (λ (a b : Bool). not a && b) first (no_endings xs parts.1)
+
 module _ (text before content after : List ℕ) (line_end : ℕ) (line : IsLineOf text before content after) (end : line_end ≡ length before + length content) where
   -- some codes at a column are no white space
   dark_at : (k j : ℕ) (front more : Rest) → drop k (whole content) ≡ front ++ more → j ≡ length front → list_any is_white front ≡ false
@@ -230,6 +254,12 @@ module _ (text before content after : List ℕ) (line_end : ℕ) (line : IsLineO
         dark = ap₂ (λ (m : ℕ) (xs : Rest). list_any is_white (take m xs)) size is ∙ ap (list_any is_white) (take-append_seam front more) ∙ dark;
         none = none;
       }
+
+  -- an event may have these bytes where they are next
+  may_at : (name : Name) (k : ℕ) (front more : Rest) → drop k (whole content) ≡ front ++ more → is_token name front ≡ true
+      → is_token name (take (length front) (drop k (whole content))) ≡ true
+  may_at name k front more is may =
+      ap (λ (xs : Rest). is_token name (take (length front) xs)) is ∙ ap (is_token name) (take-append_seam front more) ∙ may
 
   -- what comes after them
   rest_at : (k : ℕ) (front more : Rest) → drop k (whole content) ≡ front ++ more → drop (k + length front) (whole content) ≡ more
@@ -262,14 +292,18 @@ module _ {A : Type 0} (text before content after : List ℕ) (line_end : ℕ) (l
       (further text before content after line_end line end (k + 1 + 1) size third).none in
       let entered = enters.0 order in
       let at_b : IsAtColumn text before content after line_end line end k b = record { at = enters.1 ∙ from; order = entered.order } in
-      let s1 = token_step text before content after line_end line end n.GfmFootnoteDefinitionLabelMarker k 1 b c first at_b open_bracket.0 open_bracket.1 in
-      let s2 = token_step text before content after line_end line end n.GfmFootnoteDefinitionMarker (k + 1) 1 c d second s1.1 mark.0 mark.1 in
+      let s1 = token_step text before content after line_end line end n.GfmFootnoteDefinitionLabelMarker k 1 b c first (may_at text before content after line_end line end n.GfmFootnoteDefinitionLabelMarker k (91 ∷ []) (94 ∷ (label ++ 93 ∷ more)) is refl) at_b open_bracket.0 open_bracket.1 in
+      let s2 = token_step text before content after line_end line end n.GfmFootnoteDefinitionMarker (k + 1) 1 c d second
+      (may_at text before content after line_end line end n.GfmFootnoteDefinitionMarker (k + 1) (94 ∷ []) (label ++ 93 ∷ more) is2 refl) s1.1 mark.0 mark.1 in
       let entered2 = inner.0 s2.1.order in
       let at_e : IsAtColumn text before content after line_end line end (k + 1 + 1) e = record { at = inner.1 ∙ s2.1.at; order = entered2.order } in
-      let s3 = token_step text before content after line_end line end n.Data (k + 1 + 1) size e f third at_e string_data.0 string_data.1 in
+      let s3 = token_step text before content after line_end line end n.Data (k + 1 + 1) size e f third
+      (subst (λ (j : ℕ). is_token n.Data (take j (drop (k + 1 + 1) (whole content))) ≡ true) (sym sized)
+      (may_at text before content after line_end line end n.Data (k + 1 + 1) label (93 ∷ more) is3 (no_endings label dark))) at_e string_data.0 string_data.1 in
       let exited2 = inner_end.0 s3.1.order in
       let at_g : IsAtColumn text before content after line_end line end (k + 1 + 1 + size) g = record { at = inner_end.1 ∙ s3.1.at; order = exited2.order } in
-      let s4 = token_step text before content after line_end line end n.GfmFootnoteDefinitionLabelMarker (k + 1 + 1 + size) 1 g h fourth at_g close.0 close.1 in
+      let s4 = token_step text before content after line_end line end n.GfmFootnoteDefinitionLabelMarker (k + 1 + 1 + size) 1 g h fourth
+      (may_at text before content after line_end line end n.GfmFootnoteDefinitionLabelMarker (k + 1 + 1 + size) (93 ∷ []) more is4 refl) at_g close.0 close.1 in
       let e0 = column content line_end k in
       let e1 = column content line_end (k + 1) in
       let e2 = column content line_end (k + 1 + 1) in
@@ -362,12 +396,17 @@ module _ {A : Type 0} (text before content after : List ℕ) (line_end : ℕ) (l
       let colon = dark_at text before content after line_end line end after_label 1 (58 ∷ []) is.after colon_at refl refl
       (further text before content after line_end line end first (length label + 3) whole_front).none in
       let at_c : IsAtColumn text before content after line_end line end after_label c = record { at = lab.3; order = lab.2.order } in
-      let s1 = token_step text before content after line_end line end n.DefinitionMarker after_label 1 c d colon at_c marker.0 marker.1 in
+      let s1 = token_step text before content after line_end line end n.DefinitionMarker after_label 1 c d colon
+      (may_at text before content after line_end line end n.DefinitionMarker after_label (58 ∷ []) is.after colon_at refl) at_c marker.0 marker.1 in
       let gap_size = indent is.after in
       let rest_is : rest ≡ drop (after_label + 1 + gap_size) (whole content) =
       is.rest_is ∙ ap (drop gap_size) (sym (rest_at text before content after line_end line end after_label (58 ∷ []) is.after colon_at))
       ∙ drop-drop gap_size (after_label + 1) (whole content) in
-      let s2 = space_step text before content after line_end line end (after_label + 1) gap_size rest d e rest_is s1.1 space.0 space.1 in
+      let after_colon : drop (after_label + 1) (whole content) ≡ is.after =
+      rest_at text before content after line_end line end after_label (58 ∷ []) is.after colon_at in
+      let gap_may : list_all is_white (take gap_size (drop (after_label + 1) (whole content))) ≡ true =
+      ap (λ (xs : Rest). list_all is_white (take gap_size xs)) after_colon ∙ all_prefix is_white gap_size is.after (omega arith) in
+      let s2 = space_step text before content after line_end line end (after_label + 1) gap_size rest d e rest_is gap_may s1.1 space.0 space.1 in
       let e0 = column content line_end after_label in
       let e1 = column content line_end (after_label + 1) in
       let e2 = column content line_end (after_label + 1 + gap_size) in

@@ -30,7 +30,7 @@ pub use Rattle.definition_text.specs.Columns.{is_white, Rest, tab_column, whole}
 pub use Rattle.definition_text.specs.Content.{closed_by, content_codes, is_eol, is_space, may_escape, Part}
 pub use Rattle.definition_text.specs.Indents.{small_indent}
 pub use Rattle.definition_text.specs.Lines.{ending_text, ends_line, lines, text_line, TextLine}
-pub use Rattle.engine_events.specs.Columns.{column_after, column_past, mark_size, tab_size}
+pub use Rattle.engine_events.specs.Columns.{between, column_after, column_past, mark_size, tab_size}
 pub use Rattle.engine_events.specs.Names.{same_name}
 pub use Rattle.engine_events.specs.declared.event.Name.{Name}
 pub use Rattle.event_grammar.specs.InGrammar.{node_name}
@@ -48,12 +48,17 @@ pub use Rattle.parse_laid.specs.Leaves.{AreTaken}
 pub use Rattle.parse_laid.specs.Places.{AtEnding, Between, going_on, InAll, InSome, into, line_left, line_rest, LineRest, Place, prefixed, Prefixed, unread}
 pub use Rattle.parse_laid.specs.Places.{Within}
 pub use Rattle.parse_output.proofs.Ends.{spot_index}
-pub use Rattle.parse_output.proofs.Joined.{between_both, flat_around, flat_both, flat_void, joined_both, joined_cut, joined_onward, none_between}
+pub use Rattle.parse_output.proofs.Between.{between_both}
+pub use Rattle.parse_output.proofs.Joined.{flat_around, flat_both, flat_void, joined_both, joined_cut, joined_onward, none_between}
 pub use Rattle.parse_output.proofs.Joined.{writes_joined}
 pub use Rattle.parse_output.proofs.Written.{writes_around, writes_both, writes_none}
 pub use Rattle.parse_output.specs.Ends.{end_at, end_columns, enter_at, exit_at, Follows, index_spot, IsInTab, OwesIn, same_end}
 pub use Rattle.parse_output.specs.Forest.{append, byte_nodes, cut, data_nodes, one, void_nodes}
 pub use Rattle.parse_output.specs.Joined.{AreJoined, end_edge, flat_text, text_between}
+pub use Rattle.std.proofs.lemmas.List.Folds.{list_all-append}
+pub use Rattle.parse_output.specs.Voids.{IsToken}
+pub use Rattle.event_tokens.specs.Tokens.{is_token}
+pub use Rattle.parse_lines.specs.Content.{HasBytes}
 pub use Rattle.parse_output.specs.Written.{end_in, Enters, Exits, IsInOrder, Writes}
 pub use Rattle.parse_output.specs.declared.end.End.{End}
 pub use Rattle.parse_output.specs.declared.output.Output.{Output}

@@ -1,5 +1,6 @@
 -- What is written of prefixes spells nothing.
 use Rattle.std.proofs.Common.{ℕ, List, [], ◌++◌, None, inl, inr, refl, sym, subst, ◌≡◌, ◌∙◌, Bool, true, false, ap, ap₂, eq-eqb, ◌&&◌, ◌||◌}
+use Rattle.parse_lines.proofs.Prelude.{end_edge, none_between}
 use Rattle.parse_lines.proofs.Prelude.{append, Around, cases_Bool, cond-false, cond-true, Cons, End, end_in, enter_at, Enters, exit_at, Exits, flat_both}
 use Rattle.parse_lines.proofs.Prelude.{flat_text, flat_void, Follows, is_white, IsInOrder, IsQuotePrefix, list_all, Name, named, named_in, Nil, Node}
 use Rattle.parse_lines.proofs.Prelude.{node_name, Nodes, one, or_parts, Output, same_end, same_name, text_between, void_nodes, Writes, writes_around}
@@ -53,6 +54,12 @@ prefix_space text from to =
 pub prefix_flat : (text : List ℕ) (node : Node) → node_name node ≡ BlockQuotePrefix → flat_text text (one node) ≡ []
 prefix_flat text (Around enter kids exit) is =
     ap (λ (xs : List ℕ). xs ++ []) (cond-true (same_name enter.name BlockQuotePrefix) _ _ (ap (λ (x : Name). same_name x BlockQuotePrefix) is))
+
+-- only white space is between a place and itself
+pub white_self : (text : List ℕ) (from to : End) → from ≡ to → list_all is_white (text_between text from to) ≡ true
+white_self text from to same =
+    ap (λ (x : End). list_all is_white (text_between text from x)) (sym same)
+    ∙ ap (list_all is_white) (none_between text (end_edge text from) (end_edge text from) refl)
 
 module _ {A : Type 0} (text : List ℕ) where
   pub quiet_none : (o : Output A) → IsInOrder text o → WritesQuiet text o o

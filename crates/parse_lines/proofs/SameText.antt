@@ -6,7 +6,7 @@ use Rattle.parse_lines.proofs.Prelude.{ends_at_start, fold-append, index_spot, i
 use Rattle.parse_lines.proofs.Prelude.{text_between}
 use Rattle.engine_events.specs.Columns.{between}
 use Rattle.definition_text.specs.Content.{at_line_start}
-use Rattle.parse_output.proofs.Joined.{edges_follow}
+use Rattle.parse_output.proofs.Between.{edges_follow}
 use Rattle.parse_lines.specs.InContent.{unindented}
 use Rattle.parse_lines.proofs.Ahead.{columns_some, follows_after}
 

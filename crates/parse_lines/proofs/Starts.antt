@@ -7,7 +7,7 @@ use Rattle.engine_events.specs.declared.event.Name.TheVariants.{SpaceOrTab}
 use Rattle.parse_laid.specs.Places.{Starts}
 use Rattle.parse_lines.specs.Ends.{IsWrittenToStart, WritesMarker, WritesStart, WritesStartOf, WritesUpTo, bare_end}
 use Rattle.parse_lines.specs.Prefixes.{IsPrefixOf}
-use Rattle.parse_lines.proofs.Quiet.{no_void, quiet_nothing}
+use Rattle.parse_lines.proofs.Quiet.{no_void, quiet_nothing, white_self}
 use Rattle.parse_lines.proofs.Written.{bare_follows, bare_follows_self, bare_start, bare_white}
 
 -- the container that starts is the one that is found
@@ -33,9 +33,9 @@ module _ {A : Type 0} (text : List ℕ) where
       let stop_is = bare_start text before content after n old.line_end start stop refl in
       let follows = bare_follows text before content after n old.line_end start stop line end at stop_is in
       let on : Follows text (written_to old) stop = subst (λ (x : End). Follows text x stop) (sym to_rest) follows in
-      quiet_nothing text old.out white.out (written_to old) stop on
-      (subst (λ (x : End). list_all is_white (text_between text x stop) ≡ true) (sym to_rest)
-      (bare_white text before content after n old.line_end start stop line end at stop_is)) (writes text order on)
+      let white_is = subst (λ (x : End). list_all is_white (text_between text x stop) ≡ true) (sym to_rest)
+      (bare_white text before content after n old.line_end start stop line end at stop_is) in
+      quiet_nothing text old.out white.out (written_to old) stop on white_is (writes text order (record { follows = on; bytes = white_is }))
   space_ahead old white before content after n line end at (inr to_bare) order writes =
       let start = rest_of old.rest in
       let stop = bare_end old in
@@ -43,7 +43,7 @@ module _ {A : Type 0} (text : List ℕ) where
       let follows = bare_follows_self text before content after n old.line_end start stop line end at stop_is in
       let on : Follows text (written_to old) stop = subst (λ (x : End). Follows text x stop) (sym to_bare) follows in
       let none = no_void text SpaceOrTab (written_to old) stop to_bare in (
-        record { nodes = Nil; writes = subst (Writes text old.out white.out) none (writes text order on); quiet = tt; white = refl },
+        record { nodes = Nil; writes = subst (Writes text old.out white.out) none (writes text order (record { follows = on; bytes = white_self text (written_to old) stop to_bare })); quiet = tt; white = refl },
         λ same. refl,
       )
 

@@ -9,6 +9,7 @@ use Rattle.parse_lines.proofs.Prelude.{Item, item_after, item_start, Kind, label
 use Rattle.parse_lines.proofs.Prelude.{marker, marker_of, may_escape, number_of, ordered_marker, Part, plus, prefix_len, prefixed, Prefixed, Quote, quote_or}
 use Rattle.parse_lines.proofs.Prelude.{quote_prefix, Rest, right_bracket, right_parenthesis, small_indent, starts, with_colon, ◌==◌}
 use Rattle.std.specs.Prelude.{min}
+use Rattle.std.proofs.Math.Nat.{min-le_right}
 use Rattle.std.proofs.lemmas.Bool.{false≢true, leb-true}
 use Rattle.parse_lines.proofs.White.{all_prefix, all_take}
 use Rattle.definition_text.specs.Indents.{outdent}
@@ -64,6 +65,7 @@ pub record QuoteParts (start rest : Rest) : Type 0 where
   pub codes : Rest
   pub mark : bare start ≡ 62 ∷ codes
   pub end : IsEnd rest codes
+  pub white : list_all is_white (take end.0 codes) ≡ true
 
 -- the byte that is first
 pub after_byte_is : (byte : ℕ) (rest found : Rest) → after_byte byte rest ≡ Some found → rest ≡ byte ∷ found
@@ -79,7 +81,12 @@ mark_parts : (start : Rest) (o : Option Rest) (line : ContainerLine) → ((found
 mark_parts start None line h is = absurd (cc)
 mark_parts start (Some found) line h is =
     let e : line.rest ≡ outdent 1 found = cc in
-    record { codes = found; mark = h found refl; end = (min 1 (indent found), e) }
+    record {
+      codes = found;
+      mark = h found refl;
+      end = (min 1 (indent found), e);
+      white = all_prefix is_white (min 1 (indent found)) found (min-le_right 1 (indent found));
+    }
 
 pub quote_parts : (on : Constructs) (start : Rest) (line : ContainerLine) → quote_prefix on start ≡ Some line → QuoteParts start line.rest
 quote_parts on start line is =

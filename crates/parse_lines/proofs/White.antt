@@ -1,6 +1,9 @@
 -- Codes that are white space.
 use Rattle.std.proofs.Common.{◌≡◌, ℕ, ◌+◌, ◌≤◌, zero, suc, Bool, true, ◌&&◌, List, [], ◌∷◌, inl, inr, refl, ap, ap₂, ◌∙◌, arith, take}
-use Rattle.parse_lines.proofs.Prelude.{and_parts, cases_Bool, cond-false, cond-true, filter, list_all, prefix_len}
+use Rattle.std.specs.Prelude.{leb, ◌||◌}
+use Rattle.std.proofs.Common.{sym}
+use Rattle.std.proofs.lemmas.Bool.{leb-true}
+use Rattle.parse_lines.proofs.Prelude.{and_parts, cases_Bool, cond-false, cond-true, filter, gap, indent, is_blank, is_white, list_all, prefix_len, Rest}
 
 -- codes that pass, and those of them that are bytes
 pub all_filter : (p q : ℕ → Bool) (xs : List ℕ) → list_all p xs ≡ true → list_all p (filter q xs) ≡ true
@@ -27,4 +30,21 @@ all_prefix p (suc k) (x ∷ xs) le =
           let size : prefix_len p (x ∷ xs) ≡ 1 + prefix_len p xs = cond-true (p x) _ _ t in
           ap₂ (λ (a b : Bool). a && b) t (all_prefix p k xs (omega (arith, le, size)))
       | inr t ↦ let size : prefix_len p (x ∷ xs) ≡ 0 = cond-false (p x) _ _ t in absurd (omega (arith, le, size))
+    ]
+
+-- the white space after the marker of an item
+pub gap_white : (after : Rest) → list_all is_white (take (gap after) after) ≡ true
+gap_white after =
+    elim (cases_Bool (is_blank after || leb 5 (indent after))) [
+      | inl one ↦
+          ap (λ (k : ℕ). list_all is_white (take k after)) (cond-true (is_blank after || leb 5 (indent after)) _ _ one)
+          ∙ (elim (cases_Bool (is_blank after)) [
+            | inl blank ↦ all_take is_white 1 after blank
+            | inr some ↦
+                let far : leb 5 (indent after) ≡ true = sym (ap (λ (b : Bool). b || leb 5 (indent after)) some) ∙ one in
+                all_prefix is_white 1 after (omega (arith, leb-true 5 (indent after) far))
+          ])
+      | inr all ↦
+          ap (λ (k : ℕ). list_all is_white (take k after)) (cond-false (is_blank after || leb 5 (indent after)) _ _ all)
+          ∙ all_prefix is_white (indent after) after (omega arith)
     ]

@@ -1,5 +1,6 @@
 -- What is written of the prefixes of containers.
-use Rattle.std.proofs.Common.{◌≡◌, ℕ, ◌+◌, ◌-◌, ◌^◌, ◌<◌, ◌≤◌, List, ◌∷◌, ◌++◌, Option, Some, true, refl, sym, ap, ap₂, ◌∙◌, subst, arith, drop, take, length, length-append}
+use Rattle.std.proofs.Common.{◌≡◌, ℕ, ◌+◌, ◌-◌, ◌^◌, ◌<◌, ◌≤◌, List, [], ◌∷◌, ◌++◌, Option, Some, true, refl, sym, ap, ap₂, ◌∙◌, subst, arith, drop, take, length, length-append}
+use Rattle.parse_lines.proofs.Prelude.{is_token, IsToken}
 use Rattle.parse_lines.proofs.Prelude.{bare, bytes_of, Constructs, ContainerLine, drop-drop, End, end_at, end_in, ending_text, Enters, Exits, Follows, indent}
 use Rattle.parse_lines.proofs.Prelude.{is_byte, is_white, IsBetween, IsInLine, IsInOrder, IsLineOf, IsQuotePrefix, LineEnding, LineRest, lines, list_all, Node}
 use Rattle.parse_lines.proofs.Prelude.{one, Output, quote_prefix, Rest, rest_start, Standing, text_between, text_line, TEXT_MAX, void_nodes, whole, Writes}
@@ -55,7 +56,7 @@ module _ {A : Type 0} (text before content after : List ℕ) (n line_end : ℕ) 
   -- white space up to a rest further on
   pub space_written : (a b : Output A) (to : End) → IsLineOf text before content after → line_end ≡ length before + length content
       → start ≡ drop n (whole content) → end_in a ≡ rest_start line_end start → IsInOrder text a → IsAfterWhite rest start → to ≡ rest_start line_end rest
-      → (IsInOrder text a → Follows text (end_in a) to → Writes text a b (void_nodes text SpaceOrTab (end_in a) to)) → WritesQuiet text a b
+      → (IsInOrder text a → IsToken text SpaceOrTab (end_in a) to → Writes text a b (void_nodes text SpaceOrTab (end_in a) to)) → WritesQuiet text a b
   space_written a b to line end at from order further is writes =
       let k = further.count in
       let at_rest : drop (n + k) (whole content) ≡ rest = sym (further.is ∙ ap (drop k) at ∙ drop-drop k n (whole content)) in
@@ -68,7 +69,8 @@ module _ {A : Type 0} (text before content after : List ℕ) (n line_end : ℕ) 
       let same : text_between text (end_in a) to ≡ bytes_of (take k start) =
       sym (ap₂ (text_between text) from_start to_rest) ∙ rests_between text before content after line_end line end n k
       ∙ ap (λ (r : Rest). bytes_of (take k r)) (sym at) in
-      quiet_space text a b (end_in a) to on (ap (list_all is_white) same ∙ all_filter is_white is_byte (take k start) further.white) (writes order on)
+      let white = ap (list_all is_white) same ∙ all_filter is_white is_byte (take k start) further.white in
+      quiet_space text a b (end_in a) to on white (writes order (record { follows = on; bytes = white }))
 
   -- the prefix of a quote, where all before its mark is written
   pub quote_inner : (on : Constructs) (quote : ContainerLine) (b c d e f : Output A) (bare_end to : End)
@@ -77,10 +79,10 @@ module _ {A : Type 0} (text before content after : List ℕ) (n line_end : ℕ) 
       → quote_prefix on start ≡ Some quote → rest ≡ quote.rest
       → bare_end ≡ end_at (line_end - length (bytes_of (bare start))) 0 → to ≡ rest_start line_end rest → end_in b ≡ bare_end
       → (IsInOrder text b → Enters text BlockQuotePrefix b c) → end_in c ≡ end_in b
-      → ((end_in c).index + 1 < 2 ^ 64 → IsInOrder text c → Follows text (end_in c) (end_at ((end_in c).index + 1) 0)
+      → ((end_in c).index + 1 < 2 ^ 64 → IsInOrder text c → IsToken text BlockQuoteMarker (end_in c) (end_at ((end_in c).index + 1) 0)
       → Writes text c d (void_nodes text BlockQuoteMarker (end_in c) (end_at ((end_in c).index + 1) 0)))
       → ((end_in c).index + 1 < 2 ^ 64 → end_in d ≡ end_at ((end_in c).index + 1) 0)
-      → (IsInOrder text d → Follows text (end_in d) to → Writes text d e (void_nodes text SpaceOrTab (end_in d) to))
+      → (IsInOrder text d → IsToken text SpaceOrTab (end_in d) to → Writes text d e (void_nodes text SpaceOrTab (end_in d) to))
       → (IsInOrder text e → Exits text BlockQuotePrefix e f)
       → (first : Node) × IsQuotePrefix first × Writes text b f (one first)
   quote_inner on quote b c d e f bare_end to line end at order is same bare_is to_is white_end enters enter_end marker marker_end space exits =
@@ -124,8 +126,16 @@ module _ {A : Type 0} (text before content after : List ℕ) (n line_end : ℕ) 
       )
       ) in
       let entered = enters order in
-      let second = marker fits entered.order follows2 in
-      let third = space second.order follows3 in
+      let mark_is : text_between text (end_in c) (end_at ((end_in c).index + 1) 0) ≡ 62 ∷ [] =
+      ap₂ (text_between text) (at_c ∙ e1) marked ∙ rests_between text before content after line_end line end n1 1
+      ∙ ap (λ (r : Rest). bytes_of (take 1 r)) (sym bare_at ∙ parts.mark) in
+      let white_at : text_between text (end_in d) to ≡ bytes_of (take parts.end.0 (drop n2 (whole content))) =
+      ap₂ (text_between text) (marker_end fits ∙ marked) e3 ∙ rests_between text before content after line_end line end n2 parts.end.0 in
+      let white_is : list_all is_white (text_between text (end_in d) to) ≡ true =
+      ap (list_all is_white) (white_at ∙ ap (λ (r : Rest). bytes_of (take parts.end.0 r)) (sym codes_at))
+      ∙ all_filter is_white is_byte (take parts.end.0 parts.codes) parts.white in
+      let second = marker fits entered.order (record { follows = follows2; bytes = ap (is_token BlockQuoteMarker) mark_is }) in
+      let third = space second.order (record { follows = follows3; bytes = white_is }) in
       quote_node text b c d e f (void_nodes text BlockQuoteMarker (end_in c) (end_at ((end_in c).index + 1) 0)) (void_nodes text SpaceOrTab (end_in d) to)
       (prefix_marker text (end_in c) (end_at ((end_in c).index + 1) 0)) (prefix_space text (end_in d) to)
       entered second third (exits third.order)

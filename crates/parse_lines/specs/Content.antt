@@ -1,8 +1,9 @@
 -- Contents in a walk: what is ahead on a line of a content, and what is written of it (CommonMark 4.8).
-use Rattle.std.specs.Prelude.{◌≡◌, ℕ, zero, suc, ◌+◌, ◌-◌, ◌^◌, ◌≤◌, ◌<◌, List, [], ◌∷◌, drop, length}
+use Rattle.std.specs.Prelude.{◌≡◌, ℕ, zero, suc, ◌+◌, ◌-◌, ◌^◌, ◌≤◌, ◌<◌, true, List, [], ◌∷◌, drop, length}
 use Rattle.definition_text.specs.Ascii.{space}
 use Rattle.engine_events.specs.declared.event.Name.{Name}
 use Rattle.event_grammar.specs.Trees.{Nodes}
+use Rattle.event_tokens.specs.Tokens.{is_token}
 use Rattle.parse_output.specs.declared.end.End.{End}
 use Rattle.parse_output.specs.Ends.{IsInTab, OwesIn, end_at, index_spot}
 use Rattle.parse_output.specs.Joined.{AreJoined, end_edge, flat_text, text_between}
@@ -45,6 +46,10 @@ pub record StandsInLine {A : Type 0} (text line : List ℕ) (w : Walk A) : Type 
   pub place : w.line_place ≤ w.place
   pub fits : w.place + length line < 2 ^ 64
   pub size : length text < 2 ^ 61
+
+-- an event of a name may have the bytes that are next, so many columns and bytes
+abbrev pub HasBytes : {A : Type 0} → List ℕ → Name → ℕ → Walk A → Type 0
+HasBytes text name size w = is_token name (text_between text (end_in w.out) (end_after (end_in w.out) size)) ≡ true
 
 -- A line of a content begins where the walk is, and nothing is written.
 abbrev pub BeginsLineHere : {A : Type 0} → Walk A → Walk A → Type 0

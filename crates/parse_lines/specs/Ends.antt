@@ -16,7 +16,8 @@ use Rattle.block_starts.specs.View.{rest_of}
 use Rattle.event_grammar.specs.Trees.{Node, Nodes, Nil}
 use Rattle.parse_output.specs.declared.end.End.{End}
 use Rattle.parse_output.specs.declared.output.Output.{Output}
-use Rattle.parse_output.specs.Ends.{Follows, end_at}
+use Rattle.parse_output.specs.Ends.{end_at}
+use Rattle.parse_output.specs.Voids.{IsToken}
 use Rattle.parse_output.specs.Forest.{append, one, void_nodes}
 use Rattle.parse_output.specs.Joined.{flat_text}
 use Rattle.parse_output.specs.Written.{Enters, IsInOrder, Writes, end_in}
@@ -45,10 +46,10 @@ IsWrittenToRest w = written_to w ≡ rest_start w.line_end (rest_of w.rest)
 abbrev pub IsWrittenToLine : {A : Type 0} → Walk A → Type 0
 IsWrittenToLine w = written_to w ≡ end_at (w.size - length w.left.now) 0
 
--- an event that holds no other is written up to an end, if this goes onward
+-- an event that holds no other is written up to an end, if its name may have the bytes up to there
 abbrev pub WritesUpTo : {A : Type 0} → Name → End → Walk A → Walk A → Type 0
 WritesUpTo name to old new =
-    (text : List ℕ) → IsInOrder text old.out → Follows text (written_to old) to
+    (text : List ℕ) → IsInOrder text old.out → IsToken text name (written_to old) to
     → Writes text old.out new.out (void_nodes text name (written_to old) to)
 
 -- nodes are written that spell nothing
@@ -111,14 +112,15 @@ line_after w = end_at (w.size - length w.left.now) 0
 abbrev pub WritesEnding : {A : Type 0} → Name → Walk A → Walk A → Type 0
 WritesEnding name old new =
     (text : List ℕ) (ending : Option LineEnding) (left : List LineRest) → StandsAt text (AtEnding ending left) (standing old) → IsInOrder text old.out
-    → Follows text (written_to old) (line_after old)
+    → IsToken text name (written_to old) (line_after old)
     → Writes text old.out new.out (void_nodes text name (written_to old) (line_after old)) × IsWrittenToLine new
 
 -- the ending of a line is written, and nodes that spell nothing on the next one
 abbrev pub WritesNextLine : {A : Type 0} → Walk A → Walk A → Type 0
 WritesNextLine old new =
     (text : List ℕ) (ending : Option LineEnding) (next : LineRest) (others : List LineRest)
-    → StandsAt text (AtEnding ending (next ∷ others)) (standing old) → IsInOrder text old.out → Follows text (written_to old) (line_after old)
+    → StandsAt text (AtEnding ending (next ∷ others)) (standing old) → IsInOrder text old.out
+    → IsToken text Ending (written_to old) (line_after old)
     → (ns : Nodes) × Writes text old.out new.out (append (void_nodes text Ending (written_to old) (line_after old)) ns) × AreQuiet ns
     × (list_all is_white (flat_text text ns) ≡ true) × IsWrittenToRest new
 

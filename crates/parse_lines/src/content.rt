@@ -4,11 +4,12 @@ ghost use Rattle.markdown_options.specs.LineEndings.{ending_bytes};
 ghost use Rattle.markdown_options.specs.declared.line_ending.LineEnding.{LineEnding};
 ghost use Rattle.engine_events.specs.Names.{same_name};
 ghost use Rattle.engine_events.specs.declared.event.Name.TheVariants.{BlockQuotePrefix, Data};
+ghost use Rattle.event_tokens.specs.Tokens.{is_token};
 ghost use Rattle.parse_output.specs.Children.{holds_lines, may_enter};
 ghost use Rattle.parse_output.specs.Ends.{end_at};
 ghost use Rattle.parse_output.specs.Forest.{data_nodes, void_nodes};
 ghost use Rattle.parse_output.specs.Written.{end_in};
-ghost use Rattle.parse_lines.specs.Content.{BeginsLineAfter, BeginsLineHere, StandsInLine, WritesInLine, content_end_in, end_after};
+ghost use Rattle.parse_lines.specs.Content.{BeginsLineAfter, BeginsLineHere, HasBytes, StandsInLine, WritesInLine, content_end_in, end_after};
 ghost use Rattle.parse_lines.specs.InContent.{BeginsContent, IsApart, StandsInContent, Stop, WritesEndingIn};
 ghost use Rattle.parse_lines.specs.Open.{still_open};
 ghost use Rattle.parse_lines.specs.Standing.{standing};
@@ -80,7 +81,7 @@ impl<'a, A: Allocator> Walk<'a, A> {
         ensures open { OnOk result (still_open self.new ≡ still_open self.old) }
         ensures stays { OnOk result (standing self.new ≡ standing self.old) }
         ensures written { OnOk result ((text front line : List ℕ) → size ≡ length front → same_name name BlockQuotePrefix ≡ false
-            → StandsInLine text (front ++ line) self.old
+            → StandsInLine text (front ++ line) self.old → HasBytes text name size self.old
             → WritesInLine text front (void_nodes text name (end_in self.old.out) (end_after (end_in self.old.out) size)) line self.old self.new) }
     {
         self.place = self.place.saturating_add(size);
@@ -94,6 +95,7 @@ impl<'a, A: Allocator> Walk<'a, A> {
         ensures open { OnOk result (still_open self.new ≡ still_open self.old) }
         ensures stays { OnOk result (standing self.new ≡ standing self.old) }
         ensures written { OnOk result ((text front line : List ℕ) → size ≡ length front → StandsInLine text (front ++ line) self.old
+            → HasBytes text Data size self.old
             → WritesInLine text front (data_nodes text (end_in self.old.out) (end_after (end_in self.old.out) size)) line self.old self.new) }
     {
         if size == 0 {
@@ -112,7 +114,7 @@ impl<'a, A: Allocator> Walk<'a, A> {
         ensures around { OnOk result (HasSameOpen (standing self.old) (standing self.new)) }
         ensures written { OnOk result ((text content : List ℕ) (stop : Stop) (ending : LineEnding) → size ≡ length (ending_bytes ending)
             → IsApart ending content → same_name name Data ≡ false → same_name name BlockQuotePrefix ≡ false
-            → StandsInContent text (ending_bytes ending ++ content) stop self.old
+            → is_token name (ending_bytes ending) ≡ true → StandsInContent text (ending_bytes ending ++ content) stop self.old
             → WritesEndingIn text name ending content stop self.old self.new) }
     {
         let place = self.place.saturating_add(size);

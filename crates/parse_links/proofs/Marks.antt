@@ -1,6 +1,10 @@
 -- Labels, destinations and titles in bytes: their marks, and what is between and after them (CommonMark 6.3).
 use Rattle.std.proofs.Common.{◌≡◌, ◌⊎◌, ℕ, zero, suc, ◌+◌, ◌<◌, Bool, true, false, cond, ◌||◌, eqb, List, [], ◌∷◌, ◌++◌, Option, None, Some, get_or}
 use Rattle.std.proofs.Common.{inl, inr, refl, sym, ap, ap₂, subst, ◌∙◌, arith, drop, length, length-append, append_assoc}
+use Rattle.std.proofs.lemmas.Bool.{and_parts}
+use Rattle.engine_events.specs.declared.event.Name.{Name}
+use Rattle.event_tokens.specs.Tokens.{is_token}
+use Rattle.parse_links.specs.Quoted.{fits_quotes}
 use Rattle.parse_links.proofs.Prelude.{AreBytes, begins_ascii, bytes_after, cases_Bool, codes_split, cond-false, cond-true, content_codes, cut_last}
 use Rattle.parse_links.proofs.Prelude.{destination_at, eqb-false, eqb-true, from_some, get_or_at, is_eol, is_space, IsCharBoundary}
 use Rattle.parse_links.proofs.Prelude.{IsCharBoundary-before_ascii, IsMark, IsPlace, IsUtf8, label_at, line_bytes, list_any, ltb-true, none-some, or_from}
@@ -56,18 +60,41 @@ title_closes close escaped start (c ∷ cs) r e = elim (cases_Bool (ends_title c
       ]
 ]
 
+-- a byte may be the marker of a title
+abbrev pub MayQuote : ℕ → Type 0
+MayQuote b = (name : Name) → fits_quotes name ≡ true → is_token name (b ∷ []) ≡ true
+
+-- the four that may be
+double_may : MayQuote 34
+double_may name fits = (and_parts _ _ (and_parts _ _ fits).0).0
+
+single_may : MayQuote 39
+single_may name fits = (and_parts _ _ (and_parts _ _ fits).0).1
+
+open_may : MayQuote 40
+open_may name fits = (and_parts _ _ (and_parts _ _ fits).1).0
+
+close_may : MayQuote 41
+close_may name fits = (and_parts _ _ (and_parts _ _ fits).1).1
+
+may_of : (c k : ℕ) → eqb c k ≡ true → MayQuote k → MayQuote c
+may_of c k h may = subst MayQuote (sym (eqb-true c k h)) may
+
 -- a title and its marks
 pub record TitleMarks (cs : List ℕ) (p : Part) : Type 0 where
   pub opening : ℕ
   pub closing : ℕ
   pub one : IsMark opening
   pub two : IsMark closing
+  pub first : (name : Name) → fits_quotes name ≡ true → is_token name (opening ∷ []) ≡ true
+  pub last : (name : Name) → fits_quotes name ≡ true → is_token name (closing ∷ []) ≡ true
   pub whole : cs ≡ opening ∷ (p.text ++ closing ∷ p.rest)
 
-title_by : (c : ℕ) (cs : List ℕ) (p : Part) (close : ℕ) (end : Option (List ℕ)) → IsMark c → IsMark close → ((r : List ℕ) → end ≡ Some r → Closes close cs r)
+title_by : (c : ℕ) (cs : List ℕ) (p : Part) (close : ℕ) (end : Option (List ℕ)) → IsMark c → IsMark close → MayQuote c → MayQuote close
+    → ((r : List ℕ) → end ≡ Some r → Closes close cs r)
     → closed_by cs end ≡ Some p → TitleMarks (c ∷ cs) p
-title_by c cs p close None one two closes e = absurd (none-some p e)
-title_by c cs p close (Some r) one two closes e =
+title_by c cs p close None one two first last closes e = absurd (none-some p e)
+title_by c cs p close (Some r) one two first last closes e =
     let k = closes r refl in
     let are = closed_parts close cs r p k e in
     record {
@@ -75,6 +102,8 @@ title_by c cs p close (Some r) one two closes e =
       closing = close;
       one = one;
       two = two;
+      first = first;
+      last = last;
       whole = ap (λ x. c ∷ x) (k.whole ∙ ap₂ (λ x y. x ++ close ∷ y) are.0 are.1);
     }
 
@@ -99,12 +128,13 @@ title_marks (c ∷ cs) p e = elim (cases_Bool (eqb c 34 || eqb c 39)) [
   | inl h ↦
       let f = ap (λ o. title_until o cs) (sym (cond-true (eqb c 34 || eqb c 39) _ _ h)) ∙ e in
       let mark : IsMark c = quote_mark (or_cases (eqb c 34) (eqb c 39) h) in
-      title_by c cs p c (title_end c false false cs) mark mark (title_closes c false false cs) f
+      let may : MayQuote c = quote_may (or_cases (eqb c 34) (eqb c 39) h) in
+      title_by c cs p c (title_end c false false cs) mark mark may may (title_closes c false false cs) f
   | inr h ↦ elim (cases_Bool (eqb c 40)) [
     | inl k ↦
         let close : title_close c ≡ Some 41 = cond-false (eqb c 34 || eqb c 39) _ _ h ∙ cond-true (eqb c 40) _ _ k in
         let f = ap (λ o. title_until o cs) (sym close) ∙ e in
-        title_by c cs p 41 (title_end 41 false false cs) (mark_of c 40 k open_mark) close_mark (title_closes 41 false false cs) f
+        title_by c cs p 41 (title_end 41 false false cs) (mark_of c 40 k open_mark) close_mark (may_of c 40 k open_may) close_may (title_closes 41 false false cs) f
     | inr k ↦
         let none : title_close c ≡ None = cond-false (eqb c 34 || eqb c 39) _ _ h ∙ cond-false (eqb c 40) _ _ k in
         absurd (none-some p (ap (λ o. title_until o cs) (sym none) ∙ e))
@@ -114,6 +144,10 @@ title_marks (c ∷ cs) p e = elim (cases_Bool (eqb c 34 || eqb c 39)) [
     quote_mark : (eqb c 34 ≡ true) ⊎ (eqb c 39 ≡ true) → IsMark c
     quote_mark (inl h) = mark_of c 34 h double_mark
     quote_mark (inr h) = mark_of c 39 h single_mark
+
+    quote_may : (eqb c 34 ≡ true) ⊎ (eqb c 39 ≡ true) → MayQuote c
+    quote_may (inl h) = may_of c 34 h double_may
+    quote_may (inr h) = may_of c 39 h single_may
 
 -- ---- destinations
 

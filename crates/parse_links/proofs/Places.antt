@@ -2,6 +2,9 @@
 use Rattle.std.proofs.Common.{◌≡◌, ◌⊎◌, ℕ, ◌<◌, length, List, [], ◌∷◌, ◌++◌, inl, inr, refl, sym, ap, subst, ◌∙◌, arith, slice_index}
 use Rattle.parse_links.proofs.Prelude.{AreCutApart, Around, Constructs, End, end_in, ends_line, enter_at, EntersInContent, exit_at, ExitsInContent, IsMark}
 use Rattle.parse_links.proofs.Prelude.{IsPlace, list_any, one, Stop, Walk, WritesDestination, WritesInContent, WritesQuoted, WritesRaw}
+use Rattle.std.proofs.Common.{true}
+use Rattle.std.proofs.lemmas.Bool.{and_parts}
+use Rattle.event_tokens.specs.Tokens.{is_token}
 use Rattle.definition_inline.specs.CharacterReference as references
 use Rattle.parse_links.specs.declared.names.Names.{Names}
 use Rattle.parse_links.specs.Destination.{WritesInner}
@@ -17,6 +20,7 @@ module _ {A : Type 0} (text : List ℕ) (stop : Stop) (on : Constructs) (known :
   -- a destination that begins with an angle bracket is one in brackets
   pub inner_quoted : (a b : Walk A) (string front content : List ℕ) → IsPlace string front → slice_index front 0 ≡ 60
       → ((opening closing : ℕ) → front ≡ opening ∷ (string ++ closing ∷ []) → IsMark opening → IsMark closing
+      → is_token names.literal.marker (opening ∷ []) ≡ true → is_token names.literal.marker (closing ∷ []) ≡ true
       → WritesQuoted on known text names.literal.outer names.literal.marker names.literal.string string front content stop a b)
       → WritesInner on known text names string front content stop a b
   inner_quoted a b string front content is first written = by_form is.form
@@ -24,7 +28,8 @@ module _ {A : Type 0} (text : List ℕ) (stop : Stop) (on : Constructs) (known :
       by_form : (front ≡ 60 ∷ (string ++ 62 ∷ [])) ⊎ ((front ≡ string) × (0 < length string) × (slice_index string 0 ≡ 60 → ⊥))
           → WritesInner on known text names string front content stop a b
       by_form (inl form) =
-          let w = written 60 62 form angle_mark closing_mark in
+          let angles = and_parts (is_token names.literal.marker (60 ∷ [])) (is_token names.literal.marker (62 ∷ [])) names.angles in
+          let w = written 60 62 form angle_mark closing_mark angles.0 angles.1 in
           record { node = w.node; is = inl w.is; writes = w.writes; whole = w.whole }
       by_form (inr (same, filled, other)) = absurd (other (ap (λ xs. slice_index xs 0) (sym same) ∙ first))
 

@@ -1,6 +1,7 @@
 -- What is written of white space, step by step (CommonMark 6.3).
 use Rattle.std.proofs.Common.{◌≡◌, ℕ, zero, suc, ◌+◌, ◌≤◌, true, false, ◌&&◌, List, [], ◌∷◌, ◌++◌, None, refl, sym, ap, ap₂, subst}
 use Rattle.std.proofs.Common.{◌∙◌, append_assoc, arith, drop, inl, inr, take, length}
+use Rattle.parse_lines.specs.Content.{HasBytes}
 use Rattle.parse_links.proofs.Prelude.{after_ending, after_spaces, after_white, append, append-nil, AreBytes, bare, begins_with_eol, cases_Bool, cond-false}
 use Rattle.parse_links.proofs.Prelude.{cond-true, Cons, content_codes, contents_both, End, end_after, end_in, ending_bytes, indent, is_ascii_byte, is_eol}
 use Rattle.parse_links.proofs.Prelude.{is_white, list_all, lt-ltb, one, or_left, plain_both, ReadsEnding, standing, StandsInContent, StandsInLine, Stop}
@@ -60,7 +61,7 @@ white_more xs found reads =
 
 module _ {A : Type 0} (text : List ℕ) (stop : Stop) where
   pub spaces_in : (a b : Walk A) (xs : List ℕ) (size : ℕ) → AreBytes xs → size ≡ indent xs → StandsInContent text xs stop a → standing b ≡ standing a
-      → ((front line : List ℕ) → size ≡ length front → StandsInLine text (front ++ line) a
+      → ((front line : List ℕ) → size ≡ length front → StandsInLine text (front ++ line) a → HasBytes text n.SpaceOrTab size a
       → WritesInLine text front (void_nodes text n.SpaceOrTab (end_in a.out) (end_after (end_in a.out) size)) line a b)
       → WritesWhite text xs (drop size xs) stop a b
   spaces_in a b xs size bytes is st same written =

@@ -1,6 +1,9 @@
 -- What is written of strings between markers, step by step (CommonMark 4.7 and 6.3).
 use Rattle.std.proofs.Common.{◌≡◌, ℕ, ◌<◌, true, false, ◌&&◌, eqb, List, [], ◌∷◌, ◌++◌, None, Some, inr, refl, sym, ap, subst}
 use Rattle.std.proofs.Common.{◌∙◌, append_assoc, arith, length}
+use Rattle.event_tokens.specs.Tokens.{is_token}
+use Rattle.parse_lines.specs.Content.{HasBytes}
+use Rattle.parse_lines.proofs.Bytes.{has_bytes}
 use Rattle.parse_links.proofs.Prelude.{and_parts, append, AreCutApart, Around, cond-false, Cons, Constructs, content_codes, contents_both, contents_none, End}
 use Rattle.parse_links.proofs.Prelude.{end_after, end_in, ends_line, enter_at, EntersInContent, exit_at, ExitsInContent, is_eol, is_space, is_white, IsMark}
 use Rattle.parse_links.proofs.Prelude.{IsStringNode, IsVoidOf, IsWhole, Name, Names, Nil, Node, Nodes, one, or_from, or_parts, same_name, some_nodes, standing}
@@ -64,13 +67,14 @@ module _ {A : Type 0} (text : List ℕ) (stop : Stop) where
 
   -- a byte
   pub token_in : (old new : Walk A) (name : Name) (b : ℕ) (content : List ℕ) → IsOwn name → StandsInContent text (b ∷ content) stop old → IsWhole old
-      → ends_line b ≡ false → standing new ≡ standing old
+      → ends_line b ≡ false → is_token name (b ∷ []) ≡ true → standing new ≡ standing old
       → ((front line : List ℕ) → 1 ≡ length front → same_name name n.BlockQuotePrefix ≡ false → StandsInLine text (front ++ line) old
+      → HasBytes text name 1 old
       → WritesInLine text front (void_nodes text name (end_in old.out) (end_after (end_in old.out) 1)) line old new)
       → WritesToken name (b ∷ []) content old new
-  token_in old new name b content own st whole dark same written =
+  token_in old new name b content own st whole dark may same written =
       let ahead = line_in_content text stop old (b ∷ []) content st (or_from (ends_line b) false dark refl) in
-      let w = written (b ∷ []) ahead.line refl own.prefix ahead.stands in
+      let w = written (b ∷ []) ahead.line refl own.prefix ahead.stands (has_bytes text (b ∷ []) ahead.line 1 old name refl ahead.stands whole may) in
       let is = void_one text name (end_in old.out) 1 whole (omega arith) own.other in
       record {
         node = token text name (end_in old.out).index 1;

@@ -1,5 +1,5 @@
 -- What is written of a string between two markers: a title, a label, a destination in angle brackets (CommonMark 4.7 and 6.3).
-use Rattle.std.specs.Prelude.{◌≡◌, ◌<◌, ℕ, Bool, false, not, ◌&&◌, ◌||◌, List, [], Option, None, Some, length}
+use Rattle.std.specs.Prelude.{◌≡◌, ◌<◌, ℕ, Bool, false, not, ◌&&◌, ◌||◌, List, [], Option, None, Some, codes, length}
 use Rattle.engine_events.specs.Names.{same_name}
 use Rattle.engine_events.specs.declared.event.Name.{Name}
 use Rattle.engine_events.specs.declared.event.Name.TheVariants as n
@@ -9,6 +9,7 @@ use Rattle.definition_inline.specs.CharacterReference.{Names}
 use Rattle.event_grammar.specs.InGrammar.{kids_of, node_name}
 use Rattle.event_grammar.specs.References.{label_text}
 use Rattle.event_grammar.specs.Trees.{Node, Nodes, Nil, Cons}
+use Rattle.event_tokens.specs.Tokens.{is_token}
 use Rattle.event_meaning.specs.Strings.{string_of}
 use Rattle.parse_output.specs.Forest.{append, one}
 use Rattle.parse_alike.specs.LabelMatch.{HaveSameWords}
@@ -24,6 +25,13 @@ is_own name = not (same_name name n.Data || same_name name n.BlockQuotePrefix)
 
 abbrev pub are_own : Name → Name → Name → Bool
 are_own outer marker string = is_own outer && (is_own marker && is_own string)
+
+-- a marker of a destination may be an angle bracket, that of a title a quote or a parenthesis
+abbrev pub fits_angles : Name → Bool
+fits_angles marker = is_token marker (codes "<") && is_token marker (codes ">")
+
+abbrev pub fits_quotes : Name → Bool
+fits_quotes marker = (is_token marker (codes "\"") && is_token marker (codes "'")) && (is_token marker (codes "(") && is_token marker (codes ")"))
 
 -- a byte of a marker: in ASCII, and neither white space nor a line ending
 pub record IsMark (b : ℕ) : Type 0 where

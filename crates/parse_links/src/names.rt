@@ -1,7 +1,7 @@
 //! The names of the parts of destinations, titles and labels (CommonMark 4.7 and 6.3).
 ghost use Rattle.std.specs.Prelude.{◌≡◌, true};
 ghost use Rattle.parse_output.specs.Children.{may_hold};
-ghost use Rattle.parse_links.specs.Quoted.{is_own};
+ghost use Rattle.parse_links.specs.Quoted.{fits_angles, fits_quotes, is_own};
 
 use crate::quoted::Quoted;
 use engine_events::event::Name;
@@ -19,6 +19,8 @@ pub struct Names {
     ghost raw_holds_string: { may_hold raw literal.string ≡ true },
     ghost own_destination: { is_own destination ≡ true },
     ghost own_raw: { is_own raw ≡ true },
+    ghost angles: { fits_angles literal.marker ≡ true },
+    ghost quotes: { fits_quotes title.marker ≡ true },
 }
 
 /// Those of a definition.

@@ -1,6 +1,7 @@
 //! Strings between two markers: titles, labels, and destinations in angle brackets (CommonMark 4.7 and
 //! 6.3).
 ghost use Rattle.std.specs.Prelude.{◌≡◌, ◌∷◌, ◌++◌, ◌<◌, [], List, OnOk, true, ℕ};
+ghost use Rattle.event_tokens.specs.Tokens.{is_token};
 ghost use Rattle.parse_output.specs.Children.{has_string, may_enter, may_hold};
 ghost use Rattle.parse_lines.specs.InContent.{IsWhole, StandsInContent, Stop};
 ghost use Rattle.parse_lines.specs.Open.{still_open};
@@ -39,7 +40,8 @@ pub fn push_quoted<T: Tables, A: Allocator>(
     requires child { may_enter (still_open walk.old) quoted.now.outer ≡ true }
     ensures open { OnOk result (still_open walk.new ≡ still_open walk.old) }
     ensures written { OnOk result ((bytes string content : List ℕ) (opening closing : ℕ) (stop : Stop) → text.now ≡ opening ∷ (string ++ closing ∷ [])
-        → IsMark opening → IsMark closing → StandsInContent bytes (text.now ++ content) stop walk.old → IsWhole walk.old
+        → IsMark opening → IsMark closing → is_token quoted.now.marker (opening ∷ []) ≡ true → is_token quoted.now.marker (closing ∷ []) ≡ true
+        → StandsInContent bytes (text.now ++ content) stop walk.old → IsWhole walk.old
         → let names = T.reference_of tables.now in let q = quoted.now in
         WritesQuoted on.now names bytes q.outer q.marker q.string string text.now content stop walk.old walk.new) }
 {

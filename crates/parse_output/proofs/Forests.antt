@@ -9,11 +9,22 @@ use Rattle.event_grammar.specs.Points.{spot}
 use Rattle.event_grammar.specs.Trees.{Node, grown, followed_by, tree}
 use Rattle.event_grammar.specs.Trees.{closed}
 use Rattle.parse_output.specs.declared.draft.Draft.TheVariants as draft
+use Rattle.std.specs.Prelude.{not, ◌&&◌}
+use Rattle.std.proofs.lemmas.List.Folds.{list_all-append}
+use Rattle.definition_text.specs.Lines.{ends_line}
+use Rattle.event_tokens.specs.Tokens.{is_token}
+use Rattle.parse_output.specs.Joined.{text_between}
+use Rattle.parse_output.specs.Voids.{IsToken}
+use Rattle.parse_output.proofs.Between.{edges, text_on}
 use Rattle.parse_output.proofs.Ends.{follows_both, spot_index}
 use Rattle.parse_output.specs.Forest.{byte_node, node_bytewise, bytewise, draft_end, drafts_events}
 use Rattle.parse_output.specs.Forest.{entered}
 
 -- ---- nodes
+
+-- two pieces of data are one
+data_tokens : (bs cs : List ℕ) → is_token n.Data bs ≡ true → is_token n.Data cs ≡ true → is_token n.Data (bs ++ cs) ≡ true
+data_tokens bs cs first second = list_all-append (λ b. not (ends_line b)) bs cs ∙ ap₂ (λ a b. a && b) first second
 
 pub append-nil : (ns : Nodes) → append ns Nil ≡ ns
 append-nil Nil = refl
@@ -40,9 +51,6 @@ bytes_on a b c first second =
     let later : b ≡ a + (b - a) = omega (arith, first) in
     let all : (b - a) + (c - b) ≡ c - a = omega (arith, first, second) in
     ap (λ k. append (byte_nodes a (b - a)) (byte_nodes k (c - b))) later ∙ bytes_both a (b - a) (c - b) ∙ ap (byte_nodes a) all
-
-pub edges : (i v j w : ℕ) → i ≤ j → (j ≡ i → v ≤ w) → edge (spot i v) ≤ edge (spot j w)
-edges i v j w forward columns = grind (arith, nat_tests)
 
 data_on : (text : List ℕ) (a b c : End) → Follows text a b → Follows text b c → append (data_nodes text a b) (data_nodes text b c) ≡ data_nodes text a c
 data_on text a b c first second =
@@ -78,6 +86,17 @@ forest_more text ds d = forest_more_at text first_end (growth Nil []) ds d
 
 -- ---- data in the place of the data that ends here
 
+-- data, and more of it
+data_longer : (text : List ℕ) {name : Name} (a b c : End) → name ≡ n.Data → IsToken text name a b → IsToken text n.Data b c → IsToken text n.Data a c
+data_longer text a b c is first second =
+    let held = subst (λ x. IsToken text x a b) is first in
+    record {
+      follows = follows_both text a b c held.follows second.follows;
+      bytes =
+          ap (is_token n.Data) (sym (text_on text a b c held.follows second.follows))
+          ∙ data_tokens (text_between text a b) (text_between text b c) held.bytes second.bytes;
+    }
+
 data_grown : (text : List ℕ) (from : End) (g : Growth) (name : Name) (owed index : ℕ) (end : End) → name ≡ n.Data → Follows text from (end_at index owed)
     → Follows text (end_at index owed) end
     → drafted text from g (draft.Void n.Data end.owed end.index) ≡ with_nodes (drafted text from g (draft.Void name owed index)) (data_nodes text (end_at index owed) end)
@@ -112,29 +131,29 @@ pub record IsLonger (text : List ℕ) (ds longer : List Draft) (from end : End) 
   pub forest : forest text longer ≡ with_nodes (forest text ds) (data_nodes text from end)
 
 longer_last : (text : List ℕ) (front : List Draft) (last : Draft) (end : End) → IsData last → AreInOrder text first_end (front ++ last ∷ [])
-    → Follows text (draft_end (drafts_end first_end front) last) end
+    → IsToken text n.Data (draft_end (drafts_end first_end front) last) end
     → IsLonger text (front ++ last ∷ []) (front ++ draft.Void n.Data end.owed end.index ∷ []) (draft_end (drafts_end first_end front) last) end
-longer_last text front (draft.Enter name) end is are follows = absurd is
-longer_last text front (draft.Exit name) end is are follows = absurd is
-longer_last text front (draft.Void name owed index) end is are follows =
+longer_last text front (draft.Enter name) end is are token = absurd is
+longer_last text front (draft.Exit name) end is are token = absurd is
+longer_last text front (draft.Void name owed index) end is are token =
     let less = order_less_at text first_end front (draft.Void name owed index) are in
     record {
-      order = order_more text front (draft.Void n.Data end.owed end.index) less.0 (follows_both text _ (end_at index owed) end less.1 follows);
+      order = order_more text front (draft.Void n.Data end.owed end.index) less.0 (data_longer text _ (end_at index owed) end is less.1 token);
       forest =
           forest_more text front (draft.Void n.Data end.owed end.index)
-          ∙ data_grown text (drafts_end first_end front) (forest text front) name owed index end is less.1 follows
+          ∙ data_grown text (drafts_end first_end front) (forest text front) name owed index end is less.1.follows token.follows
           ∙ ap (λ g. with_nodes g (data_nodes text (end_at index owed) end)) (sym (forest_more text front (draft.Void name owed index)));
     }
 
 -- data that ends where the drafts end is longer by more data
 longer_here : (text : List ℕ) (ds : List Draft) (i : ℕ) (d : Draft) (end : End) → i + 1 ≡ length ds → IsData (get_or ds i d) → AreInOrder text first_end ds
-    → Follows text (drafts_end first_end ds) end → IsLonger text ds (set ds i (draft.Void n.Data end.owed end.index)) (drafts_end first_end ds) end
-longer_here text ds i d end is of_data are follows =
+    → IsToken text n.Data (drafts_end first_end ds) end → IsLonger text ds (set ds i (draft.Void n.Data end.owed end.index)) (drafts_end first_end ds) end
+longer_here text ds i d end is of_data are token =
     let front = take i ds in
     let last = get_or ds i d in
     let split : ds ≡ front ++ last ∷ [] = last_of ds i d is in
     let at : drafts_end first_end ds ≡ draft_end (drafts_end first_end front) last = ap (drafts_end first_end) split ∙ end_more front last in
-    let long = longer_last text front last end of_data (subst (AreInOrder text first_end) split are) (subst (λ from. Follows text from end) at follows) in
+    let long = longer_last text front last end of_data (subst (AreInOrder text first_end) split are) (subst (λ from. IsToken text n.Data from end) at token) in
     record {
       order = subst (AreInOrder text first_end) (sym (last_set ds i (draft.Void n.Data end.owed end.index) is)) long.order;
       forest =
@@ -144,11 +163,11 @@ longer_here text ds i d end is of_data are follows =
     }
 
 pub longer : (text : List ℕ) (ds : List Draft) (i : ℕ) (d : Draft) (from end : End) → i + 1 ≡ length ds → IsData (get_or ds i d)
-    → drafts_end first_end ds ≡ from → AreInOrder text first_end ds → Follows text from end
+    → drafts_end first_end ds ≡ from → AreInOrder text first_end ds → IsToken text n.Data from end
     → IsLonger text ds (set ds i (draft.Void n.Data end.owed end.index)) from end
-longer text ds i d from end is of_data at are follows =
+longer text ds i d from end is of_data at are token =
     subst (λ here. IsLonger text ds (set ds i (draft.Void n.Data end.owed end.index)) here end) at
-    (longer_here text ds i d end is of_data are (subst (λ here. Follows text here end) (sym at) follows))
+    (longer_here text ds i d end is of_data are (subst (λ here. IsToken text n.Data here end) (sym at) token))
 
 pub end_set : (ds : List Draft) (i : ℕ) (end : End) → i + 1 ≡ length ds → drafts_end first_end (set ds i (draft.Void n.Data end.owed end.index)) ≡ end
 end_set ds i end is =
@@ -223,9 +242,9 @@ void_forest text ds name from to at other =
     ∙ ap (λ same. with_nodes (forest text ds) (if same then Nil else cut (Around (enter_at text name from) Nil (exit_at text name to)))) (sym other)
 
 pub void_order : (text : List ℕ) (ds : List Draft) (name : Name) (from to : End) → drafts_end first_end ds ≡ from → AreInOrder text first_end ds
-    → Follows text from to → AreInOrder text first_end (ds ++ draft.Void name to.owed to.index ∷ [])
-void_order text ds name from to at are follows =
-    order_more text ds (draft.Void name to.owed to.index) are (subst (λ x. Follows text x to) (sym at) follows)
+    → IsToken text name from to → AreInOrder text first_end (ds ++ draft.Void name to.owed to.index ∷ [])
+void_order text ds name from to at are token =
+    order_more text ds (draft.Void name to.owed to.index) are (subst (λ x. IsToken text name x to) (sym at) token)
 
 -- nothing is written
 pub same_forest : (text : List ℕ) (ds : List Draft) (name : Name) (from to : End) → same_end to from ≡ true
@@ -262,7 +281,7 @@ end_within_at : (text : List ℕ) (from : End) (ds : List Draft) → from.index 
 end_within_at text from [] within are = within
 end_within_at text from (draft.Enter name ∷ ds) within are = end_within_at text from ds within are.1
 end_within_at text from (draft.Exit name ∷ ds) within are = end_within_at text from ds within are.1
-end_within_at text from (draft.Void name owed index ∷ ds) within are = end_within_at text (end_at index owed) ds are.0.within are.1
+end_within_at text from (draft.Void name owed index ∷ ds) within are = end_within_at text (end_at index owed) ds are.0.follows.within are.1
 
 order_at : (text : List ℕ) (from : End) (ds : List Draft) (i : ℕ) (d : Draft) → i < length ds → AreInOrder text from ds
     → AreInOrder text from (take i ds) × GoesOnward text (drafts_end from (take i ds)) (get_or ds i d)

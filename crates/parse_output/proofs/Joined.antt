@@ -16,7 +16,8 @@ use Rattle.event_grammar.specs.declared.spot.Spot.{Spot}
 use Rattle.parse_output.specs.declared.draft.Draft.TheVariants as draft
 use Rattle.parse_output.specs.Forest.{bytes_from, is_nil, one}
 use Rattle.parse_output.specs.Joined.{AreJoined, end_edge, end_spot, flat_text, text_between}
-use Rattle.parse_output.proofs.Forests.{edges, test_eq}
+use Rattle.parse_output.proofs.Between.{between_both, edges, edges_follow}
+use Rattle.parse_output.proofs.Forests.{test_eq}
 
 -- ---- joined nodes
 
@@ -87,10 +88,6 @@ exited_joined kids exit (part ∷ parts) are outer = record {
   outer = outer.1;
 }
 
--- an end that follows isn't before
-pub edges_follow : (text : List ℕ) (from to : End) → Follows text from to → end_edge text from ≤ end_edge text to
-edges_follow text from to follows = edges from.index (end_columns text from) to.index (end_columns text to) follows.forward follows.columns
-
 drafts_joined : (text : List ℕ) (from : End) (g : Growth) (ds : List Draft) → AreInOrder text from ds → IsJoined g (end_edge text from)
     → IsJoined (drafted_all text from g ds) (end_edge text (drafts_end from ds))
 unfolding ArePartsJoined
@@ -104,7 +101,7 @@ drafts_joined text from g (draft.Void name owed index ∷ ds) are is =
     drafts_joined text to (drafted text from g (draft.Void name owed index)) ds are.1 (record {
       kids =
           joined_both (base g.outer) (end_edge text from) (end_edge text to) g.kids (cut (Around (enter_at text name from) Nil (exit_at text name to)))
-          is.kids (joined_cut (enter_at text name from) (exit_at text name to) Nil (edges_follow text from to are.0));
+          is.kids (joined_cut (enter_at text name from) (exit_at text name to) Nil (edges_follow text from to are.0.follows));
       outer = is.outer;
     })
 
@@ -132,14 +129,6 @@ writes_joined text old new ns order writes =
 -- nothing is between a place and itself
 pub none_between : (text : List ℕ) (a b : ℕ) → a ≡ b → between a b text ≡ []
 none_between text a b same = ap (λ (k : ℕ). take (k - a) (drop a text)) (sym same) ∙ ap (λ (k : ℕ). take k (drop a text)) (sub_self a)
-
--- bytes between places, and those after them
-pub between_both : (text : List ℕ) (a b c : ℕ) → a ≤ b → b ≤ c → between a b text ++ between b c text ≡ between a c text
-between_both text a b c first second =
-    let on : a + (b - a) ≡ b = omega (arith, first) in
-    let all : (b - a) + (c - b) ≡ c - a = omega (arith, first, second) in
-    ap (λ (xs : List ℕ). take (b - a) (drop a text) ++ take (c - b) xs) (ap (λ (k : ℕ). drop k text) (sym on ∙ omega arith) ∙ sym (drop-drop (b - a) a text))
-    ∙ sym (take-add (b - a) (c - b) (drop a text)) ∙ ap (λ (k : ℕ). take k (drop a text)) all
 
 -- the text between two spots is that of the nodes, one after another
 pub joined_text : (text : List ℕ) (from to : Spot) (ns : Nodes) → AreJoined (edge from) ns (edge to) → nodes_text text from ns to ≡ flat_text text ns

@@ -13,7 +13,8 @@ use Rattle.event_grammar.specs.Trees.{Node, Nodes, Around, Nil, Cons, Part, Grow
 use Rattle.parse_output.specs.declared.draft.Draft.{Draft}
 use Rattle.parse_output.specs.declared.draft.Draft.TheVariants as draft
 use Rattle.parse_output.specs.declared.end.End.{End}
-use Rattle.parse_output.specs.Ends.{Follows, end_at, enter_at, exit_at, first_end, same_end}
+use Rattle.parse_output.specs.Ends.{end_at, enter_at, exit_at, first_end, same_end}
+use Rattle.parse_output.specs.Voids.{IsToken}
 
 abbrev pub append : Nodes → Nodes → Nodes
 append Nil others = others
@@ -89,7 +90,7 @@ drafts_events text from (d ∷ ds) = draft_events text from d ++ drafts_events t
 abbrev pub GoesOnward : List ℕ → End → Draft → Type 0
 GoesOnward text from (draft.Enter name) = Unit {0}
 GoesOnward text from (draft.Exit name) = Unit {0}
-GoesOnward text from (draft.Void name owed index) = Follows text from (end_at index owed)
+GoesOnward text from (draft.Void name owed index) = IsToken text name from (end_at index owed)
 
 abbrev pub AreInOrder : List ℕ → End → List Draft → Type 0
 AreInOrder text from [] = Unit {0}

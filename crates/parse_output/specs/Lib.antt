@@ -4,7 +4,8 @@ pub mod Placed
 pub mod Open
 pub mod Drafts
 pub mod Ends
+pub mod Joined
+pub mod Voids
 pub mod Forest
 pub mod Written
-pub mod Joined
 pub mod Children

@@ -3,9 +3,11 @@ ghost use Rattle.std.specs.Prelude.{◌≡◌, ◌<◌, ◌^◌, ◌∷◌, [], 
 ghost use Rattle.parse_output.specs.Placed.{ArePlaced};
 ghost use Rattle.engine_events.specs.declared.event.Name.TheVariants.{Data, Paragraph};
 ghost use Rattle.event_grammar.specs.Trees.{Nil, growth, tree};
+ghost use Rattle.event_tokens.specs.Bytes.{HaveTheirBytes};
 ghost use Rattle.parse_output.specs.declared.draft.Draft.TheVariants as draft;
 ghost use Rattle.parse_output.specs.Drafts.{AreChildren, draft_marks};
-ghost use Rattle.parse_output.specs.Ends.{Follows, first_end};
+ghost use Rattle.parse_output.specs.Ends.{first_end};
+ghost use Rattle.parse_output.specs.Voids.{IsToken};
 ghost use Rattle.parse_output.specs.Forest.{IsData, bytewise, data_nodes, drafts_end, void_nodes};
 ghost use Rattle.parse_output.specs.Open.{Entered, Exited, closed, unmatched};
 ghost use Rattle.parse_output.specs.Children.{HaveChildren, may_enter};
@@ -93,7 +95,7 @@ impl<A: Allocator> Output<A> {
         requires child { may_enter (open_in self.old) name ≡ true }
         ensures open { OnOk result (open_in self.new ≡ open_in self.old) }
         ensures end { OnOk result (end_in self.new ≡ end) }
-        ensures written { OnOk result ((text : List ℕ) → IsInOrder text self.old → Follows text (end_in self.old) end
+        ensures written { OnOk result ((text : List ℕ) → IsInOrder text self.old → IsToken text name (end_in self.old) end
             → Writes text self.old self.new (void_nodes text name (end_in self.old) end)) }
     {
         if end == self.end {
@@ -111,7 +113,7 @@ impl<A: Allocator> Output<A> {
         requires child { may_enter (open_in self.old) Data ≡ true }
         ensures open { OnOk result (open_in self.new ≡ open_in self.old) }
         ensures end { OnOk result (end_in self.new ≡ end) }
-        ensures written { OnOk result ((text : List ℕ) → IsInOrder text self.old → Follows text (end_in self.old) end
+        ensures written { OnOk result ((text : List ℕ) → IsInOrder text self.old → IsToken text Data (end_in self.old) end
             → Writes text self.old self.new (data_nodes text (end_in self.old) end)) }
     {
         let count = self.drafts.len();
@@ -125,7 +127,7 @@ impl<A: Allocator> Output<A> {
     }
 
     /// The events with their points in the text. What they leave of it at its end becomes a paragraph.
-    #[tactic(auto, using(crate::proofs::Forests::tree_bytewise))]
+    #[tactic(auto, using(crate::proofs::Forests::tree_bytewise, crate::proofs::VoidBytes::events_fit))]
     pub fn finish(self, text: &[u8]) -> Result<Vec<Event, A>, AllocError>
         requires fits { length text.now < 2 ^ 61 }
         requires child { may_enter (open_in self) Paragraph ≡ true }
@@ -134,6 +136,7 @@ impl<A: Allocator> Output<A> {
         ensures open { IfOk result (λ events. unmatched events.items ≡ open_in self) }
         ensures written { IsInOrder text.now self → (end_in self).index ≡ length text.now
             → IfOk result (λ events. bytewise (tree events.items) ≡ (forest_in text.now self).kids) }
+        ensures tokens { IsInOrder text.now self → (end_in self).index ≡ length text.now → IfOk result (λ events. HaveTheirBytes text.now events.items) }
     {
         let Output { drafts, events, .. } = self;
         let events = push_events(text, &drafts, events)?;

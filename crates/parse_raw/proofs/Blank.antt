@@ -2,7 +2,7 @@
 use Rattle.std.proofs.Common.{◌≡◌, inl, inr, ◌≤◌, ◌+◌, ℕ, suc, ◌-◌, eqb, Bool, false, true, not, List, [], ◌∷◌, ◌++◌, Option, refl, sym, ap, subst, ◌∙◌, drop, length, arith}
 use Rattle.std.specs.Prelude.{if◌then◌else◌}
 use Rattle.parse_raw.proofs.Prelude.{and_parts, append, AreEnding, around, Around, at_ending, AtEnding, Between, bytes_of, cases_Bool, cond-false, cond-true}
-use Rattle.parse_raw.proofs.Prelude.{Cons, cut, End, end_at, end_to_next, ending_text, EndsLine, enter_at, eqb-true, exit_at, Follows, HasSameOpen, is_byte}
+use Rattle.parse_raw.proofs.Prelude.{Cons, cut, End, end_at, ending_text, EndsLine, enter_at, eqb-true, exit_at, Follows, HasSameOpen, is_byte}
 use Rattle.parse_raw.proofs.Prelude.{is_nil, is_tab_column, is_white, IsAfterWhite, IsInOrder, IsLineOf, IsWrittenToRest, left_within, line_after, line_left}
 use Rattle.parse_raw.proofs.Prelude.{LineEnding, LineRest, list_all, Name, ne_eqb, Nil, Nodes, Place, prefix_len, Rest, rest_of, rest_start, rest_to_end}
 use Rattle.parse_raw.proofs.Prelude.{same_end, same_name, space_written, Standing, standing, StandsAt, start_whole, void_nodes, Walk, whole, Within, Writes}
@@ -16,6 +16,8 @@ use Rattle.event_grammar.specs.Trees.{Growth}
 use Rattle.parse_output.specs.Written.{forest_in}
 use Rattle.parse_laid.specs.Laid.{IsBlankLaid}
 use Rattle.parse_raw.specs.Laid.{WritesBlank}
+use Rattle.parse_raw.specs.Bytes.{IsEndingName}
+use Rattle.parse_raw.proofs.Bytes.{blank_ending_fits, ending_token, rest_white}
 use Rattle.parse_raw.proofs.Endings.{ending_nodes}
 
 -- ---- white space takes all that is left
@@ -68,8 +70,8 @@ rest_same text before content after line_end (c ∷ cs) line end few same =
 module _ {A : Type 0} (text : List ℕ) where
   -- all of a blank line is written; nothing is only where nothing is left of it
   blank_all : (old a : Walk A) (here : LineRest) (left : List LineRest) (ns : Nodes) → StandsAt text (Within here left) (standing old) → IsWrittenToRest old
-      → IsInOrder text old.out → WritesUpTo n.SpaceOrTab (end_at old.line_end 0) old a → Writes text old.out a.out ns → ns ≡ Nil → rest_of old.rest ≡ []
-  blank_all old a here left ns st at order writes written none =
+      → IsInOrder text old.out → is_blank here.rest ≡ true → WritesUpTo n.SpaceOrTab (end_at old.line_end 0) old a → Writes text old.out a.out ns → ns ≡ Nil → rest_of old.rest ≡ []
+  blank_all old a here left ns st at order blank writes written none =
       let line = st.line in
       let after = ending_text old.ending ++ old.left.now in
       let rest = rest_of old.rest in
@@ -78,7 +80,9 @@ module _ {A : Type 0} (text : List ℕ) where
       let follows : Follows text (written_to old) (end_at old.line_end 0) =
       subst (λ (x : End). Follows text x (end_at old.line_end 0)) (ap (rest_start old.line_end) (sym is) ∙ sym start)
       (rest_to_end text line.before line.content after old.line_end st.columns line.parts line.end) in
-      let space = writes text order follows in
+      let white = rest_white text line.before line.content after old.line_end line.parts line.end st.columns (written_to old) (at ∙ ap (rest_start old.line_end) is)
+      (ap (list_all is_white) (sym st.suffix) ∙ blank) in
+      let space = writes text order (record { follows = follows; bytes = white }) in
       let void = void_nodes text n.SpaceOrTab (written_to old) (end_at old.line_end 0) in
       let same : append (forest_in text old.out).kids void ≡ append (forest_in text old.out).kids Nil =
       ap (λ (g : Growth). g.kids) (sym space.forest ∙ written.forest) ∙ ap (append (forest_in text old.out).kids) none in
@@ -111,13 +115,12 @@ module _ {A : Type 0} (text : List ℕ) where
     pub writes : Writes text a.out d.out nodes
     pub written : written_to d ≡ end_at (d.size - length d.left.now) 0
 
-  pub end_written : (name : Name) (a d : Walk A) (ending : Option LineEnding) (left : List LineRest) → same_name name n.Data ≡ false
+  pub end_written : (name : Name) (a d : Walk A) (ending : Option LineEnding) (left : List LineRest) → same_name name n.Data ≡ false → IsEndingName name
       → StandsAt text (AtEnding ending left) (standing a) → written_to a ≡ end_at a.line_end 0 → IsInOrder text a.out
       → WritesEnding name a d → WritesEnd name ending a d
-  end_written name a d ending left other st at order writes =
+  end_written name a d ending left other fits st at order writes =
       let to = line_after a in
-      let follows : Follows text (written_to a) to = subst (λ (e : End). Follows text e to) (sym at) (end_to_next text (standing a) st.line) in
-      let done = writes text ending left st order follows in
+      let done = writes text ending left st order (ending_token text name a fits st.line at) in
       let are = ending_nodes text name (standing a) other st.line in
       let is : void_nodes text name (end_at a.line_end 0) to ≡ void_nodes text name (written_to a) to =
       ap (λ (e : End). void_nodes text name e to) (sym at) in
@@ -142,15 +145,16 @@ module _ {A : Type 0} (text : List ℕ) where
       let end : written_to a ≡ end_at a.line_end 0 =
       end_b ∙ ap (λ (w : Walk A). end_at w.line_end 0) is ∙ ap (λ (k : ℕ). end_at k 0) (sym line_end) in
       let upto = subst (λ (w : Walk A). WritesUpTo n.SpaceOrTab (end_at w.line_end 0) w a) is writes_b in
-      let spaces = blank_space old a here left st at order (ap (λ (l : LineRest). is_blank l.rest) line ∙ laid.3) upto in
+      let blank = ap (λ (l : LineRest). is_blank l.rest) line ∙ laid.3 in
+      let spaces = blank_space old a here left st at order blank upto in
       let st_a = subst (StandsAt text (AtEnding here.beside.ending left)) (sym same) (at_ending text here left (standing old) st) in
-      let done = end_written n.BlankLineEnding a d here.beside.ending left refl st_a end spaces.writes.order writes in
+      let done = end_written n.BlankLineEnding a d here.beside.ending left refl blank_ending_fits st_a end spaces.writes.order writes in
       let ending_is : here.beside.ending ≡ ending = ap (λ (l : LineRest). l.beside.ending) line ∙ sym laid.4 in
       let to_is : Between left ≡ to = ap Between laid.2.1 ∙ sym laid.5 in
       record {
         before = spaces.nodes;
         are_quiet = spaces.quiet;
-        space = blank_all old a here left spaces.nodes st at order upto spaces.writes;
+        space = blank_all old a here left spaces.nodes st at order blank upto spaces.writes;
         nodes = done.nodes;
         are_ending = subst (λ (e : Option LineEnding). AreEnding text n.BlankLineEnding e done.nodes) ending_is done.are_ending;
         writes = writes_both text old.out a.out d.out spaces.nodes done.nodes spaces.writes done.writes;

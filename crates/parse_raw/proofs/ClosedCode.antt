@@ -14,12 +14,14 @@ use Rattle.event_meaning.specs.Blocks.{code_fenced_of, math_flow_of}
 use Rattle.parse_laid.specs.Leaves.{IsClosedLaid}
 use Rattle.parse_laid.specs.Places.{IsOn}
 use Rattle.parse_laid.proofs.Taken.{after_taken}
+use Rattle.definition_block.specs.CodeFenced.{is_fence_end}
 use Rattle.parse_raw.specs.FenceParts.{WritesClosing, block_name}
 use Rattle.parse_raw.proofs.ClosingFence.{closed_alike, info_read, parts_closed}
 use Rattle.parse_raw.proofs.FencedCode.{closed_leaf, math_string}
 use Rattle.parse_raw.proofs.LeafNodes.{leaf_written}
 use Rattle.parse_raw.proofs.NextLines.{next_written, none_unread}
 use Rattle.parse_raw.proofs.Nodes.{quiet_parts, raw_append, raw_parts_append, raw_quiet, named_append}
+use Rattle.parse_raw.proofs.Runs.{closing_of}
 
 -- ---- the block's name
 
@@ -96,12 +98,12 @@ module _ {A : Type 0} (r : Reading) (first : Bool) (text : List ℕ) (top : Bool
       (old l x e d : Walk A) → StandsAt text (Within here left) (standing old) → info ≡ fence.info
       → WritesOpened r.parse.constructs r.tables.names text fence here.beside.ending ls after fence_names old l
       → AreTaken old.on.now (around (standing old)) (IsFenceLine old.on.now fence) ls (Between left) (Between after)
-      → IsOn old.on.now (around (standing old)) (Between after) (InAll end) follow → to ≡ AtEnding end.beside.ending follow
+      → IsOn old.on.now (around (standing old)) (Between after) (InAll end) follow → is_fence_end old.on.now fence end.rest ≡ true → to ≡ AtEnding end.beside.ending follow
       → PassesLine (standing l) (standing x) → WritesNextLine l x → HasSameOpen (standing l) (standing x) → WritesClosing fence_names x e
       → (IsInOrder text e.out → Exits text fence_names.block e.out d.out) → standing d ≡ standing e → written_to d ≡ written_to e
       → WritesLeaf r.parse.constructs r.tables.names text top (read_leaf r (record { top = top; first = first }) (FencedCode info true ls)) [] to old d
-  closed_by info ls here own left to fence end follow [] old l x e d st info_is o taken on to_is passes writes kept closes exits same_d end_d = absurd on
-  closed_by info ls here own left to fence end follow (next ∷ others) old l x e d st info_is o taken on to_is passes writes kept closes exits same_d end_d =
+  closed_by info ls here own left to fence end follow [] old l x e d st info_is o taken on is_end to_is passes writes kept closes exits same_d end_d = absurd on
+  closed_by info ls here own left to fence end follow (next ∷ others) old l x e d st info_is o taken on is_end to_is passes writes kept closes exits same_d end_d =
       let last = last_ending_or here.beside.ending ls in
       let passed = next_written text l x last next others o.lines.stands o.lines.written o.lines.writes.order passes writes in
       let on_l : l.on.now ≡ old.on.now = o.lines.around.0 ∙ o.around.0 in
@@ -109,7 +111,7 @@ module _ {A : Type 0} (r : Reading) (first : Bool) (text : List ℕ) (top : Bool
       let line : line_left (prefixed l.on.now (around (standing l)) next) ≡ end =
       ap₂ (λ (c : Constructs) (cs : List Container). line_left (prefixed c (reverse cs) next)) on_l open_l ∙ ap line_left on.0 in
       let st_x : StandsAt text (Within end others) (standing x) = subst (λ (k : LineRest). StandsAt text (Within k others) (standing x)) line passed.stands in
-      let cl = closes o.math text end others o.are st_x passed.written passed.writes.order in
+      let cl = closes o.math text end others o.are st_x passed.written passed.writes.order (closing_of old.on.now o.math fence end.rest o.mark o.some is_end) in
       let inner = append o.lines.nodes (append passed.nodes cl.quiet.nodes) in
       let inner_writes = writes_both text o.fenced.out l.out cl.space.out o.lines.nodes (append passed.nodes cl.quiet.nodes) o.lines.writes (
       writes_both text l.out x.out cl.space.out passed.nodes cl.quiet.nodes passed.writes cl.quiet.writes) in
@@ -165,4 +167,4 @@ module _ {A : Type 0} (r : Reading) (first : Bool) (text : List ℕ) (top : Bool
       let starts = subst (λ (k : LineRest). (fence_start on k.rest ≡ Some fence) ⊎ (math_start on k.rest ≡ Some fence)) own fenced.2 in
       let opened = opens text fence here left more.0 ls size st at order starts taken in
       closed_by info ls here laid.1 left to fence laid.2 laid.4 more.0 old l x e d st laid.5 opened taken
-      (subst (λ (p : Place). IsOn on cs p (InAll laid.2) laid.4) more.1 laid.7) laid.9
+      (subst (λ (p : Place). IsOn on cs p (InAll laid.2) laid.4) more.1 laid.7) laid.8 laid.9

@@ -5,6 +5,8 @@ use Rattle.parse_raw.proofs.Prelude.{code_parts, cond-false, cut, end_at, end_in
 use Rattle.parse_raw.proofs.Prelude.{FenceNames, info_by, info_text, is_nil, IsInOrder, IsWrittenToRest, last_ending_or, LineEnding, LineRest, Meaning, named}
 use Rattle.parse_raw.proofs.Prelude.{Node, one, parts_after, raw_lines_are_alike, RawPart, Reading, rest_of, same_name, Standing, standing, StandsAt, Walk}
 use Rattle.parse_raw.proofs.Prelude.{Within, Writes, writes_around, WritesUpTo, written_to}
+use Rattle.parse_raw.proofs.Prelude.{AreClosing, fence_marks, is_white, list_all, prefix_len-le-length, Rest, run}
+use Rattle.std.proofs.Common.{drop, eqb, get_or, take}
 use Rattle.engine_events.specs.declared.event.Name.TheVariants as n
 use Rattle.definition_page.specs.Page as page
 use Rattle.definition_page.specs.Read.{code_lines}
@@ -13,49 +15,56 @@ use Rattle.parse_raw.proofs.FencedCode.{has_some}
 use Rattle.parse_raw.proofs.LeafNodes.{white_written}
 use Rattle.parse_raw.proofs.OpeningFence.{fence_is, sequence_other}
 use Rattle.parse_raw.proofs.RawBlocks.{line_parts}
+use Rattle.parse_raw.proofs.Runs.{run_fits, sequence_fits}
 use Rattle.parse_raw.proofs.Tokens.{left_none, left_same, token_all, token_on, tokens_both}
 
 module _ {A : Type 0} (math : Bool) (fence_names : FenceNames) (text : List ℕ) where
   pub closing_written : (here : LineRest) (left : List LineRest) (size : ℕ) (bytes : List ℕ) (old a b c d e : Walk A) → AreNames math fence_names
-      → StandsAt text (Within here left) (standing old) → IsWrittenToRest old → IsInOrder text old.out
+      → StandsAt text (Within here left) (standing old) → IsWrittenToRest old → IsInOrder text old.out → AreClosing math (bytes_of (bare here.rest))
       → standing a ≡ standing old → written_to a ≡ end_at (old.line_end - length (bytes_of (bare (rest_of old.rest)))) 0
       → WritesUpTo n.SpaceOrTab (end_at (old.line_end - length (bytes_of (bare (rest_of old.rest)))) 0) old a → bytes ≡ bytes_of (bare (rest_of old.rest))
       → (IsInOrder text a.out → Enters text fence_names.fence a.out b.out) → standing b ≡ standing a → written_to b ≡ written_to a
-      → size ≤ length bytes → standing c ≡ standing b
+      → size ≡ run (get_or bytes 0 0) bytes → standing c ≡ standing b
       → ((written_to b).index + size < 2 ^ 64 → written_to c ≡ end_at ((written_to b).index + size) 0)
       → ((written_to b).index + size < 2 ^ 64 → WritesUpTo fence_names.sequence (end_at ((written_to b).index + size) 0) b c)
       → standing d ≡ standing c → written_to d ≡ end_at c.line_end 0 → WritesUpTo n.SpaceOrTab (end_at c.line_end 0) c d
       → (IsInOrder text d.out → Exits text fence_names.fence d.out e.out) → standing e ≡ standing d → written_to e ≡ written_to d
       → WritesClosingOf math text here left old e
-  closing_written here left size bytes old a b c d e are st at order same_a end_a write_a bytes_is enters same_b end_b fits same_c end_c token same_d end_d all exits
+  closing_written here left size bytes old a b c d e are st at order closing same_a end_a write_a bytes_is enters same_b end_b sized same_c end_c token same_d end_d all exits
       same_e end_e =
       let white = white_written text old a here left st at order same_a end_a write_a in
       let entered = enters white.quiet.writes.order in
-      let count = length (bytes_of (bare (rest_of old.rest))) in
-      let fits_count : size ≤ count = omega (arith, fits, ap length bytes_is) in
-      let left_b = left_same text count a b white.after entered.order same_b end_b in
+      let own = bytes_of (bare (rest_of old.rest)) in
+      let here_is : own ≡ bytes_of (bare here.rest) = ap (λ (r : Rest). bytes_of (bare r)) st.rest in
+      let first = get_or own 0 0 in
+      let is : AreClosing math own = subst (AreClosing math) (sym here_is) closing in
+      let run_is : size ≡ run first own = sized ∙ ap (λ (xs : List ℕ). run (get_or xs 0 0) xs) bytes_is in
+      let fits_count : size ≤ length own = omega (arith, run_is, prefix_len-le-length (λ (x : ℕ). eqb x first) own) in
+      let sequence = sequence_fits fence_names math (take size own) are (run_fits (fence_marks math) first own size is.0 (omega (arith, run_is))) in
+      let blank : list_all is_white (drop size own) ≡ true = ap (λ (k : ℕ). list_all is_white (drop k own)) run_is ∙ is.1 in
+      let left_b = left_same text own a b white.after entered.order same_b end_b in
       let seq = sequence_other fence_names math are in
-      let both = tokens_both count (count - size) 0 b c d (token_on fence_names.sequence count size b c seq.1 fits_count same_c end_c token)
-      (token_all n.SpaceOrTab (count - size) c d (record { no_data = refl; no_definition = refl; no_code = refl; no_math = refl }) same_d end_d all) in
+      let both = tokens_both own (drop size own) [] b c d (token_on fence_names.sequence own size b c seq.1 fits_count sequence same_c end_c token)
+      (token_all n.SpaceOrTab (drop size own) c d (record { no_data = refl; no_definition = refl; no_code = refl; no_math = refl }) blank same_d end_d all) in
       let kids = both text left_b in
       let exited = exits kids.writes.order in
-      let is = fence_is fence_names math are in
+      let named_is = fence_is fence_names math are in
       let node = Around (enter_at text fence_names.fence (end_in a.out)) kids.nodes (exit_at text fence_names.fence (end_in d.out)) in
       let alone : cut node ≡ one node =
-      cond-false (same_name fence_names.fence n.Data && is_nil kids.nodes) _ _ (ap (λ (t : Bool). t && is_nil kids.nodes) is.1) in
+      cond-false (same_name fence_names.fence n.Data && is_nil kids.nodes) _ _ (ap (λ (t : Bool). t && is_nil kids.nodes) named_is.1) in
       let same = same_e ∙ kids.same ∙ same_b ∙ same_a in
       record {
         space = a;
         quiet = white.quiet;
         node = node;
-        named_so = is.0;
+        named_so = named_is.0;
         definitions =
             ap (λ (ns : List Node). ns ++ [])
-            (cond-false (same_name fence_names.fence n.Definition) (node ∷ named n.Definition kids.nodes) (named n.Definition kids.nodes) is.2 ∙ kids.raw.definitions);
+            (cond-false (same_name fence_names.fence n.Definition) (node ∷ named n.Definition kids.nodes) (named n.Definition kids.nodes) named_is.2 ∙ kids.raw.definitions);
         writes = subst (Writes text a.out e.out) alone (writes_around text a.out b.out d.out e.out fence_names.fence kids.nodes entered kids.writes exited);
         same = same;
         stands = subst (StandsAt text (AtEnding here.beside.ending left)) (sym same) (at_ending text here left (standing old) st);
-        written = end_e ∙ left_none text 0 d refl kids.after ∙ ap (λ (s : Standing). end_at s.line_end 0) (sym same_e);
+        written = end_e ∙ left_none text [] d refl kids.after ∙ ap (λ (s : Standing). end_at s.line_end 0) (sym same_e);
       }
 
 -- ---- what it spells

@@ -7,11 +7,14 @@ use Rattle.parse_raw.proofs.Prelude.{IsCharBoundary, IsPartOf, IsRawName, IsUtf8
 use Rattle.parse_raw.proofs.Prelude.{Nil, Node, node_name, Nodes, or_parts, position_or_len, prefix_len-le-length, prefix_len_passes, run, same_name, Standing}
 use Rattle.parse_raw.proofs.Prelude.{standing, StandsAt, take-append-drop, trim, void_nodes, Walk, writes_both, writes_none, WritesPart, WritesUpTo}
 use Rattle.parse_raw.proofs.Prelude.{written_to}
+use Rattle.parse_raw.proofs.Prelude.{is_token, list_all, text_between}
 use Rattle.std.specs.List.{suffix_len}
 use Rattle.std.proofs.lemmas.List.Folds.{list_any-append}
 use Rattle.std.proofs.lemmas.List.Sums.{passes_at_first}
 use Rattle.engine_events.specs.declared.event.Name.TheVariants as n
 use Rattle.text_bytes.proofs.Ascii.{boundary_after, boundary_before, space_ascii}
+use Rattle.parse_lines.proofs.Bytes.{whole_between}
+use Rattle.parse_raw.proofs.Bytes.{suffix_passes}
 use Rattle.parse_raw.proofs.LeafNodes.{line_in_text}
 use Rattle.parse_raw.proofs.Nodes.{child_append, raw_append, raw_none, raw_void, void_cases}
 use Rattle.parse_raw.proofs.Tokens.{index_follows}
@@ -59,11 +62,14 @@ pub dark_both : (xs ys : List ℕ) → list_any ends_line (xs ++ ys) ≡ false �
 dark_both xs ys dark = or_parts (list_any ends_line xs) (list_any ends_line ys) (sym (list_any-append ends_line xs ys) ∙ dark)
 
 -- what is trimmed, and white space before and behind it
-pub trim_parts : (xs : List ℕ) → (tail : List ℕ) × (xs ≡ take (indent xs) xs ++ (trim xs ++ tail))
+pub trim_parts : (xs : List ℕ) → (tail : List ℕ) × (xs ≡ take (indent xs) xs ++ (trim xs ++ tail)) × (list_all is_white tail ≡ true)
 trim_parts xs =
     let rest = drop (indent xs) xs in
-    let count = length rest - suffix_len is_white rest in
-    (drop count rest, sym (take-append-drop (indent xs) xs) ∙ ap (λ (ys : List ℕ). take (indent xs) xs ++ ys) (sym (take-append-drop count rest)))
+    let count = length rest - suffix_len is_white rest in (
+      drop count rest,
+      sym (take-append-drop (indent xs) xs) ∙ ap (λ (ys : List ℕ). take (indent xs) xs ++ ys) (sym (take-append-drop count rest)),
+      suffix_passes is_white rest,
+    )
 
 -- ---- in a walk
 
@@ -142,10 +148,10 @@ module _ {A : Type 0} (names : Names) where
 
   -- an event that holds no other
   pub token_part : (name : Name) (front rest : List ℕ) (size : ℕ) (a b : Walk A) → IsRawName name → same_name name n.CodeFencedFenceInfo ≡ false
-      → size ≡ length front → standing b ≡ standing a
+      → is_token name front ≡ true → size ≡ length front → standing b ≡ standing a
       → ((written_to a).index + size < 2 ^ 64 → written_to b ≡ end_at ((written_to a).index + size) 0)
       → ((written_to a).index + size < 2 ^ 64 → WritesUpTo name (end_at ((written_to a).index + size) 0) a b) → LeadsTo names None (front ++ rest) rest a b
-  token_part name front rest size a b raw other count same ends writes text ending left before =
+  token_part name front rest size a b raw other may count same ends writes text ending left before =
       let i = (end_in a.out).index in
       let at : end_in a.out ≡ end_at i 0 = ap (end_at i) before.whole in
       let sizes = length-append front rest in
@@ -156,9 +162,12 @@ module _ {A : Type 0} (names : Names) where
       let reach : i + size ≤ length text = omega (arith, sizes, before.end, within, count) in
       let follows : Follows text (end_in a.out) to =
       subst (λ (e : End). Follows text e to) (sym at) (index_follows text i (i + size) (omega arith) reach) in
-      let done = writes fits text before.order follows in
-      let reached : end_after (end_in a.out) (length front) ≡ end_in b.out =
-      ap (λ (e : End). end_after e (length front)) at ∙ after_bytes i (length front) ∙ ap (λ (k : ℕ). end_at (i + k) 0) (sym count) ∙ sym (ends fits) in
+      let there : end_after (end_in a.out) (length front) ≡ to =
+      ap (λ (e : End). end_after e (length front)) at ∙ after_bytes i (length front) ∙ ap (λ (k : ℕ). end_at (i + k) 0) (sym count) in
+      let between : text_between text (end_in a.out) to ≡ front =
+      ap (text_between text (end_in a.out)) (sym there) ∙ whole_between text (end_in a.out) front rest before.whole before.next in
+      let done = writes fits text before.order (record { follows = follows; bytes = ap (is_token name) between ∙ may }) in
+      let reached : end_after (end_in a.out) (length front) ≡ end_in b.out = there ∙ sym (ends fits) in
       let index = ap (λ (e : End). e.index) (ends fits) in
       let line_end = ap (λ (s : Standing). s.line_end) same in
       record {
@@ -180,14 +189,14 @@ module _ {A : Type 0} (names : Names) where
       }
 
   -- all that is left
-  pub all_part : (name : Name) (bytes : List ℕ) (a b : Walk A) → IsRawName name → same_name name n.CodeFencedFenceInfo ≡ false → standing b ≡ standing a
-      → written_to b ≡ end_at a.line_end 0 → WritesUpTo name (end_at a.line_end 0) a b → LeadsTo names None bytes [] a b
-  all_part name bytes a b raw other same ends writes text ending left before =
+  pub all_part : (name : Name) (bytes : List ℕ) (a b : Walk A) → IsRawName name → same_name name n.CodeFencedFenceInfo ≡ false → is_token name bytes ≡ true
+      → standing b ≡ standing a → written_to b ≡ end_at a.line_end 0 → WritesUpTo name (end_at a.line_end 0) a b → LeadsTo names None bytes [] a b
+  all_part name bytes a b raw other may same ends writes text ending left before =
       let i = (end_in a.out).index in
       let there : a.line_end ≡ i + length bytes = sym before.end in
       let ends_there : written_to b ≡ end_at (i + length bytes) 0 = ends ∙ ap (λ (k : ℕ). end_at k 0) there in
       let writes_there = subst (λ (k : ℕ). WritesUpTo name (end_at k 0) a b) there writes in
-      token_part name bytes [] (length bytes) a b raw other refl same (λ fits. ends_there) (λ fits. writes_there) text ending left
+      token_part name bytes [] (length bytes) a b raw other may refl same (λ fits. ends_there) (λ fits. writes_there) text ending left
       (subst (λ (xs : List ℕ). IsBefore text ending left xs a) (sym (append-nil bytes)) before)
 
   -- a string, as the info of code or as something else

@@ -5,6 +5,7 @@ use Rattle.parse_raw.proofs.Prelude.{exit_at, Exits, FenceNames, indent, info_by
 use Rattle.parse_raw.proofs.Prelude.{IsPartOf, IsRawName, IsUtf8, LeadsTo, length-take-le, LineEnding, LineRest, list_any, Name, named, Names, nat_tests, Nil}
 use Rattle.parse_raw.proofs.Prelude.{Node, Nodes, one, or_parts, position_or_len, prefix_len-le-length, same_name, Standing, standing, StandsAt, string_text}
 use Rattle.parse_raw.proofs.Prelude.{take-append-drop, Walk, Writes, writes_around, writes_none, WritesPart, WritesUpTo, written_to, ◌==◌}
+use Rattle.parse_raw.proofs.Prelude.{all_prefix}
 use Rattle.std.proofs.lemmas.Str.{IsCharBoundary-start}
 use Rattle.std.proofs.lemmas.List.{get_or-drop}
 use Rattle.engine_events.specs.declared.event.Name.TheVariants as n
@@ -164,7 +165,7 @@ module _ {A : Type 0} (names : Names) (on : Constructs) (fence : FenceNames) (te
       let count : white ≡ length (take white rest) =
       sym (length-take-le white rest (omega (arith, white_is, prefix_len-le-length is_white rest))) in
       let spaces = token_part names n.SpaceOrTab (take white rest) (string ++ tail) white b c (record { no_data = refl; no_definition = refl; no_code = refl; no_math = refl })
-      refl count same ends token in
+      refl (all_prefix is_white white rest (omega (arith, white_is))) count same ends token in
       let joined : take white rest ++ (string ++ tail) ≡ drop k text ++ tail =
       ap (λ (xs : List ℕ). take white rest ++ (xs ++ tail)) string_is ∙ sym (append_assoc (take white rest) (drop white rest) tail)
       ∙ ap (λ (xs : List ℕ). xs ++ tail) (take-append-drop white rest ∙ rest_is) in

@@ -4,6 +4,8 @@ use Rattle.parse_raw.proofs.Prelude.{after_child, after_run, and_parts, append, 
 use Rattle.parse_raw.proofs.Prelude.{code_parts, cond-false, cond-true, Cons, Constructs, end_part, ends_in, eqb-true, Fence, fence_start, fenced_lines}
 use Rattle.parse_raw.proofs.Prelude.{first_word, indent, last_ending_or, LineEnding, list_all, math_info, math_start, Name, Names, Nil, Node, node_name, Nodes}
 use Rattle.parse_raw.proofs.Prelude.{one, prefix_len_passes, raw_lines, raw_parts, Rest, run, same_name, string_text}
+use Rattle.parse_raw.proofs.Prelude.{fence_marks}
+use Rattle.event_tokens.specs.Tokens.{is_among}
 use Rattle.std.proofs.lemmas.Bool.{leb-true}
 use Rattle.engine_events.specs.declared.event.Name.TheVariants as n
 use Rattle.definition_text.specs.Indents.{small_indent}
@@ -83,6 +85,9 @@ pub record FenceFacts (rest : Rest) (fence : Fence) : Type 0 where
   pub ascii : byte < 128
   pub first : get_or (bytes_of (bare rest)) 0 0 ≡ byte
   pub indent : fence.indent ≡ indent rest
+  pub mark : is_among (fence_marks (eqb byte 36)) byte ≡ true
+  pub own : fence.byte ≡ byte
+  pub some : 0 < fence.run
   pub info : cond (eqb byte 36) (fence.info ≡ math_info) (fence.info ≡ first_word (after_run byte (bytes_of (bare rest))))
 
 first_by : (byte : ℕ) (bytes : List ℕ) → 0 < run byte bytes → get_or bytes 0 0 ≡ byte
@@ -102,6 +107,9 @@ code_by columns rest fence at is =
             ascii = omega arith;
             first = first_by 96 bytes (omega (arith, some));
             indent = ap (λ (f : Fence). f.indent) same ∙ at;
+            mark = refl;
+            own = ap (λ (f : Fence). f.byte) same;
+            some = omega (arith, some, ap (λ (f : Fence). f.run) same);
             info = ap (λ (f : Fence). f.info) same;
           }
       | inr h ↦
@@ -116,6 +124,9 @@ code_by columns rest fence at is =
                   ascii = omega arith;
                   first = first_by 126 bytes (omega (arith, some));
                   indent = ap (λ (f : Fence). f.indent) same ∙ at;
+                  mark = refl;
+                  own = ap (λ (f : Fence). f.byte) same;
+                  some = omega (arith, some, ap (λ (f : Fence). f.run) same);
                   info = ap (λ (f : Fence). f.info) same;
                 }
             | inr k ↦ let none : None ≡ Some fence = sym (cond-false (leb 3 (run 126 bytes)) _ _ k) ∙ other in absurd (cc)
@@ -137,6 +148,9 @@ math_by columns rest fence at is =
             ascii = omega arith;
             first = first_by 36 bytes (omega (arith, some));
             indent = ap (λ (f : Fence). f.indent) same ∙ at;
+            mark = refl;
+            own = ap (λ (f : Fence). f.byte) same;
+            some = omega (arith, some, ap (λ (f : Fence). f.run) same);
             info = ap (λ (f : Fence). f.info) same;
           }
       | inr h ↦ let none : None ≡ Some fence = sym (cond-false dollars _ _ h) ∙ is in absurd (cc)

@@ -1,46 +1,20 @@
 -- What is written up to the last line of fenced code or math, step by step (CommonMark 4.5).
-use Rattle.std.proofs.Common.{◌≡◌, ◌⊎◌, ℕ, zero, suc, ◌+◌, ◌-◌, ◌<◌, Bool, true, false, cond, ◌||◌, List, [], ◌∷◌, ◌++◌, Option, Some, eqb, inl, inr, refl, sym, ap, ap₂, subst, ◌∙◌, get_or, drop, length, reverse, arith}
-use Rattle.parse_raw.proofs.Prelude.{after_run, AreNames, AreNext, AreTaken, around, bare, Between, block_info, BlockLine, bytes_of, cases_Bool, chunk_name}
-use Rattle.parse_raw.proofs.Prelude.{codes_first, cond-false, cond-true, Constructs, Container, end_at, end_in, ends_line, Enters, Fence, fence_start}
-use Rattle.parse_raw.proofs.Prelude.{FenceNames, first_word, InAll, indent, info_by, info_in, InSome, is_byte, IsBefore, IsChunkName, IsCutLine, IsFenceLine}
-use Rattle.parse_raw.proofs.Prelude.{IsInOrder, LineRest, list_any, math_info, math_start, Name, Names, or_parts, outdent, Prefixed, replicate, Rest}
-use Rattle.parse_raw.proofs.Prelude.{rest_line, Standing, standing, StandsAt, tab_column, trim, Walk, whole, Within, WritesCutLines, WritesOpened, written_to}
-use Rattle.definition_text.specs.Columns.{codes_from}
-use Rattle.block_starts.specs.Widths.{width}
+use Rattle.std.proofs.Common.{◌≡◌, ◌⊎◌, ℕ, ◌+◌, ◌<◌, Bool, true, false, cond, List, Option, Some, eqb, inl, inr, refl, sym, ap, subst, ◌∙◌, get_or, length, reverse, arith}
+use Rattle.parse_raw.proofs.Prelude.{after_run, AreNames, AreNext, AreTaken, around, bare, Between, block_info, BlockLine, bytes_of, chunk_name}
+use Rattle.parse_raw.proofs.Prelude.{Constructs, Container, end_at, end_in, ends_line, Enters, Fence, fence_start}
+use Rattle.parse_raw.proofs.Prelude.{FenceNames, first_word, InAll, indent, info_by, info_in, InSome, IsBefore, IsChunkName, IsCutLine, IsFenceLine}
+use Rattle.parse_raw.proofs.Prelude.{IsInOrder, LineRest, list_any, math_info, math_start, Name, Names, outdent, Prefixed}
+use Rattle.parse_raw.proofs.Prelude.{rest_line, Standing, standing, StandsAt, trim, Walk, whole, Within, WritesCutLines, WritesOpened, written_to}
 use Rattle.parse_raw.specs.FenceParts.{WritesFence}
+use Rattle.event_tokens.specs.Tokens.{is_among}
+use Rattle.parse_raw.proofs.Prelude.{fence_marks}
+use Rattle.parse_raw.proofs.Bytes.{dark_bytes, dark_codes, dark_drop}
 use Rattle.parse_raw.proofs.FencedCode.{fence_facts}
 use Rattle.parse_raw.proofs.OnLine.{WritesWhiteAhead}
 use Rattle.parse_raw.proofs.OpeningFence.{before_entered}
 use Rattle.parse_raw.proofs.RawBlocks.{taken_as}
 
 -- ---- what is left of a line has no line ending
-
-dark_columns : (count : ℕ) (xs : Rest) → list_any ends_line xs ≡ false → list_any ends_line (replicate count tab_column ++ xs) ≡ false
-dark_columns zero xs dark = dark
-dark_columns (suc count) xs dark = dark_columns count xs dark
-
-dark_codes : (column : ℕ) (bs : List ℕ) → list_any ends_line bs ≡ false → list_any ends_line (codes_from column bs) ≡ false
-dark_codes column [] dark = refl
-dark_codes column (b ∷ bs) dark =
-    let parts = or_parts (ends_line b) (list_any ends_line bs) dark in
-    let w = width column b in
-    ap (list_any ends_line) (codes_first column b bs)
-    ∙ ap₂ (λ (x y : Bool). x || y) parts.0 (dark_columns (w - 1) (codes_from (column + w) bs) (dark_codes (column + w) bs parts.1))
-
-dark_drop : (count : ℕ) (xs : Rest) → list_any ends_line xs ≡ false → list_any ends_line (drop count xs) ≡ false
-dark_drop zero xs dark = dark
-dark_drop (suc count) [] dark = refl
-dark_drop (suc count) (x ∷ xs) dark = dark_drop count xs (or_parts (ends_line x) (list_any ends_line xs) dark).1
-
-dark_bytes : (xs : Rest) → list_any ends_line xs ≡ false → list_any ends_line (bytes_of xs) ≡ false
-dark_bytes [] dark = refl
-dark_bytes (x ∷ xs) dark =
-    let parts = or_parts (ends_line x) (list_any ends_line xs) dark in
-    let more = dark_bytes xs parts.1 in
-    elim (cases_Bool (is_byte x)) [
-      | inl h ↦ ap (list_any ends_line) (cond-true (is_byte x) (x ∷ bytes_of xs) (bytes_of xs) h) ∙ ap₂ (λ (a b : Bool). a || b) parts.0 more
-      | inr h ↦ ap (list_any ends_line) (cond-false (is_byte x) (x ∷ bytes_of xs) (bytes_of xs) h) ∙ more
-    ]
 
 pub dark_rest : {A : Type 0} (text : List ℕ) (here : LineRest) (left : List LineRest) (w : Walk A) → StandsAt text (Within here left) (standing w)
     → list_any ends_line (bytes_of (bare here.rest)) ≡ false
@@ -78,7 +52,7 @@ module _ {A : Type 0} (on : Constructs) (names : Names) (fence_names : FenceName
       → WritesWhiteAhead text here left old a → bytes ≡ bytes_of (bare here.rest) → marker ≡ get_or bytes 0 0 → columns ≡ indent here.rest
       → AreNames (eqb marker 36) fence_names
       → (IsInOrder text a.out → Enters text fence_names.block a.out b.out) → standing b ≡ standing a → written_to b ≡ written_to a
-      → ((math : Bool) (byte : ℕ) → AreNames math fence_names → byte < 128 → get_or bytes 0 0 ≡ byte → WritesFence on names math byte bytes b f)
+      → ((math : Bool) (byte : ℕ) → AreNames math fence_names → is_among (fence_marks math) byte ≡ true → byte < 128 → get_or bytes 0 0 ≡ byte → WritesFence on names math byte bytes b f)
       → WritesCutLines fence_names.chunk (outdent columns) count f l
       → WritesOpened on names text fence here.beside.ending ls after fence_names old l
   opening_written fence here left after ls marker columns count bytes old a b f l size st starts taken white bytes_is marker_is columns_is are enters same_b end_b
@@ -99,7 +73,7 @@ module _ {A : Type 0} (on : Constructs) (names : Names) (fence_names : FenceName
         dark = ap (list_any ends_line) bytes_is ∙ dark_rest text here left old st;
       } in
       let before_b = before_entered text here.beside.ending left bytes a b before_a entered.order same_b end_b in
-      let opened = opens math byte are_math facts.ascii first text here.beside.ending left before_b in
+      let opened = opens math byte are_math facts.mark facts.ascii first text here.beside.ending left before_b in
       let done = opened.before in
       let same_old = same_b ∙ white.same in
       let on_f : f.on.now ≡ old.on.now = opened.around.0 ∙ ap (λ (s : Standing). s.on) same_old in
@@ -130,4 +104,6 @@ module _ {A : Type 0} (on : Constructs) (names : Names) (fence_names : FenceName
         around = (on_f, open_f);
         starts = white.starts;
         begins = white.begins;
+        mark = ap (is_among (fence_marks math)) facts.own ∙ facts.mark;
+        some = facts.some;
       }

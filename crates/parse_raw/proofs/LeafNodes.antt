@@ -11,8 +11,13 @@ use Rattle.definition_page.specs.Page as page
 use Rattle.event_meaning.specs.Spelled.{definition_of}
 use Rattle.parse_output.specs.Forest.{bytes_from}
 use Rattle.parse_alike.specs.Targets.{AreDefinitionsAlike}
+use Rattle.parse_raw.proofs.Prelude.{AreNext, left_bytes, left_next, replicate, space, start_whole}
+use Rattle.parse_lines.proofs.Columns.{bare_owes_none}
 use Rattle.parse_lines.proofs.Written.{bare_follows, bare_start}
 use Rattle.parse_raw.specs.Written.{SpellsLeaf}
+
+left_of_bare : (rest : Rest) → left_bytes (bare rest) ≡ bytes_of (bare rest)
+left_of_bare rest = ap (λ (k : ℕ). replicate k space ++ bytes_of (bare rest)) (bare_owes_none rest)
 
 -- white space is written up to an index of the line
 pub record WritesWhite {A : Type 0} (text : List ℕ) (old new : Walk A) : Type 0 where
@@ -20,7 +25,7 @@ pub record WritesWhite {A : Type 0} (text : List ℕ) (old new : Walk A) : Type 
   pub same : standing new ≡ standing old
   pub starts : (written_to old).index ≤ (written_to new).index
   pub begins : (written_to new).index ≤ old.line_end
-  pub after : AreLeft text (length (bytes_of (bare (rest_of old.rest)))) new
+  pub after : AreLeft text (bytes_of (bare (rest_of old.rest))) new
 
 -- the ending of a line is in the text
 pub line_in_text : (text : List ℕ) (s : Standing) → IsInLine text s → s.line_end ≤ length text
@@ -76,6 +81,10 @@ module _ {A : Type 0} (text : List ℕ) where
       let index = ap (λ (e : End). e.index) to in
       let line_end = ap (λ (s : Standing). s.line_end) same in
       let bare_at : bare start ≡ drop (st.columns + indent start) (whole content) = ap (drop (indent start)) rest_at ∙ drop-drop (indent start) st.columns (whole content) in
+      let next = subst (λ (e : End). AreNext text e (bytes_of (bare start))) (start_whole old.line_end (bare start) (bare_owes_none start) ∙ sym to)
+      (subst (λ bs. AreNext text (rest_start old.line_end (bare start)) bs) (left_of_bare start)
+      (subst (λ r. AreNext text (rest_start old.line_end r) (left_bytes r)) (sym bare_at)
+      (left_next text before content after old.line_end (st.columns + indent start) st.line.parts st.line.end))) in
       let bound = left_within content (st.columns + indent start) st.line.parts.bytes in
       let bound_is : count ≡ length (bytes_of (drop (st.columns + indent start) (whole content))) = ap (λ (r : Rest). length (bytes_of r)) bare_at in
       let end = st.line.end in
@@ -87,6 +96,7 @@ module _ {A : Type 0} (text : List ℕ) where
         after = record {
           order = quiet.writes.order;
           at = to ∙ ap (λ (k : ℕ). end_at (k - count) 0) (sym line_end);
+          next = next;
           within = omega (arith, bound, bound_is, end, line_end);
           end = omega (arith, line_in_text text (standing old) st.line, line_end);
           fits = st.line.over.fits;

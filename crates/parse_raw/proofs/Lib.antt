@@ -1,4 +1,6 @@
 mod Prelude
+pub mod Bytes
+pub mod Runs
 pub mod Fences
 pub mod Nodes
 pub mod Endings

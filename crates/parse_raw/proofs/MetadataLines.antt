@@ -1,11 +1,15 @@
 -- The lines of frontmatter, and what is written of them (in neither standard).
-use Rattle.std.proofs.Common.{◌≡◌, ℕ, suc, ◌-◌, ◌<◌, ◌≤◌, true, ◌&&◌, List, [], ◌∷◌, ◌++◌, Option, None, Some, eqb, inl, inr, refl, sym, ap, subst, ◌∙◌}
+use Rattle.std.proofs.Common.{◌≡◌, ℕ, suc, ◌-◌, ◌<◌, true, ◌&&◌, List, [], ◌∷◌, ◌++◌, Option, None, Some, inl, inr, refl, sym, ap, subst, ◌∙◌}
 use Rattle.std.proofs.Common.{drop, get_or, length, reverse, arith}
-use Rattle.parse_raw.proofs.Prelude.{after_run, and_parts, AreLeft, AreRaw, AreTaken, at_ending, AtEnding, beside_line, Between, BlockLine, bytes_after}
-use Rattle.parse_raw.proofs.Prelude.{bytes_of, cases_Bool, cond-false, cond-true, Constructs, Container, end_at, ending_text, eqb-true, InAll, is_white}
-use Rattle.parse_raw.proofs.Prelude.{IsCutLine, IsInOrder, IsWrittenToRest, LeadsOn, left_within, line_left, line_rest, LineEnding, LineRest, lines, list_all}
-use Rattle.parse_raw.proofs.Prelude.{Nodes, prefix_len-le-length, prefixed, Rest, rest_line, rest_of, rest_start, run, standing, StandsAt, start_whole}
+use Rattle.parse_raw.proofs.Prelude.{and_parts, AreLeft, AreRaw, AreTaken, at_ending, AtEnding, beside_line, Between, BlockLine, bytes_after}
+use Rattle.parse_raw.proofs.Prelude.{bytes_of, cases_Bool, cond-false, cond-true, Constructs, Container, end_at, ending_text, InAll}
+use Rattle.parse_raw.proofs.Prelude.{IsCutLine, IsInOrder, IsWrittenToRest, LeadsOn, left_within, line_left, line_rest, LineEnding, LineRest, lines}
+use Rattle.parse_raw.proofs.Prelude.{Nodes, prefixed, Rest, rest_line, rest_of, rest_start, standing, StandsAt, start_whole}
 use Rattle.parse_raw.proofs.Prelude.{TextLine, unread, Walk, whole, Within, Writes, WritesCutLines, WritesLines, written_to}
+use Rattle.parse_raw.proofs.Prelude.{AreNext, End, left_bytes, left_next, replicate, space}
+use Rattle.std.specs.Prelude.{codes}
+use Rattle.event_tokens.specs.Tokens.{is_among}
+use Rattle.parse_raw.specs.Bytes.{AreMetadataFence}
 use Rattle.markdown_options.specs.declared.beside.Kind.TheVariants.{Whitespace}
 use Rattle.engine_events.specs.declared.event.Name.TheVariants as n
 use Rattle.definition_block.specs.Frontmatter.{after_frontmatter, after_metadata_fence, is_metadata_fence}
@@ -23,45 +27,39 @@ pub record FrontLines (all others : List TextLine) : Type 0 where
   pub mids : List TextLine
   pub last : TextLine
   pub parts : all ≡ first ∷ (mids ++ last ∷ others)
-  pub first_size : 3 ≤ length first.content
-  pub last_size : 3 ≤ length last.content
-
-fence_size : (byte : ℕ) (content : List ℕ) → is_metadata_fence byte content ≡ true → 3 ≤ length content
-fence_size byte content is =
-    let parts = and_parts (eqb (run byte content) 3) (list_all is_white (after_run byte content)) is in
-    let three = eqb-true (run byte content) 3 parts.0 in
-    omega (arith, three, prefix_len-le-length (λ (b : ℕ). eqb b byte) content)
+  pub first_is : AreMetadataFence first.content
+  pub last_is : AreMetadataFence last.content
 
 record EndLines (all others : List TextLine) : Type 0 where
   mids : List TextLine
   last : TextLine
   parts : all ≡ mids ++ last ∷ others
-  size : 3 ≤ length last.content
+  size : AreMetadataFence last.content
 
-end_lines : (byte : ℕ) (all others : List TextLine) → after_metadata_fence byte all ≡ Some others → EndLines all others
-end_lines byte [] others is = absurd (cc)
-end_lines byte (line ∷ ls) others is =
+end_lines : (byte : ℕ) (all others : List TextLine) → is_among (codes "-+") byte ≡ true → after_metadata_fence byte all ≡ Some others → EndLines all others
+end_lines byte [] others mark is = absurd (cc)
+end_lines byte (line ∷ ls) others mark is =
     elim (cases_Bool (is_metadata_fence byte line.content)) [
       | inl h ↦
           let e : Some ls ≡ Some others = sym (cond-true (is_metadata_fence byte line.content) _ _ h) ∙ is in
           let same : ls ≡ others = cc in
-          record { mids = []; last = line; parts = ap (λ (xs : List TextLine). line ∷ xs) same; size = fence_size byte line.content h }
+          record { mids = []; last = line; parts = ap (λ (xs : List TextLine). line ∷ xs) same; size = (byte, mark, h) }
       | inr h ↦
-          let more = end_lines byte ls others (sym (cond-false (is_metadata_fence byte line.content) _ _ h) ∙ is) in
+          let more = end_lines byte ls others mark (sym (cond-false (is_metadata_fence byte line.content) _ _ h) ∙ is) in
           record { mids = line ∷ more.mids; last = more.last; parts = ap (λ (xs : List TextLine). line ∷ xs) more.parts; size = more.size }
     ]
 
-begun_by : (byte : ℕ) (line : TextLine) (ls others : List TextLine) → is_metadata_fence byte line.content ≡ true → after_metadata_fence byte ls ≡ Some others
+begun_by : (byte : ℕ) (line : TextLine) (ls others : List TextLine) → is_among (codes "-+") byte ≡ true → is_metadata_fence byte line.content ≡ true → after_metadata_fence byte ls ≡ Some others
     → FrontLines (line ∷ ls) others
-begun_by byte line ls others is found =
-    let end = end_lines byte ls others found in
+begun_by byte line ls others mark is found =
+    let end = end_lines byte ls others mark found in
     record {
       first = line;
       mids = end.mids;
       last = end.last;
       parts = ap (λ (xs : List TextLine). line ∷ xs) end.parts;
-      first_size = fence_size byte line.content is;
-      last_size = end.size;
+      first_is = (byte, mark, is);
+      last_is = end.size;
     }
 
 pub front_lines : (on : Constructs) (all others : List TextLine) → after_frontmatter on all ≡ Some others → FrontLines all others
@@ -71,11 +69,11 @@ front_lines on (line ∷ ls) others is =
     let pluses = on.frontmatter && is_metadata_fence 43 line.content in
     elim (cases_Bool hyphens) [
       | inl h ↦
-          begun_by 45 line ls others (and_parts on.frontmatter (is_metadata_fence 45 line.content) h).1 (sym (cond-true hyphens _ _ h) ∙ is)
+          begun_by 45 line ls others refl (and_parts on.frontmatter (is_metadata_fence 45 line.content) h).1 (sym (cond-true hyphens _ _ h) ∙ is)
       | inr h ↦
           let other = sym (cond-false hyphens _ _ h) ∙ is in
           elim (cases_Bool pluses) [
-            | inl k ↦ begun_by 43 line ls others (and_parts on.frontmatter (is_metadata_fence 43 line.content) k).1 (sym (cond-true pluses _ _ k) ∙ other)
+            | inl k ↦ begun_by 43 line ls others refl (and_parts on.frontmatter (is_metadata_fence 43 line.content) k).1 (sym (cond-true pluses _ _ k) ∙ other)
             | inr k ↦ let none : None ≡ Some others = sym (cond-false pluses _ _ k) ∙ other in absurd (cc)
           ]
     ]
@@ -117,15 +115,24 @@ text_taken on (l ∷ ls) others =
 
 -- a line of which nothing is read
 pub fresh_left : {A : Type 0} (text content : List ℕ) (w : Walk A) (here : LineRest) (left : List LineRest) → StandsAt text (Within here left) (standing w)
-    → IsWrittenToRest w → IsInOrder text w.out → here.rest ≡ whole content → AreBytes content → AreLeft text (length content) w
+    → IsWrittenToRest w → IsInOrder text w.out → here.rest ≡ whole content → AreBytes content → AreLeft text content w
 fresh_left text content w here left st at order is bytes =
     let rest_is : rest_of w.rest ≡ whole content = st.rest ∙ is in
     let count : length (bytes_of (whole content)) ≡ length content = ap length (bytes_of_codes 0 content bytes) in
+    let fresh : left_bytes (whole content) ≡ content =
+    ap (λ (k : ℕ). replicate k space ++ bytes_of (whole content)) (no_columns 0 content bytes) ∙ bytes_of_codes 0 content bytes in
     let bound = left_within st.line.content st.columns st.line.parts.bytes in
     let bound_is : length (bytes_of (drop st.columns (whole st.line.content))) ≡ length content = ap (λ (r : Rest). length (bytes_of r)) (sym st.suffix ∙ is) ∙ count in
     record {
       order = order;
       at = at ∙ ap (rest_start w.line_end) rest_is ∙ start_whole w.line_end (whole content) (no_columns 0 content bytes) ∙ ap (λ (k : ℕ). end_at (w.line_end - k) 0) count;
+      next =
+          subst (λ (bs : List ℕ). AreNext text (written_to w) bs) (ap left_bytes (sym st.suffix ∙ is) ∙ fresh) (
+          subst (λ (e : End). AreNext text e (left_bytes (drop st.columns (whole st.line.content)))) (
+          sym (at ∙ ap (rest_start w.line_end) (st.rest ∙ st.suffix))
+          ) (
+          left_next text st.line.before st.line.content (ending_text w.ending ++ w.left.now) w.line_end st.columns st.line.parts st.line.end
+          ));
       within = omega (arith, bound, bound_is, st.line.end);
       end = line_in_text text (standing w) st.line;
       fits = st.line.over.fits;
@@ -145,19 +152,19 @@ pub record WritesFenceLine {A : Type 0} (text : List ℕ) (ending : Option LineE
   pub written : written_to f ≡ end_at f.line_end 0
 
 pub fence_line : {A : Type 0} (text content : List ℕ) (a b f : Walk A) (here : LineRest) (left : List LineRest) → StandsAt text (Within here left) (standing a)
-    → IsWrittenToRest a → IsInOrder text a.out → here.rest ≡ whole content → AreBytes content → 3 ≤ length content → IsInOrder text b.out
-    → standing b ≡ standing a → written_to b ≡ written_to a → ((left : ℕ) → 3 ≤ left → LeadsOn left 0 b f)
+    → IsWrittenToRest a → IsInOrder text a.out → here.rest ≡ whole content → AreBytes content → AreMetadataFence content → IsInOrder text b.out
+    → standing b ≡ standing a → written_to b ≡ written_to a → ((bs : List ℕ) → AreMetadataFence bs → LeadsOn bs [] b f)
     → WritesFenceLine text here.beside.ending left b f
-fence_line text content a b f here left st at order is bytes size order_b same_b end_b writes =
+fence_line text content a b f here left st at order is bytes fence order_b same_b end_b writes =
     let left_a = fresh_left text content a here left st at order is bytes in
-    let done = writes (length content) size text (left_same text (length content) a b left_a order_b same_b end_b) in
+    let done = writes content fence text (left_same text content a b left_a order_b same_b end_b) in
     record {
       nodes = done.nodes;
       writes = done.writes;
       raw = done.raw;
       same = done.same;
       stands = subst (StandsAt text (AtEnding here.beside.ending left)) (sym (done.same ∙ same_b)) (at_ending text here left (standing a) st);
-      written = left_none text 0 f refl done.after;
+      written = left_none text [] f refl done.after;
     }
 
 -- the lines between the fences

@@ -3,7 +3,7 @@ use Rattle.std.proofs.Common.{◌≡◌, ℕ, ◌+◌, ◌<◌, Bool, true, fals
 use Rattle.std.proofs.Common.{subst, ◌∙◌, ◌≤◌, append_assoc, drop, length, length-append, length-drop, reverse, arith, Result, Ok, Err}
 use Rattle.parse_raw.proofs.Prelude.{and_parts, append, append-nil, AreRaw, AreTaken, around, AtEnding, beside_line, Between, block_codes, BlockLine}
 use Rattle.parse_raw.proofs.Prelude.{cases_Bool, chunk_parts, codes_first, cond-false, cond-true, Cons, Constructs, Container, End, end_at, end_part}
-use Rattle.parse_raw.proofs.Prelude.{end_to_next, ends_in, false≢true, Follows, has_codes, HasSameOpen, InAll, is_there, IsChunkName, IsCutLine, IsInOrder}
+use Rattle.parse_raw.proofs.Prelude.{ends_in, false≢true, has_codes, HasSameOpen, InAll, is_there, IsChunkName, IsCutLine, IsInOrder}
 use Rattle.parse_raw.proofs.Prelude.{IsWrittenToRest, last_ending_or, line_after, line_left, line_rest, LineEnding, LineRest, lines, list_all, Name, nat_tests}
 use Rattle.parse_raw.proofs.Prelude.{Nil, Nodes, or_parts, parts_after, PassesLine, prefixed, raw_parts, RawPart, Rest, rest_line, Standing, standing}
 use Rattle.parse_raw.proofs.Prelude.{StandsAt, TextLine, unread, void_nodes, Walk, whole, Within, Writes, writes_both, writes_none, WritesCut, WritesCutLines}
@@ -15,6 +15,7 @@ use Rattle.markdown_options.specs.declared.beside.Kind.TheVariants.{Whitespace}
 use Rattle.engine_events.specs.declared.event.Name.TheVariants as n
 use Rattle.definition_text.specs.Lines.{after_return, first_of, in_first_line, text_line}
 use Rattle.parse_raw.specs.RawLines.{WritesCutLine}
+use Rattle.parse_raw.proofs.Bytes.{ending_token, line_ending_fits}
 use Rattle.parse_raw.proofs.Endings.{ending_nodes, ending_parts}
 use Rattle.parse_raw.proofs.Nodes.{ends_append, quiet_parts, raw_append, raw_none, raw_parts_append, raw_quiet, raw_void}
 
@@ -148,8 +149,7 @@ module _ {A : Type 0} (text : List ℕ) where
       → WritesNext text ending (line_left (prefixed a.on.now (around (standing a)) next)) others a b
   next_written a b ending next others st at order passes writes =
       let to = line_after a in
-      let follows : Follows text (written_to a) to = subst (λ (e : End). Follows text e to) (sym at) (end_to_next text (standing a) st.line) in
-      let done = writes text ending next others st order follows in
+      let done = writes text ending next others st order (ending_token text n.LineEnding a line_ending_fits st.line at) in
       let first = void_nodes text n.LineEnding (written_to a) to in
       let is : void_nodes text n.LineEnding (end_at a.line_end 0) to ≡ first = ap (λ (e : End). void_nodes text n.LineEnding e to) (sym at) in
       let are = ending_nodes text n.LineEnding (standing a) refl st.line in

@@ -1,20 +1,16 @@
 -- Bytes that are left of a line, and what is written of them.
-use Rattle.std.proofs.Common.{◌≡◌, ℕ, ◌+◌, ◌-◌, ◌^◌, ◌<◌, ◌≤◌, false, List, [], ◌++◌, Option, sym, ap, ◌∙◌, subst, length, length-append, replicate, take, drop, arith}
-use Rattle.parse_raw.proofs.Prelude.{append, append-nil, AreNext, Around, at_ending, AtEnding, bare, bytes_of, drop-drop, End, end_after, end_at, end_in}
-use Rattle.parse_raw.proofs.Prelude.{ending_text, enter_at, exit_at, indent, IsInOrder, IsWrittenToRest, left_bytes, left_next, length-take-le, LineEnding}
-use Rattle.parse_raw.proofs.Prelude.{LineRest, Name, Nodes, one, Rest, rest_of, rest_start, same_name, space, Standing, standing, StandsAt, start_whole}
+use Rattle.std.proofs.Common.{◌≡◌, ℕ, ◌+◌, ◌-◌, ◌^◌, ◌<◌, ◌≤◌, true, false, List, [], ◌++◌, Option, sym, ap, ◌∙◌, subst, length, length-append, take, drop, arith}
+use Rattle.parse_raw.proofs.Prelude.{append, append-nil, AreNext, is_token, Around, at_ending, AtEnding, bare, bytes_of, End, end_after, end_at, end_in}
+use Rattle.parse_raw.proofs.Prelude.{enter_at, exit_at, IsInOrder, IsWrittenToRest, length-take-le, LineEnding}
+use Rattle.parse_raw.proofs.Prelude.{LineRest, Name, Nodes, one, rest_of, same_name, Standing, standing, StandsAt}
 use Rattle.parse_raw.proofs.Prelude.{take-append-drop, tokens, Walk, whole, whole_end, Within, Writes, writes_around, writes_both, WritesFirst, WritesQuiet}
 use Rattle.parse_raw.proofs.Prelude.{WritesUpTo, written_to}
 use Rattle.engine_events.specs.declared.event.Name.TheVariants as n
 use Rattle.parse_lines.specs.Standing.{TEXT_MAX}
-use Rattle.parse_lines.proofs.Columns.{bare_owes_none}
 use Rattle.parse_raw.specs.Before.{IsBefore, IsOnLine, WritesOnLine}
 use Rattle.parse_raw.specs.Calls.{EnterCall, ExitCall, ToCall, TokenCall}
 use Rattle.parse_raw.proofs.LeafNodes.{cut_one, white_written}
 use Rattle.parse_raw.proofs.LineTokens.{after_first, token_first, up_to_first}
-
-left_of_bare : (rest : Rest) → left_bytes (bare rest) ≡ bytes_of (bare rest)
-left_of_bare rest = ap (λ (k : ℕ). replicate k space ++ bytes_of (bare rest)) (bare_owes_none rest)
 
 small_text : (n : ℕ) → n ≤ TEXT_MAX → n < 2 ^ 61
 small_text n h = omega (arith, h)
@@ -37,17 +33,7 @@ module _ {A : Type 0} (text : List ℕ) where
       let line = st.line in
       let bytes = bytes_of (bare here.rest) in
       let rest_is : rest_of old.rest ≡ here.rest = st.rest in
-      let m = st.columns + indent here.rest in
-      let bare_is : bare here.rest ≡ drop m (whole line.content) =
-      ap (drop (indent here.rest)) st.suffix ∙ drop-drop (indent here.rest) st.columns (whole line.content) in
-      let to_bare : rest_start old.line_end (bare here.rest) ≡ written_to new =
-      start_whole old.line_end (bare here.rest) (bare_owes_none here.rest)
-      ∙ ap (λ r. end_at (old.line_end - length (bytes_of (bare r))) 0) (sym rest_is) ∙ sym to in
-      let next : AreNext text (written_to new) bytes =
-      subst (λ (e : End). AreNext text e bytes) to_bare
-      (subst (λ bs. AreNext text (rest_start old.line_end (bare here.rest)) bs) (left_of_bare here.rest)
-      (subst (λ r. AreNext text (rest_start old.line_end r) (left_bytes r)) (sym bare_is)
-      (left_next text line.before line.content (ending_text old.ending ++ old.left.now) old.line_end m line.parts line.end))) in
+      let next : AreNext text (written_to new) bytes = subst (λ r. AreNext text (written_to new) (bytes_of (bare r))) rest_is white.after.next in
       let line_end : new.line_end ≡ old.line_end = ap (λ (s : Standing). s.line_end) same in
       record {
         quiet = white.quiet;
@@ -109,24 +95,24 @@ module _ {A : Type 0} (text : List ℕ) (ending : Option LineEnding) (left : Lis
   entered_on a b name line call on = let entered = call.2 on.before.order in stays_on a b line call.0 call.1 entered.order on
 
   -- a token of the first of these bytes, so many
-  pub some_on : (a b : Walk A) (name : Name) (bytes : List ℕ) (k : ℕ) → same_name name n.Data ≡ false → k ≤ length bytes → TokenCall name k a b
+  pub some_on : (a b : Walk A) (name : Name) (bytes : List ℕ) (k : ℕ) → same_name name n.Data ≡ false → is_token name (take k bytes) ≡ true → k ≤ length bytes → TokenCall name k a b
       → IsOnLine text ending left bytes a → WritesOnLine text ending left (tokens text name (written_to a).index (take k bytes)) (drop k bytes) a b
-  some_on a b name bytes k other fits call on =
+  some_on a b name bytes k other may fits call on =
       let parts = sym (take-append-drop k bytes) in
       first_on_line text ending left (take k bytes) (drop k bytes) (tokens text name (written_to a).index (take k bytes)) a b
       (subst (λ bs. IsOnLine text ending left bs a) parts on)
-      (token_first text a b name (take k bytes) (drop k bytes) k other (sym (length-take-le k bytes fits)) call.0 call.1 call.2
+      (token_first text a b name (take k bytes) (drop k bytes) k other may (sym (length-take-le k bytes fits)) call.0 call.1 call.2
       (subst (λ bs. IsBefore text bs a) parts on.before))
 
   -- all that is left of the line
-  pub all_on : (a b : Walk A) (name : Name) (line : List ℕ) → same_name name n.Data ≡ false → ToCall name (end_at a.line_end 0) a b
+  pub all_on : (a b : Walk A) (name : Name) (line : List ℕ) → same_name name n.Data ≡ false → is_token name line ≡ true → ToCall name (end_at a.line_end 0) a b
       → IsOnLine text ending left line a → WritesOnLine text ending left (tokens text name (written_to a).index line) [] a b
-  all_on a b name line other call on =
+  all_on a b name line other may call on =
       let is : end_at a.line_end 0 ≡ end_after (end_in a.out) (length line) =
       ap (λ k. end_at k 0) (sym on.end) ∙ sym (after_first (end_in a.out) (length line) on.before.whole) in
       let all = subst (λ bs. IsOnLine text ending left bs a) (sym (append-nil line)) on in
       first_on_line text ending left line [] (tokens text name (written_to a).index line) a b all
-      (up_to_first text a b name line [] (end_at a.line_end 0) other is call.0 call.1 call.2 all.before)
+      (up_to_first text a b name line [] (end_at a.line_end 0) other may is call.0 call.1 call.2 all.before)
 
   -- nodes in an event that is entered before them and exited after them
   pub around_on : (a b c d : Walk A) (name : Name) (line : List ℕ) (ns : Nodes) → same_name name n.Data ≡ false → EnterCall text name a b

@@ -6,7 +6,10 @@ use Rattle.parse_raw.proofs.Prelude.{IsRawName, IsUtf8, LeadsTo, length-take-le,
 use Rattle.parse_raw.proofs.Prelude.{prefix_len-le-length, run, same_name, Standing, standing, StandsAt, take-append-drop, trim, Walk, Writes, writes_around}
 use Rattle.parse_raw.proofs.Prelude.{WritesUpTo, written_to}
 use Rattle.engine_events.specs.declared.event.Name.TheVariants as n
+use Rattle.parse_raw.proofs.Prelude.{all_prefix, fence_marks}
+use Rattle.event_tokens.specs.Tokens.{is_among}
 use Rattle.parse_raw.specs.FenceParts.{WritesFenceOf}
+use Rattle.parse_raw.proofs.Runs.{run_fits, sequence_fits}
 use Rattle.parse_raw.proofs.FenceParts.{all_part, dark_both, parts_after, parts_both, run_boundary, token_part, trim_parts}
 
 pub sequence_other : (fence : FenceNames) (math : Bool) → AreNames math fence → (same_name fence.sequence n.CodeFencedFenceInfo ≡ false) × IsRawName fence.sequence
@@ -34,7 +37,7 @@ before_entered text ending left bytes a b before order same at =
 
 module _ {A : Type 0} (on : Constructs) (names : Names) (fence : FenceNames) (math : Bool) (byte : ℕ) (text : List ℕ) (ending : Option LineEnding)
     (left : List LineRest) where
-  pub fence_written : (bare rest trimmed : List ℕ) (size white : ℕ) (a b c d e f g : Walk A) → AreNames math fence → byte < 128 → IsUtf8 bare
+  pub fence_written : (bare rest trimmed : List ℕ) (size white : ℕ) (a b c d e f g : Walk A) → AreNames math fence → is_among (fence_marks math) byte ≡ true → byte < 128 → IsUtf8 bare
       → IsBefore text ending left bare a
       → Enters text fence.fence a.out b.out → standing b ≡ standing a → written_to b ≡ written_to a
       → size ≡ run byte bare → standing c ≡ standing b
@@ -49,7 +52,7 @@ module _ {A : Type 0} (on : Constructs) (names : Names) (fence : FenceNames) (ma
       → standing f ≡ standing e → written_to f ≡ end_at e.line_end 0 → WritesUpTo n.SpaceOrTab (end_at e.line_end 0) e f
       → (IsInOrder text f.out → Exits text fence.fence f.out g.out) → standing g ≡ standing f → written_to g ≡ written_to f
       → WritesFenceOf on names math byte bare text ending left a g
-  fence_written bare rest trimmed size white a b c d e f g are ascii utf8 before enters same_b end_b size_is same_c end_c token_c rests white_is same_d end_d token_d
+  fence_written bare rest trimmed size white a b c d e f g are mark ascii utf8 before enters same_b end_b size_is same_c end_c token_c rests white_is same_d end_d token_d
       trim_is info same_f end_f all_f exits same_g end_g =
       let before_b = before_entered text ending left bare a b before enters.order same_b end_b in
       let rest_is : rest ≡ after_run byte bare =
@@ -59,8 +62,9 @@ module _ {A : Type 0} (on : Constructs) (names : Names) (fence : FenceNames) (ma
       sym (length-take-le size bare (omega (arith, size_is, prefix_len-le-length (λ (x : ℕ). eqb x byte) bare))) in
       let bare_is : take size bare ++ rest ≡ bare =
       ap (λ (xs : List ℕ). take size bare ++ xs) (rest_is ∙ ap (λ (k : ℕ). drop k bare) (sym size_is)) ∙ take-append-drop size bare in
+      let sequence = sequence_fits fence math (take size bare) are (run_fits (fence_marks math) byte bare size mark (omega (arith, size_is))) in
       let first = subst (λ (xs : List ℕ). LeadsTo names None xs rest b c) bare_is (
-      token_part names fence.sequence (take size bare) rest size b c seq.1 seq.0 count same_c end_c token_c
+      token_part names fence.sequence (take size bare) rest size b c seq.1 seq.0 sequence count same_c end_c token_c
       ) in
       let parts = trim_parts rest in
       let tail = parts.0 in
@@ -69,13 +73,14 @@ module _ {A : Type 0} (on : Constructs) (names : Names) (fence : FenceNames) (ma
       let white_count : white ≡ length (take white rest) =
       sym (length-take-le white rest (omega (arith, white_is, prefix_len-le-length is_white rest))) in
       let second = subst (λ (xs : List ℕ). LeadsTo names None xs (trimmed ++ tail) c d) rest_parts (
-      token_part names n.SpaceOrTab (take white rest) (trimmed ++ tail) white c d (record { no_data = refl; no_definition = refl; no_code = refl; no_math = refl }) refl white_count
+      token_part names n.SpaceOrTab (take white rest) (trimmed ++ tail) white c d (record { no_data = refl; no_definition = refl; no_code = refl; no_math = refl }) refl
+      (all_prefix is_white white rest (omega (arith, white_is))) white_count
       same_d end_d token_d
       ) in
       let dark_rest = (dark_both (take size bare) rest (ap (list_any ends_line) bare_is ∙ before.dark)).1 in
       let dark_trim = (dark_both trimmed tail (dark_both (take white rest) (trimmed ++ tail) (ap (list_any ends_line) rest_parts ∙ dark_rest)).1).0 in
       let third = info math tail are dark_trim in
-      let last = all_part names n.SpaceOrTab tail e f (record { no_data = refl; no_definition = refl; no_code = refl; no_math = refl }) refl same_f end_f all_f in
+      let last = all_part names n.SpaceOrTab tail e f (record { no_data = refl; no_definition = refl; no_code = refl; no_math = refl }) refl parts.2 same_f end_f all_f in
       let found = info_in math on names trimmed in
       let all = parts_both names found bare rest [] b c f first (
       parts_both names found rest (trimmed ++ tail) [] c d f second (parts_after names found (trimmed ++ tail) tail [] d e f third last)) in

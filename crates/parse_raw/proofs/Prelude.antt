@@ -31,6 +31,7 @@ pub use Rattle.event_grammar.specs.Grammar.{block_names}
 pub use Rattle.event_grammar.specs.InGrammar.{kids_of, node_name}
 pub use Rattle.event_grammar.specs.References.{named}
 pub use Rattle.event_grammar.specs.Trees.{Around, Cons, Nil, Node, Nodes}
+pub use Rattle.event_tokens.specs.Tokens.{is_token}
 pub use Rattle.event_meaning.specs.Blocks.{blocks_of, info_of, one as one_block}
 pub use Rattle.event_meaning.specs.Children.{after_child, before_child, child, ends_in, inside_of, kids_in, spaced_text_of, text_of}
 pub use Rattle.event_meaning.specs.Raw.{Chunk, End as EndPart, fenced_lines, raw_lines, raw_part, raw_parts, RawPart}
@@ -50,7 +51,7 @@ pub use Rattle.parse_lines.proofs.Quiet.{no_void}
 pub use Rattle.parse_lines.proofs.Spots.{bytes_after}
 pub use Rattle.parse_lines.proofs.Steps.{at_ending}
 pub use Rattle.parse_lines.proofs.Suffixes.{IsAfterWhite}
-pub use Rattle.parse_lines.proofs.White.{all_prefix}
+pub use Rattle.parse_lines.proofs.White.{all_filter, all_prefix}
 pub use Rattle.parse_lines.proofs.Written.{space_written}
 pub use Rattle.parse_lines.specs.Content.{AreNext, end_after}
 pub use Rattle.parse_lines.specs.Ends.{IsWrittenToRest, line_after, rest_start, WritesEnding, WritesNextLine, WritesQuiet, WritesUpTo, written_to}
@@ -61,9 +62,12 @@ pub use Rattle.parse_lines.specs.declared.walk.Walk.{Walk}
 pub use Rattle.parse_output.proofs.Written.{writes_around, writes_both, writes_none}
 pub use Rattle.parse_output.specs.Ends.{end_at, enter_at, exit_at, Follows, same_end}
 pub use Rattle.parse_output.specs.Forest.{append, cut, is_nil, one, void_nodes}
+pub use Rattle.parse_output.specs.Joined.{text_between}
+pub use Rattle.parse_output.specs.Voids.{IsToken}
 pub use Rattle.parse_output.specs.Written.{end_in, Enters, Exits, IsInOrder, Writes}
 pub use Rattle.parse_output.specs.declared.end.End.{End}
 pub use Rattle.parse_strings.proofs.Spelled.{whole_end}
+pub use Rattle.parse_raw.specs.Bytes.{AreClosing, fence_marks}
 pub use Rattle.parse_raw.specs.Before.{tokens, WritesFirst}
 pub use Rattle.parse_raw.specs.FenceParts.{AreNames, block_info, chunk_name, fence_name, info_by, info_in, IsBefore, IsPartOf, LeadsTo, WritesOpened}
 pub use Rattle.parse_raw.specs.FenceParts.{WritesOpening, WritesPart}

@@ -7,9 +7,11 @@ use Rattle.parse_raw.proofs.Prelude.{indent, is_tab_column, IsChunkName, IsInOrd
 use Rattle.parse_raw.proofs.Prelude.{Nil, no_void, Node, Nodes, outdent, prefix_len, raw_part, raw_parts, RawPart, replicate, Rest, rest_of, rest_start}
 use Rattle.parse_raw.proofs.Prelude.{rest_to_end, same_end, same_name, space, spaced_text_of, Standing, standing, StandsAt, tab_column, void_nodes, Walk}
 use Rattle.parse_raw.proofs.Prelude.{whole, Within, Writes, writes_both, WritesCut, WritesUpTo, written_to}
+use Rattle.std.proofs.Common.{◌≤◌}
 use Rattle.std.proofs.lemmas.List.{length-map}
 use Rattle.engine_events.specs.declared.event.Name.TheVariants as n
 use Rattle.text_lines.proofs.Codes.{no_bytes}
+use Rattle.parse_raw.proofs.Bytes.{columns_white, rest_fits}
 use Rattle.parse_raw.proofs.Nodes.{IsRawName, ends_append, raw_append, raw_parts_append, raw_void, void_cases}
 use Rattle.parse_raw.proofs.Raw.{rest_bytes, rest_size, void_node}
 
@@ -170,7 +172,11 @@ module _ {A : Type 0} (text : List ℕ) (name : Name) where
       record {
         nodes = void_nodes text name (written_to b) (end_at b.line_end 0);
         is = refl;
-        writes = writes text order (subst (λ (e : End). Follows text e (end_at b.line_end 0)) (sym at) follows);
+        writes =
+            writes text order (record {
+              follows = subst (λ (e : End). Follows text e (end_at b.line_end 0)) (sym at) follows;
+              bytes = rest_fits text before content after b.line_end line end name m (written_to b) at is_chunk;
+            });
         raw = subst AreRaw is nodes.1;
         parts = ap (raw_parts text) (sym is) ∙ nodes.0;
       }
@@ -212,9 +218,15 @@ module _ {A : Type 0} (text : List ℕ) (name : Name) where
       let follows = line_follows text before content after b.line_end st.columns columns st.line.parts st.line.end (omega arith) in
       let mid = rest_start b.line_end (outdent k (rest_of b.rest)) in
       let mid_is : rest_start b.line_end (drop columns (whole content)) ≡ mid = ap (rest_start b.line_end) (sym rest_is) in
-      let spaces = space text order (subst (λ (e : End). Follows text e mid) (sym from) (
-      subst (λ (e : End). Follows text (rest_start b.line_end (drop st.columns (whole content))) e) mid_is follows
-      )) in
+      let few : j ≤ indent (drop st.columns (whole content)) =
+      omega (arith, ap (λ (r : Rest). indent r) st.suffix) in
+      let spaces = space text order (record {
+        follows =
+            subst (λ (e : End). Follows text e mid) (sym from) (
+            subst (λ (e : End). Follows text (rest_start b.line_end (drop st.columns (whole content))) e) mid_is follows
+            );
+        bytes = columns_white text before content after b.line_end st.line.parts st.line.end st.columns j (written_to b) mid from (sym mid_is) few;
+      }) in
       let line_end : c.line_end ≡ b.line_end = ap (λ (s : Standing). s.line_end) same_c in
       let at_c : written_to c ≡ rest_start c.line_end (drop columns (whole content)) =
       to ∙ sym mid_is ∙ ap (λ (e : ℕ). rest_start e (drop columns (whole content))) (sym line_end) in

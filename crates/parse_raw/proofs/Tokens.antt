@@ -1,10 +1,16 @@
 -- What is written of the bytes of a line, step by step.
-use Rattle.std.proofs.Common.{◌≡◌, ℕ, ◌+◌, ◌-◌, ◌^◌, ◌<◌, ◌≤◌, Bool, ◌&&◌, List, [], ◌∷◌, ◌++◌, eqb, inl, refl, sym, ap, subst, ◌∙◌, length, get_or, arith}
+use Rattle.std.proofs.Common.{◌≡◌, ℕ, ◌+◌, ◌-◌, ◌^◌, ◌<◌, ◌≤◌, Bool, true, ◌&&◌, List, [], ◌∷◌, ◌++◌, eqb, inl, refl, sym, ap, subst, ◌∙◌, drop, take, length, length-drop}
+use Rattle.std.proofs.Common.{get_or, arith}
 use Rattle.parse_raw.proofs.Prelude.{append, AreLeft, Around, cond-false, cond-true, cut, End, end_at, end_in, enter_at, Enters, exit_at, Exits, Follows}
 use Rattle.parse_raw.proofs.Prelude.{is_nil, IsInOrder, LeadsOn, Name, named, Nil, Node, one, run, same_name, Standing, standing, void_nodes, Walk, Writes}
 use Rattle.parse_raw.proofs.Prelude.{writes_around, writes_both, writes_none, WritesUpTo, written_to}
+use Rattle.parse_raw.proofs.Prelude.{AreNext, end_after, is_token, length-take-le, next_after, take-append-drop, text_between}
 use Rattle.std.proofs.lemmas.Bool.{eq-eqb}
+use Rattle.std.proofs.lemmas.List.{drop_all}
+use Rattle.std.proofs.Math.Seq.{take-length}
 use Rattle.engine_events.specs.declared.event.Name.TheVariants as n
+use Rattle.parse_lines.proofs.Bytes.{whole_between}
+use Rattle.parse_raw.proofs.LineTokens.{after_first}
 use Rattle.parse_raw.proofs.Nodes.{IsRawName, raw_append, raw_none, raw_void}
 
 -- an index further on
@@ -13,12 +19,12 @@ index_follows text i j forward within = record { forward = forward; within = wit
 
 module _ {A : Type 0} where
   -- nothing
-  pub tokens_none : (n : ℕ) (w : Walk A) → LeadsOn n n w w
-  tokens_none n w text left = record { nodes = Nil; writes = writes_none text w.out left.order; raw = raw_none; same = refl; after = left }
+  pub tokens_none : (bytes : List ℕ) (w : Walk A) → LeadsOn bytes bytes w w
+  tokens_none bytes w text left = record { nodes = Nil; writes = writes_none text w.out left.order; raw = raw_none; same = refl; after = left }
 
   -- some, and then others
-  pub tokens_both : (k m n : ℕ) (a b c : Walk A) → LeadsOn k m a b → LeadsOn m n b c → LeadsOn k n a c
-  tokens_both k m n a b c first second text left =
+  pub tokens_both : (xs ys zs : List ℕ) (a b c : Walk A) → LeadsOn xs ys a b → LeadsOn ys zs b c → LeadsOn xs zs a c
+  tokens_both xs ys zs a b c first second text left =
       let one = first text left in
       let two = second text one.after in
       record {
@@ -30,19 +36,31 @@ module _ {A : Type 0} where
       }
 
   -- an event that holds no other
-  pub token_on : (name : Name) (n size : ℕ) (a b : Walk A) → IsRawName name → size ≤ n → standing b ≡ standing a
+  pub token_on : (name : Name) (bytes : List ℕ) (size : ℕ) (a b : Walk A) → IsRawName name → size ≤ length bytes → is_token name (take size bytes) ≡ true
+      → standing b ≡ standing a
       → ((written_to a).index + size < 2 ^ 64 → written_to b ≡ end_at ((written_to a).index + size) 0)
-      → ((written_to a).index + size < 2 ^ 64 → WritesUpTo name (end_at ((written_to a).index + size) 0) a b) → LeadsOn n (n - size) a b
-  token_on name n size a b raw le same ends writes text left =
+      → ((written_to a).index + size < 2 ^ 64 → WritesUpTo name (end_at ((written_to a).index + size) 0) a b) → LeadsOn bytes (drop size bytes) a b
+  token_on name bytes size a b raw le may same ends writes text left =
       let index = ap (λ (e : End). e.index) left.at in
       let line_end = ap (λ (s : Standing). s.line_end) same in
       let fits : (written_to a).index + size < 2 ^ 64 = omega (arith, index, left.within, left.end, left.fits, le) in
       let to = end_at ((written_to a).index + size) 0 in
       let reach : (written_to a).index + size ≤ length text = omega (arith, index, left.within, left.end, le) in
       let follows : Follows text (written_to a) to =
-      subst (λ (e : End). Follows text e to) (sym left.at) (index_follows text (a.line_end - n) ((written_to a).index + size) (omega (arith, index)) reach) in
-      let there : (written_to a).index + size ≡ b.line_end - (n - size) = omega (arith, index, left.within, le, line_end) in
-      let done = writes fits text left.order follows in
+      subst (λ (e : End). Follows text e to) (sym left.at) (
+      index_follows text (a.line_end - length bytes) ((written_to a).index + size) (omega (arith, index)) reach
+      ) in
+      let behind = length-drop size bytes in
+      let there : (written_to a).index + size ≡ b.line_end - length (drop size bytes) = omega (arith, index, left.within, le, line_end, behind) in
+      let front = take size bytes in
+      let whole : (written_to a).owed ≡ 0 = ap (λ (e : End). e.owed) left.at in
+      let next = subst (λ (bs : List ℕ). AreNext text (written_to a) bs) (sym (take-append-drop size bytes)) left.next in
+      let count : length front ≡ size = length-take-le size bytes le in
+      let reached : end_after (written_to a) (length front) ≡ to =
+      after_first (written_to a) (length front) whole ∙ ap (λ (k : ℕ). end_at ((written_to a).index + k) 0) count in
+      let between : text_between text (written_to a) to ≡ front =
+      ap (text_between text (written_to a)) (sym reached) ∙ whole_between text (written_to a) front (drop size bytes) whole next in
+      let done = writes fits text left.order (record { follows = follows; bytes = ap (is_token name) between ∙ may }) in
       record {
         nodes = void_nodes text name (written_to a) to;
         writes = done;
@@ -51,34 +69,27 @@ module _ {A : Type 0} where
         after = record {
           order = done.order;
           at = ends fits ∙ ap (λ (k : ℕ). end_at k 0) there;
-          within = omega (arith, left.within, line_end);
+          next =
+              subst (λ (e : End). AreNext text e (drop size bytes)) (reached ∙ sym (ends fits)) (next_after text front (drop size bytes) (written_to a) next);
+          within = omega (arith, left.within, line_end, behind);
           end = omega (arith, left.end, line_end);
           fits = left.fits;
         };
       }
 
   -- all that is left
-  pub token_all : (name : Name) (n : ℕ) (a b : Walk A) → IsRawName name → standing b ≡ standing a → written_to b ≡ end_at a.line_end 0
-      → WritesUpTo name (end_at a.line_end 0) a b → LeadsOn n 0 a b
-  token_all name n a b raw same ends writes text left =
-      let line_end = ap (λ (s : Standing). s.line_end) same in
-      let follows : Follows text (written_to a) (end_at a.line_end 0) =
-      subst (λ (e : End). Follows text e (end_at a.line_end 0)) (sym left.at) (index_follows text (a.line_end - n) a.line_end (omega arith) left.end) in
-      let there : a.line_end ≡ b.line_end - 0 = omega (arith, line_end) in
-      let done = writes text left.order follows in
-      record {
-        nodes = void_nodes text name (written_to a) (end_at a.line_end 0);
-        writes = done;
-        raw = raw_void text name (written_to a) (end_at a.line_end 0) raw;
-        same = same;
-        after = record {
-          order = done.order;
-          at = ends ∙ ap (λ (k : ℕ). end_at k 0) there;
-          within = omega arith;
-          end = omega (arith, left.end, line_end);
-          fits = left.fits;
-        };
-      }
+  pub token_all : (name : Name) (bytes : List ℕ) (a b : Walk A) → IsRawName name → is_token name bytes ≡ true → standing b ≡ standing a
+      → written_to b ≡ end_at a.line_end 0 → WritesUpTo name (end_at a.line_end 0) a b → LeadsOn bytes [] a b
+  token_all name bytes a b raw may same ends writes text left =
+      let size = length bytes in
+      let none : drop size bytes ≡ [] = drop_all size bytes (omega arith) in
+      let all : take size bytes ≡ bytes = take-length bytes in
+      let there : a.line_end ≡ (written_to a).index + size = omega (arith, ap (λ (e : End). e.index) left.at, left.within) in
+      let ends_there : written_to b ≡ end_at ((written_to a).index + size) 0 = ends ∙ ap (λ (k : ℕ). end_at k 0) there in
+      let writes_there = subst (λ (k : ℕ). WritesUpTo name (end_at k 0) a b) there writes in
+      subst (λ (bs : List ℕ). LeadsOn bytes bs a b) none (
+      token_on name bytes size a b raw (omega arith) (ap (is_token name) all ∙ may) same (λ fits. ends_there) (λ fits. writes_there)
+      ) text left
 
 -- bytes begin with one or more of their first
 pub run_some : (bytes : List ℕ) (first : ℕ) → 0 < length bytes → first ≡ get_or bytes 0 0 → 0 < run first bytes
@@ -89,30 +100,32 @@ run_some (b ∷ bs) first some is =
 
 module _ {A : Type 0} (text : List ℕ) where
   -- an event is entered or exited
-  pub left_same : (n : ℕ) (a b : Walk A) → AreLeft text n a → IsInOrder text b.out → standing b ≡ standing a → written_to b ≡ written_to a → AreLeft text n b
-  left_same n a b left order same at =
+  pub left_same : (bytes : List ℕ) (a b : Walk A) → AreLeft text bytes a → IsInOrder text b.out → standing b ≡ standing a → written_to b ≡ written_to a
+      → AreLeft text bytes b
+  left_same bytes a b left order same at =
       let line_end = ap (λ (s : Standing). s.line_end) same in
       record {
         order = order;
-        at = at ∙ left.at ∙ ap (λ (k : ℕ). end_at (k - n) 0) (sym line_end);
+        at = at ∙ left.at ∙ ap (λ (k : ℕ). end_at (k - length bytes) 0) (sym line_end);
+        next = subst (λ (e : End). AreNext text e bytes) (sym at) left.next;
         within = omega (arith, left.within, line_end);
         end = omega (arith, left.end, line_end);
         fits = left.fits;
       }
 
   -- nothing is left
-  pub left_none : (n : ℕ) (w : Walk A) → n ≡ 0 → AreLeft text n w → written_to w ≡ end_at w.line_end 0
-  left_none n w none left =
-      let all : w.line_end - n ≡ w.line_end = omega arith in
+  pub left_none : (bytes : List ℕ) (w : Walk A) → length bytes ≡ 0 → AreLeft text bytes w → written_to w ≡ end_at w.line_end 0
+  left_none bytes w none left =
+      let all : w.line_end - length bytes ≡ w.line_end = omega (arith, none) in
       left.at ∙ ap (λ (k : ℕ). end_at k 0) all
 
 -- an event around others
-pub tokens_around : {A : Type 0} (name : Name) (k m : ℕ) (a b c d : Walk A) → IsRawName name
-    → ((text : List ℕ) → IsInOrder text a.out → Enters text name a.out b.out) → standing b ≡ standing a → written_to b ≡ written_to a → LeadsOn k m b c
-    → ((text : List ℕ) → IsInOrder text c.out → Exits text name c.out d.out) → standing d ≡ standing c → written_to d ≡ written_to c → LeadsOn k m a d
-tokens_around name k m a b c d raw enters same_b end_b kids exits same_d end_d text left =
+pub tokens_around : {A : Type 0} (name : Name) (xs ys : List ℕ) (a b c d : Walk A) → IsRawName name
+    → ((text : List ℕ) → IsInOrder text a.out → Enters text name a.out b.out) → standing b ≡ standing a → written_to b ≡ written_to a → LeadsOn xs ys b c
+    → ((text : List ℕ) → IsInOrder text c.out → Exits text name c.out d.out) → standing d ≡ standing c → written_to d ≡ written_to c → LeadsOn xs ys a d
+tokens_around name xs ys a b c d raw enters same_b end_b kids exits same_d end_d text left =
     let entered = enters text left.order in
-    let inner = kids text (left_same text k a b left entered.order same_b end_b) in
+    let inner = kids text (left_same text xs a b left entered.order same_b end_b) in
     let exited = exits text inner.writes.order in
     let node = Around (enter_at text name (end_in a.out)) inner.nodes (exit_at text name (end_in c.out)) in
     let whole : cut node ≡ one node =
@@ -129,5 +142,5 @@ tokens_around name k m a b c d raw enters same_b end_b kids exits same_d end_d t
         math = cond-false (same_name name n.MathFlowFence) _ _ raw.no_math;
       };
       same = same_d ∙ inner.same ∙ same_b;
-      after = left_same text m c d inner.after exited.order same_d end_d;
+      after = left_same text ys c d inner.after exited.order same_d end_d;
     }

@@ -9,6 +9,7 @@ use Rattle.engine_events.specs.declared.event.Name.TheVariants as n
 use Rattle.definition_page.specs.Page as page
 use Rattle.parse_output.proofs.Forests.{append-nil}
 use Rattle.parse_raw.specs.Laid.{WritesReadUnclosed, WritesToEnd}
+use Rattle.parse_raw.proofs.Bytes.{line_ending_fits}
 use Rattle.parse_raw.proofs.Blank.{end_written}
 use Rattle.parse_raw.proofs.ClosedCode.{block_alike, block_is, found_of, info_found}
 use Rattle.parse_raw.proofs.ClosingFence.{parts_closed}
@@ -68,7 +69,7 @@ module _ {A : Type 0} (r : Reading) (first : Bool) (text : List ℕ) (fence_name
   outside_written info ls here to old l e d begins outermost ends writes kept exits same_d end_d =
       let o = begins.opened in
       let last = last_ending_or here.beside.ending ls in
-      let done = end_written text n.LineEnding l e last begins.after refl o.lines.stands o.lines.written o.lines.writes.order writes in
+      let done = end_written text n.LineEnding l e last begins.after refl line_ending_fits o.lines.stands o.lines.written o.lines.writes.order writes in
       let inner = append o.lines.nodes done.nodes in
       let kids = Cons o.node inner in
       let kids_writes = writes_both text o.entered.out o.fenced.out e.out (one o.node) inner o.writes_fence (

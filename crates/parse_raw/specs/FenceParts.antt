@@ -1,7 +1,7 @@
 -- What is written of the fence of code or math, one part after another (CommonMark 4.5).
-use Rattle.std.specs.Prelude.{◌≡◌, ◌⊎◌, ◌≤◌, ◌+◌, ℕ, Bool, true, false, List, [], ◌∷◌, Option, None, Some, if◌then◌else◌, length, take}
+use Rattle.std.specs.Prelude.{◌≡◌, ◌⊎◌, ◌≤◌, ◌<◌, ◌+◌, ℕ, Bool, true, false, List, [], ◌∷◌, Option, None, Some, if◌then◌else◌, length, take}
 use Rattle.std.specs.List.{list_any, position_or_len}
-use Rattle.definition_text.specs.Columns.{is_white, trim}
+use Rattle.definition_text.specs.Columns.{bare, bytes_of, is_white, trim}
 use Rattle.definition_text.specs.Runs.{after_run}
 use Rattle.markdown_options.specs.declared.configuration.Constructs.{Constructs}
 use Rattle.markdown_options.specs.declared.line_ending.LineEnding.{LineEnding}
@@ -16,6 +16,7 @@ use Rattle.definition_inline.specs.Strings.{string_text}
 use Rattle.event_grammar.specs.InGrammar.{kids_of, node_name}
 use Rattle.event_grammar.specs.References.{named}
 use Rattle.event_grammar.specs.Trees.{Node, Nodes, Nil}
+use Rattle.event_tokens.specs.Tokens.{is_among}
 use Rattle.event_meaning.specs.Blocks.{info_of}
 use Rattle.event_meaning.specs.Children.{child}
 use Rattle.event_meaning.specs.Strings.{string_of}
@@ -31,6 +32,7 @@ use Rattle.parse_lines.specs.InContent.{IsWhole}
 use Rattle.parse_lines.specs.Standing.{StandsAt, around, standing}
 use Rattle.parse_lines.specs.Steps.{HasSameOpen}
 use Rattle.parse_raw.specs.declared.fence_names.FenceNames.{FenceNames}
+use Rattle.parse_raw.specs.Bytes.{AreClosing, fence_marks}
 use Rattle.parse_raw.specs.RawLines.{AreRaw, WritesLines}
 
 -- ---- names
@@ -156,6 +158,9 @@ pub record WritesOpened {A : Type 0} (on : Constructs) (names : Names) (text : L
   pub around : HasSameOpen (standing old) (standing fenced)
   pub starts : (written_to old).index ≤ (written_to space).index
   pub begins : (written_to space).index ≤ old.line_end
+  -- which lines may close it
+  pub mark : is_among (fence_marks math) fence.byte ≡ true
+  pub some : 0 < fence.run
 
 -- Where a fence begins, it is written so, with lines that it doesn't close.
 abbrev pub WritesOpening : {A : Type 0} → Constructs → Names → ℕ → FenceNames → Walk A → Walk A → Type 0
@@ -181,4 +186,4 @@ pub record WritesClosingOf {A : Type 0} (math : Bool) (text : List ℕ) (here : 
 abbrev pub WritesClosing : {A : Type 0} → FenceNames → Walk A → Walk A → Type 0
 WritesClosing fence_names old new =
     (math : Bool) (text : List ℕ) (here : LineRest) (left : List LineRest) → AreNames math fence_names → StandsAt text (Within here left) (standing old)
-    → IsWrittenToRest old → IsInOrder text old.out → WritesClosingOf math text here left old new
+    → IsWrittenToRest old → IsInOrder text old.out → AreClosing math (bytes_of (bare here.rest)) → WritesClosingOf math text here left old new

@@ -1,3 +1,4 @@
+pub mod Bytes
 pub mod Written
 pub mod Reads
 pub mod Laid

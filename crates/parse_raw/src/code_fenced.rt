@@ -13,6 +13,8 @@ ghost use Rattle.definition_block.specs.Tree.{FencedCode};
 ghost use Rattle.definition_page.specs.Read.{Reading};
 ghost use Rattle.parse_raw.specs.Reads.{WritesReadLeaf};
 ghost use Rattle.parse_raw.specs.Laid.{IsFenceRead, WritesReadUnclosed};
+ghost use Rattle.event_tokens.specs.Tokens.{is_among};
+ghost use Rattle.parse_raw.specs.Bytes.{fence_marks};
 ghost use Rattle.parse_raw.specs.Fences.{may_enter_any};
 ghost use Rattle.parse_raw.specs.FenceParts.{AreNames, IsBefore, LeadsTo, WritesClosing, WritesFence, WritesOpening, WritesPart, info_in, info_size};
 ghost use Rattle.parse_raw.specs.RawLines.{IsRawName};
@@ -132,7 +134,8 @@ fn push_opening_fence<T: Tables, A: Allocator + Clone>(
 ) -> Result<(), AllocError>
     requires child { may_enter (still_open walk.old) names.now.fence ≡ true }
     ensures open { OnOk result (still_open walk.new ≡ still_open walk.old) }
-    ensures written { OnOk result ((math : Bool) (byte : ℕ) → AreNames math names.now → byte < 128 → slice_index bare.now 0 ≡ byte
+    ensures written { OnOk result ((math : Bool) (byte : ℕ) → AreNames math names.now
+        → is_among (fence_marks math) byte ≡ true → byte < 128 → slice_index bare.now 0 ≡ byte
         → WritesFence texts.now.options.now.constructs (T.reference_of texts.now.tables.now) math byte bare.now walk.old walk.new) }
 {
     let size = run(first(bare.as_bytes()), bare.as_bytes());

@@ -2,11 +2,12 @@
 //!
 //!     frontmatter ::= fence line* fence
 //!     fence       ::= ('-'{3} | '+'{3}) white*
-ghost use Rattle.std.specs.Prelude.{◌≡◌, ◌≤◌, OnOk, length, true, ℕ};
+ghost use Rattle.std.specs.Prelude.{◌≡◌, [], List, OnOk, length, true, ℕ};
 ghost use Rattle.engine_events.specs.declared.event.Name.TheVariants.{Frontmatter, FrontmatterFence};
 ghost use Rattle.parse_output.specs.Children.{holds_lines, may_enter};
 ghost use Rattle.parse_lines.specs.Open.{still_open};
 ghost use Rattle.definition_text.specs.Lines.{lines};
+ghost use Rattle.parse_raw.specs.Bytes.{AreMetadataFence};
 ghost use Rattle.parse_raw.specs.Laid.{WritesFrontLaid};
 ghost use Rattle.parse_raw.specs.Tokens.{LeadsOn};
 
@@ -43,7 +44,7 @@ pub fn push_frontmatter<A: Allocator>(walk: &mut Walk<'_, A>, text: &str) -> Res
 fn push_metadata_fence<A: Allocator>(walk: &mut Walk<'_, A>) -> Result<(), AllocError>
     requires child { may_enter (still_open walk.old) FrontmatterFence ≡ true }
     ensures open { OnOk result (still_open walk.new ≡ still_open walk.old) }
-    ensures written { OnOk result ((left : ℕ) → 3 ≤ left → LeadsOn left 0 walk.old walk.new) }
+    ensures written { OnOk result ((bytes : List ℕ) → AreMetadataFence bytes → LeadsOn bytes [] walk.old walk.new) }
 {
     walk.enter(Name::FrontmatterFence)?;
     walk.token(Name::FrontmatterSequence, FRONTMATTER_SEQUENCE_SIZE)?;

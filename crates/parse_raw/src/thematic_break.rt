@@ -1,12 +1,13 @@
 //! Thematic breaks (CommonMark 4.1).
 //!
 //!     break ::= (marker+ white*)+, with the same marker throughout
-ghost use Rattle.std.specs.Prelude.{◌≡◌, ◌<◌, ◌≤◌, ◌-◌, Bool, [], IfOk, OnOk, length, true};
+ghost use Rattle.std.specs.Prelude.{◌≡◌, ◌<◌, ◌≤◌, Bool, [], IfOk, OnOk, drop, length, true, ℕ};
 ghost use Rattle.engine_events.specs.declared.event.Name.TheVariants.{SpaceOrTab, ThematicBreakSequence};
 ghost use Rattle.parse_output.specs.Children.{holds_blocks, may_enter};
 ghost use Rattle.parse_lines.specs.Open.{still_open};
 ghost use Rattle.definition_block.specs.Tree.{Break};
 ghost use Rattle.definition_page.specs.Read.{Reading};
+ghost use Rattle.parse_raw.specs.Bytes.{AreBreak};
 ghost use Rattle.parse_raw.specs.Reads.{WritesReadLeaf};
 ghost use Rattle.parse_raw.specs.Tokens.{LeadsOn};
 
@@ -39,7 +40,7 @@ fn push_part<A: Allocator>(walk: &mut Walk<'_, A>, bytes: &[u8]) -> Result<usize
     ensures open { OnOk result (still_open walk.new ≡ still_open walk.old) }
     ensures size { IfOk result (λ size. size ≤ length bytes.now) }
     ensures some { IfOk result (λ size. 0 < length bytes.now → 0 < size) }
-    ensures written { IfOk result (λ size. LeadsOn (length bytes.now) (length bytes.now - size) walk.old walk.new) }
+    ensures written { IfOk result (λ size. (marker : ℕ) → AreBreak marker bytes.now → LeadsOn bytes.now (drop size bytes.now) walk.old walk.new) }
 {
     let white = white_size(bytes);
     if white > 0 {

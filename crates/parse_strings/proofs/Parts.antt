@@ -1,6 +1,10 @@
 -- What is written of the parts of a string in a content (CommonMark 2.4 and 2.5).
 use Rattle.std.proofs.Common.{◌≡◌, ℕ, zero, suc, ◌+◌, ◌<◌, ◌≤◌, true, false, ◌||◌, cond, eqb, List, [], ◌∷◌, ◌++◌, inl, inr, refl}
 use Rattle.std.proofs.Common.{sym, ap, ap₂, subst, ◌∙◌, append_assoc, arith, drop, take, length, length-append, Option}
+use Rattle.std.specs.Prelude.{not}
+use Rattle.parse_lines.specs.Content.{HasBytes}
+use Rattle.parse_lines.proofs.Bytes.{dark_line, has_kind}
+use Rattle.parse_lines.proofs.White.{all_prefix}
 use Rattle.parse_strings.proofs.Prelude.{append, append-nil, AreCutApart, AreNext, ArePlain, AreQuiet, Around, byte_nodes, bytes_text, cases_Bool, cond-false}
 use Rattle.parse_strings.proofs.Prelude.{cond-true, cond_both, Cons, Constructs, data_nodes, drop_at, End, end_after, end_at, end_in, ending_bytes, ends_line}
 use Rattle.parse_strings.proofs.Prelude.{indent, is_eol, is_listed, is_space, is_white, IsCharBoundary, IsUtf8, IsWhole, kids_of, line_in_content, LineEnding}
@@ -140,7 +144,7 @@ module _ {A : Type 0} (text : List ℕ) (stop : Stop) where
 
   pub white_in : (a b : Walk A) (xs content : List ℕ) (size : ℕ) → size ≤ indent xs → StandsInContent text (xs ++ content) stop a
       → standing b ≡ standing a
-      → ((front line : List ℕ) → size ≡ length front → StandsInLine text (front ++ line) a
+      → ((front line : List ℕ) → size ≡ length front → StandsInLine text (front ++ line) a → HasBytes text n.SpaceOrTab size a
       → WritesInLine text front (void_nodes text n.SpaceOrTab (end_in a.out) (end_after (end_in a.out) size)) line a b)
       → WhiteIn (take size xs) (drop size xs ++ content) a b size
   white_in a b xs content size le st same written =
@@ -149,7 +153,8 @@ module _ {A : Type 0} (text : List ℕ) (stop : Stop) where
       let parts : xs ++ content ≡ front ++ (drop size xs ++ content) =
       ap (λ ys. ys ++ content) (sym (take-append-drop size xs)) ∙ append_assoc front (drop size xs) content in
       let ahead = line_in_content text stop a front (drop size xs ++ content) (subst (λ ys. StandsInContent text ys stop a) parts st) (white_dark size xs le) in
-      let w = written front ahead.line is ahead.stands in
+      let bytes = has_kind text front ahead.line size a is_white is ahead.stands (all_prefix is_white size xs le) in
+      let w = written front ahead.line is ahead.stands bytes in
       record { writes = ahead.lifts _ b same w; end = w.end ∙ ap (end_after (end_in a.out)) (sym is) }
 
   module _ (names : Names) where
@@ -164,7 +169,7 @@ module _ {A : Type 0} (text : List ℕ) (stop : Stop) where
     -- data
     pub data_part : (a b : Walk A) (xs content : List ℕ) (size : ℕ) → DataStep on names xs size → 0 < size → StandsInContent text (xs ++ content) stop a
         → IsWhole a → standing b ≡ standing a
-        → ((front line : List ℕ) → size ≡ length front → StandsInLine text (front ++ line) a
+        → ((front line : List ℕ) → size ≡ length front → StandsInLine text (front ++ line) a → HasBytes text n.Data size a
         → WritesInLine text front (data_nodes text (end_in a.out) (end_after (end_in a.out) size)) line a b)
         → WritesStringPart on names text xs content size stop a b
     data_part a b xs content size step some st whole same written =
@@ -174,7 +179,8 @@ module _ {A : Type 0} (text : List ℕ) (stop : Stop) where
         let parts : xs ++ content ≡ front ++ (after ++ content) =
         ap (λ ys. ys ++ content) (sym (take-append-drop size xs)) ∙ append_assoc front after content in
         let ahead = line_in_content text stop a front (after ++ content) (subst (λ ys. StandsInContent text ys stop a) parts st) step.dark in
-        let w = written front ahead.line is ahead.stands in
+        let bytes = has_kind text front ahead.line size a (λ c. not (ends_line c)) is ahead.stands (dark_line front step.dark) in
+        let w = written front ahead.line is ahead.stands bytes in
         let spelled : string_of names text (data_nodes text (end_in a.out) (end_after (end_in a.out) size)) ≡ front =
         ap (λ k. string_of names text (data_nodes text (end_in a.out) (end_after (end_in a.out) k))) is
         ∙ data_string text names (end_in a.out) front ahead.line whole (subst (λ e. AreNext text e (front ++ ahead.line))
@@ -215,7 +221,7 @@ module _ {A : Type 0} (text : List ℕ) (stop : Stop) where
     -- white space before a line ending
     pub white_part : (a b : Walk A) (xs content : List ℕ) (size : ℕ) → WhiteStep on names xs size → size ≡ indent xs → 0 < size
         → StandsInContent text (xs ++ content) stop a → IsWhole a → standing b ≡ standing a
-        → ((front line : List ℕ) → size ≡ length front → StandsInLine text (front ++ line) a
+        → ((front line : List ℕ) → size ≡ length front → StandsInLine text (front ++ line) a → HasBytes text n.SpaceOrTab size a
         → WritesInLine text front (void_nodes text n.SpaceOrTab (end_in a.out) (end_after (end_in a.out) size)) line a b)
         → WritesStringPart on names text xs content size stop a b
     white_part a b xs content size step all some st whole same written =
@@ -239,7 +245,7 @@ module _ {A : Type 0} (text : List ℕ) (stop : Stop) where
     -- a line ending, and the white space on the next line
     pub ending_part : (a b c : Walk A) (xs content : List ℕ) (e : LineEnding) (size white : ℕ) → EndingStep on names xs e size → white ≡ indent (drop size xs)
         → AreCutApart xs content → WritesEndingIn text n.LineEnding e (drop size xs ++ content) stop a b → standing c ≡ standing b
-        → ((front line : List ℕ) → white ≡ length front → StandsInLine text (front ++ line) b
+        → ((front line : List ℕ) → white ≡ length front → StandsInLine text (front ++ line) b → HasBytes text n.SpaceOrTab white b
         → WritesInLine text front (void_nodes text n.SpaceOrTab (end_in b.out) (end_after (end_in b.out) white)) line b c)
         → WritesStringPart on names text xs content (size + white) stop a c
     ending_part a b c xs content e size white step all cut ends same written =

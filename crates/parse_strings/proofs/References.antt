@@ -1,8 +1,13 @@
 -- What is written of a character reference, step by step (CommonMark 2.5).
-use Rattle.std.proofs.Common.{◌≡◌, ◌⊎◌, inl, inr, ◌+◌, ℕ, true, List, [], ◌∷◌, ◌++◌, refl, sym, ap, subst, ◌∙◌, arith, drop, length, slice_index, ◌==◌}
+use Rattle.std.proofs.Common.{◌≡◌, ◌⊎◌, inl, inr, ◌+◌, ℕ, true, false, List, [], ◌∷◌, ◌++◌, refl, sym, ap, subst, ◌∙◌, arith, drop, length, slice_index, ◌==◌}
+use Rattle.std.specs.Prelude.{codes, ◌&&◌}
+use Rattle.std.proofs.lemmas.Bool.Decides.{nat_tests}
+use Rattle.event_tokens.specs.Tokens.{is_among, is_token}
+use Rattle.parse_lines.proofs.Bytes.{has_bytes}
 use Rattle.parse_strings.proofs.Prelude.{after_bytes, AreMarks, End, end_after, end_in, is_x, lines_both, mark_nodes, one, StandsInLine, token, true≢false}
 use Rattle.parse_strings.proofs.Prelude.{void_nodes, Walk, WritesInLine, WritesMarks}
 use Rattle.engine_events.specs.declared.event.Name.TheVariants as n
+use Rattle.parse_lines.specs.Content.{HasBytes}
 use Rattle.parse_lines.proofs.InLine.{lines_none}
 use Rattle.parse_strings.specs.Strings.{StandsInString}
 use Rattle.parse_strings.proofs.Spelled.{still_whole, void_one, whole_end}
@@ -10,6 +15,12 @@ use Rattle.parse_strings.proofs.Spelled.{still_whole, void_one, whole_end}
 pub x_of : (b : ℕ) → (b ≡ 88) ⊎ (b ≡ 120) → is_x b ≡ true
 x_of b (inl is) = ap is_x is
 x_of b (inr is) = ap is_x is
+
+x_among : (x : ℕ) → is_x x ≡ true → is_among (codes "xX") x ≡ true
+x_among x is = grind (arith, nat_tests, is)
+
+x_may : (x : ℕ) → is_x x ≡ true → is_token n.CharacterReferenceMarkerHexadecimal (x ∷ []) ≡ true
+x_may x is = ap (λ b. b && true) (x_among x is)
 
 module _ {A : Type 0} (text : List ℕ) where
   pub no_marks : (a : Walk A) (line : List ℕ) → StandsInString text line a → WritesMarks text [] line a a
@@ -54,9 +65,9 @@ module _ {A : Type 0} (text : List ℕ) where
   -- bytes that begin with `#x`
   pub marked_x : (a b c : Walk A) (bytes marks after line : List ℕ) → slice_index bytes 0 ≡ 35 → is_x (slice_index (drop 1 bytes) 0) ≡ true
       → bytes ≡ marks ++ after → AreMarks marks (slice_index after 0) → StandsInString text (marks ++ line) a
-      → ((front others : List ℕ) → 1 ≡ length front → StandsInLine text (front ++ others) a
+      → ((front others : List ℕ) → 1 ≡ length front → StandsInLine text (front ++ others) a → HasBytes text n.CharacterReferenceMarkerNumeric 1 a
       → WritesInLine text front (void_nodes text n.CharacterReferenceMarkerNumeric (end_in a.out) (end_after (end_in a.out) 1)) others a b)
-      → ((front others : List ℕ) → 1 ≡ length front → StandsInLine text (front ++ others) b
+      → ((front others : List ℕ) → 1 ≡ length front → StandsInLine text (front ++ others) b → HasBytes text n.CharacterReferenceMarkerHexadecimal 1 b
       → WritesInLine text front (void_nodes text n.CharacterReferenceMarkerHexadecimal (end_in b.out) (end_after (end_in b.out) 1)) others b c)
       → WritesMarks text marks line a c
   marked_x a b c bytes [] after line hash is_hex is are st one two =
@@ -65,6 +76,25 @@ module _ {A : Type 0} (text : List ℕ) where
       absurd (true≢false (sym (ap (λ xs. is_x (slice_index (drop 1 xs) 0)) (sym is) ∙ is_hex) ∙ are.1))
   marked_x a b c bytes (m ∷ x ∷ []) after line hash is_hex is are st one two =
       let stands : StandsInLine text (35 ∷ x ∷ line) a = subst (λ k. StandsInLine text (k ∷ x ∷ line) a) are.0 st.stands in
-      let mark = one (35 ∷ []) (x ∷ line) refl stands in
-      subst (λ k. WritesMarks text (k ∷ x ∷ []) line a c) (sym are.0) (two_marks a b c x line st.whole mark (two (x ∷ []) line refl mark.stands))
+      let mark =
+      one (35 ∷ []) (x ∷ line) refl stands (has_bytes text (35 ∷ []) (x ∷ line) 1 a n.CharacterReferenceMarkerNumeric refl stands st.whole refl) in
+      let inside : (end_in b.out).owed ≡ 0 = ap (λ (e : End). e.owed) mark.end ∙ still_whole (end_in a.out) 1 st.whole in
+      let hexadecimal = has_bytes text (x ∷ []) line 1 b n.CharacterReferenceMarkerHexadecimal refl mark.stands inside (x_may x are.1) in
+      subst (λ k. WritesMarks text (k ∷ x ∷ []) line a c) (sym are.0) (two_marks a b c x line st.whole mark (two (x ∷ []) line refl mark.stands hexadecimal))
   marked_x a b c bytes (m ∷ x ∷ y ∷ ms) after line hash is_hex is are st one two = absurd are
+
+  -- bytes that begin with `#`, and not with `#x`
+  pub marked_one : (a b : Walk A) (bytes marks after line : List ℕ) → slice_index bytes 0 ≡ 35 → is_x (slice_index (drop 1 bytes) 0) ≡ false
+      → bytes ≡ marks ++ after → AreMarks marks (slice_index after 0) → StandsInString text (marks ++ line) a
+      → ((front others : List ℕ) → 1 ≡ length front → StandsInLine text (front ++ others) a → HasBytes text n.CharacterReferenceMarkerNumeric 1 a
+      → WritesInLine text front (void_nodes text n.CharacterReferenceMarkerNumeric (end_in a.out) (end_after (end_in a.out) 1)) others a b)
+      → WritesMarks text marks line a b
+  marked_one a b bytes [] after line hash no_x is are st one =
+      absurd (true≢false (ap (λ x. x == 35) (sym (ap (λ xs. slice_index xs 0) (sym is) ∙ hash)) ∙ are))
+  marked_one a b bytes (m ∷ []) after line hash no_x is are st one =
+      let stands : StandsInLine text (35 ∷ line) a = subst (λ k. StandsInLine text (k ∷ line) a) are.0 st.stands in
+      let mark = one (35 ∷ []) line refl stands (has_bytes text (35 ∷ []) line 1 a n.CharacterReferenceMarkerNumeric refl stands st.whole refl) in
+      subst (λ k. WritesMarks text (k ∷ []) line a b) (sym are.0) (one_mark a b line st.whole mark)
+  marked_one a b bytes (m ∷ x ∷ []) after line hash no_x is are st one =
+      absurd (true≢false (sym are.1 ∙ sym (ap (λ xs. is_x (slice_index (drop 1 xs) 0)) is) ∙ no_x))
+  marked_one a b bytes (m ∷ x ∷ y ∷ ms) after line hash no_x is are st one = absurd are

@@ -6,6 +6,7 @@ use Rattle.parse_tables.proofs.Prelude.{get_or-drop, is_blank, is_white, IsBefor
 use Rattle.parse_tables.proofs.Prelude.{OnOk, piece_bytes, prefix_len, prefix_len-le-length, read_cell, Reading, Result, slice_index, standing, tab_column}
 use Rattle.parse_tables.proofs.Prelude.{take-append-drop, void_cases, void_nodes, Walk, with_kinds, WritesFirstBar, WritesFirstCellsHere, WritesInCell}
 use Rattle.parse_tables.proofs.Prelude.{WritesInCellHere, WritesTo, WritesUpTo, written_to}
+use Rattle.parse_lines.proofs.White.{all_prefix}
 use Rattle.std.specs.Prelude.{◌^◌}
 use Rattle.markdown_options.specs.declared.beside.Kind.TheVariants.{Punctuation}
 use Rattle.definition_text.specs.InlineCode.{InlineCode, first_kind, inline_code, next_kind}
@@ -60,9 +61,9 @@ token_ended (Ok t) stays end written f = f (record { stays = stays; end = end; w
 token_ended (Err e) stays end written f = tt
 
 module _ {A : Type 0} (r : Reading) (text : List ℕ) (ending : Option LineEnding) (left : List LineRest) where
-  pub blank_written : (old new : Walk A) (c : Cell) (bytes behind : List ℕ) → is_blank c.codes ≡ true → IsToken n.SpaceOrTab (length bytes) old new
+  pub blank_written : (old new : Walk A) (c : Cell) (bytes behind : List ℕ) → is_blank c.codes ≡ true → list_all is_white bytes ≡ true → IsToken n.SpaceOrTab (length bytes) old new
       → IsBefore text (bytes ++ behind) ending left old → WritesInCell r text c behind ending left old new
-  blank_written old new c bytes behind blank token before =
+  blank_written old new c bytes behind blank white token before =
       let from = end_in old.out in
       let to = end_at (from.index + length bytes) 0 in
       let ns = void_nodes text n.SpaceOrTab from to in
@@ -70,7 +71,7 @@ module _ {A : Type 0} (r : Reading) (text : List ℕ) (ending : Option LineEndin
       void_cases (λ ms. text_within r.tables.names text false ms ≡ inline.Nil) text n.SpaceOrTab from to refl (λ _. refl) (λ _. refl) in
       record {
         nodes = ns;
-        writes = token_written text ending left old new n.SpaceOrTab (length bytes) bytes behind token refl before;
+        writes = token_written text ending left old new n.SpaceOrTab (length bytes) bytes behind token refl white before;
         spells = λ m m' are.
             subst (λ is. ArePartsAlike m m' is (in_cell (text_within r.tables.names text false ns))) (sym (blank_reads r c blank)) (ap in_cell nothing);
         in_row = in_row_void text n.SpaceOrTab from to refl refl refl;
@@ -109,7 +110,7 @@ module _ {A : Type 0} (r : Reading) (text : List ℕ) (ending : Option LineEndin
         nodes = append (one w.node) bar;
         writes =
             before_both text ending left old mid new (124 ∷ rest) rest (one w.node) bar w.writes
-            (token_written text ending left mid new n.GfmTableCellDivider 1 (124 ∷ []) rest token refl w.writes.before);
+            (token_written text ending left mid new n.GfmTableCellDivider 1 (124 ∷ []) rest token refl refl w.writes.before);
         spell = spell_after r text (c ∷ []) (one w.node) bar (children_void text n.GfmTableCell n.GfmTableCellDivider from to refl refl)
             (spell_one r text c w.node w.name w.spells);
         in_row = in_row_both (one w.node) bar w.in_row (in_row_void text n.GfmTableCellDivider from to refl refl refl);
@@ -187,7 +188,7 @@ module _ (r : Reading) (c : Cell) (owed : ℕ) (bytes : List ℕ) (is : c.codes 
   pub in_blank_cell : {A : Type 0} (old new : Walk A) → is_blank bytes ≡ true → IsToken n.SpaceOrTab (length bytes) old new
       → WritesInCellHere r c (bytes_of c.codes) old new
   in_blank_cell old new blank token = λ text behind ending left before.
-      blank_written r text ending left old new c bytes behind (ap is_blank is ∙ columns_blank owed blank) token
+      blank_written r text ending left old new c bytes behind (ap is_blank is ∙ columns_blank owed blank) blank token
       (subst (λ (xs : List ℕ). IsBefore text (xs ++ behind) ending left old) own_bytes before)
 
   pub in_filled_cell : {A : Type 0} (old new : Walk A) → WritesInCellHere r c bytes old new → WritesInCellHere r c (bytes_of c.codes) old new
@@ -254,8 +255,9 @@ module _ {A : Type 0} (bytes : List ℕ) (white : ℕ) (is : white ≡ prefix_le
       (eq-eqb (slice_index bytes (prefix_len is_white bytes)) 124 here)
       ∙ ap (λ (k : ℕ). drop (k + 1) bytes) (sym is) in
       let first = token_written text ending left old mid n.SpaceOrTab white (take white bytes) (124 ∷ rest) space size
+      (all_prefix is_white white bytes (omega (arith, is)))
       (subst (λ (xs : List ℕ). IsBefore text xs ending left old) split before) in
-      let second = token_written text ending left mid new n.GfmTableCellDivider 1 (124 ∷ []) rest divider refl first.before in
+      let second = token_written text ending left mid new n.GfmTableCellDivider 1 (124 ∷ []) rest divider refl refl first.before in
       let start = end_in old.out in
       let there = end_at (start.index + white) 0 in
       let at_bar = end_in mid.out in

@@ -2,9 +2,28 @@
 use Rattle.std.proofs.Common.{◌≡◌, ◌<◌, ℕ, suc, ◌+◌, ◌-◌, ◌^◌, Bool, true, List, [], ◌∷◌, ◌++◌, drop, length, length-append, replicate, min, refl, sym, ap, ap₂, subst, ◌∙◌, arith}
 use Rattle.parse_tables.proofs.Prelude.{alignment, append, Around, colon_if, End, end_at, end_in, enter_at, exit_at, IsBefore, length-replicate, Nodes, one}
 use Rattle.parse_tables.proofs.Prelude.{run, void_nodes, Walk, WritesColumnHere, WritesTo}
+use Rattle.std.proofs.Common.{zero, false, ◌&&◌, ◌==◌}
+use Rattle.std.specs.List.{list_all}
+use Rattle.std.specs.Prelude.{codes}
+use Rattle.event_tokens.specs.Tokens.{is_among, is_token}
 use Rattle.engine_events.specs.declared.event.Name.TheVariants as n
 use Rattle.parse_tables.proofs.ColumnNodes.{column_aligns, column_definitions, column_end, column_kids, column_node, runs_of, value_node}
 use Rattle.parse_tables.proofs.Steps.{IsEntered, IsExited, IsToken, around_written, before_both, entered_before, place_fits, token_written}
+
+colon_fits : (some : Bool) → is_token n.GfmTableDelimiterMarker (colon_if some) ≡ true
+colon_fits true = refl
+colon_fits false = refl
+
+dashes_same : (k : ℕ) → list_all (λ c. c == 45) (replicate k 45) ≡ true
+dashes_same zero = refl
+dashes_same (suc k) = dashes_same k
+
+dashes_among : (k : ℕ) → list_all (is_among (codes "-")) (replicate k 45) ≡ true
+dashes_among zero = refl
+dashes_among (suc k) = dashes_among k
+
+filler_fits : (k : ℕ) → is_token n.GfmTableDelimiterFiller (45 ∷ replicate k 45) ≡ true
+filler_fits k = ap₂ (λ (s t : Bool). s && t) (dashes_same k) (dashes_among k)
 
 module _ {A : Type 0} (w0 w1 w2 w3 w4 w5 w6 w7 : Walk A) (bytes : List ℕ) where
   pub column_written : (left dashes size right result : ℕ) → IsEntered n.GfmTableDelimiterCell w0 w1 → IsEntered n.GfmTableDelimiterCellValue w1 w2
@@ -36,19 +55,19 @@ module _ {A : Type 0} (w0 w1 w2 w3 w4 w5 w6 w7 : Walk A) (bytes : List ℕ) wher
       let last_end = end_at (dash.index + m) 0 in
       let first_token : IsToken n.GfmTableDelimiterMarker l w2 w3 = subst (λ (j : ℕ). IsToken n.GfmTableDelimiterMarker j w2 w3) left_size t1 in
       let start_fits = place_fits text ending lines w2 bytes b2 in
-      let one_done = token_written text ending lines w2 w3 n.GfmTableDelimiterMarker l front (fill ++ after) first_token refl
+      let one_done = token_written text ending lines w2 w3 n.GfmTableDelimiterMarker l front (fill ++ after) first_token refl (colon_fits first)
       (subst (λ xs. IsBefore text xs ending lines w2) is b2) in
       let end3 : end_in w3.out ≡ colon = first_token.end (omega (arith, start_fits, all)) in
       let second_token : IsToken n.GfmTableDelimiterFiller (suc k) w3 w4 = subst (λ (j : ℕ). IsToken n.GfmTableDelimiterFiller j w3 w4) dashes_size t2 in
       let fits3 = place_fits text ending lines w3 (fill ++ after) one_done.before in
-      let two = token_written text ending lines w3 w4 n.GfmTableDelimiterFiller (suc k) fill after second_token (sym fill_size) one_done.before in
+      let two = token_written text ending lines w3 w4 n.GfmTableDelimiterFiller (suc k) fill after second_token (sym fill_size) (filler_fits k) one_done.before in
       let line3 : length (fill ++ after) ≡ suc k + length after = length-append fill after ∙ ap (λ (j : ℕ). j + length after) fill_size in
       let end4 : end_in w4.out ≡ dash = second_token.end (omega (arith, fits3, line3)) ∙ ap (λ (x : End). end_at (x.index + suc k) 0) end3 in
       let two_done : WritesTo text after ending lines (void_nodes text n.GfmTableDelimiterFiller colon dash) w3 w4 =
       subst (λ (x : End). WritesTo text after ending lines (void_nodes text n.GfmTableDelimiterFiller x (end_at (x.index + suc k) 0)) w3 w4) end3 two in
       let third_token : IsToken n.GfmTableDelimiterMarker m w4 w5 = subst (λ (j : ℕ). IsToken n.GfmTableDelimiterMarker j w4 w5) right_size t3 in
       let fits4 = place_fits text ending lines w4 after two.before in
-      let three = token_written text ending lines w4 w5 n.GfmTableDelimiterMarker m (colon_if last) bs third_token refl two.before in
+      let three = token_written text ending lines w4 w5 n.GfmTableDelimiterMarker m (colon_if last) bs third_token refl (colon_fits last) two.before in
       let end5 : end_in w5.out ≡ last_end =
       third_token.end (omega (arith, fits4, length-append (colon_if last) bs)) ∙ ap (λ (x : End). end_at (x.index + m) 0) end4 in
       let three_done : WritesTo text bs ending lines (void_nodes text n.GfmTableDelimiterMarker dash last_end) w4 w5 =

@@ -5,16 +5,21 @@ use Rattle.parse_tables.proofs.Prelude.{follows_after, is_tab_column, IsBefore, 
 use Rattle.parse_tables.proofs.Prelude.{prefix_len, Rest, rest_start, Standing, standing, StandsAt, void_nodes, Walk, Within, Writes, WritesTo, WritesUpTo}
 use Rattle.parse_tables.proofs.Prelude.{written_to}
 use Rattle.definition_text.specs.Ascii.{space}
-use Rattle.definition_text.specs.Columns.{indent, whole}
+use Rattle.std.proofs.Common.{true}
+use Rattle.std.specs.List.{list_all}
+use Rattle.definition_text.specs.Columns.{indent, is_white, whole}
 use Rattle.engine_events.specs.declared.event.Name.TheVariants.{SpaceOrTab}
-use Rattle.parse_lines.proofs.Ahead.{after_both, owed_after}
+use Rattle.parse_output.specs.Joined.{end_edge, text_between}
+use Rattle.parse_output.proofs.Joined.{none_between}
+use Rattle.parse_lines.proofs.Ahead.{after_both, after_tab, owed_after}
 use Rattle.parse_lines.proofs.Columns.{bare_owes_none}
 use Rattle.parse_lines.proofs.ContentLines.{start_owed}
 use Rattle.parse_lines.proofs.Ends.{left_within, start_whole}
 use Rattle.parse_lines.proofs.Next.{left_bytes, left_next}
 use Rattle.parse_lines.proofs.NextLine.{left_dark, left_to_end}
 use Rattle.parse_lines.proofs.Steps.{at_ending}
-use Rattle.parse_lines.proofs.Written.{bare_follows, bare_start}
+use Rattle.parse_lines.proofs.SameText.{tab_edge}
+use Rattle.parse_lines.proofs.Written.{bare_follows, bare_start, bare_white}
 use Rattle.parse_tables.proofs.Steps.{dark_after, same_open}
 
 -- the place after so many spaces of these, which are as many as a tab owes
@@ -34,6 +39,26 @@ after_spaces from owed line_end bytes is all =
     let index : e.index + length bytes ≡ line_end = ap (λ (x : End). x.index) there in
     let back : e.index ≡ line_end - length bytes = omega (arith, index) in
     (ap₂ end_at back none, omega (arith, index))
+
+-- no bytes are between the columns of a tab and what follows it
+white_at : (text : List ℕ) (index owed : ℕ) (bytes : List ℕ) → AreNext text (end_at index owed) (replicate owed space ++ bytes)
+    → list_all is_white (text_between text (end_at index owed) (end_after (end_at index owed) owed)) ≡ true
+white_at text index zero bytes are = ap (list_all is_white) (none_between text (end_edge text (end_at index 0)) (end_edge text (end_at index 0)) refl)
+white_at text index (suc owed) bytes are =
+    let from = end_at index (suc owed) in
+    let to = end_after from (suc owed) in
+    let edge : end_edge text from ≡ index + 1 = tab_edge text index owed are.0.2 in
+    let over : to ≡ end_at (index + 1) 0 =
+    after_tab index (suc owed) (suc owed) (omega arith) (omega arith) ∙ ap (λ (k : ℕ). end_at k 0) (omega arith) in
+    ap (list_all is_white) (none_between text (end_edge text from) (end_edge text to) (edge ∙ sym (ap (end_edge text) over)))
+
+white_tab : (text : List ℕ) (from : End) (owed : ℕ) (bytes : List ℕ) → from.owed ≡ owed → AreNext text from (replicate owed space ++ bytes)
+    → list_all is_white (text_between text from (end_after from owed)) ≡ true
+white_tab text from owed bytes is are =
+    let at : from ≡ end_at from.index owed = ap (end_at from.index) is in
+    subst (λ (e : End). list_all is_white (text_between text e (end_after e owed)) ≡ true) (sym at) (
+    white_at text from.index owed bytes (subst (λ (e : End). AreNext text e (replicate owed space ++ bytes)) at are)
+    )
 
 module _ {A : Type 0} (text : List ℕ) (here : LineRest) (left : List LineRest) (old new : Walk A) (at : StandsAt text (Within here left) (standing old)) where
   -- the columns and bytes that are left
@@ -69,7 +94,9 @@ module _ {A : Type 0} (text : List ℕ) (here : LineRest) (left : List LineRest)
       let follows : Follows text (written_to old) (end_at (old.line_end - length bytes) 0) =
       subst (λ (e : End). Follows text e (end_at (old.line_end - length bytes) 0)) (sym is)
       (subst (Follows text from) to (follows_after text spaces bytes from rest_next)) in
-      let w = writes text order follows in
+      let white : list_all is_white (text_between text (written_to old) (end_at (old.line_end - length bytes) 0)) ≡ true =
+      ap₂ (λ (x y : End). list_all is_white (text_between text x y)) is (sym places.0) ∙ white_tab text from owed bytes (start_owed old.line_end here.rest) rest_next in
+      let w = writes text order (record { follows = follows; bytes = white }) in
       let line_end : new.line_end ≡ old.line_end = ap (λ (s : Standing). s.line_end) same in
       let index = ap (λ (e : End). e.index) end in
       record {
@@ -103,7 +130,10 @@ module _ {A : Type 0} (text : List ℕ) (here : LineRest) (left : List LineRest)
       let follows : Follows text (written_to old) to =
       subst (λ (e : End). Follows text e to) (sym is)
       (bare_follows text at.line.before at.line.content _ at.columns old.line_end here.rest to at.line.parts at.line.end at.suffix start) in
-      let w = writes text order follows in
+      let white : list_all is_white (text_between text (written_to old) to) ≡ true =
+      ap (λ (e : End). list_all is_white (text_between text e to)) is
+      ∙ bare_white text at.line.before at.line.content _ at.columns old.line_end here.rest to at.line.parts at.line.end at.suffix start in
+      let w = writes text order (record { follows = follows; bytes = white }) in
       let next : AreNext text (rest_start old.line_end rest) (left_bytes rest) =
       subst (λ (r : Rest). AreNext text (rest_start old.line_end r) (left_bytes r)) (sym suffix)
       (left_next text at.line.before at.line.content _ old.line_end n at.line.parts at.line.end) in

@@ -9,6 +9,8 @@ use Rattle.parse_tables.proofs.Prelude.{WritesDelimiterRow, WritesTo, WritesUpTo
 use Rattle.std.specs.Prelude.{IfOk, Some}
 use Rattle.std.proofs.lemmas.Bool.{false_from_ne_true}
 use Rattle.std.proofs.lemmas.List.{length-take}
+use Rattle.event_tokens.specs.Tokens.{is_token}
+use Rattle.parse_lines.proofs.White.{all_prefix}
 use Rattle.engine_events.specs.declared.event.Name.TheVariants as n
 use Rattle.block_starts.specs.View.{rest_of}
 use Rattle.parse_tables.specs.Columns.{WritesColumn, WritesColumns, WritesDelimiters, WritesPart, WritesPartHere}
@@ -79,12 +81,12 @@ dark_first (b ∷ bs) some h =
 module _ {A : Type 0} (w0 w1 : Walk A) (bytes : List ℕ) where
   -- a token that holds no delimiter
   token_columns : (text : List ℕ) (ending : Option LineEnding) (left : List LineRest) (name : Name) (size : ℕ) (front line : List ℕ) → IsToken name size w0 w1
-      → size ≡ length front → IsBefore text (front ++ line) ending left w0 → same_name name n.Data ≡ false → same_name name n.GfmTableDelimiterCellValue ≡ false
+      → size ≡ length front → is_token name front ≡ true → IsBefore text (front ++ line) ending left w0 → same_name name n.Data ≡ false → same_name name n.GfmTableDelimiterCellValue ≡ false
       → same_name name n.Definition ≡ false → WritesColumns text line ending left [] w0 w1
-  token_columns text ending left name size front line t is b no_data no_column no_definition =
+  token_columns text ending left name size front line t is may b no_data no_column no_definition =
       record {
         nodes = void_nodes text name (end_in w0.out) (end_at ((end_in w0.out).index + size) 0);
-        writes = token_written text ending left w0 w1 name size front line t is b;
+        writes = token_written text ending left w0 w1 name size front line t is may b;
         aligns =
             ap (map value_align) (named_void text n.GfmTableDelimiterCellValue name (end_in w0.out) (end_at ((end_in w0.out).index + size) 0) no_data no_column);
         definitions = named_void text n.Definition name (end_in w0.out) (end_at ((end_in w0.out).index + size) 0) no_data no_definition;
@@ -104,7 +106,7 @@ module _ {A : Type 0} (w0 w1 : Walk A) (bytes : List ℕ) where
             later = columns;
             all = refl;
             rest = after_bar x bs columns is d;
-            writes = token_columns text ending left n.GfmTableCellDivider 1 (x ∷ []) bs t refl b refl refl refl;
+            writes = token_columns text ending left n.GfmTableCellDivider 1 (x ∷ []) bs t refl (ap (λ (y : ℕ). is_token n.GfmTableCellDivider (y ∷ [])) is) b refl refl refl;
           }
 
   pub white_part : (size : ℕ) → size ≡ prefix_len is_white bytes → 0 < size → IsToken n.SpaceOrTab size w0 w1
@@ -120,6 +122,7 @@ module _ {A : Type 0} (w0 w1 : Walk A) (bytes : List ℕ) where
         rest = subst (λ (k : ℕ). AreDelimiters (drop k bytes) columns) (sym is) (after_white bytes columns d);
         writes =
             token_columns text ending left n.SpaceOrTab size (take size bytes) (drop size bytes) t (sym front)
+            (all_prefix is_white size bytes (omega (arith, is)))
             (subst (λ xs. IsBefore text xs ending left w0) (sym (take-append-drop size bytes)) b) refl refl refl;
       }
 

@@ -2,7 +2,7 @@
 use Rattle.std.proofs.Common.{◌≡◌, ℕ, ◌+◌, ◌-◌, ◌<◌, not, List, [], ◌∷◌, ◌++◌, Option, length, get_or, replicate, reverse, suc, take, inl, inr, refl, sym, ap, ap₂, subst, ◌∙◌, arith, append_assoc}
 use Rattle.parse_tables.proofs.Prelude.{after_first_bar, append, append-nil, AreCellsOf, AreEnding, AreOnNextLine, AreQuiet, AreRowNodes, AreTaken, around}
 use Rattle.parse_tables.proofs.Prelude.{Around, Between, block_codes, BlockLine, bytes_of, cases_Bool, Cell, cells, cond-false, cond-true, Cons, Constructs}
-use Rattle.parse_tables.proofs.Prelude.{Container, cut, End, end_at, end_in, enter_at, exit_at, filter-append, Follows, HasSameOpen, HoldSame, HoldsSame}
+use Rattle.parse_tables.proofs.Prelude.{Container, cut, End, end_at, end_in, enter_at, exit_at, filter-append, HasSameOpen, HoldSame, HoldsSame}
 use Rattle.parse_tables.proofs.Prelude.{InAll, InSome, is_byte, is_tab_column, IsBefore, IsInOrder, IsOn, IsRowLine, IsRowNode, IsWrittenToRest, kids_of}
 use Rattle.parse_tables.proofs.Prelude.{last_ending_or, line_cells, line_left, LineEnding, LineRest, Name, named, Nil, Node, Nodes, one, PassesLine}
 use Rattle.parse_tables.proofs.Prelude.{piece_bytes, prefix_len, prefixed, Prefixed, Reading, Rest, rest_start, SpellCells, standing, Standing, StandsAt}
@@ -11,7 +11,7 @@ use Rattle.parse_tables.proofs.Prelude.{WritesFirstRows, WritesFirstRowsHere, Wr
 use Rattle.engine_events.specs.declared.event.Name.TheVariants as n
 use Rattle.parse_output.proofs.Forests.{append-assoc as nodes_assoc}
 use Rattle.parse_lines.specs.Ends.{line_after}
-use Rattle.parse_lines.proofs.Ends.{end_to_next}
+use Rattle.parse_raw.proofs.Bytes.{ending_token, line_ending_fits}
 use Rattle.parse_raw.proofs.Endings.{ending_nodes}
 use Rattle.parse_tables.proofs.CellBytes.{AreLineCodes, cells_are}
 use Rattle.parse_tables.proofs.LineStarts.{before_rest}
@@ -109,7 +109,7 @@ module _ {A : Type 0} (r : Reading) (line : BlockLine) (owed : ℕ) (bytes : Lis
       let cs = cells_written text (after_first_bar bytes) ending left are bar.writes.before in
       let b = cs.writes.before in
       let last : end_at celled.line_end 0 ≡ end_at ((end_in celled.out).index + length cs.behind) 0 = ap (λ (k : ℕ). end_at k 0) (sym b.end) in
-      let white = before_token text ending left celled all n.SpaceOrTab cs.behind [] (end_at celled.line_end 0) last
+      let white = before_token text ending left celled all n.SpaceOrTab cs.behind [] (end_at celled.line_end 0) last cs.ahead
       (subst (λ (xs : List ℕ). IsBefore text xs ending left celled) (sym (append-nil cs.behind)) b) same_all end_all to_all in
       let behind = end_in celled.out in
       let line_end = end_at celled.line_end 0 in
@@ -170,8 +170,7 @@ module _ {A : Type 0} (text : List ℕ) where
       let st = before.at in
       let end = before.end in
       let place : written_to a ≡ end_at a.line_end 0 = ap₂ end_at (omega (arith, end)) before.bare in
-      let follows : Follows text (written_to a) to = subst (λ (e : End). Follows text e to) (sym place) (end_to_next text (standing a) st.line) in
-      let done = writes text ending next others st before.order follows in
+      let done = writes text ending next others st before.order (ending_token text n.LineEnding a line_ending_fits st.line place) in
       let are = ending_nodes text n.LineEnding (standing a) refl st.line in
       record {
         ends = void_nodes text n.LineEnding (written_to a) to;

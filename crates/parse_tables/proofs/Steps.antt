@@ -4,7 +4,11 @@ use Rattle.parse_tables.proofs.Prelude.{after_bytes, append, AreNext, Around, At
 use Rattle.parse_tables.proofs.Prelude.{exit_at, Exits, Follows, follows_after, HasSameOpen, IsBefore, IsInOrder, LineEnding, LineRest, list_any, Name}
 use Rattle.parse_tables.proofs.Prelude.{next_after, Nil, Nodes, or_from, or_parts, Standing, standing, StandsAt, void_nodes, Walk, writes_around, writes_both}
 use Rattle.parse_tables.proofs.Prelude.{WritesTo, WritesUpTo, written_to}
+use Rattle.std.proofs.Common.{true}
+use Rattle.event_tokens.specs.Tokens.{is_token}
+use Rattle.parse_output.specs.Joined.{text_between}
 use Rattle.parse_output.proofs.Written.{writes_none}
+use Rattle.parse_lines.proofs.Bytes.{whole_between}
 use Rattle.parse_lines.proofs.Parts.{line_size}
 
 pub dark_after : (front line : List ℕ) → list_any ends_line (front ++ line) ≡ false → list_any ends_line line ≡ false
@@ -58,11 +62,13 @@ module _ {A : Type 0} (text : List ℕ) (ending : Option LineEnding) (left : Lis
 
   -- a token of so many bytes
   pub before_token : (old new : Walk A) (name : Name) (front line : List ℕ) (to : End) → to ≡ end_at ((end_in old.out).index + length front) 0
-      → IsBefore text (front ++ line) ending left old → standing new ≡ standing old → written_to new ≡ to → WritesUpTo name to old new
+      → is_token name front ≡ true → IsBefore text (front ++ line) ending left old → standing new ≡ standing old → written_to new ≡ to → WritesUpTo name to old new
       → WritesTo text line ending left (void_nodes text name (end_in old.out) to) old new
-  before_token old new name front line to place b same end written =
+  before_token old new name front line to place may b same end written =
       let follows = subst (λ (e : End). Follows text (end_in old.out) e) (place_after old front line b ∙ sym place) (follows_after text front line (end_in old.out) b.next) in
-      let writes = written text b.order follows in
+      let between : text_between text (end_in old.out) to ≡ front =
+      ap (text_between text (end_in old.out)) (place ∙ sym (place_after old front line b)) ∙ whole_between text (end_in old.out) front line b.bare b.next in
+      let writes = written text b.order (record { follows = follows; bytes = ap (is_token name) between ∙ may }) in
       record { writes = writes; before = before_after old new front line b same writes.order (end ∙ place); around = same_open old new same }
 
   -- what is entered and exited around other nodes
@@ -121,13 +127,13 @@ pub record IsToken {A : Type 0} (name : Name) (size : ℕ) (a b : Walk A) : Type
 module _ {A : Type 0} (text : List ℕ) (ending : Option LineEnding) (left : List LineRest) where
   -- so many bytes by a name
   pub token_written : (a b : Walk A) (name : Name) (size : ℕ) (front line : List ℕ) → IsToken name size a b → size ≡ length front
-      → IsBefore text (front ++ line) ending left a
+      → is_token name front ≡ true → IsBefore text (front ++ line) ending left a
       → WritesTo text line ending left (void_nodes text name (end_in a.out) (end_at ((end_in a.out).index + size) 0)) a b
-  token_written a b name size front line t is before =
+  token_written a b name size front line t is may before =
       let fits = place_fits text ending left a (front ++ line) before in
       let all = length-append front line in
       let small : (end_in a.out).index + size < 2 ^ 64 = omega (arith, fits, all, is) in
-      before_token text ending left a b name front line (end_at ((end_in a.out).index + size) 0) (ap (λ (k : ℕ). end_at ((end_in a.out).index + k) 0) is) before
+      before_token text ending left a b name front line (end_at ((end_in a.out).index + size) 0) (ap (λ (k : ℕ). end_at ((end_in a.out).index + k) 0) is) may before
       t.stays (t.end small) (t.written small)
 
   pub entered_before : (a b : Walk A) (name : Name) (line : List ℕ) → IsEntered name a b → IsBefore text line ending left a → IsBefore text line ending left b

@@ -9,6 +9,9 @@ returns-clause-nested g c = c.in_ok-parsed.ensures.events.nested
 pub returns-clause-children : goal.returns-clause-children
 returns-clause-children g c = c.in_ok-parsed.ensures.events.children
 
+pub returns-clause-tokens : goal.returns-clause-tokens
+returns-clause-tokens g c = c.in_ok-parsed.ensures.events.tokens
+
 pub returns-clause-grammar : goal.returns-clause-grammar
 returns-clause-grammar g c = c.in_ok-parsed.ensures.events.grammar
 

@@ -16,5 +16,5 @@ returns g c =
     are_events tables c.args.options.now value c.in_ok-walk.walk c.in_ok-walk-2.walk start c.as_bytes.result.now c.into_output.result
     c.in_ok-written.written.items c.in_ok-events.events.items c.as_bytes.ensures.value c.into_output.ensures c.in_ok-events.ensures.same
     (c.in_ok-walk-2.ensures.open ∙ c.in_ok-walk.ensures.open) c.in_ok-written.ensures.placed c.in_ok-written.ensures.children c.in_ok-written.ensures.open
-    c.in_ok-written.ensures.written c.in_ok-events.ensures.grammar
+    c.in_ok-written.ensures.written c.in_ok-written.ensures.tokens c.in_ok-events.ensures.grammar
     (c.in_ok-walk-2.ensures.written value (kind_before_text value) (without_mark value) start (rest_bytes value (without_mark value) refl bytes) rows)

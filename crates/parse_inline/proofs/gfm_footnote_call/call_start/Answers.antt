@@ -1,7 +1,7 @@
 use Rattle.std.proofs.Common.{[], ◌∷◌, refl}
 use Rattle.engine_events.specs.declared.event.Name.TheVariants as n
 use Rattle.parse_inline.proofs.Prelude.{append, end_after, end_in, plain_both, plain_void, void_next}
-use Rattle.parse_inline.proofs.Calls.{entering, exiting, marking, on_ok_both, texting, written_both}
+use Rattle.parse_inline.proofs.Calls.{entered_whole, entering, exiting, marking, may_have, on_ok_both, texting, written_both}
 use Rattle.parse_inline.proofs.gfm_footnote_call.call_start.Goals as goal
 
 pub returns-clause-written : goal.returns-clause-written
@@ -16,9 +16,12 @@ returns-clause-written g c =
     let first = void_next text n.LabelMarker 1 a in
     let second = void_next text n.GfmFootnoteCallMarker 1 b in
     let enters = entering text stop old a n.GfmFootnoteCallLabel (91 ∷ 94 ∷ content) (c.in_ok-enter.ensures.stays, c.in_ok-enter.ensures.written) st in
-    let one = texting text stop a b n.LabelMarker 1 (91 ∷ []) (94 ∷ content) refl refl refl (c.in_ok-text.ensures.stays, c.in_ok-text.ensures.written)
+    let inside = entered_whole text stop old a n.GfmFootnoteCallLabel (91 ∷ 94 ∷ content) enters whole in
+    let one = texting text stop a b n.LabelMarker 1 (91 ∷ []) (94 ∷ content) refl refl refl
+    (may_have text a n.LabelMarker 1 (91 ∷ []) refl inside refl) (c.in_ok-text.ensures.stays, c.in_ok-text.ensures.written)
     enters.stands in
-    let two = texting text stop b d n.GfmFootnoteCallMarker 1 (94 ∷ []) content refl refl refl (c.in_ok-text-2.ensures.stays, c.in_ok-text-2.ensures.written)
+    let two = texting text stop b d n.GfmFootnoteCallMarker 1 (94 ∷ []) content refl refl refl
+    (may_have text b n.GfmFootnoteCallMarker 1 (94 ∷ []) refl (one.whole inside) refl) (c.in_ok-text-2.ensures.stays, c.in_ok-text-2.ensures.written)
     one.writes.stands in
     let exits = exiting text stop d new n.GfmFootnoteCallLabel content (stays, written) two.writes.stands in
     marking text stop old a d new n.GfmFootnoteCallLabel (91 ∷ 94 ∷ []) content (append first second) (record { no_quote = refl; no_data = refl; other = refl })

@@ -1,7 +1,7 @@
 use Rattle.std.proofs.Common.{[], ◌∷◌, refl}
 use Rattle.engine_events.specs.declared.event.Name.TheVariants as n
 use Rattle.parse_inline.proofs.Prelude.{end_after, end_in, plain_void, void_next}
-use Rattle.parse_inline.proofs.Calls.{entering, exiting, marking, on_ok_both, texting}
+use Rattle.parse_inline.proofs.Calls.{entered_whole, entering, exiting, marking, may_have, on_ok_both, texting}
 use Rattle.parse_inline.proofs.label.link_start.Goals as goal
 
 pub returns-clause-written : goal.returns-clause-written
@@ -13,7 +13,8 @@ returns-clause-written g c =
     let b = c.text.new.self in
     let new = c.exit.new.self in
     let enters = entering text stop old a n.LabelLink (91 ∷ content) (c.in_ok-enter.ensures.stays, c.in_ok-enter.ensures.written) st in
-    let within = texting text stop a b n.LabelMarker 1 (91 ∷ []) content refl refl refl (c.in_ok-text.ensures.stays, c.in_ok-text.ensures.written)
+    let within = texting text stop a b n.LabelMarker 1 (91 ∷ []) content refl refl refl
+    (may_have text a n.LabelMarker 1 (91 ∷ []) refl (entered_whole text stop old a n.LabelLink (91 ∷ content) enters whole) refl) (c.in_ok-text.ensures.stays, c.in_ok-text.ensures.written)
     enters.stands in
     let exits = exiting text stop b new n.LabelLink content (stays, written) within.writes.stands in
     marking text stop old a b new n.LabelLink (91 ∷ []) content (void_next text n.LabelMarker 1 a) (record { no_quote = refl; no_data = refl; other = refl })

@@ -40,10 +40,10 @@ returns-clause-written g c =
     let inside = colon.0 in
     let ahead : xs ≡ front ++ 58 ∷ inside = cut.0 ∙ ap₂ (λ ys zs. ys ++ zs) (sym front_is) colon.1 in
     let w =
-    c.in_ok-push_quoted.ensures.written bytes q.string (58 ∷ inside) 91 93 stop front_is left_mark right_mark
+    c.in_ok-push_quoted.ensures.written bytes q.string (58 ∷ inside) 91 93 stop front_is left_mark right_mark refl refl
     (subst (λ ys. StandsInContent bytes ys stop c.args.walk.now) ahead st) whole in
     let token =
-    token_in bytes stop _ _ n.DefinitionMarker 58 inside (record { other = refl; prefix = refl }) w.writes.stands w.whole refl c.in_ok-text.ensures.stays
+    token_in bytes stop _ _ n.DefinitionMarker 58 inside (record { other = refl; prefix = refl }) w.writes.stands w.whole refl refl c.in_ok-text.ensures.stays
     (c.in_ok-text.ensures.written bytes) in
     let inside_is : c.bytes_from.result.now ≡ inside = c.bytes_from.ensures.rest ∙ ap (drop 1) (sym after ∙ colon.1) in
     let rest = c.in_ok-rest.rest.now in

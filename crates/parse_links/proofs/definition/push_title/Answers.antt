@@ -1,6 +1,7 @@
 use Rattle.std.proofs.Common.{◌≡◌, ◌∷◌, ◌++◌, [], Some, arith, length, refl, subst, sym, ap, ◌∙◌}
 use Rattle.parse_links.proofs.Prelude.{after_white, AreBytes, both_ok, bytes_after, bytes_drop, content_codes, next_line, part_of, same_codes, StandsInContent}
 use Rattle.parse_links.proofs.Prelude.{title_at, WritesWhite}
+use Rattle.engine_events.specs.declared.event.Name.TheVariants as n
 use Rattle.parse_output.specs.Children.{has_string, may_hold}
 use Rattle.parse_links.proofs.Definitions.{no_title, title_in, titled, untitled}
 use Rattle.parse_links.proofs.Marks.{before_ascii, bytes_front, mark_eol, quoted_bytes, quoted_cut, title_marks}
@@ -60,7 +61,7 @@ returns-clause-written g c =
     c.without_last-title.ensures front q.after cut.0 (ap length (sym after)) (cut.1 c.last.utf8) in
     let ahead : rest ≡ c.without_last-title.result.now ++ q.after = sym last ∙ cut.0 ∙ ap (λ ys. ys ++ q.after) (sym taken) in
     let quoted =
-    written bytes q.string q.after m.opening m.closing stop taken m.one m.two
+    written bytes q.string q.after m.opening m.closing stop taken m.one m.two (m.first n.DefinitionTitleMarker refl) (m.last n.DefinitionTitleMarker refl)
     (subst (λ ys. StandsInContent bytes ys stop c.push_white.new.walk) ahead w.writes.stands) w.whole in
     title_in bytes stop c.args.on.now (g.T.Tables.reference_of c.args.tables.now) _ _ _ xs rest c.without_last-title.result.now q.after q.string title read.text
     string w ahead quoted q.text_is is.0 (ap next_line q.rest_is ∙ is.1))

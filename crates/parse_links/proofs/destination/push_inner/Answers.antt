@@ -9,7 +9,7 @@ returns-then-first-eq60-clause-written g c =
     (λ written same bytes string content stop is st whole.
     inner_quoted bytes stop c.args.on.now (g.T.Tables.reference_of c.args.tables.now) c.args.names.now _ _ string c.args.text.now content is
     (ap (λ xs. slice_index xs 0) (sym c.as_bytes.ensures.value) ∙ sym c.first.ensures ∙ c.if-first-eq60.true)
-    (λ opening closing form one two. written bytes string content opening closing stop form one two st whole))
+    (λ opening closing form one two may_open may_close. written bytes string content opening closing stop form one two may_open may_close st whole))
     c.push_quoted.ensures.written c.push_quoted.ensures.open
 
 pub returns-else-first-eq60-clause-written : goal.returns-else-first-eq60-clause-written

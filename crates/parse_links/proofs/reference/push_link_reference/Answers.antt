@@ -19,5 +19,5 @@ returns-clause-written g c =
     let f = c.in-Some.ensures in
     reference_tail bytes stop c.args.on.now (g.T.Tables.reference_of c.args.tables.now) _ _ xs c.in-Some.reference.now f.after f.string
     (label_at (content_codes xs)) (after_reference (label_at (content_codes xs)) (content_codes xs)) f.parts f.left f.codes
-    (written bytes f.string f.after 91 93 stop f.form left_mark right_mark (subst (λ ys. StandsInContent bytes ys stop c.args.walk.now) f.parts st) whole))
+    (written bytes f.string f.after 91 93 stop f.form left_mark right_mark refl refl (subst (λ ys. StandsInContent bytes ys stop c.args.walk.now) f.parts st) whole))
     c.push_quoted.ensures.written c.push_quoted.ensures.open

@@ -22,7 +22,7 @@ returns-clause-written g c =
     let enters = line_enters bytes stop _ _ n.Resource xs st c.in_ok-enter.ensures.stays (c.in_ok-enter.ensures.written bytes) in
     let opening =
     token_in bytes stop _ _ n.ResourceMarker 40 others (record { other = refl; prefix = refl })
-    (subst (λ ys. StandsInContent bytes ys stop c.enter.new.self) first.1 enters.stands) (ap owed enters.end ∙ whole) refl c.in_ok-text.ensures.stays
+    (subst (λ ys. StandsInContent bytes ys stop c.enter.new.self) first.1 enters.stands) (ap owed enters.end ∙ whole) refl refl c.in_ok-text.ensures.stays
     (c.in_ok-text.ensures.written bytes) in
     let left : c.bytes_from.result.now ≡ others = c.bytes_from.ensures.rest ∙ ap (drop 1) (c.as_bytes.ensures.value ∙ first.1) in
     let inside = c.in_ok-inside.inside.now in
@@ -41,7 +41,7 @@ returns-clause-written g c =
     let end = one_byte 41 r.rest tail.after tail.rest refl in
     let closing =
     token_in bytes stop _ _ n.ResourceMarker 41 end.0 (record { other = refl; prefix = refl })
-    (subst (λ ys. StandsInContent bytes ys stop c.push_inside.new.walk) end.1 tail.writes.stands) tail.whole refl c.in_ok-text-2.ensures.stays
+    (subst (λ ys. StandsInContent bytes ys stop c.push_inside.new.walk) end.1 tail.writes.stands) tail.whole refl refl c.in_ok-text-2.ensures.stays
     (c.in_ok-text-2.ensures.written bytes) in
     resource_tail bytes stop on names _ _ _ _ _ _ _ xs inside others r first.1 enters opening white tail end.0 end.1 closing end.2
     (line_exits bytes stop _ _ n.Resource end.0 closing.writes.stands stays (exits bytes)))

@@ -3,6 +3,7 @@ use Rattle.parse_links.proofs.Prelude.{after_white, AreBytes, bytes_after, conte
 use Rattle.parse_links.proofs.Prelude.{WritesWhite}
 use Rattle.parse_links.proofs.Marks.{bytes_front, mark_eol, quoted_bytes, quoted_cut, title_marks}
 use Rattle.parse_links.proofs.Resources.{title_tail}
+use Rattle.engine_events.specs.declared.event.Name.TheVariants as n
 use Rattle.parse_output.specs.Children.{has_string, may_hold}
 use Rattle.parse_links.proofs.resource.push_title.Goals as goal
 
@@ -17,7 +18,15 @@ invariant_of-push_quoted-2 g c = record { holds_marker = refl; holds_string = re
 pub invariant_of-push_quoted-3 : goal.invariant_of-push_quoted-3
 unfolding may_hold
 invariant_of-push_quoted-3 g c =
-    record { holds_literal = refl; holds_raw = refl; raw_holds_string = refl; own_destination = refl; own_raw = refl }
+    record {
+      holds_literal = refl;
+      holds_raw = refl;
+      raw_holds_string = refl;
+      own_destination = refl;
+      own_raw = refl;
+      angles = refl;
+      quotes = refl;
+    }
 
 pub returns-clause-written : goal.returns-clause-written
 returns-clause-written g c = λ bytes read stop title codes st whole.
@@ -49,7 +58,7 @@ returns-clause-written g c = λ bytes read stop title codes st whole.
     c.bytes_from.ensures.rest ∙ ap₂ drop is (c.as_bytes.ensures.value ∙ cut.0) ∙ drop_at front q.after (length front) refl in
     let ahead : xs ≡ c.up_to.result.now ++ q.after = cut.0 ∙ ap (λ ys. ys ++ q.after) (sym taken) in
     let w =
-    c.in_ok-push_quoted.ensures.written bytes q.string q.after m.opening m.closing stop taken m.one m.two
+    c.in_ok-push_quoted.ensures.written bytes q.string q.after m.opening m.closing stop taken m.one m.two (m.first n.ResourceTitleMarker refl) (m.last n.ResourceTitleMarker refl)
     (subst (λ ys. StandsInContent bytes ys stop c.args.walk.now) ahead st) whole in
     let white =
     subst (λ ys. WritesWhite bytes ys c.in_ok-_rest._rest.now stop c.push_quoted.new.walk c.push_white.new.walk) left

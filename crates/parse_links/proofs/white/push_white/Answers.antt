@@ -2,6 +2,7 @@ use Rattle.std.proofs.Common.{◌≡◌, ◌++◌, arith, drop, refl, subst, sym
 use Rattle.std.proofs.lemmas.Result.{IfOk-weaker}
 use Rattle.parse_links.proofs.Prelude.{AreBytes, bare, begins_with_eol, bytes_drop, content_codes, ending_bytes, indent, ReadsEnding}
 use Rattle.parse_lines.specs.InContent.{IsApart}
+use Rattle.parse_lines.proofs.Bytes.{ending_may}
 use Rattle.parse_links.proofs.Spaces.{ending_cut, white_both, white_more, white_none}
 use Rattle.parse_links.proofs.white.push_white.Goals as goal
 
@@ -34,6 +35,6 @@ returns-clause-written g c =
     (λ rest written text stop st.
     white_both text stop _ _ _ _ xs ys zs rest.now e (c.in_ok-after.ensures.written text stop st)
     (step.parts ∙ ap (λ ws. ending_bytes e ++ ws) (sym c.bytes_from.ensures.rest))
-    (c.in_ok-content_ending.ensures.written text zs stop e step.is (subst (λ ws. IsApart e ws) (sym c.bytes_from.ensures.rest) step.apart) refl refl)
+    (c.in_ok-content_ending.ensures.written text zs stop e step.is (subst (λ ws. IsApart e ws) (sym c.bytes_from.ensures.rest) step.apart) refl refl (ending_may e))
     (written text stop))
     c.push_spaces-2.ensures.written

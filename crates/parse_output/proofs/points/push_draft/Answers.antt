@@ -47,7 +47,7 @@ returns-in-Void-clause-each g c = λ from within goes at.
     let before = c.args.events.now.items in
     let name = c.in-Void.name in
     let to = end_at c.in-Void.index c.in-Void.owed in
-    let follows = subst (GoesOnward text from) c.in-Void.is goes in
+    let follows = (subst (GoesOnward text from) c.in-Void.is goes).follows in
     let enters = c.event-in-Void.ensures ∙ ap (λ p. event kind.Enter name p None) (point_reached text from c.args.place.now at within) in
     let exits = c.event-in-Void-2.ensures ∙ ap (λ p. event kind.Exit name p None)
     (point_reached text to c.pass.new.self (c.pass.ensures.end from at follows) follows.within) in

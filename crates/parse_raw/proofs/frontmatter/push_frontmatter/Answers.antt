@@ -4,6 +4,7 @@ use Rattle.markdown_options.specs.declared.beside.Kind.TheVariants.{Whitespace}
 use Rattle.parse_raw.proofs.Prelude.{append, Around, AtEnding, beside_line, Between, bytes_after, end_at, end_in, enter_at, exit_at, last_ending_or, line_rest}
 use Rattle.parse_raw.proofs.Prelude.{LineRest, lines, Node, one, Standing, standing, StandsAt, TextLine, unread, whole, Within, writes_around, writes_both}
 use Rattle.parse_raw.proofs.Prelude.{written_to}
+use Rattle.parse_raw.proofs.Bytes.{line_ending_fits}
 use Rattle.parse_raw.proofs.Blank.{end_written}
 use Rattle.parse_raw.proofs.MetadataLines.{AreBytes, fence_line, front_lines, line_bytes, mid_lines, text_lines, top_line}
 use Rattle.parse_raw.proofs.NextLines.{all_ok, next_written}
@@ -48,7 +49,7 @@ returns-clause-written g c =
     let bytes : AreBytes old.left.now = bytes_after st.before old.left.now (subst AreBytes st.parts st.over.bytes) in
     let first_bytes = line_bytes old.left.now [] fl.first (fl.mids ++ fl.last ∷ others) fl.parts bytes in
     let last_bytes = line_bytes old.left.now (fl.first ∷ fl.mids) fl.last others fl.parts bytes in
-    let opening = fence_line text fl.first.content a b f first left st_a begun.1 begun.0.writes.order refl first_bytes fl.first_size entered.order enter.stays enter.end
+    let opening = fence_line text fl.first.content a b f first left st_a begun.1 begun.0.writes.order refl first_bytes fl.first_is entered.order enter.stays enter.end
     c.in_ok-push_metadata_fence.ensures.written in
     let same_f = opening.same ∙ enter.stays in
     let top_f : (standing f).outermost ≡ [] = ap (λ (s : Standing). s.outermost) same_f ∙ line.around.1 ∙ top in
@@ -60,7 +61,7 @@ returns-clause-written g c =
     let top_l : (standing l).outermost ≡ [] = mids.around.1 ∙ top_f in
     let st_x : StandsAt text (Within last (unread Whitespace others)) (standing x) =
     subst (λ (r : LineRest). StandsAt text (Within r (unread Whitespace others)) (standing x)) (top_line l.on.now (standing l).outermost last top_l) passed.stands in
-    let closing = fence_line text fl.last.content x x h last (unread Whitespace others) st_x passed.written passed.writes.order refl last_bytes fl.last_size
+    let closing = fence_line text fl.last.content x x h last (unread Whitespace others) st_x passed.written passed.writes.order refl last_bytes fl.last_is
     passed.writes.order refl refl c.in_ok-push_metadata_fence-2.ensures.written in
     let kids = append opening.nodes (append mids.nodes (append passed.nodes closing.nodes)) in
     let all_kids = writes_both text b.out f.out h.out opening.nodes (append mids.nodes (append passed.nodes closing.nodes)) opening.writes (
@@ -75,7 +76,7 @@ returns-clause-written g c =
     let st_e = subst (StandsAt text (AtEnding fl.last.ending (unread Whitespace others))) (sym exit.stays) closing.stands in
     let end_e : written_to e ≡ end_at e.line_end 0 =
     exit.end ∙ closing.written ∙ ap (λ (s : Standing). end_at s.line_end 0) (sym exit.stays) in
-    let done = end_written text n.LineEnding e d fl.last.ending (unread Whitespace others) refl st_e end_e exited.order written in
+    let done = end_written text n.LineEnding e d fl.last.ending (unread Whitespace others) refl line_ending_fits st_e end_e exited.order written in
     record {
       before = begun.0.nodes;
       are_quiet = begun.0.quiet;

@@ -1,14 +1,16 @@
-use Rattle.std.proofs.Common.{◌≡◌, ℕ, ◌-◌, refl, sym, ap, subst, ◌∙◌, arith, length, length-drop}
+use Rattle.std.proofs.Common.{◌≡◌, ℕ, List, refl, sym, ap, subst, ◌∙◌, arith, drop}
 use Rattle.engine_events.specs.declared.event.Name.TheVariants as n
 use Rattle.definition_page.specs.Page as page
-use Rattle.parse_raw.proofs.Prelude.{AreLeft, end_at, LeadsOn, standing, Standing}
+use Rattle.parse_raw.proofs.Prelude.{AreLeft, bare, bytes_of, end_at, line_left, Prefixed, Rest, rest_of, LeadsOn, standing, Standing}
+use Rattle.parse_raw.specs.Bytes.{AreBreak}
 use Rattle.parse_raw.proofs.LeafNodes.{leaf_written, stands_here, white_written}
 use Rattle.parse_raw.proofs.NextLines.{all_ok, no_bytes_left, some_length}
+use Rattle.parse_raw.proofs.Runs.{break_drop, break_of}
 use Rattle.parse_raw.proofs.Tokens.{left_none, left_same, tokens_both, tokens_none}
 use Rattle.parse_raw.proofs.thematic_break.push_thematic_break.Goals as goal
 
 pub loop-rest-init : goal.loop-rest-init
-loop-rest-init g c = record { «open» = refl; on = tokens_none (length c.as_bytes-rest.result.now) c.enter.new.self }
+loop-rest-init g c = record { «open» = refl; on = λ marker are. (are, tokens_none c.as_bytes-rest.result.now c.enter.new.self) }
 
 pub loop-rest-preserved : goal.loop-rest-preserved
 loop-rest-preserved g c =
@@ -16,13 +18,17 @@ loop-rest-preserved g c =
     let rest = c.loop-rest.rest.now in
     let some = part.some (some_length rest c.loop-rest-test.ensures) in
     let max = c.max.ensures in
-    let left : length rest - c.in_ok-size.size ≡ length c.bytes_from-rest.result.now =
-    omega (arith, some, max, ap length c.bytes_from-rest.ensures.rest, length-drop c.max.result rest) in
+    let size : c.max.result ≡ c.in_ok-size.size = omega (arith, some, max) in
+    let left : drop c.in_ok-size.size rest ≡ c.bytes_from-rest.result.now =
+    ap (λ (k : ℕ). drop k rest) (sym size) ∙ sym c.bytes_from-rest.ensures.rest in
     record {
       «open» = part.open ∙ c.loop-rest.invariant.open;
-      on = tokens_both (length c.as_bytes-rest.result.now) (length rest) (length c.bytes_from-rest.result.now) c.enter.new.self c.loop-rest.walk
-          c.push_part.new.walk c.loop-rest.invariant.on
-          (subst (λ (n : ℕ). LeadsOn (length rest) n c.loop-rest.walk c.push_part.new.walk) left part.written);
+      on = λ marker are.
+          let before = c.loop-rest.invariant.on marker are in (
+            subst (AreBreak marker) left (break_drop marker c.in_ok-size.size rest before.0),
+            tokens_both c.as_bytes-rest.result.now rest c.bytes_from-rest.result.now c.enter.new.self c.loop-rest.walk c.push_part.new.walk before.1
+                (subst (λ (bs : List ℕ). LeadsOn rest bs c.loop-rest.walk c.push_part.new.walk) left (part.written marker before.0)),
+          );
     }
 
 pub returns-clause-written : goal.returns-clause-written
@@ -37,9 +43,12 @@ returns-clause-written g c =
     (λ exits end stays. λ r first text top here left to st at order laid.
     let space = white_written text old a here left st at order white.stays white.end white.written in
     let entered = enter.enters text space.quiet.writes.order in
-    let count = ap length (c.as_bytes-rest.ensures.value ∙ white.bare) in
+    let bytes = c.as_bytes-rest.ensures.value ∙ white.bare in
     let left_b = left_same text _ a b space.after entered.order enter.stays enter.end in
-    let kids = c.loop-rest.invariant.on text (subst (λ (n : ℕ). AreLeft text n b) (sym count) left_b) in
+    let rest_is : rest_of old.rest ≡ laid.0.rest = st.rest ∙ ap (λ (p : Prefixed). (line_left p).rest) laid.2.0 in
+    let is = break_of old.on.now laid.0.rest laid.3 in
+    let are = subst (AreBreak is.marker) (sym (bytes ∙ ap (λ (r : Rest). bytes_of (bare r)) rest_is)) is.are in
+    let kids = (c.loop-rest.invariant.on is.marker are).1 text (subst (λ (bs : List ℕ). AreLeft text bs b) (sym bytes) left_b) in
     let same = stays ∙ kids.same ∙ enter.stays ∙ white.stays in
     let line_end = ap (λ (s : Standing). s.line_end) stays in
     let none = no_bytes_left c.loop-rest.rest.now c.loop-rest-test.ensures in

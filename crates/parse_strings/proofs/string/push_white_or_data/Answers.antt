@@ -1,6 +1,7 @@
 use Rattle.std.proofs.Common.{◌≡◌, ◌+◌, ◌<◌, ◌++◌, true, false, arith, drop, subst, sym, ap, ◌∙◌, refl, append_assoc}
 use Rattle.parse_strings.proofs.Prelude.{begins_with_eol, content_codes, ending_bytes, IfOk-weaker, indent, StandsInContent, WritesStringPart}
 use Rattle.parse_strings.proofs.Parts.{ending_part, ending_small, first_feed, stays_apart, white_part}
+use Rattle.parse_lines.proofs.Bytes.{ending_may}
 use Rattle.parse_strings.proofs.Texts.{apart_more, ending_step, ending_there, no_spaces, white_some, white_step}
 use Rattle.parse_strings.proofs.string.push_white_or_data.Goals as goal
 
@@ -14,7 +15,7 @@ returns-in-Some-clause-written g c = λ on names text content stop some escape r
     let ahead : xs ++ content ≡ ending_bytes e ++ (ys ++ content) = ap (λ zs. zs ++ content) step.parts ∙ append_assoc (ending_bytes e) ys content in
     let ends =
     c.in_ok-content_ending.ensures.written text (ys ++ content) stop e step.is
-    (apart_more e ys content step.apart (λ none. first_feed content (stays_apart e xs ys content step.parts apart))) refl refl
+    (apart_more e ys content step.apart (λ none. first_feed content (stays_apart e xs ys content step.parts apart))) refl refl (ending_may e)
     (subst (λ zs. StandsInContent text zs stop c.args.walk.now) ahead st) in
     let white : c.white_size-white.result ≡ indent ys = c.white_size-white.ensures.size ∙ ap indent c.bytes_from.ensures.rest in
     let sum : c.saturating_add.result ≡ found.size + c.white_size-white.result =

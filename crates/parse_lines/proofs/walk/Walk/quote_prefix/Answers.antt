@@ -3,7 +3,7 @@ use Rattle.std.specs.Prelude.{◌-◌}
 use Rattle.engine_events.specs.declared.event.Name.TheVariants.{SpaceOrTab}
 use Rattle.parse_lines.proofs.Prelude.{bare, bytes_of, container_line, End, end_at, Follows, is_white, list_all, Nil, Nodes, one, rest_of, rest_start}
 use Rattle.parse_lines.proofs.Prelude.{Standing, text_between, Writes, writes_both, written_to}
-use Rattle.parse_lines.proofs.Quiet.{no_void, quiet_both, quiet_prefix, quiet_space}
+use Rattle.parse_lines.proofs.Quiet.{no_void, quiet_both, quiet_prefix, quiet_space, white_self}
 use Rattle.parse_lines.proofs.Steps.{both_ok}
 use Rattle.parse_lines.proofs.Suffixes.{quote_starts}
 use Rattle.parse_lines.proofs.Written.{bare_follows, bare_follows_self, bare_start, bare_white, quote_inner}
@@ -25,15 +25,16 @@ returns-clause-written g c =
     (λ exits exit_end. λ text before content after n kind at is.
     let bare_is = bare_start text before content after n old.line_end start bare_end refl in
     let follows = bare_follows text before content after n old.line_end start bare_end at.line at.end at.rest bare_is in
-    let first = white.written text at.order (subst (λ (x : End). Follows text x bare_end) (sym at.written) follows) in
+    let onward = subst (λ (x : End). Follows text x bare_end) (sym at.written) follows in
+    let white_is = subst (λ (x : End). list_all is_white (text_between text x bare_end) ≡ true) (sym at.written)
+    (bare_white text before content after n old.line_end start bare_end at.line at.end at.rest bare_is) in
+    let first = white.written text at.order (record { follows = onward; bytes = white_is }) in
     let inner = quote_inner text before content after n old.line_end start rest old.on.now (container_line rest kind) c.white.new.self.out
     c.enter.new.self.out c.token.new.self.out c.space_to.new.self.out c.exit.new.self.out
     bare_end (rest_start c.token.new.self.line_end rest) at.line at.end at.rest first.order is refl refl to white.end (enter.enters text) enter.end
     (λ fits. marker.written fits text) marker.end (space.written text) (exits text) in (
       quiet_both text old.out c.white.new.self.out c.exit.new.self.out (quiet_space text old.out c.white.new.self.out (written_to old) bare_end
-          (subst (λ (x : End). Follows text x bare_end) (sym at.written) follows)
-          (subst (λ (x : End). list_all is_white (text_between text x bare_end) ≡ true) (sym at.written)
-          (bare_white text before content after n old.line_end start bare_end at.line at.end at.rest bare_is)) first)
+          onward white_is first)
           (quiet_prefix text c.white.new.self.out c.exit.new.self.out inner.0 inner.1 inner.2),
       exit_end ∙ space.end ∙ to,
     ))
@@ -57,7 +58,11 @@ returns-clause-marked g c =
     let bare_is = bare_start text before content after n old.line_end start bare_end refl in
     let from : written_to old ≡ bare_end = written ∙ sym bare_is in
     let follows = bare_follows_self text before content after n old.line_end start bare_end line line_is at bare_is in
-    let first = white.written text order (subst (λ (x : End). Follows text x bare_end) (sym from) follows) in
+    let first =
+    white.written text order (record {
+      follows = subst (λ (x : End). Follows text x bare_end) (sym from) follows;
+      bytes = white_self text (written_to old) bare_end from;
+    }) in
     let none = subst (λ (ns : Nodes). Writes text old.out c.white.new.self.out ns) (no_void text SpaceOrTab (written_to old) bare_end from) first in
     let inner = quote_inner text before content after n old.line_end start rest old.on.now (container_line rest kind) c.white.new.self.out
     c.enter.new.self.out c.token.new.self.out c.space_to.new.self.out c.exit.new.self.out

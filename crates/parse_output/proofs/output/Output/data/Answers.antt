@@ -12,8 +12,8 @@ returns-clause-written g c =
     let d = c.index.result.now in
     let is : i + 1 ≡ length ds = omega (arith, c.len-count.ensures, c.if-count-eq0.false) in
     let of_data : IsData (get_or ds i d) = subst IsData c.index.ensures (c.if-not-is_data.ensures.data refl) in
-    λ text order follows.
-    let long = longer text ds i d self.end end is of_data self.ends order follows in
+    λ text order token.
+    let long = longer text ds i d self.end end is of_data self.ends order token in
     record {
       order = subst (λ e. AreInOrder text first_end (set ds i e)) (sym c.draft_to.ensures.same) long.order;
       forest = ap (λ e. forest text (set ds i e)) c.draft_to.ensures.same ∙ long.forest;

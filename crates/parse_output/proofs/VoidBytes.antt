@@ -1,0 +1,64 @@
+-- The events of drafts have bytes that their names may have.
+use Rattle.parse_output.proofs.Prelude.{AreInOrder, Draft, End, end_at, enter_at, Event, exit_at, first_end, Name, same_name}
+use Rattle.std.proofs.Common.{◌≡◌, ℕ, Bool, true, ◌&&◌, if◌then◌else◌, List, [], ◌∷◌, inl, inr, refl, ap, ap₂, ◌∙◌, arith}
+use Rattle.std.specs.Prelude.{leb}
+use Rattle.std.proofs.lemmas.Bool.{cases_Bool, le-leb}
+use Rattle.parse_output.specs.Forest.{drafts_events}
+use Rattle.parse_output.specs.declared.draft.Draft.TheVariants as draft
+use Rattle.event_tokens.specs.Bytes.{HaveTheirBytes, are_fit, is_fit}
+use Rattle.event_tokens.specs.Tokens.{Form, fits, is_token, token_form, Any, Ending, All, Most, Run, Only}
+use Rattle.parse_output.specs.Joined.{end_edge, text_between}
+use Rattle.parse_output.proofs.Joined.{none_between}
+
+none_most : (most : ℕ) → leb 0 most ≡ true
+none_most most = le-leb 0 most (omega arith)
+
+-- no bytes fit each form
+nothing_fits : (form : Form) → fits form [] ≡ true
+nothing_fits Any = refl
+nothing_fits Ending = refl
+nothing_fits (All kind) = refl
+nothing_fits (Most most kind) = ap (λ (b : Bool). b && true) (none_most most)
+nothing_fits (Run marks) = refl
+nothing_fits (Only text) = refl
+
+exit_fits : (text : List ℕ) (name : Name) (from : End) (others : List Event) → is_fit text (exit_at text name from) others ≡ true
+exit_fits text name from [] = refl
+exit_fits text name from (next ∷ others) = refl
+
+-- an event that is entered by a draft of its own
+enter_fits : (text : List ℕ) (name : Name) (from : End) (ds : List Draft) → is_fit text (enter_at text name from) (drafts_events text from ds) ≡ true
+enter_fits text name from [] = refl
+enter_fits text name from (draft.Enter other ∷ ds) = refl
+enter_fits text name from (draft.Void other owed index ∷ ds) = refl
+enter_fits text name from (draft.Exit other ∷ ds) =
+    elim (cases_Bool (same_name name other)) [
+      | inl same ↦
+          ap (λ (b : Bool). if b then is_token name (text_between text from from) else true) same
+          ∙ ap (is_token name) (none_between text (end_edge text from) (end_edge text from) refl) ∙ nothing_fits (token_form name)
+      | inr other_name ↦ ap (λ (b : Bool). if b then is_token name (text_between text from from) else true) other_name
+    ]
+
+void_fits : (text : List ℕ) (name : Name) (from to : End) (others : List Event) → is_token name (text_between text from to) ≡ true
+    → is_fit text (enter_at text name from) (exit_at text name to ∷ others) ≡ true
+void_fits text name from to others may =
+    elim (cases_Bool (same_name name name)) [
+      | inl same ↦ ap (λ (b : Bool). if b then is_token name (text_between text from to) else true) same ∙ may
+      | inr other ↦ ap (λ (b : Bool). if b then is_token name (text_between text from to) else true) other
+    ]
+
+drafts_fit : (text : List ℕ) (from : End) (ds : List Draft) → AreInOrder text from ds → are_fit text (drafts_events text from ds) ≡ true
+drafts_fit text from [] are = refl
+drafts_fit text from (draft.Enter name ∷ ds) are = ap₂ (λ (s t : Bool). s && t) (enter_fits text name from ds) (drafts_fit text from ds are.1)
+drafts_fit text from (draft.Exit name ∷ ds) are =
+    ap₂ (λ (s t : Bool). s && t) (exit_fits text name from (drafts_events text from ds)) (drafts_fit text from ds are.1)
+drafts_fit text from (draft.Void name owed index ∷ ds) are =
+    let to = end_at index owed in
+    let others = drafts_events text to ds in
+    ap₂ (λ (s t : Bool). s && t) (void_fits text name from to others are.0.bytes) (
+    ap₂ (λ (s t : Bool). s && t) (exit_fits text name to others) (drafts_fit text to ds are.1)
+    )
+
+-- the events of a text
+pub events_fit : (text : List ℕ) (ds : List Draft) (es : List Event) → es ≡ drafts_events text first_end ds → AreInOrder text first_end ds → HaveTheirBytes text es
+events_fit text ds es is order = ap (are_fit text) is ∙ drafts_fit text first_end ds order
