@@ -1,8 +1,10 @@
 # Completions of markdown's options for fish.
 for command in markdown markdown-proved
-    complete -c $command -f
+    complete -c $command -F
     complete -c $command -l gfm -d "Read what GitHub adds to CommonMark"
     complete -c $command -l mark -d "Read ==text== as marked text"
+    complete -c $command -l math -d 'Read $a$, and blocks between lines of $$, as math'
+    complete -c $command -l frontmatter -d "Leave out metadata at the start of the input"
     complete -c $command -l dangerous -d "Keep HTML and every protocol of the input"
     complete -c $command -l plain -d "Turn every construct off"
     complete -c $command -l references -r -F -d "Read more names of character references from a file"

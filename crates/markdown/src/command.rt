@@ -4,14 +4,14 @@ ghost use Rattle.std.specs.Prelude.{option_map, string_bytes, false};
 ghost use Rattle.markdown_options.specs.Mdx.{HasNoMdx};
 ghost use Rattle.markdown_definition.specs.Html.{html};
 ghost use Rattle.html_contents.specs.Texts.{tables_by};
-ghost use Rattle.markdown_settings.specs.Settings.{faults_of, options_of, path_of, word_texts};
-ghost use Rattle.markdown_devices.specs.Endings.{Ends, EndsBy};
+ghost use Rattle.markdown_settings.specs.Settings.{faults_of, file_of, options_of, path_of, word_texts};
+ghost use Rattle.markdown_devices.specs.Endings.{Ends, EndsBy, EndsOf};
 ghost use Rattle.markdown_devices.specs.Program.{Runs, WritesAnswer};
 ghost use Rattle.markdown_devices.specs.Statuses.{status_of, MayComeOf};
 ghost use Rattle.markdown_devices.specs.Watched.{has_failed};
 
 use crate::transfer::run;
-use markdown_devices::{Fault, RunError, Watched, answer, end, file_rows, flush};
+use markdown_devices::{Fault, RunError, Watched, answer, end, file_rows, flush, open_file};
 use markdown_options::{Options, Tables};
 use markdown_settings::{Settings, SettingsError, settings};
 use markdown_tables::Builtin;
@@ -21,10 +21,11 @@ use std::rt::Files;
 
 /// Runs the program, and returns its exit status: 0, 1 or 2. The words don't include its name.
 ///
-/// With status 0 the whole output was written and flushed. A fault is printed as one line to
-/// `faults`. If that fails, the status is still that of the fault.
-pub fn program<R: Read, W: Write, F: Write>(
-    rt: &(impl Files + AllocGlobal),
+/// If the words name a file, it is opened and read in place of `reader`. With status 0 the whole
+/// output was written and flushed. A fault is printed as one line to `faults`. If that fails, the
+/// status is still that of the fault.
+pub fn program<S: Files + AllocGlobal, R: Read, W: Write, F: Write>(
+    rt: &S,
     words: &[String],
     reader: &mut Watched<R>,
     writer: &mut Watched<W>,
@@ -33,7 +34,7 @@ pub fn program<R: Read, W: Write, F: Write>(
     requires reader { has_failed reader.old ≡ false }
     requires writer { has_failed writer.old ≡ false }
     requires faults { has_failed faults.old ≡ false }
-    ensures { Runs (word_texts words.now) R.remaining W.contents F.contents
+    ensures { Runs (word_texts words.now) S.File.Read.remaining R.remaining W.contents F.contents
         reader.old reader.new writer.old writer.new faults.old faults.new result }
 {
     let outcome = obey(rt, words, reader, writer);
@@ -41,16 +42,17 @@ pub fn program<R: Read, W: Write, F: Write>(
 }
 
 /// Runs the command line.
-fn obey<R: Read, W: Write>(
-    rt: &(impl Files + AllocGlobal),
+fn obey<S: Files + AllocGlobal, R: Read, W: Write>(
+    rt: &S,
     words: &[String],
     reader: &mut Watched<R>,
     writer: &mut Watched<W>,
 ) -> Result<(), Fault>
     requires reader { has_failed reader.old ≡ false }
     requires writer { has_failed writer.old ≡ false }
-    ensures page { faults_of (word_texts words.now) ≡ [] → EndsBy (path_of (word_texts words.now)) (options_of (word_texts words.now))
-        R.remaining W.contents reader.old reader.new writer.old writer.new (is_ok result) }
+    ensures page { faults_of (word_texts words.now) ≡ []
+        → EndsBy (file_of (word_texts words.now)) (path_of (word_texts words.now)) (options_of (word_texts words.now))
+        S.File.Read.remaining R.remaining W.contents reader.old reader.new writer.old writer.new (is_ok result) }
     ensures answer { ¬ (faults_of (word_texts words.now) ≡ [])
         → WritesAnswer (faults_of (word_texts words.now)) W.contents writer.old writer.new (is_ok result) }
     ensures unread { ¬ (faults_of (word_texts words.now) ≡ []) → reader.new ≡ reader.old }
@@ -65,8 +67,8 @@ fn obey<R: Read, W: Write>(
 }
 
 /// Prints the page, by these settings.
-fn page<R: Read, W: Write>(
-    rt: &(impl Files + AllocGlobal),
+fn page<S: Files + AllocGlobal, R: Read, W: Write>(
+    rt: &S,
     settings: &Settings,
     reader: &mut Watched<R>,
     writer: &mut Watched<W>,
@@ -74,15 +76,40 @@ fn page<R: Read, W: Write>(
     requires reader { has_failed reader.old ≡ false }
     requires writer { has_failed writer.old ≡ false }
     requires without_mdx { HasNoMdx settings.now.options }
-    ensures page { EndsBy (option_map string_bytes settings.now.references) settings.now.options
-        R.remaining W.contents reader.old reader.new writer.old writer.new (is_ok result) }
+    ensures page { EndsBy (option_map string_bytes settings.now.file) (option_map string_bytes settings.now.references) settings.now.options
+        S.File.Read.remaining R.remaining W.contents reader.old reader.new writer.old writer.new (is_ok result) }
     ensures status { IfErr result (λ fault. status_of fault ≡ 1) }
 {
     match &settings.references {
-        None => print(rt.alloc(), reader, writer, &settings.options, &Builtin),
+        None => print_by(rt, settings, reader, writer, &Builtin),
         Some(path) => {
             let rows = file_rows(rt, path)?;
-            print(rt.alloc(), reader, writer, &settings.options, &rows)
+            print_by(rt, settings, reader, writer, &rows)
+        }
+    }
+}
+
+/// Prints the page of the file that these settings name, or of the reader, by these tables.
+fn print_by<S: Files + AllocGlobal, R: Read, W: Write, T: Tables>(
+    rt: &S,
+    settings: &Settings,
+    reader: &mut Watched<R>,
+    writer: &mut Watched<W>,
+    tables: &T,
+) -> Result<(), Fault>
+    requires reader { has_failed reader.old ≡ false }
+    requires writer { has_failed writer.old ≡ false }
+    requires without_mdx { HasNoMdx settings.now.options }
+    ensures page { EndsOf (option_map string_bytes settings.now.file) S.File.Read.remaining R.remaining W.contents
+        reader.old reader.new writer.old writer.new (is_ok result) (λ text. html (tables_by T.Tables tables.now) text settings.now.options) }
+    ensures status { IfErr result (λ fault. status_of fault ≡ 1) }
+{
+    let options = &settings.options;
+    match &settings.file {
+        None => print(rt.alloc(), reader, writer, options, tables),
+        Some(path) => {
+            let mut file = open_file(rt, path)?;
+            print(rt.alloc(), &mut file, writer, options, tables)
         }
     }
 }

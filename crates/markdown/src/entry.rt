@@ -17,8 +17,8 @@ use std::rt::Files;
 ///
 /// If the system gives no words, nothing is read or written. The fault is then a wrong command
 /// line, or `out of memory`.
-pub fn start<R: Read, W: Write, F: Write>(
-    rt: &(impl Files + AllocGlobal),
+pub fn start<S: Files + AllocGlobal, R: Read, W: Write, F: Write>(
+    rt: &S,
     words: io::Result<Vec<String>>,
     reader: &mut Watched<R>,
     writer: &mut Watched<W>,
@@ -27,7 +27,7 @@ pub fn start<R: Read, W: Write, F: Write>(
     requires reader { has_failed reader.old ≡ false }
     requires writer { has_failed writer.old ≡ false }
     requires faults { has_failed faults.old ≡ false }
-    ensures runs { IfOk words (λ words. Runs (word_texts (drop 1 words.items)) R.remaining W.contents F.contents
+    ensures runs { IfOk words (λ words. Runs (word_texts (drop 1 words.items)) S.File.Read.remaining R.remaining W.contents F.contents
         reader.old reader.new writer.old writer.new faults.old faults.new result) }
     ensures refused { IfErr words (λ error. (reader.new ≡ reader.old) × (writer.new ≡ writer.old)
         × Complains F.contents faults.old faults.new result (unread_fault (error_kind error))) }

@@ -1,12 +1,12 @@
 -- Conversions that end before anything was read.
-use Rattle.std.proofs.Common.{◌≡◌, ℕ, Bool, true, false, not, ◌&&◌, List, [], Option, None, Some, refl, sym, arith}
+use Rattle.std.proofs.Common.{◌≡◌, ℕ, Bool, true, false, not, ◌&&◌, List, [], Option, None, Some, inl, refl, sym, arith}
 use Rattle.std.proofs.KnownBytes.{Keeps-refl}
 use Rattle.markdown_options.specs.declared.configuration.Options.{Options}
 use Rattle.markdown_definition.specs.Html.{html}
 use Rattle.markdown_tables.specs.Builtin.{builtin_tables}
 use Rattle.markdown_devices.specs.declared.read.TheConstants.{SIZE_MAX}
 use Rattle.markdown_devices.specs.declared.watched.Watched.{Watched}
-use Rattle.markdown_devices.specs.Endings.{Ends, EndsBy}
+use Rattle.markdown_devices.specs.Endings.{Ends, EndsBy, EndsOf}
 use Rattle.markdown_devices.specs.Tables.{AreTables}
 use Rattle.markdown_devices.specs.Transfer.{TellsMore}
 use Rattle.markdown_devices.specs.Watched.{device, has_ended, has_failed, has_flush_failed}
@@ -43,8 +43,17 @@ some_tables : (path : Option (List ℕ)) → AreTables path builtin_tables
 some_tables None = refl
 some_tables (Some path) = ([], record { faultless = refl; names = λ name. refl; punctuation = refl })
 
-pub early : {D E : Type 0} (path : Option (List ℕ)) (options : Options) (remaining : D → Option (List ℕ)) (contents : E
-    → Option (List ℕ)) (reader : Watched D) (writer : Watched E)
-    → has_failed reader ≡ false → has_failed writer ≡ false → EndsBy path options remaining contents reader reader writer writer false
-early path options remaining contents reader writer reads writes =
-    (builtin_tables, some_tables path, ends_early remaining contents reader writer (λ text. html builtin_tables text options) reads writes)
+ends_early_of : {D E G : Type 0} (name : Option (List ℕ)) (held : G → Option (List ℕ)) (remaining : D → Option (List ℕ)) (contents : E → Option (List ℕ))
+    (reader : Watched D) (writer : Watched E) (page : List ℕ → List ℕ)
+    → has_failed reader ≡ false → has_failed writer ≡ false → EndsOf name held remaining contents reader reader writer writer false page
+ends_early_of None held remaining contents reader writer page reads writes = ends_early remaining contents reader writer page reads writes
+ends_early_of (Some name) held remaining contents reader writer page reads writes = (refl, inl (refl, refl))
+
+pub early : {D E G : Type 0} (name path : Option (List ℕ)) (options : Options) (held : G → Option (List ℕ)) (remaining : D → Option (List ℕ))
+    (contents : E → Option (List ℕ)) (reader : Watched D) (writer : Watched E)
+    → has_failed reader ≡ false → has_failed writer ≡ false → EndsBy name path options held remaining contents reader reader writer writer false
+early name path options held remaining contents reader writer reads writes = (
+  builtin_tables,
+  some_tables path,
+  ends_early_of name held remaining contents reader writer (λ text. html builtin_tables text options) reads writes,
+)

@@ -1,5 +1,5 @@
 -- How a conversion ends.
-use Rattle.std.specs.Prelude.{◌≡◌, ◌||◌, ℕ, Bool, true, false, List, Option, IfSome}
+use Rattle.std.specs.Prelude.{◌≡◌, ◌⊎◌, ◌||◌, ℕ, Bool, true, false, List, Option, None, Some, IfSome}
 use Rattle.std.specs.Str.{IsUtf8}
 use Rattle.std.specs.Io.KnownBytes.{Appends, Keeps}
 use Rattle.markdown_options.specs.declared.configuration.Options.{Options}
@@ -37,8 +37,24 @@ pub record Ends {D E : Type 0} (remaining : D → Option (List ℕ)) (contents :
   -- it ends well exactly where the writer was flushed in the end
   pub flushed : has_flushed writer ≡ false → ok ≡ has_flushed writer'
 
+-- neither a failed read nor the end is behind this reader
+abbrev pub IsUnread : {D : Type 0} → Watched D → Type 0
+IsUnread reader = (has_failed reader ≡ false) × (has_ended reader ≡ false)
+
+-- so ends one of a file that is opened, or nothing is written where it can't be
+abbrev pub EndsOfFile : {D E : Type 0} → (D → Option (List ℕ)) → (E → Option (List ℕ)) → Watched E → Watched E → Bool → (List ℕ → List ℕ) → Type 0
+EndsOfFile {D} held contents writer writer' ok page =
+    ((ok ≡ false) × (writer' ≡ writer))
+    ⊎ ((file : Watched D) × (file' : Watched D) × IsUnread file × Ends held contents file file' writer writer' ok page)
+
+-- so ends one of the file of a name, for which the reader stays as it was, or without a name of the reader
+abbrev pub EndsOf : {D E G : Type 0} → Option (List ℕ) → (G → Option (List ℕ)) → (D → Option (List ℕ)) → (E → Option (List ℕ))
+    → Watched D → Watched D → Watched E → Watched E → Bool → (List ℕ → List ℕ) → Type 0
+EndsOf None held remaining contents reader reader' writer writer' ok page = Ends remaining contents reader reader' writer writer' ok page
+EndsOf (Some name) held remaining contents reader reader' writer writer' ok page = (reader' ≡ reader) × EndsOfFile held contents writer writer' ok page
+
 -- so ends one by the tables of a path
-abbrev pub EndsBy : {D E : Type 0} → Option (List ℕ) → Options → (D → Option (List ℕ)) → (E → Option (List ℕ))
+abbrev pub EndsBy : {D E G : Type 0} → Option (List ℕ) → Option (List ℕ) → Options → (G → Option (List ℕ)) → (D → Option (List ℕ)) → (E → Option (List ℕ))
     → Watched D → Watched D → Watched E → Watched E → Bool → Type 0
-EndsBy path options remaining contents reader reader' writer writer' ok =
-    (tables : TextTables) × AreTables path tables × Ends remaining contents reader reader' writer writer' ok (λ text. html tables text options)
+EndsBy name path options held remaining contents reader reader' writer writer' ok =
+    (tables : TextTables) × AreTables path tables × EndsOf name held remaining contents reader reader' writer writer' ok (λ text. html tables text options)

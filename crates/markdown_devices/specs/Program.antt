@@ -2,7 +2,7 @@
 use Rattle.std.specs.Prelude.{◌≡◌, ◌⊎◌, ◌==◌, ℕ, Bool, true, false, List, [], Option}
 use Rattle.std.specs.Io.KnownBytes.{Appends, Keeps}
 use Rattle.clap.specs.Words.{Kinds, Text}
-use Rattle.markdown_settings.specs.Settings.{AsksFor, faults_of, options_of, path_of}
+use Rattle.markdown_settings.specs.Settings.{AsksFor, faults_of, file_of, options_of, path_of}
 use Rattle.markdown_devices.specs.declared.fault.Fault.{Fault}
 use Rattle.markdown_devices.specs.declared.watched.Watched.{Watched}
 use Rattle.markdown_devices.specs.Complaints.{complaint}
@@ -33,11 +33,13 @@ abbrev pub Complains : {F : Type 0} → (F → Option (List ℕ)) → Watched F 
 Complains contents faults faults' status fault =
     (status ≡ status_of fault) × (has_failed faults' ≡ false → Appends (contents (device faults)) (contents (device faults')) (complaint fault))
 
--- what the program does for words, without its name
-pub record Runs {D E F : Type 0} (words : List Text) (remaining : D → Option (List ℕ)) (contents : E → Option (List ℕ)) (lines : F → Option (List ℕ))
+-- what the program does for words, without its name; `held` is what an opened file holds
+pub record Runs {D E F G : Type 0} (words : List Text) (held : G → Option (List ℕ))
+    (remaining : D → Option (List ℕ)) (contents : E → Option (List ℕ)) (lines : F → Option (List ℕ))
     (reader reader' : Watched D) (writer writer' : Watched E) (faults faults' : Watched F) (status : ℕ) : Type 0 where
-  -- words without a fault ask for a page: 0 where all of it was written
-  pub page : faults_of words ≡ [] → EndsBy (path_of words) (options_of words) remaining contents reader reader' writer writer' (status == 0)
+  -- words without a fault ask for a page, of their file or of the reader: 0 where all of it was written
+  pub page : faults_of words ≡ []
+      → EndsBy (file_of words) (path_of words) (options_of words) held remaining contents reader reader' writer writer' (status == 0)
   -- others may ask for the help or the version, and nothing is read for them
   pub answer : ¬ (faults_of words ≡ []) → WritesAnswer (faults_of words) contents writer writer' (status == 0)
   pub unread : ¬ (faults_of words ≡ []) → reader' ≡ reader

@@ -1,5 +1,6 @@
 -- The statuses of the program, and which fault may come for which words.
 use Rattle.std.specs.Prelude.{◌≡◌, ◌⊎◌, ⊤, ℕ, Bool, true, false, List, [], Some}
+use Rattle.std.specs.declared.io.Error.{Error}
 use Rattle.std.specs.declared.io.ErrorKind.{ErrorKind}
 use Rattle.std.specs.declared.io.ErrorKind.TheVariants.{OutOfMemory}
 use Rattle.clap.specs.Words.{Kinds}
@@ -8,7 +9,7 @@ use Rattle.markdown_tables.specs.declared.rows_error.RowsError.TheVariants as ro
 use Rattle.markdown_tables.specs.RowsFaults.{text_fault}
 use Rattle.markdown_devices.specs.declared.fault.Fault.{Fault}
 use Rattle.markdown_devices.specs.declared.fault.Fault.TheVariants.{Words, References, Rows, Run}
-use Rattle.markdown_devices.specs.declared.run_error.RunError.TheVariants.{Memory}
+use Rattle.markdown_devices.specs.declared.run_error.RunError.TheVariants.{Memory, Read}
 use Rattle.markdown_devices.specs.Faults.{is_write_error}
 
 -- 2 for words that are no command line, and 1 for every other fault
@@ -30,6 +31,11 @@ unread_fault kind = Words
 abbrev pub references_fault : ErrorKind → Fault
 references_fault OutOfMemory = Run Memory
 references_fault kind = References
+
+-- where the file to read can't be opened
+abbrev pub unopened_fault : ErrorKind → Error → Fault
+unopened_fault OutOfMemory error = Run Memory
+unopened_fault kind error = Run (Read error)
 
 -- rows are at fault only where this text of rows is, and with its first fault
 abbrev pub MayComeOfRows : Fault → List ℕ → Type 0

@@ -3,6 +3,7 @@
 
 pub mod complaint;
 pub mod fault;
+pub mod file;
 pub mod read;
 pub mod references;
 pub mod run_error;
@@ -12,6 +13,7 @@ pub mod write;
 
 pub use complaint::end;
 pub use fault::Fault;
+pub use file::open_file;
 pub use read::{SIZE_MAX, read_all};
 pub use references::file_rows;
 pub use run_error::RunError;

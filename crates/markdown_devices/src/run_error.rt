@@ -14,7 +14,7 @@ pub enum RunError {
     Utf8,
     /// Out of memory.
     Memory,
-    /// The reader returned this error.
+    /// The reader returned this error, or the file to read can't be opened.
     Read(io::Error),
     /// The writer returned this error. A beginning of the page was written.
     Write(io::Error),

@@ -1,4 +1,4 @@
-//! Markdown from standard input, HTML to standard output.
+//! Markdown from a file or standard input, HTML to standard output.
 #![tactic(auto)]
 
 use markdown::{Watched, start};

@@ -1,5 +1,6 @@
 -- What the words of the command line ask for.
-use Rattle.std.specs.Prelude.{◌≡◌, ◌⊎◌, ⊤, Bool, true, false, List, Option, codes, map, string_bytes}
+use Rattle.std.specs.Prelude.{◌≡◌, ◌⊎◌, ⊤, Bool, true, false, if◌then◌else◌, List, Option, Some, None, codes, map, string_bytes}
+use Rattle.std.specs.Str.{bytes_eq}
 use Rattle.std.specs.declared.string.String.{String}
 use Rattle.clap.specs.Words.{Kinds, IsAmong, Row, Text, fault_of, first_of, matches_of, takes}
 use Rattle.clap.specs.declared.error.kind.ErrorKind.{ErrorKind}
@@ -9,7 +10,7 @@ use Rattle.markdown_settings.specs.declared.help.TheConstants.{HELP, VERSION}
 use Rattle.markdown_settings.specs.declared.settings_error.SettingsError.{SettingsError}
 use Rattle.markdown_settings.specs.declared.settings_error.SettingsError.TheVariants.{Help, Words, Memory}
 use Rattle.markdown_settings.specs.Command.{markdown_command}
-use Rattle.markdown_settings.specs.Flags.{flag_options, is_true_text}
+use Rattle.markdown_settings.specs.Flags.{flag_options, flags_in}
 
 -- the bytes of each word
 abbrev pub word_texts : {A : Type 0} → List (String A) → List Text
@@ -27,12 +28,18 @@ faults_of = fault_of markdown_command
 unfoldable pub takes_words : List Text → Bool
 takes_words = takes markdown_command
 
--- a flag is set in the matches
-abbrev pub is_set : Text → List Text → Bool
-is_set name words = is_true_text (first_of name (rows_of_words words))
-
+-- the options of the flags that are set
 abbrev pub options_of : List Text → Options
-options_of words = flag_options (is_set (codes "gfm") words) (is_set (codes "mark") words) (is_set (codes "dangerous") words) (is_set (codes "plain") words)
+options_of words = flag_options (flags_in (rows_of_words words))
+
+-- the file of a name; `-` is standard input, as no name is
+abbrev pub named_file : Option Text → Option Text
+named_file None = None
+named_file (Some name) = if bytes_eq name (codes "-") then None else Some name
+
+-- the file to read, which is the word that is no flag
+abbrev pub file_of : List Text → Option Text
+file_of words = named_file (first_of (codes "file") (rows_of_words words))
 
 -- the value of `--references`
 abbrev pub path_of : List Text → Option Text

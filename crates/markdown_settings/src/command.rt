@@ -1,9 +1,10 @@
 //! The command line.
 //!
-//!     markdown [--gfm] [--mark] [--dangerous] [--plain] [--references PATH] [--help] [--version]
+//!     markdown [--gfm] [--mark] [--math] [--frontmatter] [--dangerous] [--plain] [--references PATH]
+//!         [--help] [--version] [FILE]
 ghost use Rattle.std.specs.Prelude.{◌≡◌, IfOk, false};
 ghost use Rattle.clap.specs.Words.{app_of, rule_of};
-ghost use Rattle.markdown_settings.specs.Command.{dangerous_rule, gfm_rule, mark_rule, markdown_command, plain_rule, references_rule};
+ghost use Rattle.markdown_settings.specs.Command.{file_rule, flag, markdown_command, references_rule};
 
 use crate::help::VERSION;
 use clap::{Arg, ArgAction, Command};
@@ -16,50 +17,26 @@ pub(crate) fn command<'a>(alloc: Global) -> Result<Command<'a>, AllocError>
     let command = Command::new(alloc, "markdown")
         .no_binary_name(true)
         .version(VERSION)
-        .arg(gfm(alloc))?
-        .arg(mark(alloc))?
-        .arg(dangerous(alloc))?
-        .arg(plain(alloc))?
-        .arg(references(alloc))?;
+        .arg(flag(alloc, "gfm"))?
+        .arg(flag(alloc, "mark"))?
+        .arg(flag(alloc, "math"))?
+        .arg(flag(alloc, "frontmatter"))?
+        .arg(flag(alloc, "dangerous"))?
+        .arg(flag(alloc, "plain"))?
+        .arg(references(alloc))?
+        .arg(file(alloc))?;
     Ok(command)
 }
 
-fn gfm<'a>(alloc: Global) -> Arg<'a>
-    ensures rule { rule_of result ≡ gfm_rule }
+/// A flag without a value.
+fn flag<'a>(alloc: Global, name: &'a str) -> Arg<'a>
+    ensures rule { rule_of result ≡ flag name.now }
     ensures local { result.global ≡ false }
 {
-    Arg::new(alloc, "gfm")
-        .long("gfm")
-        .action(ArgAction::SetTrue)
+    Arg::new(alloc, name).long(name).action(ArgAction::SetTrue)
 }
 
-fn mark<'a>(alloc: Global) -> Arg<'a>
-    ensures rule { rule_of result ≡ mark_rule }
-    ensures local { result.global ≡ false }
-{
-    Arg::new(alloc, "mark")
-        .long("mark")
-        .action(ArgAction::SetTrue)
-}
-
-fn dangerous<'a>(alloc: Global) -> Arg<'a>
-    ensures rule { rule_of result ≡ dangerous_rule }
-    ensures local { result.global ≡ false }
-{
-    Arg::new(alloc, "dangerous")
-        .long("dangerous")
-        .action(ArgAction::SetTrue)
-}
-
-fn plain<'a>(alloc: Global) -> Arg<'a>
-    ensures rule { rule_of result ≡ plain_rule }
-    ensures local { result.global ≡ false }
-{
-    Arg::new(alloc, "plain")
-        .long("plain")
-        .action(ArgAction::SetTrue)
-}
-
+/// `--references`, with a path.
 fn references<'a>(alloc: Global) -> Arg<'a>
     ensures rule { rule_of result ≡ references_rule }
     ensures local { result.global ≡ false }
@@ -67,4 +44,12 @@ fn references<'a>(alloc: Global) -> Arg<'a>
     Arg::new(alloc, "references")
         .long("references")
         .value_name("PATH")
+}
+
+/// The word that is no flag.
+fn file<'a>(alloc: Global) -> Arg<'a>
+    ensures rule { rule_of result ≡ file_rule }
+    ensures local { result.global ≡ false }
+{
+    Arg::new(alloc, "file").value_name("FILE")
 }

@@ -5,53 +5,74 @@ ghost use Rattle.markdown_settings.specs.Flags.{constructs_of, flag_options, par
 
 use markdown_options::{CompileOptions, Constructs, Options, ParseOptions};
 
-/// The options and the references file of a command line.
+/// What a command line asks for.
 #[derive(Debug, Drop)]
 pub struct Settings {
     /// How the text is read, and how its HTML is printed.
     pub options: Options,
+    /// The path of the file to read, or `None` for standard input.
+    pub file: Option<String>,
     /// The path of the references file, if there is one.
     pub references: Option<String>,
 }
 
-/// The options of these flags.
-pub(crate) fn flag_options(gfm: bool, mark: bool, dangerous: bool, plain: bool) -> Options
-    ensures options { result ≡ flag_options gfm mark dangerous plain }
-    ensures without_mdx { HasNoMdx result }
-{
-    Options {
-        parse: parse_of(gfm, mark, plain),
-        compile: CompileOptions {
-            allow_dangerous_html: dangerous,
-            allow_dangerous_protocol: dangerous,
-            ..printed_as(gfm)
-        },
-    }
+/// Which flags are set.
+#[derive(Clone, Copy)]
+pub(crate) struct Flags {
+    pub(crate) gfm: bool,
+    pub(crate) mark: bool,
+    pub(crate) math: bool,
+    pub(crate) frontmatter: bool,
+    pub(crate) dangerous: bool,
+    pub(crate) plain: bool,
 }
 
-/// The options of reading.
-fn parse_of(gfm: bool, mark: bool, plain: bool) -> ParseOptions
-    ensures { result ≡ parse_of gfm mark plain }
-{
-    ParseOptions {
-        constructs: constructs_of(gfm, mark, plain),
-        ..ParseOptions::default()
+impl Flags {
+    /// The options of these flags.
+    pub(crate) fn options(self) -> Options
+        ensures options { result ≡ flag_options self }
+        ensures without_mdx { HasNoMdx result }
+    {
+        Options {
+            parse: self.parse(),
+            compile: CompileOptions {
+                allow_dangerous_html: self.dangerous,
+                allow_dangerous_protocol: self.dangerous,
+                ..printed_as(self.gfm)
+            },
+        }
     }
-}
 
-/// No constructs, or those of GitHub or of CommonMark, with marked text or without.
-fn constructs_of(gfm: bool, mark: bool, plain: bool) -> Constructs
-    ensures { result ≡ constructs_of gfm mark plain }
-{
-    if plain {
-        return Constructs::none();
+    /// The options of reading.
+    fn parse(self) -> ParseOptions
+        ensures { result ≡ parse_of self }
+    {
+        ParseOptions {
+            constructs: self.constructs(),
+            ..ParseOptions::default()
+        }
     }
-    let constructs = if gfm {
-        Constructs::gfm()
-    } else {
-        Constructs::default()
-    };
-    Constructs { mark, ..constructs }
+
+    /// No constructs, or those of GitHub or of CommonMark and the extensions that are set.
+    fn constructs(self) -> Constructs
+        ensures { result ≡ constructs_of self }
+    {
+        if self.plain {
+            return Constructs::none();
+        }
+        let constructs = if self.gfm {
+            Constructs::gfm()
+        } else {
+            Constructs::default()
+        };
+        Constructs {
+            frontmatter: self.frontmatter,
+            mark: self.mark,
+            math_flow: self.math,
+            math_text: self.math,
+            ..constructs
+        }
+    }
 }
 
 /// The options of printing: GitHub's, or the default ones.

@@ -5,18 +5,23 @@ pub const VERSION: &str = "markdown 0.1.0\n";
 
 /// What `--help` prints.
 pub const HELP: &str = "\
-Converts Markdown on standard input to safe HTML on standard output.
+Converts Markdown to safe HTML on standard output.
 
-Usage: markdown [OPTIONS] < page.md > page.html
+Usage: markdown [OPTIONS] [FILE] > page.html
+
+It reads the file, or standard input, whose name is -.
 
 Options:
       --gfm                Read GitHub Flavored Markdown: tables, task lists,
                            strikethrough, footnotes and bare links. With
                            --dangerous, escape GitHub's filtered tags
       --mark               Read ==text== as marked text
+      --math               Read $a$, and blocks between lines of $$, as math
+      --frontmatter        Leave out metadata at the start of the input,
+                           between lines of --- or +++
       --dangerous          Keep raw HTML and URLs with any protocol. Only for
                            input from trusted authors
-      --plain              Turn every construct off, also with --gfm or --mark
+      --plain              Turn every construct off, also with other options
       --references <PATH>  Read more names of character references from a file,
                            NAME=HEX or NAME=HEX+HEX on each line
   -h, --help               Print help
@@ -28,7 +33,7 @@ Exit status:
   2  the command line is wrong
 
 Examples:
-  markdown < page.md > page.html
-  markdown --gfm < README.md > readme.html
+  markdown page.md > page.html
+  markdown --gfm --frontmatter README.md > readme.html
   markdown --references names.txt < page.md > page.html
 ";

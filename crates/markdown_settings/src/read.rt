@@ -1,12 +1,13 @@
 //! Reads the command line.
 ghost use Rattle.std.specs.Prelude.{◌≡◌, IfOk, IfErr, OnOk, [], true, codes, option_map, string_bytes};
-ghost use Rattle.clap.specs.Words.{first_value, found_of, kind_of, Kinds, IsAmong};
+ghost use Rattle.clap.specs.Words.{first_of, found_of, kind_of, rows_of, Kinds, IsAmong};
 ghost use Rattle.markdown_options.specs.Mdx.{HasNoMdx};
-ghost use Rattle.markdown_settings.specs.Flags.{found_options, is_found};
-ghost use Rattle.markdown_settings.specs.Settings.{faults_of, options_of, path_of, takes_words, HasFault, Refuses, word_texts};
+ghost use Rattle.markdown_settings.specs.Flags.{flag_options, flags_in, is_true_text};
+ghost use Rattle.markdown_settings.specs.Settings.{faults_of, file_of, options_of, path_of, takes_words};
+ghost use Rattle.markdown_settings.specs.Settings.{named_file, HasFault, Refuses, word_texts};
 
 use crate::command::command;
-use crate::flags::{Settings, flag_options};
+use crate::flags::{Flags, Settings};
 use crate::help::{HELP, VERSION};
 use crate::settings_error::SettingsError;
 use clap::error::ErrorKind;
@@ -15,11 +16,13 @@ use std::alloc::{AllocError, Global};
 
 /// Reads the words of the command line, without the program's name.
 ///
-/// `--gfm` reads and prints GitHub Flavored Markdown, and `--mark` reads marked text. `--dangerous` keeps raw HTML and every
-/// URL protocol. `--plain` turns all constructs off. `--references` is followed by the path of a file.
+/// `--gfm` reads and prints GitHub Flavored Markdown. `--mark`, `--math` and `--frontmatter` read marked text, math and
+/// frontmatter. `--dangerous` keeps raw HTML and every URL protocol. `--plain` turns all constructs off. `--references` is
+/// followed by the path of a file. One word that is no flag may be the path of the file to read; `-` is standard input.
 pub fn settings(alloc: Global, words: &[String]) -> Result<Settings, SettingsError>
-    // The options and the path are those of the command's matches for the words.
+    // The options and the paths are those of the command's matches for the words.
     ensures options { IfOk result (λ s. s.options ≡ options_of (word_texts words.now)) }
+    ensures file { IfOk result (λ s. option_map string_bytes s.file ≡ file_of (word_texts words.now)) }
     ensures references { IfOk result (λ s. option_map string_bytes s.references ≡ path_of (word_texts words.now)) }
     ensures without_mdx { IfOk result (λ s. HasNoMdx s.options) }
 
@@ -37,40 +40,67 @@ pub fn settings(alloc: Global, words: &[String]) -> Result<Settings, SettingsErr
 
 /// The settings of the command's matches.
 fn settings_of(alloc: Global, matches: &ArgMatches<'_>) -> Result<Settings, SettingsError>
-    ensures options { IfOk result (λ s.
-        s.options ≡ found_options (found_of matches.now)) }
-    ensures references { IfOk result (λ s. option_map string_bytes s.references ≡ first_value (found_of matches.now) (codes "references")) }
+    ensures options { IfOk result (λ s. s.options ≡ flag_options (flags_in (rows_of (found_of matches.now)))) }
+    ensures file { IfOk result (λ s. option_map string_bytes s.file ≡ named_file (first_of (codes "file") (rows_of (found_of matches.now)))) }
+    ensures references { IfOk result (λ s. option_map string_bytes s.references ≡ first_of (codes "references") (rows_of (found_of matches.now))) }
     ensures without_mdx { IfOk result (λ s. HasNoMdx s.options) }
     ensures memory { IfErr result (λ e. e ≡ SettingsError.Memory) }
 {
-    let references = path(alloc, matches)?;
-    let options = flag_options(
-        is_set(matches, "gfm"),
-        is_set(matches, "mark"),
-        is_set(matches, "dangerous"),
-        is_set(matches, "plain"),
-    );
+    let file = copied(alloc, named_file(value(matches, "file")))?;
+    let references = copied(alloc, value(matches, "references"))?;
     Ok(Settings {
-        options,
+        options: flags(matches).options(),
+        file,
         references,
     })
 }
 
+/// The flags that are set.
+fn flags(matches: &ArgMatches<'_>) -> Flags
+    ensures { result ≡ flags_in (rows_of (found_of matches.now)) }
+{
+    Flags {
+        gfm: is_set(matches, "gfm"),
+        mark: is_set(matches, "mark"),
+        math: is_set(matches, "math"),
+        frontmatter: is_set(matches, "frontmatter"),
+        dangerous: is_set(matches, "dangerous"),
+        plain: is_set(matches, "plain"),
+    }
+}
+
 /// Whether a flag is set.
 fn is_set(matches: &ArgMatches<'_>, id: &str) -> bool
-    ensures { result ≡ is_found id.now (found_of matches.now) }
+    ensures { result ≡ is_true_text (first_of id.now (rows_of (found_of matches.now))) }
 {
-    match matches.get_str(id) {
+    match value(matches, id) {
         Some(text) => text == "true",
         None => false,
     }
 }
 
-/// The path of the references.
-fn path(alloc: Global, matches: &ArgMatches<'_>) -> Result<Option<String>, AllocError>
-    ensures { IfOk result (λ path. option_map string_bytes path ≡ first_value (found_of matches.now) (codes "references")) }
+/// The first value of an argument.
+fn value<'a>(matches: &ArgMatches<'a>, id: &str) -> Option<&'a str>
+    ensures { option_map (λ s. s.now) result ≡ first_of id.now (rows_of (found_of matches.now)) }
 {
-    match matches.get_str("references") {
+    matches.get_str(id)
+}
+
+/// The file of this name, or none if the name is that of standard input.
+fn named_file<'a>(name: Option<&'a str>) -> Option<&'a str>
+    ensures { option_map (λ s. s.now) result ≡ named_file (option_map (λ s. s.now) name.entry) }
+{
+    match name {
+        Some("-") => None,
+        other => other,
+    }
+}
+
+/// An owned copy of a path.
+fn copied(alloc: Global, path: Option<&str>) -> Result<Option<String>, AllocError>
+    ensures { IfOk result (λ copy. option_map string_bytes copy ≡ option_map (λ s. s.now) path.entry) }
+{
+    match path {
         Some(path) => Ok(Some(String::from_str(alloc, path)?)),
         None => Ok(None),
     }

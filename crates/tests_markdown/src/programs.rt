@@ -44,6 +44,41 @@ const PRINTED: &[(&[&str], &[u8], &str)] = &[
         "<p><mark>a</mark> <del>b</del></p>",
     ),
     (&["--mark", "--plain"], b"==a==", "<p>==a==</p>"),
+    (
+        &["--math"],
+        b"$a$ ==b==\n\n$$\nc\n$$",
+        "<p><code class=\"language-math math-inline\">a</code> ==b==</p>\n<pre><code class=\"language-math math-display\">c\n</code></pre>",
+    ),
+    (
+        &["--math", "--plain"],
+        b"$a$\n\n$$\nb\n$$",
+        "<p>$a$</p>\n<p>$$\nb\n$$</p>",
+    ),
+    (
+        &["--gfm", "--math"],
+        b"$a$ ~b~",
+        "<p><code class=\"language-math math-inline\">a</code> <del>b</del></p>",
+    ),
+    (
+        &["--frontmatter"],
+        b"---\na: $b$\n---\nc $d$",
+        "<p>c $d$</p>",
+    ),
+    (
+        &["--frontmatter", "--gfm"],
+        b"+++\na\n+++\n~b~",
+        "<p><del>b</del></p>",
+    ),
+    (
+        &["--plain", "--frontmatter"],
+        b"---\na\n---",
+        "<p>---\na\n---</p>",
+    ),
+    (&["--math"], b"---\na\n---", "<hr />\n<h2>a</h2>"),
+    (&["-"], b"a", "<p>a</p>"),
+    (&["--", "-"], b"a", "<p>a</p>"),
+    (&["--"], b"a", "<p>a</p>"),
+    (&["-", "--gfm"], b"~a~", "<p><del>a</del></p>"),
     (&[], b"==a==", "<p>==a==</p>"),
     (
         &["--gfm", "--dangerous"],
@@ -59,18 +94,44 @@ const PRINTED: &[(&[&str], &[u8], &str)] = &[
     (&["--version"], b"\xFF", "markdown 0.1.0\n"),
     (&["--help"], b"\xFF", HELP),
     (&["--plain", "-h"], b"\xFF", HELP),
+    (&["page.md", "--help"], b"\xFF", HELP),
+];
+
+/// The file that is read.
+const FILE: &str = "file_read";
+
+/// What the file holds, words, and the page that the program prints.
+const FILES: &[(&[u8], &[&str], &str)] = &[
+    (b"*a*", &[FILE], "<p><em>a</em></p>"),
+    (b"", &[FILE], ""),
+    (b"~a~", &["--gfm", FILE], "<p><del>a</del></p>"),
+    (b"~a~", &[FILE, "--gfm"], "<p><del>a</del></p>"),
+    (b"a <b>", &["--dangerous", "--", FILE], "<p>a <b></p>"),
+    (
+        b"---\na\n---\n$b$",
+        &["--math", FILE, "--frontmatter"],
+        "<p><code class=\"language-math math-inline\">b</code></p>",
+    ),
 ];
 
 /// Words that are refused.
 const REFUSED: &[&[&str]] = &[
     &["--x"],
-    &[""],
-    &["page.md"],
+    &["a", "b"],
+    &["-", "-"],
+    &["-", "a"],
+    &["a", "--", "-"],
+    &["-a"],
     &["--plain "],
     &["--plain=true"],
     &["--plain", "--plain"],
     &["--gfm", "--gfm"],
     &["--mark", "--mark"],
+    &["--math", "--math"],
+    &["--frontmatter", "--frontmatter"],
+    &["--math=true"],
+    &["--maths"],
+    &["--front-matter"],
     &["--marked"],
     &["--mar"],
     &["--references"],
@@ -89,18 +150,23 @@ const FAULTS: &[(&[u8], &str)] = &[
 
 /// What `--help` prints.
 const HELP: &str = "\
-Converts Markdown on standard input to safe HTML on standard output.
+Converts Markdown to safe HTML on standard output.
 
-Usage: markdown [OPTIONS] < page.md > page.html
+Usage: markdown [OPTIONS] [FILE] > page.html
+
+It reads the file, or standard input, whose name is -.
 
 Options:
       --gfm                Read GitHub Flavored Markdown: tables, task lists,
                            strikethrough, footnotes and bare links. With
                            --dangerous, escape GitHub's filtered tags
       --mark               Read ==text== as marked text
+      --math               Read $a$, and blocks between lines of $$, as math
+      --frontmatter        Leave out metadata at the start of the input,
+                           between lines of --- or +++
       --dangerous          Keep raw HTML and URLs with any protocol. Only for
                            input from trusted authors
-      --plain              Turn every construct off, also with --gfm or --mark
+      --plain              Turn every construct off, also with other options
       --references <PATH>  Read more names of character references from a file,
                            NAME=HEX or NAME=HEX+HEX on each line
   -h, --help               Print help
@@ -112,8 +178,8 @@ Exit status:
   2  the command line is wrong
 
 Examples:
-  markdown < page.md > page.html
-  markdown --gfm < README.md > readme.html
+  markdown page.md > page.html
+  markdown --gfm --frontmatter README.md > readme.html
   markdown --references names.txt < page.md > page.html
 ";
 
@@ -203,6 +269,32 @@ fn first_taken(
     Ok(None)
 }
 
+/// The first of these pages that the program doesn't print of the file.
+fn first_unread(
+    rt: &(impl Files + AllocGlobal),
+    cases: &[(&[u8], &[&str], &'static str)],
+) -> io::Result<Option<&'static str>> {
+    for (text, words, output) in cases {
+        fs::write(rt, FILE, *text)?;
+        if !prints(rt, words, b"\xFF", output)? {
+            return Ok(Some(output));
+        }
+    }
+    fs::remove_file(rt, FILE)?;
+    Ok(None)
+}
+
+/// Whether a file that isn't there, or isn't UTF-8, is complained of, with the input left alone.
+fn complains_of_file(rt: &(impl Files + AllocGlobal)) -> io::Result<bool> {
+    let path = "file_refused";
+    let missing = complains(rt, &[path], b"a", 1, "markdown: cannot read\n")?
+        && complains(rt, &[""], b"a", 1, "markdown: cannot read\n")?;
+    fs::write(rt, path, b"a\xFF")?;
+    let utf8 = complains(rt, &[path], b"a", 1, "markdown: input is not UTF-8\n")?;
+    fs::remove_file(rt, path)?;
+    Ok(missing && utf8)
+}
+
 /// Whether names are read from a file, and from none.
 fn reads_references(rt: &(impl Files + AllocGlobal)) -> io::Result<bool> {
     let path = "references_read";
@@ -286,6 +378,8 @@ fn programs(rt: HostRuntime) {
     assert_no_fault(&rt, "REFUSED", first_taken(&rt, REFUSED));
     let utf8 = complains(&rt, &[], b"a\xFF", 1, "markdown: input is not UTF-8\n");
     assert_so(&rt, "bytes are refused", utf8);
+    assert_no_fault(&rt, "FILES", first_unread(&rt, FILES));
+    assert_so(&rt, "a file", complains_of_file(&rt));
     assert_so(&rt, "names are read", reads_references(&rt));
     assert_no_fault(&rt, "FAULTS", first_unsaid(&rt, FAULTS));
     assert!(rt; complains_of_reader(&rt), "a read");

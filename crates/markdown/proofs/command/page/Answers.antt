@@ -14,22 +14,24 @@ pub returns-in_err-rows-in-Some-clause-page : goal.returns-in_err-rows-in-Some-c
 returns-in_err-rows-in-Some-clause-page g c =
     let settings = c.args.settings.now in
     let p = err_from_is_err_and c.from_residual.result c.from_residual.ensures.1 in
-    rw (p.1) (early (option_map string_bytes settings.references) settings.options g.R.Read.remaining g.W.Write.contents c.args.reader.now c.args.writer.now
-    c.requires.reader c.requires.writer)
+    rw (p.1) (early (option_map string_bytes settings.file) (option_map string_bytes settings.references) settings.options g.S.File.Read.remaining
+    g.R.Read.remaining g.W.Write.contents c.args.reader.now c.args.writer.now c.requires.reader c.requires.writer)
 
 pub returns-in-None-clause-page : goal.returns-in-None-clause-page
 returns-in-None-clause-page g c =
-    subst (λ (path : Option (List ℕ)). EndsBy path c.args.settings.now.options g.R.Read.remaining g.W.Write.contents c.args.reader.now c.print.new.reader
-    c.args.writer.now c.print.new.writer (is_ok c.print.result))
-    (sym (ap (option_map string_bytes) c.in-None.is)) (builtin_tables, refl, c.print.ensures.page)
+    subst (λ (path : Option (List ℕ)). EndsBy (option_map string_bytes c.args.settings.now.file) path c.args.settings.now.options
+    g.S.File.Read.remaining g.R.Read.remaining g.W.Write.contents c.args.reader.now c.print_by.new.reader c.args.writer.now c.print_by.new.writer
+    (is_ok c.print_by.result))
+    (sym (ap (option_map string_bytes) c.in-None.is)) (builtin_tables, refl, c.print_by.ensures.page)
 
 pub returns-in_ok-rows-in-Some-clause-page : goal.returns-in_ok-rows-in-Some-clause-page
 returns-in_ok-rows-in-Some-clause-page g c =
     let file = c.in_ok-rows-in-Some.ensures.rows in
-    subst (λ (path : Option (List ℕ)). EndsBy path c.args.settings.now.options g.R.Read.remaining g.W.Write.contents c.args.reader.now
-    c.print-in-Some.new.reader c.args.writer.now c.print-in-Some.new.writer (is_ok c.print-in-Some.result))
+    subst (λ (path : Option (List ℕ)). EndsBy (option_map string_bytes c.args.settings.now.file) path c.args.settings.now.options
+    g.S.File.Read.remaining g.R.Read.remaining g.W.Write.contents c.args.reader.now c.print_by-in-Some.new.reader c.args.writer.now
+    c.print_by-in-Some.new.writer (is_ok c.print_by-in-Some.result))
     (sym (ap (option_map string_bytes) c.in-Some.is)) (
       text_tables (names_of c.in_ok-rows-in-Some.rows) builtin_punctuation,
       (file.0, record { faultless = file.1; names = file.2; punctuation = refl }),
-      c.print-in-Some.ensures.page,
+      c.print_by-in-Some.ensures.page,
     )

@@ -15,8 +15,12 @@ returns c =
     let named = ap app_of_fields c.no_binary_name.ensures ∙ ap nameless c.new.ensures.app in
     let bare_is : app_of c.version.result ≡ bare = ap app_of_fields c.version.ensures ∙ ap versioned named in
     c.in_ok-command.ensures.shape (search rules)
+    ∙ ap₂ with_rule (c.in_ok-arg-7.ensures.shape (search rules)
+    ∙ ap₂ with_rule (c.in_ok-arg-6.ensures.shape (search rules)
+    ∙ ap₂ with_rule (c.in_ok-arg-5.ensures.shape (search rules)
     ∙ ap₂ with_rule (c.in_ok-arg-4.ensures.shape (search rules)
     ∙ ap₂ with_rule (c.in_ok-arg-3.ensures.shape (search rules)
     ∙ ap₂ with_rule (c.in_ok-arg-2.ensures.shape (search rules)
     ∙ ap₂ with_rule (c.in_ok-arg.ensures.shape (search rules)
-    ∙ ap₂ with_rule bare_is c.gfm.ensures.rule) c.mark.ensures.rule) c.dangerous.ensures.rule) c.plain.ensures.rule) c.references.ensures.rule
+    ∙ ap₂ with_rule bare_is c.flag.ensures.rule) c.flag-2.ensures.rule) c.flag-3.ensures.rule) c.flag-4.ensures.rule)
+    c.flag-5.ensures.rule) c.flag-6.ensures.rule) c.references.ensures.rule) c.file.ensures.rule

@@ -8,8 +8,8 @@ use Rattle.clap.specs.Simple.{HasMatchesOf}
 use Rattle.clap.specs.declared.parser.matches.ArgMatches.{ArgMatches}
 use Rattle.markdown_options.specs.declared.configuration.Options.{Options}
 use Rattle.markdown_settings.specs.Command.{markdown_command}
-use Rattle.markdown_settings.specs.Flags.{flag_options, is_true_text}
-use Rattle.markdown_settings.specs.Settings.{Refuses, faults_of, rows_of_words, takes_words}
+use Rattle.markdown_settings.specs.Flags.{flag_options, flags_in}
+use Rattle.markdown_settings.specs.Settings.{Refuses, faults_of, named_file, rows_of_words, takes_words}
 use Rattle.markdown_settings.proofs.read.settings.Goals as goal
 
 is_simple_command : is_simple markdown_command ≡ true
@@ -24,10 +24,6 @@ rows_are : (app : App) (words : List Text) (m : ArgMatches) → app ≡ markdown
 unfolding rows_of_words
 rows_are app words m e h = (h (ap is_simple e ∙ is_simple_command)).0 ∙ ap (λ a. matches_of a words) e
 
-value_is : (app : App) (words : List Text) (m : ArgMatches) (id : Text) → app ≡ markdown_command → HasMatchesOf app words m
-    → first_value (found_of m) id ≡ first_of id (rows_of_words words)
-value_is app words m id e h = first_value-rows (found_of m) id ∙ ap (first_of id) (rows_are app words m e h)
-
 faults_are : (app : App) (words : List Text) → app ≡ markdown_command → fault_of app words ≡ faults_of words
 unfolding faults_of
 faults_are app words e = ap (λ a. fault_of a words) e
@@ -38,16 +34,17 @@ on_ok (Err e) p = tt
 
 pub returns-in-Ok-clause-options : goal.returns-in-Ok-clause-options
 returns-in-Ok-clause-options c =
-    let value : (id : Text) → is_true_text (first_value (found_of c.in-Ok.matches) id)
-    ≡ is_true_text (first_of id (rows_of_words (map string_bytes c.args.words.now))) =
-    λ id. ap is_true_text (value_is _ _ _ id c.in_ok-command.ensures c.in-Ok.ensures.matches) in
-    let read = ap₂ (λ (of : Bool → Bool → Options) dangerous. of dangerous) (ap₂ flag_options (value (codes "gfm")) (value (codes "mark"))) (value (codes "dangerous")) in
-    let options = ap₂ (λ (of : Bool → Options) plain. of plain) read (value (codes "plain")) in
-    IfOk-weaker c.settings_of.result _ _ (λ s is. is ∙ options) c.settings_of.ensures.options
+    IfOk-weaker c.settings_of.result _ _ (λ s is. is ∙ ap (λ rows. flag_options (flags_in rows)) (rows_are _ _ _ c.in_ok-command.ensures c.in-Ok.ensures.matches))
+    c.settings_of.ensures.options
+
+pub returns-in-Ok-clause-file : goal.returns-in-Ok-clause-file
+returns-in-Ok-clause-file c =
+    IfOk-weaker c.settings_of.result _ _ (λ s is. is ∙ ap (λ rows. named_file (first_of (codes "file") rows)) (rows_are _ _ _ c.in_ok-command.ensures c.in-Ok.ensures.matches))
+    c.settings_of.ensures.file
 
 pub returns-in-Ok-clause-references : goal.returns-in-Ok-clause-references
 returns-in-Ok-clause-references c =
-    IfOk-weaker c.settings_of.result _ _ (λ s is. is ∙ value_is _ _ _ (codes "references") c.in_ok-command.ensures c.in-Ok.ensures.matches)
+    IfOk-weaker c.settings_of.result _ _ (λ s is. is ∙ ap (first_of (codes "references")) (rows_are _ _ _ c.in_ok-command.ensures c.in-Ok.ensures.matches))
     c.settings_of.ensures.references
 
 pub returns-in-Ok-clause-faultless : goal.returns-in-Ok-clause-faultless

@@ -1,0 +1,61 @@
+-- What words ask for, computed from the command.
+use Rattle.std.proofs.Common.{List, Option, [], ◌∷◌, None, Some, codes, false, refl, true, ◌≡◌}
+use Rattle.clap.specs.Words.{Kinds, Text}
+use Rattle.clap.specs.declared.error.kind.ErrorKind.TheVariants.{ArgumentConflict, DisplayHelp, InvalidValue, UnknownArgument}
+use Rattle.clap.proofs.OnLiterals.{clap_on_literals}
+use Rattle.markdown_settings.specs.declared.flags.Flags.{Flags}
+use Rattle.markdown_settings.specs.Flags.{flags_in}
+use Rattle.markdown_settings.specs.Settings.{faults_of, file_of, path_of, rows_of_words}
+
+-- words without a fault ask for these flags, this file and these references
+abbrev AskFor : List Text → Flags → Option Text → Option Text → Type 0
+AskFor words flags file references =
+    (faults_of words ≡ []) × (flags_in (rows_of_words words) ≡ flags) × (file_of words ≡ file) × (path_of words ≡ references)
+
+abbrev none : Flags
+none = record { gfm = false; mark = false; math = false; frontmatter = false; dangerous = false; plain = false }
+
+nothing : AskFor [] none None None
+unfolding faults_of rows_of_words clap_on_literals
+nothing = (refl, refl, refl, refl)
+
+a_file : AskFor (codes "a.md" ∷ []) none (Some (codes "a.md")) None
+unfolding faults_of rows_of_words clap_on_literals
+a_file = (refl, refl, refl, refl)
+
+a_hyphen : AskFor (codes "-" ∷ []) none None None
+unfolding faults_of rows_of_words clap_on_literals
+a_hyphen = (refl, refl, refl, refl)
+
+after_two_hyphens : AskFor (codes "--" ∷ codes "--gfm" ∷ []) none (Some (codes "--gfm")) None
+unfolding faults_of rows_of_words clap_on_literals
+after_two_hyphens = (refl, refl, refl, refl)
+
+extensions : AskFor (codes "--math" ∷ codes "a" ∷ codes "--frontmatter" ∷ []) (record none { math = true; frontmatter = true }) (Some (codes "a")) None
+unfolding faults_of rows_of_words clap_on_literals
+extensions = (refl, refl, refl, refl)
+
+others : AskFor (codes "--gfm" ∷ codes "--mark" ∷ codes "--dangerous" ∷ codes "--plain" ∷ codes "--references" ∷ codes "b" ∷ [])
+    (record { gfm = true; mark = true; math = false; frontmatter = false; dangerous = true; plain = true }) None (Some (codes "b"))
+unfolding faults_of rows_of_words clap_on_literals
+others = (refl, refl, refl, refl)
+
+two_files : faults_of (codes "a" ∷ codes "-" ∷ []) ≡ UnknownArgument ∷ []
+unfolding faults_of clap_on_literals
+two_files = refl
+
+a_flag_twice : faults_of (codes "--math" ∷ codes "--math" ∷ []) ≡ ArgumentConflict ∷ []
+unfolding faults_of clap_on_literals
+a_flag_twice = refl
+
+an_unknown_flag : faults_of (codes "--front" ∷ []) ≡ UnknownArgument ∷ []
+unfolding faults_of clap_on_literals
+an_unknown_flag = refl
+
+no_path : faults_of (codes "--references" ∷ []) ≡ InvalidValue ∷ []
+unfolding faults_of clap_on_literals
+no_path = refl
+
+help_after_a_file : faults_of (codes "a" ∷ codes "--help" ∷ []) ≡ DisplayHelp ∷ []
+unfolding faults_of clap_on_literals
+help_after_a_file = refl
