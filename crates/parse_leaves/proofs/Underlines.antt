@@ -58,8 +58,8 @@ module _ {A : Type 0} (text : List ℕ) where
       let own : AreUnderline bytes = subst AreUnderline (sym all) are in
       let blank : list_all is_white rest ≡ true =
       ap (λ (k : ℕ). list_all is_white (drop k bytes)) (is_size ∙ ap (λ (x : ℕ). run x bytes) is_marker) ∙ own.1 in
-      let first = some_on text ending left b c n.HeadingSetextUnderlineSequence bytes size refl (run_fits (codes "=-") marker bytes size (ap (is_among (codes "=-")) is_marker ∙ own.0) (omega (arith, is_size)))
-      fits token on_b in
+      let runs = run_fits (codes "=-") marker bytes size (ap (is_among (codes "=-")) is_marker ∙ own.0) (omega (arith, is_size)) in
+      let first = some_on text ending left b c n.HeadingSetextUnderlineSequence bytes size refl runs fits token on_b in
       let last = all_on text ending left c d n.SpaceOrTab rest refl blank to_end first.on in
       let kids = on_line_both text ending left rest [] sequence space b c d first last in
       let whole = around_on text ending left a b d new n.HeadingSetextUnderline [] (append sequence space) refl enter on_a.before.order kids exit in
