@@ -5,8 +5,8 @@ usage: docs/events.py            writes them
        docs/events.py --check    fails where the page has others
 
 The grammar is read from crates/event_grammar/src, the example's list from the stored run of crates/tests_events. Both ways
-fail where a name has no row and isn't void, or a row names what is no event, and where the header for C, the specification of
-its numbers or the modules for Python and Rust have other names.
+fail where a name has no row and isn't void, or a row names what is no event; where the header for C, the specification of
+its numbers or the modules for Python and Rust have other names; and where a name that a list may have is in no stored run.
 """
 import os
 import re
@@ -27,6 +27,10 @@ HEADER = os.path.join(TOP, "include", "markdown.h")
 # The numbers of the header that are released.
 NUMBERS = os.path.join(TOP, ".ci", "numbers")
 RUN = os.path.join(TOP, "crates", "tests_events", "stdin")
+# The program whose stored runs have each name that a list of `parse` may have, and the names that none has: those of the
+# state machines alone and of MDX.
+PROGRAM = os.path.join(TOP, "crates", "markdown_events")
+NEVER = {"AttentionSequence", "Content", "MdxEsm", "MdxFlowExpression", "MdxTextExpression", "MdxJsxFlowTag", "MdxJsxTextTag"}
 # The text of the example, as it is written in the stored run.
 EXAMPLE = "> *a*\\0A> b"
 # What a form says behind a name.
@@ -81,6 +85,17 @@ def check_numbers():
         constant, _, number = line.partition(" ")
         if constant != "#" and now.get(constant) != number:
             fail(f"include/markdown.h: {constant} was {number}, and numbers never change")
+
+
+def check_runs():
+    """Fails where a name that a list may have is in no stored run of markdown-events, or one that none has is."""
+    runs = os.path.join(PROGRAM, "runs")
+    outputs = [os.path.join(PROGRAM, "stdout"), *(os.path.join(runs, it, "stdout") for it in sorted(os.listdir(runs)))]
+    text = "\n".join(text_of(it) for it in outputs if os.path.isfile(it))
+    found = set(re.findall(r"(?m)^enter (\w+) ", text))
+    wrong = found ^ (set(event_names()) - NEVER)
+    if wrong:
+        fail(f"the stored runs of markdown-events lack {', '.join(sorted(wrong - found)) or 'no name'}; too many: {', '.join(sorted(wrong & found)) or 'none'}")
 
 
 def constants(source):
@@ -265,6 +280,7 @@ def main(words):
     wanted = page()
     check_lists()
     check_numbers()
+    check_runs()
     if words and text_of(PAGE) != wanted:
         fail("docs/EVENTS.md is not what docs/events.py writes: run it")
     if not words:
