@@ -6,8 +6,10 @@ usage: docs/events.py            writes them
 
 The grammar is read from crates/event_grammar/src, the example's list from the stored run of crates/tests_events. Both ways
 fail where a name has no row and isn't void, or a row names what is no event; where the header for C, the specification of
-its numbers or the modules for Python and Rust have other names; and where a name that a list may have is in no stored run.
+its numbers or the modules for Python and Rust have other names; where a number of the header isn't that of .ci/numbers, or
+where code or a module has another one; and where a name that a list may have is in no stored run.
 """
+import glob
 import os
 import re
 import sys
@@ -24,6 +26,8 @@ LISTS = {
     "examples/rust/names.rs": r'"([A-Z]\w+)"',
 }
 HEADER = os.path.join(TOP, "include", "markdown.h")
+# Modules that have numbers of the header.
+MODULES = ["packaging/python/markdown_proved/_library.py", "web/markdown.mjs", "examples/rust/markdown.rs"]
 # The numbers of the header that are released.
 NUMBERS = os.path.join(TOP, ".ci", "numbers")
 RUN = os.path.join(TOP, "crates", "tests_events", "stdin")
@@ -77,14 +81,36 @@ def check_lists():
 
 
 def check_numbers():
-    """Fails where a number of the header isn't the one that it was when it was first released."""
+    """Fails where a number of the header isn't the one that it was when it was first released, or is another one's, too."""
     text = text_of(HEADER)
+    for body in re.findall(r"enum \{(.*?)\};", text, re.S):
+        numbers = re.findall(r"\bMARKDOWN_\w+ = (\d+)", body)
+        if len(set(numbers)) != len(numbers):
+            fail("include/markdown.h: two names of one enum have the same number")
     now = dict(re.findall(r"\b(MARKDOWN_[A-Z0-9_]+) = (\d+)", text))
     now.update((f"MARKDOWN_EVENT_{constant}", number) for constant, number in re.findall(r'EACH\((\w+), "\w+", (\d+)\)', text))
     for line in text_of(NUMBERS).splitlines():
         constant, _, number = line.partition(" ")
         if constant != "#" and now.get(constant) != number:
             fail(f"include/markdown.h: {constant} was {number}, and numbers never change")
+    check_copies(now)
+
+
+def check_copies(now):
+    """Fails where code, or a module for another language, has another number than the header."""
+    paths = [os.path.join(TOP, path) for path in MODULES]
+    paths += [path for path in glob.glob(os.path.join(TOP, "crates", "markdown_*", "src", "*.rt"))
+              if re.search(r"const (DANGEROUS|ROOM): u32", text_of(path))]
+    if len(paths) == len(MODULES):
+        fail("no crate has the flags of the header")
+    for path in paths:
+        own = [it for it in re.findall(r"\b([A-Z][A-Z0-9_]*)(?:: u32)? = (\d+)\b", text_of(path)) if "MARKDOWN_" + it[0] in now]
+        if not own:
+            fail(f"{os.path.relpath(path, TOP)} has none of the header's numbers")
+        for name, number in own:
+            # A construct may have the name of a flag, such as MARK.
+            if number not in (now["MARKDOWN_" + name], now.get("MARKDOWN_CONSTRUCT_" + name)):
+                fail(f"{os.path.relpath(path, TOP)}: {name} is {now['MARKDOWN_' + name]} in include/markdown.h")
 
 
 def check_runs():
