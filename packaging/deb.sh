@@ -7,7 +7,7 @@
 # PROGRAMS is what `./install.sh --all PROGRAMS` has made, FOLDER what `./install.sh --library FOLDER` has made. Debian has other
 # packages `markdown` and `libmarkdown2`. So the program markdown is /usr/bin/markdown-proved, and /usr/bin/markdown is an
 # alternative that leads to it. The others keep their names. $DEBFULLNAME and $DEBEMAIL name the maintainer, $SOURCE_DATE_EPOCH the
-# time of the build, $HOMEPAGE the address of the project, which has its source.
+# time of the build, $HOMEPAGE the address of the project, $SOURCE that of its source, if it is another one.
 set -eu
 [ $# = 3 ] || { echo "usage: packaging/deb.sh PROGRAMS FOLDER OUT" >&2; exit 2; }
 programs=$1 folder=$2 out=$(cd "$3" && pwd)
@@ -26,9 +26,11 @@ so=libmarkdown-proved.so.$upstream
 case $upstream in 0.*) abi=${upstream%.*} ;; *) abi=${upstream%%.*} ;; esac
 soname=libmarkdown-proved.so.$abi
 package=libmarkdown-proved$abi
+source=${SOURCE:-${HOMEPAGE:-}}
 
-# The notices of what is in the programs and in the library of others.
-"$here/../bin/notices" markdown_program markdown_events markdown_lint > "$scratch/notices"
+# The notices of what is in the programs of others. The library has its own.
+notices=$scratch/notices
+"$here/../bin/notices" markdown_program markdown_events markdown_lint > "$notices"
 
 # Makes a package of the tree $scratch/NAME: its name, section and first words of its description; further fields; more of the
 # description.
@@ -38,13 +40,15 @@ make_package() {
     doc=$root/usr/share/doc/$name
     mkdir -p "$root/DEBIAN" "$doc"
     {
-        printf 'Format: https://www.debian.org/doc/packaging-manuals/copyright-format/1.0/\n\nFiles: *\n'
+        printf 'Format: https://www.debian.org/doc/packaging-manuals/copyright-format/1.0/\nUpstream-Name: markdown-proved\n%s\nFiles: *\n' \
+            "${source:+Source: $source
+}"
         printf 'Copyright:\n'
         sed -n 's/^Copyright (c)//p' "$here/../LICENSE"
         printf 'License: Expat\n'
         sed '/^MIT License$/d; /^Copyright/d; s/^$/./; s/^/ /' "$here/../LICENSE" | sed '1,/^ \.$/{/^ \.$/d}' | sed '1{/^ \.$/d}'
     } > "$doc/copyright"
-    gzip -9n < "$scratch/notices" > "$doc/NOTICES.gz"
+    gzip -9n < "$notices" > "$doc/NOTICES.gz"
     printf 'markdown-proved (%s) unstable; urgency=medium\n\n  * Package version %s.\n\n -- %s  %s\n' "$version" "$upstream" \
         "$maintainer" "$(date -uR -d "@$SOURCE_DATE_EPOCH")" | gzip -9n > "$doc/changelog.Debian.gz"
     {
@@ -108,6 +112,7 @@ make_package markdown-proved text "proved converter from Markdown to HTML" "Depe
  and print what is where in it (markdown-events)."
 
 # The shared library.
+notices=$folder/share/doc/markdown-proved/NOTICES
 root=$scratch/$package
 install -D -m644 "$folder/lib/$so" "$root/usr/lib/$triple/$so"
 strip --strip-unneeded --remove-section=.comment "$root/usr/lib/$triple/$so"

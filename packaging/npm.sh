@@ -3,7 +3,8 @@
 #
 #     packaging/npm.sh FOLDER OUT
 #
-# FOLDER is what bin/wasm has made. $HOMEPAGE is the address of the project, which has its source. The package has no script that runs when it is installed.
+# FOLDER is what bin/wasm has made. $HOMEPAGE is the address of the project, $SOURCE that of its source, if it is another one. The
+# package has no script that runs when it is installed.
 set -eu
 folder=${1:?usage: packaging/npm.sh FOLDER OUT} out=${2:?usage: packaging/npm.sh FOLDER OUT}
 top=$(cd "$(dirname "$0")/.." && pwd)
@@ -14,8 +15,10 @@ mkdir "$scratch/package"
 cp "$folder/markdown.wasm" "$folder/markdown.mjs" "$folder/markdown.d.mts" "$folder/NOTICES" "$top/LICENSE" \
     "$top/packaging/node/README.md" "$top/packaging/node/cli.mjs" "$scratch/package"
 chmod +x "$scratch/package/cli.mjs"
-# Where the source is, if $HOMEPAGE says so.
-sed "s/@VERSION@/$version/; s|@HOMEPAGE@|${HOMEPAGE:-}|; ${HOMEPAGE:+#}/\"homepage\"/d" "$top/packaging/node/package.json" > "$scratch/package/package.json"
+# An address that isn't given has no line.
+source=${SOURCE:-${HOMEPAGE:-}}
+sed "s/@VERSION@/$version/; s|@HOMEPAGE@|${HOMEPAGE:-}|; s|@SOURCE@|$source|; /\"\"/d" "$top/packaging/node/package.json" \
+    > "$scratch/package/package.json"
 path=$out/markdown-proved-$version.tgz
 tar --sort=name --owner=0 --group=0 --numeric-owner --mtime=@0 --mode=a+rX,u+w,go-w -C "$scratch" -cf - package | gzip -9n > "$path"
 echo "$path"

@@ -4,7 +4,7 @@
     packaging/wheel.py FOLDER OUT
 
 FOLDER is what `./install.sh --library FOLDER` has made. The wheel is for the oldest glibc that the library runs with.
-$HOMEPAGE is the address of the project, which has its source.
+$HOMEPAGE is the address of the project, $SOURCE that of its source, if it is another one.
 """
 import base64
 import hashlib
@@ -50,8 +50,11 @@ Classifier: Programming Language :: Python :: 3
 Classifier: Topic :: Text Processing :: Markup :: Markdown
 Classifier: Typing :: Typed
 """
-if os.environ.get("HOMEPAGE"):
-    metadata += f"Project-URL: Homepage, {os.environ['HOMEPAGE']}\n"
+homepage = os.environ.get("HOMEPAGE")
+source = os.environ.get("SOURCE") or homepage
+for name, address in (("Homepage", homepage), ("Source", source)):
+    if address:
+        metadata += f"Project-URL: {name}, {address}\n"
 metadata += "Description-Content-Type: text/markdown\n\n" + read(f"{top}/packaging/python/README.md").decode()
 wheel = f"Wheel-Version: 1.0\nGenerator: wheel.py\nRoot-Is-Purelib: false\nTag: {tag}\n"
 modules = f"{top}/packaging/python/{NAME}"
