@@ -45,17 +45,24 @@ while [ $# -gt 0 ]; do
     shift
 done
 [ -z "$library" ] || [ -z "$programs" ] || fail "--library installs no programs"
-if [ -n "$library" ]; then folder=${folder:-$HOME/.local}; else folder=${folder:-$HOME/.local/bin}; fi
-mkdir -p "$folder"
-folder=$(cd "$folder" && pwd)
 command -v rt > /dev/null || {
     cat >&2 <<'END'
 install.sh: there is no `rt` on the PATH. Nothing is built here without the Rattle
-toolchain, since only what is proved is built. Put its bin folder on the PATH, or
-install a package that was made where it is (docs/LIBRARY.md, "Packages").
+toolchain, since only what is proved is built. Put its folder `bin` on the PATH, or
+install a package that a machine with it has made (docs/LIBRARY.md, "Packages").
 END
     exit 2
 }
+if [ -n "$library" ]; then
+    for tool in "${CC:-cc}" ar; do
+        command -v "$tool" > /dev/null || fail "--library needs $tool, which isn't on the PATH"
+    done
+    folder=${folder:-$HOME/.local}
+else
+    folder=${folder:-$HOME/.local/bin}
+fi
+mkdir -p "$folder"
+folder=$(cd "$folder" && pwd)
 cd "$(dirname "$0")"
 scratch=$(mktemp -d)
 trap 'rm -rf "$scratch"' EXIT
