@@ -6,7 +6,10 @@
  * take from malloc.
  *
  * The library is compiled for x86-64-v2 (SSE4.2 and POPCNT: processors since about 2009). The loader refuses the shared library
- * on an older one. A program with the static library can ask markdown_is_supported first. */
+ * on an older one. A program with the static library can ask markdown_is_supported first.
+ *
+ * The number of a flag, a status or an event never changes; a new one gets a number of its own. Below 1.0 each minor version has
+ * a soname of its own, since its functions may differ. */
 #ifndef MARKDOWN_H
 #define MARKDOWN_H
 
