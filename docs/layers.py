@@ -33,7 +33,7 @@ LAYERS = (
     "markdown_by_events",
     "markdown_html markdown_block",
     "markdown_input lint_",
-    "markdown_events markdown_lint markdown_c",
+    "markdown_events markdown_lint markdown_safe markdown_c",
     "tests_ wrong_",
     "examples_ markdown_bench",
 )

@@ -1,0 +1,9 @@
+//! Where a page isn't safe, and what is wrong there.
+#![tactic(auto)]
+
+mod place;
+mod reading;
+mod what;
+
+pub use place::{UnsafePlace, first_unsafe};
+pub use what::Unsafe;

@@ -1,0 +1,76 @@
+//! The words of the command line.
+use markdown_input::{Fault, STANDARD_INPUT};
+use std::alloc::Global;
+
+/// What `--help` prints.
+const HELP: &str = "\
+Tells whether HTML pages are safe: no scripts, styles, comments or other tags
+and attributes than Markdown needs, and no URLs with other protocols. Prints a
+line for each page that isn't, with the first place: FILE:LINE:COLUMN: WHAT.
+
+Usage: markdown-safe [OPTIONS] [FILE..]
+
+It reads the files, or standard input, whose name is -. Columns are in bytes.
+
+Options:
+  -h, --help     Print help
+  -V, --version  Print version
+
+Exit status:
+  0  all pages are safe
+  1  a page isn't safe
+  2  the command line is wrong, or a file can't be read or isn't UTF-8
+";
+
+/// What `--version` prints.
+const VERSION: &str = "markdown-safe 0.1.0\n";
+
+/// What a command line asks for.
+#[derive(Drop)]
+pub(crate) struct Command<'w> {
+    /// What to print, in place of a check: the help or the version.
+    pub(crate) answer: Option<&'static str>,
+    /// The names of the files to check. There is at least one.
+    pub(crate) files: Vec<&'w str>,
+}
+
+impl<'w> Command<'w> {
+    /// Reads the words, without the name of the program. Fails with `Words` if an option is wrong,
+    /// or with `Memory`.
+    pub(crate) fn read(alloc: Global, words: &'w [String]) -> Result<Command<'w>, Fault> {
+        let mut command = Command {
+            answer: None,
+            files: Vec::new(alloc),
+        };
+        for word in words {
+            command.add(word.as_str())?;
+        }
+        if command.files.is_empty() {
+            command.files.push(STANDARD_INPUT)?;
+        }
+        Ok(command)
+    }
+
+    /// Adds a word. The first of help and version counts.
+    fn add(&mut self, word: &'w str) -> Result<(), Fault> {
+        match word {
+            "-h" | "--help" => self.set_answer(HELP),
+            "-V" | "--version" => self.set_answer(VERSION),
+            _ => self.add_file(word)?,
+        }
+        Ok(())
+    }
+
+    fn set_answer(&mut self, answer: &'static str) {
+        self.answer = Some(self.answer.unwrap_or(answer));
+    }
+
+    /// Adds the name of a file. Fails if it looks like an option.
+    fn add_file(&mut self, name: &'w str) -> Result<(), Fault> {
+        if name.starts_with('-') && name != STANDARD_INPUT {
+            return Err(Fault::Words);
+        }
+        self.files.push(name)?;
+        Ok(())
+    }
+}
