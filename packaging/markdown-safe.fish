@@ -1,0 +1,4 @@
+# Completions of markdown-safe's options for fish.
+complete -c markdown-safe -F
+complete -c markdown-safe -s h -l help -d "Print help"
+complete -c markdown-safe -s V -l version -d "Print the version"
