@@ -1,10 +1,15 @@
 -- Which bytes an event that holds no other may have, by its name. One of no bytes is left out, so no bytes fit each form.
-use Rattle.std.specs.Prelude.{ℕ, Bool, true, false, not, ◌||◌, ◌&&◌, ◌==◌, leb, List, [], ◌∷◌, codes, length}
-use Rattle.std.specs.Char.{is_ascii_digit}
+use Rattle.std.specs.Prelude.{ℕ, Bool, true, false, not, ◌||◌, ◌&&◌, ◌==◌, leb, List, [], ◌∷◌, Option, None, Some, codes, length}
+use Rattle.std.specs.Char.{is_ascii_alphanumeric, is_ascii_digit, is_ascii_punctuation}
 use Rattle.std.specs.List.{list_all, list_any}
 use Rattle.std.specs.Str.{bytes_eq}
+use Rattle.definition_text.specs.Ascii.{at_sign, less_than}
+use Rattle.definition_text.specs.Bytes.{begins_with}
 use Rattle.definition_text.specs.Columns.{is_white}
+use Rattle.definition_text.specs.Content.{is_space}
 use Rattle.definition_text.specs.Lines.{ends_line}
+use Rattle.definition_inline.specs.Autolink.{email_end, uri_end}
+use Rattle.definition_inline.specs.GfmAutolinkLiteral.{begins_caselessly}
 use Rattle.engine_events.specs.declared.event.Name.{Name}
 use Rattle.engine_events.specs.declared.event.Name.TheVariants as n
 use Rattle.event_grammar.specs.Facts.{is_ending}
@@ -23,6 +28,12 @@ pub data Form : Type 0 where
   Run : List ℕ → Form
   -- these bytes
   Only : List ℕ → Form
+  -- at least so many bytes, each of a kind
+  Least : ℕ → (ℕ → Bool) → Form
+  -- bytes that pass a test
+  Such : (List ℕ → Bool) → Form
+  -- bytes of one form or of the other
+  Either : Form → Form → Form
 
 abbrev pub is_nothing : List ℕ → Bool
 is_nothing [] = true
@@ -42,6 +53,9 @@ fits (All kind) bytes = list_all kind bytes
 fits (Most most kind) bytes = leb (length bytes) most && list_all kind bytes
 fits (Run marks) bytes = is_run bytes && list_all (is_among marks) bytes
 fits (Only text) bytes = is_nothing bytes || bytes_eq bytes text
+fits (Least least kind) bytes = is_nothing bytes || (leb least (length bytes) && list_all kind bytes)
+fits (Such test) bytes = is_nothing bytes || test bytes
+fits (Either one other) bytes = fits one bytes || fits other bytes
 
 -- one byte of these
 abbrev pub one_of : List ℕ → Form
@@ -50,6 +64,37 @@ one_of codes = Most 1 (is_among codes)
 -- bytes without a line ending
 abbrev pub line : Form
 line = All (λ b. not (ends_line b))
+
+-- ---- links
+
+-- all was read
+abbrev pub is_read : Option (List ℕ) → Bool
+is_read None = false
+is_read (Some rest) = is_nothing rest
+
+-- an absolute URI (CommonMark 6.5)
+abbrev pub is_uri : List ℕ → Bool
+is_uri bytes = is_read (uri_end bytes)
+
+-- an email address (CommonMark 6.5)
+abbrev pub is_email : List ℕ → Bool
+is_email bytes = is_read (email_end bytes)
+
+-- a byte of a link with no brackets: neither white space nor `<` (GFM 6.9)
+abbrev pub is_link_byte : ℕ → Bool
+is_link_byte b = not (is_space b || (b == less_than))
+
+-- such bytes that begin with a text, ignoring ASCII case
+abbrev pub begins_link : List ℕ → List ℕ → Bool
+begins_link text bytes = begins_caselessly text bytes && list_all is_link_byte bytes
+
+-- such bytes with an `@`
+abbrev pub is_address : List ℕ → Bool
+is_address bytes = list_any (λ b. b == at_sign) bytes && list_all is_link_byte bytes
+
+-- such bytes that begin with a protocol
+abbrev pub begins_address : List ℕ → List ℕ → Bool
+begins_address protocol bytes = begins_with protocol bytes && is_address bytes
 
 -- ---- the table
 
@@ -86,19 +131,37 @@ token_form n.GfmTableDelimiterFiller = Run (codes "-")
 token_form n.GfmTableDelimiterMarker = one_of (codes ":")
 -- strings and texts
 token_form n.CharacterEscapeMarker = one_of (codes "\\")
+token_form n.CharacterEscapeValue = Most 1 is_ascii_punctuation
 token_form n.CharacterReferenceMarker = one_of (codes "&")
 token_form n.CharacterReferenceMarkerNumeric = one_of (codes "#")
 token_form n.CharacterReferenceMarkerHexadecimal = one_of (codes "xX")
 token_form n.CharacterReferenceMarkerSemi = one_of (codes ";")
+token_form n.CharacterReferenceValue = Most 31 is_ascii_alphanumeric
 token_form n.AutolinkMarker = one_of (codes "<>")
+token_form n.AutolinkProtocol = Such is_uri
+token_form n.AutolinkEmail = Such is_email
+token_form n.GfmAutolinkLiteralWww = Such (begins_link (codes "www."))
+token_form n.GfmAutolinkLiteralProtocol = Either (Such (begins_link (codes "http://"))) (Such (begins_link (codes "https://")))
+token_form n.GfmAutolinkLiteralEmail = Such is_address
+token_form n.GfmAutolinkLiteralMailto = Such (begins_address (codes "mailto:"))
+token_form n.GfmAutolinkLiteralXmpp = Such (begins_address (codes "xmpp:"))
+token_form n.CodeTextSequence = Run (codes "`")
 token_form n.CodeTextData = line
+token_form n.MathTextSequence = Run (codes "$")
 token_form n.MathTextData = line
 token_form n.HtmlTextData = line
+token_form n.EmphasisSequence = one_of (codes "*_")
+token_form n.StrongSequence = Either (Only (codes "**")) (Only (codes "__"))
+token_form n.GfmStrikethroughSequence = Most 2 (is_among (codes "~"))
+token_form n.MarkSequence = Only (codes "==")
 token_form n.HardBreakEscape = one_of (codes "\\")
+token_form n.HardBreakTrailing = Least 2 (is_among (codes " "))
 token_form n.LabelMarker = one_of (codes "[]")
 token_form n.LabelImageMarker = one_of (codes "!")
 token_form n.GfmFootnoteCallMarker = one_of (codes "^")
 token_form n.GfmTaskListItemMarker = one_of (codes "[]")
+token_form n.GfmTaskListItemValueChecked = one_of (codes "xX")
+token_form n.GfmTaskListItemValueUnchecked = Either Ending (Most 1 is_white)
 token_form n.ReferenceMarker = one_of (codes "[]")
 token_form n.ResourceMarker = one_of (codes "()")
 token_form n.ResourceDestinationLiteralMarker = one_of (codes "<>")

@@ -59,13 +59,6 @@ sequence_no_quote : (s : Span) → same_name (sequence_name s) n.BlockQuotePrefi
 sequence_no_quote span.Emphasis = refl
 sequence_no_quote other = refl
 
--- the sequence of a span may be any bytes
-pub sequence_may : (s : Span) (bytes : List ℕ) → is_token (sequence_name s) bytes ≡ true
-sequence_may span.Emphasis bytes = refl
-sequence_may span.Strong bytes = refl
-sequence_may span.Strikethrough bytes = refl
-sequence_may span.Mark bytes = refl
-
 -- a mark outside of a tab may have its bytes
 pub may_have : {A : Type 0} (text : List ℕ) (w : Walk A) (name : Name) (size : ℕ) (front : List ℕ) → size ≡ length front → IsWhole w
     → is_token name front ≡ true → (line : List ℕ) → StandsInLine text (front ++ line) w → HasBytes text name size w
@@ -187,13 +180,14 @@ module _ {A : Type 0} (text : List ℕ) (stop : Stop) where
   -- ---- spans
 
   pub span_entered : (a b c d : Walk A) (s : Span) (size : ℕ) (front content : List ℕ) → size ≡ length front → list_any ends_line front ≡ false
+      → is_token (sequence_name s) front ≡ true
       → DoesEnter (span_name s) a b → DoesText (sequence_name s) size b c → DoesEnter (text_name s) c d → StandsInContent text (front ++ content) stop a
       → IsWhole a
       → EntersSpan text s front content stop a d
-  span_entered a b c d s size front content is dark first second third st whole =
+  span_entered a b c d s size front content is dark may first second third st whole =
       let enters = entering a b (span_name s) (front ++ content) first st in
       let sequence = texting b c (sequence_name s) size front content is dark (sequence_no_quote s)
-      (may_have text b (sequence_name s) size front is (entered_whole a b (span_name s) (front ++ content) enters whole) (sequence_may s front)) second enters.stands in
+      (may_have text b (sequence_name s) size front is (entered_whole a b (span_name s) (front ++ content) enters whole) may) second enters.stands in
       let starts = entering c d (text_name s) content third sequence.writes.stands in
       record {
         outer = b;
@@ -205,13 +199,14 @@ module _ {A : Type 0} (text : List ℕ) (stop : Stop) where
       }
 
   pub span_left : (a b c d : Walk A) (s : Span) (size : ℕ) (front content : List ℕ) → size ≡ length front → list_any ends_line front ≡ false
+      → is_token (sequence_name s) front ≡ true
       → DoesExit (text_name s) a b → DoesText (sequence_name s) size b c → DoesExit (span_name s) c d → StandsInContent text (front ++ content) stop a
       → IsWhole a
       → LeavesSpan text s front content stop a d
-  span_left a b c d s size front content is dark first second third st whole =
+  span_left a b c d s size front content is dark may first second third st whole =
       let ends = exiting a b (text_name s) (front ++ content) first st in
       let sequence = texting b c (sequence_name s) size front content is dark (sequence_no_quote s)
-      (may_have text b (sequence_name s) size front is (exited_whole a b (text_name s) (front ++ content) ends whole) (sequence_may s front)) second ends.stands in
+      (may_have text b (sequence_name s) size front is (exited_whole a b (text_name s) (front ++ content) ends whole) may) second ends.stands in
       let leaves = exiting c d (span_name s) content third sequence.writes.stands in
       record {
         inner = b;

@@ -1,7 +1,13 @@
 -- What is written of the check of a task list item (GFM 5.3).
 use Rattle.std.proofs.Common.{inl, inr, ◌≡◌, ℕ, Bool, true, false, List, [], ◌∷◌, ◌++◌, None, Some, is_some, refl, sym, ap, ap₂, subst, ◌∙◌}
 use Rattle.std.proofs.Common.{append_assoc, drop, take, length, arith}
-use Rattle.event_tokens.specs.Tokens.{is_token}
+use Rattle.std.specs.Prelude.{codes, if◌then◌else◌, slice_index}
+use Rattle.std.proofs.lemmas.Bool.{or_cases, or_right, true≢false}
+use Rattle.std.proofs.lemmas.Bool.Decides.{nat_tests}
+use Rattle.definition_text.specs.Columns.{is_white}
+use Rattle.definition_text.specs.Content.{is_space}
+use Rattle.markdown_options.specs.declared.line_ending.LineEnding.TheVariants as endings
+use Rattle.event_tokens.specs.Tokens.{fits, is_among, is_token, Ending as EndingForm, Most}
 use Rattle.parse_inline.proofs.Prelude.{and_parts, Anywhere, append, AreBytes, ArePartsAlike, ArePlain, AreQuiet, Around, begins_with_eol, bytes_drop}
 use Rattle.parse_inline.proofs.Prelude.{cases_Bool, codes_split, cond-false, cond-true, Cons, Constructs, content_codes, contents_around, contents_both}
 use Rattle.parse_inline.proofs.Prelude.{default_constructs, drop-append_seam, End, end_in, Ending, ending_bytes, ending_step, ends_line, enter_at}
@@ -66,21 +72,53 @@ value_sought : (done : Bool) → is_listed sought_names (check_name done) ≡ fa
 value_sought true = refl
 value_sought false = refl
 
-value_may : (done : Bool) (bytes : List ℕ) → is_token (check_name done) bytes ≡ true
-value_may true bytes = refl
-value_may false bytes = refl
+-- a byte between the brackets, and a line ending
+value_may : (done : Bool) (byte : ℕ) → is_eol byte ≡ false → is_done byte ≡ Some done → is_token (check_name done) (byte ∷ []) ≡ true
+value_may done byte dark is = elim (cases_Bool (is_space byte)) [
+  | inl space ↦
+      let white : is_white byte ≡ true = elim (or_cases (is_white byte) (is_eol byte) space) [
+        | inl w ↦ w
+        | inr e ↦ absurd (true≢false (sym e ∙ dark))
+      ] in
+      let open_item : done ≡ false = let made : Some false ≡ Some done = sym (cond-true (is_space byte) (Some false) _ space) ∙ is in cc in
+      ap (λ (d : Bool). is_token (check_name d) (byte ∷ [])) open_item
+      ∙ or_right (fits EndingForm (byte ∷ [])) (fits (Most 1 is_white) (byte ∷ [])) (ap (λ (w : Bool). w && true) white)
+  | inr other ↦ elim (cases_Bool ((byte == 120) || (byte == 88))) [
+    | inl x ↦
+        let made : Some true ≡ Some done =
+        sym (cond-false (is_space byte) (Some false) (if (byte == 120) || (byte == 88) then Some true else None) other
+        ∙ cond-true ((byte == 120) || (byte == 88)) (Some true) None x) ∙ is in
+        let closed_item : done ≡ true = cc in
+        let among : is_among (codes "xX") byte ≡ true = grind (arith, nat_tests, x) in
+        ap (λ (d : Bool). is_token (check_name d) (byte ∷ [])) closed_item ∙ ap (λ (s : Bool). s && true) among
+    | inr none ↦
+        let made : None ≡ Some done =
+        sym (cond-false (is_space byte) (Some false) (if (byte == 120) || (byte == 88) then Some true else None) other
+        ∙ cond-false ((byte == 120) || (byte == 88)) (Some true) None none) ∙ is in
+        absurd cc
+  ]
+]
+
+ending_value_may : (done : Bool) (ending : LineEnding) → is_done (line_ending_code ending) ≡ Some done
+    → is_token (check_name done) (ending_bytes ending) ≡ true
+ending_value_may false endings.LineFeed is = refl
+ending_value_may false endings.CarriageReturn is = refl
+ending_value_may false endings.CarriageReturnLineFeed is = refl
+ending_value_may true endings.LineFeed is = absurd cc
+ending_value_may true endings.CarriageReturn is = absurd cc
+ending_value_may true endings.CarriageReturnLineFeed is = absurd cc
 
 module _ {A : Type 0} (names : Names) (text : List ℕ) (stop : Stop) where
   -- one byte
   pub value_byte : (a b : Walk A) (done : Bool) (name : Name) (byte : ℕ) (content : List ℕ) → name ≡ check_name done → ends_line byte ≡ false
-      → StandsInContent text (byte ∷ content) stop a → IsWhole a → standing b ≡ standing a → WritesNext text name 1 a b
+      → is_token (check_name done) (byte ∷ []) ≡ true → StandsInContent text (byte ∷ content) stop a → IsWhole a → standing b ≡ standing a → WritesNext text name 1 a b
       → WritesValue text done (byte ∷ []) content stop a b
-  value_byte a b done name byte content is dark st whole same written =
+  value_byte a b done name byte content is dark may st whole same written =
       let t =
       token_in names text stop a b name (byte ∷ []) content 1 refl (omega arith) (or_from (ends_line byte) false dark refl)
       (ap (λ x. same_name x n.Data) is ∙ value_data done)
       (ap (λ x. same_name x n.BlockQuotePrefix) is ∙ value_prefix done)
-      (ap (λ x. is_token x (byte ∷ [])) is ∙ value_may done (byte ∷ [])) st whole same written in
+      (ap (λ x. is_token x (byte ∷ [])) is ∙ may) st whole same written in
       let node = token text name (end_in a.out).index 1 in
       record {
         node = node;
@@ -153,12 +191,13 @@ drop_front front rest bytes is small = subst AreBytes (ap (drop (length front)) 
 one_byte : (bs : List ℕ) (c : ℕ) → is_eol c ≡ false → content_codes bs ≡ c ∷ [] → bs ≡ c ∷ []
 one_byte bs c dark is = sym (line_bytes bs (ap (list_any is_eol) is ∙ or_from (is_eol c) false dark refl)) ∙ is
 
-record CheckCodes (cs : List ℕ) : Type 0 where
+record CheckCodes (cs : List ℕ) (done : Bool) : Type 0 where
   mark : ℕ
+  is : is_done mark ≡ Some done
   others : List ℕ
   whole : cs ≡ 91 ∷ mark ∷ 93 ∷ others
 
-check_codes : (cs : List ℕ) (done : Bool) → check_of cs ≡ Some done → CheckCodes cs
+check_codes : (cs : List ℕ) (done : Bool) → check_of cs ≡ Some done → CheckCodes cs done
 check_codes [] done is = absurd cc
 check_codes (a ∷ []) done is = absurd cc
 check_codes (a ∷ b ∷ []) done is = absurd cc
@@ -166,22 +205,28 @@ check_codes (a ∷ b ∷ c ∷ cs) done is = elim (cases_Bool ((a == 91) && ((c 
   | inl holds ↦
       let first = and_parts (a == 91) ((c == 93) && is_apart cs) holds in
       let last = and_parts (c == 93) (is_apart cs) first.1 in
-      record { mark = b; others = cs; whole = ap₂ (λ x y. x ∷ b ∷ y ∷ cs) (eqb-true a 91 first.0) (eqb-true c 93 last.0) }
+      record {
+        mark = b;
+        is = sym (cond-true ((a == 91) && ((c == 93) && is_apart cs)) (is_done b) None holds) ∙ is;
+        others = cs;
+        whole = ap₂ (λ x y. x ∷ b ∷ y ∷ cs) (eqb-true a 91 first.0) (eqb-true c 93 last.0);
+      }
   | inr fails ↦
       let none : None ≡ Some done = sym (cond-false ((a == 91) && ((c == 93) && is_apart cs)) (is_done b) None fails) ∙ is in
       absurd cc
 ]
 
 -- a check in bytes: its brackets, and what is between them
-record CheckBytes (front after : List ℕ) : Type 0 where
+record CheckBytes (done : Bool) (front after : List ℕ) : Type 0 where
   value : List ℕ
   mark : ℕ
+  is : is_done mark ≡ Some done
   codes : content_codes value ≡ mark ∷ []
   front_is : front ≡ 91 ∷ (value ++ 93 ∷ [])
 
 check_bytes : (bytes front after : List ℕ) (done : Bool) → AreBytes bytes → bytes ≡ front ++ after → check_of (content_codes bytes) ≡ Some done
     → IsAfterCheck bytes after
-    → CheckBytes front after
+    → CheckBytes done front after
 check_bytes bytes front after done small is check behind =
     let codes = check_codes (content_codes bytes) done check in
     let a = codes_split (91 ∷ []) (codes.mark ∷ 93 ∷ codes.others) bytes codes.whole in
@@ -199,12 +244,12 @@ check_bytes bytes front after done small is check behind =
     a.parts
     ∙ ap₂ (λ (xs ys : List ℕ). xs ++ ys) first (b.parts ∙ ap (λ xs. b.front ++ xs) (c.parts ∙ ap₂ (λ (xs ys : List ℕ). xs ++ ys) third same))
     ∙ ap (λ xs. 91 ∷ xs) (sym (append_assoc b.front (93 ∷ []) after)) in
-    record { value = b.front; mark = codes.mark; codes = b.first; front_is = before_same front (91 ∷ (b.front ++ 93 ∷ [])) after (sym is ∙ whole) }
+    record { value = b.front; mark = codes.mark; is = codes.is; codes = b.first; front_is = before_same front (91 ∷ (b.front ++ 93 ∷ [])) after (sym is ∙ whole) }
 
 module _ {A : Type 0} (names : Names) (text : List ℕ) (stop : Stop) where
   -- the value is a line ending, or a byte
   pub value_read : (a b : Walk A) (done : Bool) (name : Name) (bytes value content : List ℕ) (found : Ending) → name ≡ check_name done → AreBytes bytes
-      → IsValueOf bytes value content → ReadsEnding bytes found → StandsInContent text bytes stop a
+      → IsValueOf done bytes value content → ReadsEnding bytes found → StandsInContent text bytes stop a
       → ((ending : LineEnding) → found.size ≡ length (ending_bytes ending) → IsApart ending content → same_name name n.Data ≡ false
       → same_name name n.BlockQuotePrefix ≡ false → is_token name (ending_bytes ending) ≡ true
       → StandsInContent text (ending_bytes ending ++ content) stop a
@@ -227,10 +272,11 @@ module _ {A : Type 0} (names : Names) (text : List ℕ) (stop : Stop) where
       (value_ending names text stop a b done name found.ending content is
       (written found.ending step.is (subst (IsApart found.ending) rest step.apart) (ap (λ x. same_name x n.Data) is ∙ value_data done)
       (ap (λ x. same_name x n.BlockQuotePrefix) is ∙ value_prefix done)
-      (ap (λ x. is_token x (ending_bytes found.ending)) is ∙ value_may done (ending_bytes found.ending))
+      (ap (λ x. is_token x (ending_bytes found.ending)) is
+      ∙ ending_value_may done found.ending (ap (λ cs. is_done (slice_index cs 0)) both ∙ of.is))
       (subst (λ xs. StandsInContent text xs stop a) parts st)))
 
-  pub value_other : (a b : Walk A) (done : Bool) (name : Name) (bytes value content : List ℕ) → name ≡ check_name done → IsValueOf bytes value content
+  pub value_other : (a b : Walk A) (done : Bool) (name : Name) (bytes value content : List ℕ) → name ≡ check_name done → IsValueOf done bytes value content
       → begins_with_eol (content_codes bytes) ≡ false → StandsInContent text bytes stop a → IsWhole a → standing b ≡ standing a → WritesNext text name 1 a b
       → WritesValue text done value content stop a b
   value_other a b done name bytes value content is of dark st whole same written =
@@ -242,7 +288,7 @@ module _ {A : Type 0} (names : Names) (text : List ℕ) (stop : Stop) where
       let ends : ends_line of.mark ≡ false =
       (or_parts (ends_line of.mark) false (no_ends (of.mark ∷ []) (or_from (is_eol of.mark) false plain refl))).0 in
       subst (λ xs. WritesValue text done xs content stop a b) (sym value_is)
-      (value_byte names text stop a b done name of.mark content is ends
+      (value_byte names text stop a b done name of.mark content is ends (value_may done of.mark plain of.is)
       (subst (λ xs. StandsInContent text xs stop a) (of.parts ∙ ap (λ xs. xs ++ content) value_is) st) whole same written)
 
   -- a check that bytes begin with
@@ -250,7 +296,7 @@ module _ {A : Type 0} (names : Names) (text : List ℕ) (stop : Stop) where
       → check_of (content_codes bytes) ≡ Some done → IsAfterCheck bytes after → later ≡ drop 1 bytes → StandsInContent text bytes stop a → IsWhole a
       → standing b ≡ standing a → ((line : List ℕ) → StandsInLine text line a → EntersInLine text n.GfmTaskListItemCheck line a b) → standing c ≡ standing b
       → WritesNext text n.GfmTaskListItemMarker 1 b c
-      → ((value content : List ℕ) → IsValueOf later value content → StandsInContent text later stop c → IsWhole c
+      → ((value content : List ℕ) → IsValueOf done later value content → StandsInContent text later stop c → IsWhole c
       → WritesValue text done value content stop c d)
       → standing e ≡ standing d → WritesNext text n.GfmTaskListItemMarker 1 d e → standing f ≡ standing e
       → ((line : List ℕ) → StandsInLine text line e → ExitsInLine text n.GfmTaskListItemCheck line e f)
@@ -260,7 +306,7 @@ module _ {A : Type 0} (names : Names) (text : List ℕ) (stop : Stop) where
       let all : bytes ≡ 91 ∷ (p.value ++ 93 ∷ after) =
       is ∙ ap (λ xs. xs ++ after) p.front_is ∙ ap (λ xs. 91 ∷ xs) (append_assoc p.value (93 ∷ []) after) in
       let next : later ≡ p.value ++ 93 ∷ after = later_is ∙ ap (drop 1) all in
-      let of : IsValueOf later p.value (93 ∷ after) = record { mark = p.mark; parts = next; codes = p.codes; others = after; bracket = refl } in
+      let of : IsValueOf done later p.value (93 ∷ after) = record { mark = p.mark; is = p.is; parts = next; codes = p.codes; others = after; bracket = refl } in
       let w = check_front names text stop a b c d e f done p.value after (subst (λ xs. StandsInContent text xs stop a) all st) whole same_b enters same_c first
       (λ here outside. valued p.value (93 ∷ after) of (subst (λ xs. StandsInContent text xs stop c) (sym next) here) outside) same_e second same_f exits in
       let here = subst (λ xs. WritesFront names text xs after Anywhere (TaskCheck done ∷ []) stop a f) (sym p.front_is) w in (

@@ -6,6 +6,11 @@ use Rattle.parse_inline.proofs.Prelude.{ends_line, Escape, escaped, InlineCode, 
 use Rattle.parse_inline.proofs.Prelude.{length-drop, line_bytes, list_any, list_any-append, map-append, Name, Names, Nil, no_ends, Node, node_name, one}
 use Rattle.parse_inline.proofs.Prelude.{or_parts, plain_none, position_or_len, same_codes, same_name, StandsInContent, Stop, string_of, take-append-drop}
 use Rattle.parse_inline.proofs.Prelude.{text_of, text_part, text_within, unwrap_or, Walk, WritesFront, WritesLeaves}
+use Rattle.std.proofs.Common.{true}
+use Rattle.std.specs.Char.{is_ascii_alphanumeric, is_ascii_punctuation}
+use Rattle.std.specs.List.{list_all}
+use Rattle.std.proofs.lemmas.Bool.{and_parts}
+use Rattle.std.proofs.lemmas.List.Folds.{list_all-append}
 use Rattle.std.proofs.Math.Seq.{take-suc}
 use Rattle.std.proofs.lemmas.Grind.{flat_map-append}
 use Rattle.std.proofs.lemmas.List.{length-take}
@@ -77,23 +82,23 @@ module _ (names : Names) (text : List ℕ) where
       spells = λ linked may. refl;
     }
 
-    pub escapes_more : (a b c : Walk A) (front content : List ℕ) (done next : ℕ) → done < length front → next ≡ done + 1 → list_any ends_line front ≡ false
+    pub escapes_more : (a b c : Walk A) (front content : List ℕ) (done next : ℕ) → done < length front → next ≡ done + 1 → list_all is_ascii_punctuation front ≡ true
         → WritesFront names text (escaped (take done front)) (escaped (drop done front) ++ content) Anywhere (map Escape (take done front)) stop a b
-        → ((after : List ℕ) (byte : ℕ) → ends_line byte ≡ false → StandsInContent text (92 ∷ byte ∷ after) stop b → IsWhole b
+        → ((after : List ℕ) (byte : ℕ) → is_ascii_punctuation byte ≡ true → StandsInContent text (92 ∷ byte ∷ after) stop b → IsWhole b
         → WritesNodeIn names text n.CharacterEscape (92 ∷ byte ∷ []) (byte ∷ []) after stop b c)
         → WritesFront names text (escaped (take next front)) (escaped (drop next front) ++ content) Anywhere (map Escape (take next front)) stop a c
-    escapes_more a b c front content done next within is dark w more =
+    escapes_more a b c front content done next within is marks w more =
         let byte = get_or front done 0 in
         let left = drop (suc done) front in
         let first = take done front in
         let split : drop done front ≡ byte ∷ left = drop-cons front done 0 within in
         let taken : take (suc done) front ≡ first ++ byte ∷ [] = take-suc front done 0 within in
         let parts : front ≡ first ++ (byte ∷ left) = sym (take-append-drop done front) ∙ ap (λ xs. first ++ xs) split in
-        let tests = sym (list_any-append ends_line first (byte ∷ left)) ∙ ap (list_any ends_line) (sym parts) ∙ dark in
-        let plain : ends_line byte ≡ false =
-        (or_parts (ends_line byte) (list_any ends_line left) (or_parts (list_any ends_line first) (list_any ends_line (byte ∷ left)) tests).1).0 in
+        let tests = sym (list_all-append is_ascii_punctuation first (byte ∷ left)) ∙ ap (list_all is_ascii_punctuation) (sym parts) ∙ marks in
+        let later = and_parts (list_all is_ascii_punctuation first) (list_all is_ascii_punctuation (byte ∷ left)) tests in
+        let mark : is_ascii_punctuation byte ≡ true = (and_parts (is_ascii_punctuation byte) (list_all is_ascii_punctuation left) later.1).0 in
         let here = subst (λ xs. WritesFront names text (escaped first) (escaped xs ++ content) Anywhere (map Escape first) stop a b) split w in
-        let one_more = escape_front b c byte (escaped left ++ content) (more (escaped left ++ content) byte plain here.writes.stands here.whole) in
+        let one_more = escape_front b c byte (escaped left ++ content) (more (escaped left ++ content) byte mark here.writes.stands here.whole) in
         let all =
         fronts_both names text stop a b c (escaped first) (92 ∷ byte ∷ []) (escaped left ++ content) Anywhere (map Escape first)
         (Escape byte ∷ []) here one_more in
@@ -114,7 +119,7 @@ module _ (names : Names) (text : List ℕ) where
         → (position_or_len is_semicolon bytes < length bytes → size ≡ position_or_len is_semicolon bytes + 1)
         → StandsInContent text bytes stop a → IsWhole a
         → ((marks value after content : List ℕ) (first : ℕ) → bytes ≡ 38 ∷ (marks ++ first ∷ after) → AreMarks marks first → 0 < length value
-        → size ≡ length marks + length value + 2 → list_any ends_line (38 ∷ (marks ++ (value ++ 59 ∷ []))) ≡ false
+        → length value ≤ 31 → list_all is_ascii_alphanumeric value ≡ true → size ≡ length marks + length value + 2 → list_any ends_line (38 ∷ (marks ++ (value ++ 59 ∷ []))) ≡ false
         → StandsInContent text ((38 ∷ (marks ++ (value ++ 59 ∷ []))) ++ content) stop a → IsWhole a
         → WritesNodeIn names text n.CharacterReference (38 ∷ (marks ++ (value ++ 59 ∷ []))) (marked_text names marks value) content stop a b)
         → WritesLeaves names text bytes Anywhere (Character printed ∷ []) to stop a b
@@ -148,7 +153,7 @@ module _ (names : Names) (text : List ℕ) where
         ∙ ap (λ xs. 38 ∷ xs) (append_assoc marks (value ++ 59 ∷ []) after ∙ ap (λ xs. marks ++ m.first ∷ xs) (append_assoc m.more (59 ∷ []) after)) in
         let dark : list_any ends_line whole_front ≡ false = ap (list_any ends_line) (sym m.whole) ∙ no_ends front m.dark in
         let w =
-        written marks value (m.more ++ 59 ∷ after) after m.first tail m.are (omega arith) size_is dark
+        written marks value (m.more ++ 59 ∷ after) after m.first tail m.are (omega arith) m.most m.all size_is dark
         (subst (λ xs. StandsInContent text xs stop a) parts_here st) whole in
         let printed_is : marked_text names marks value ≡ printed =
         sym m.text ∙ ap (λ (others : Names). unwrap_or (reference_text others form.name) []) (sym by) ∙ ap (λ o. unwrap_or o []) form.known in

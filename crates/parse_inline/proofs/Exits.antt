@@ -5,6 +5,9 @@ use Rattle.parse_inline.proofs.Prelude.{held_levels, held_of, hole_of, Image, in
 use Rattle.parse_inline.proofs.Prelude.{IsInRows, IsWhole, laid_levels, LeavesLinked, LeavesSpan, length-replicate, level, Level, Link, linked_name}
 use Rattle.parse_inline.proofs.Prelude.{LinkedKind, links, list_any, part, rows_view, Setting, Span, StandsInContent, StandsInText, Step, Stop}
 use Rattle.parse_inline.proofs.Prelude.{take-append-drop, Target, text_before, Walk}
+use Rattle.std.proofs.Common.{true}
+use Rattle.event_tokens.specs.Tokens.{is_token}
+use Rattle.parse_inline.proofs.Prelude.{sequence_name}
 use Rattle.std.proofs.lemmas.List.{reverse-append, reverse-reverse}
 use mathlib.Core.List.{reverse-cons}
 use Rattle.definition_inline.specs.Inline as inline
@@ -15,7 +18,7 @@ use Rattle.parse_inline.specs.declared.opened.Open.TheVariants as opens
 use Rattle.parse_inline.specs.Rows.{framed}
 use Rattle.parse_inline.proofs.Data.{dark_text}
 use Rattle.parse_inline.proofs.InRows.{found, onward}
-use Rattle.parse_inline.proofs.Levels.{dark_written, leave_linked_written, leave_span_written}
+use Rattle.parse_inline.proofs.Levels.{dark_written, leave_linked_written, leave_span_written, may_written}
 
 -- the last of a list that is turned round, and those before it
 last_of : {B : Type 0} (others : List B) (last first : B) (all : List B) → others ++ last ∷ [] ≡ reverse (first ∷ all) → (others ≡ reverse all) × (last ≡ first)
@@ -72,8 +75,8 @@ module _ {A : Type 0} (s : Setting) (first : Walk A) (others : List InlineRow) (
 
   abbrev LeavesIt : Span → ℕ → Type 0
   LeavesIt span size =
-      (text front after : List ℕ) (stop : Stop) → size ≡ length front → list_any ends_line front ≡ false → StandsInContent text (front ++ after) stop old
-      → IsWhole old → LeavesSpan text span front after stop old new
+      (text front after : List ℕ) (stop : Stop) → size ≡ length front → list_any ends_line front ≡ false
+      → is_token (sequence_name span) front ≡ true → StandsInContent text (front ++ after) stop old → IsWhole old → LeavesSpan text span front after stop old new
 
   span_over : (span : Span) (size : ℕ) (frame : Frame) (before : Inlines) (ls : List Level) → opens.Span span size ≡ held_of frame → LeavesIt span size
       → IsBefore frame before ls → IsInRows s first others kept new
@@ -83,12 +86,14 @@ module _ {A : Type 0} (s : Setting) (first : Walk A) (others : List InlineRow) (
       let here = b.laid.here in
       let front = replicate size' marker in
       let inline = dark_written s.context s.text s.stop s.bytes first span' marker size' before ls b.kids b.left old b.written in
+      let may = may_written s.context s.text s.stop s.bytes first span' marker size' before ls b.kids b.left old b.written in
       let passes = inline_bytes_law front b.left b.place b.laid.next b.stands.codes here.1 inline in
       let after = drop (length front) b.left in
       let both : b.left ≡ front ++ after = sym (take-append-drop (length front) b.left) ∙ ap (λ xs. xs ++ after) passes.front in
       let leaves : LeavesSpan s.text span' front after s.stop old new =
       subst (λ x. LeavesSpan s.text x front after s.stop old new) (sym same_span)
       (does s.text front after s.stop (sym same_size ∙ sym (length-replicate size' marker)) (dark_text front inline)
+      (subst (λ x. is_token (sequence_name x) front ≡ true) same_span may)
       (subst (λ bs. StandsInContent s.text bs s.stop old) both b.stands.stands) b.stands.whole) in
       let place : new.place ≡ old.place + length front = omega (arith, leaves.ends.place, leaves.sequence.place, leaves.leaves.place) in
       over (InSpan span' marker size') before ls b front after here.0 both place leaves.whole passes.left leaves.leaves.stands

@@ -26,7 +26,10 @@ use Rattle.parse_written.specs.Laid.{EntersLinked}
 use Rattle.parse_written.specs.Written.{linked_start}
 use Rattle.parse_inline.specs.declared.opened.Open as opened
 use Rattle.parse_inline.specs.declared.opened.Open.TheVariants as opens
+use Rattle.event_tokens.specs.Tokens.{is_token}
 use Rattle.parse_inline.specs.Leaves.{MayBeIn}
+use Rattle.parse_inline.specs.Leaving.{sequence_name}
+use Rattle.parse_inline.proofs.Sequences.{sequence_may}
 use Rattle.parse_inline.proofs.Calls.{DoesData, writing_data}
 use Rattle.parse_inline.proofs.Data.{dark_text, data_plain, data_spells}
 use Rattle.parse_inline.proofs.Holes.{filled_held, linkable_held}
@@ -169,7 +172,7 @@ module _ {A : Type 0} (s : Setting) (first : Walk A) where
 
   pub span_passes : (span : Span) (others : List InlineRow) (held held_after : List opened.Open) (old new : Walk A) (content : List ℕ) → s.content ≡ content
       → ((text front after : List ℕ) (stop : Stop) → front ++ after ≡ drop old.place content → length front ≡ sequence_size span (front ++ after)
-      → list_any ends_line front ≡ false → StandsInContent text (front ++ after) stop old → IsWhole old
+      → list_any ends_line front ≡ false → is_token (sequence_name span) front ≡ true → StandsInContent text (front ++ after) stop old → IsWhole old
       → EntersSpan text span front after stop old new × (held_after ≡ held ++ opens.Span span (length front) ∷ []))
       → IsInRows s first (rows.EnterSpan span ∷ others) held old → IsInRows s first others held_after new
   span_passes span others held held_after old new content over does st =
@@ -182,9 +185,10 @@ module _ {A : Type 0} (s : Setting) (first : Walk A) where
       let after = drop (length front) st.left in
       let both : st.left ≡ front ++ after = sym (take-append-drop (length front) st.left) ∙ ap (λ xs. xs ++ after) passes.front in
       let long : length front ≡ size = length-replicate size here.marker in
+      let may = sequence_may s.context.options span here.marker size here.starts.sized here.starts.marks in
       let w =
       does s.text front after s.stop (sym both ∙ st.stands.ahead ∙ ap (drop old.place) over) (long ∙ sized.0 ∙ ap (sequence_size span) both)
-      (dark_text front sized.1) (subst (λ bs. StandsInContent s.text bs s.stop old) both st.stands.stands) st.stands.whole in
+      (dark_text front sized.1) may (subst (λ bs. StandsInContent s.text bs s.stop old) both st.stands.stands) st.stands.whole in
       let enters = w.0 in
       let place : new.place ≡ old.place + length front = omega (arith, enters.enters.place, enters.sequence.place, enters.starts.place) in
       record {
@@ -198,7 +202,7 @@ module _ {A : Type 0} (s : Setting) (first : Walk A) where
             ∙ sym (reverse-cons (opens.Span span size) (map (λ (l : Level). held_of l.frame) st.levels));
         written =
             enter_written s.context s.text s.stop s.bytes first (InSpan span here.marker size) st.levels st.kids st.left front after old new st.written both
-            (refl, sized.1, enters) enters.starts.stands;
+            (refl, sized.1, may, enters) enters.starts.stands;
         stands = onward old new st.left front after st.place f.next st.stands both enters.starts.stands enters.whole place passes.left;
         tree = ap (filled (map hole_of st.levels) st.kids) (sym f.own) ∙ st.tree;
         linkable = subst (AreLinkable (links st.levels)) f.own st.linkable;

@@ -1,8 +1,13 @@
 -- What is written of each construct that holds no other, where it is laid.
 use Rattle.std.proofs.Common.{inl, inr, ◌≡◌, append_assoc, eqb, ℕ, ◌<◌, Bool, true, false, List, [], ◌∷◌, ◌++◌, refl, sym, ap, ap₂, subst, ◌∙◌, take}
 use Rattle.std.proofs.Common.{drop, length, map, arith}
-use Rattle.std.specs.Prelude.{not}
-use Rattle.event_tokens.specs.Tokens.{is_token}
+use Rattle.std.proofs.Common.{◌≤◌, zero, suc, ◌&&◌, replicate}
+use Rattle.std.specs.Char.{is_ascii_punctuation}
+use Rattle.std.specs.List.{list_all}
+use Rattle.std.specs.Prelude.{codes, leb, not}
+use Rattle.std.proofs.lemmas.Bool.{le-leb, or_right}
+use Rattle.std.proofs.lemmas.List.{length-replicate}
+use Rattle.event_tokens.specs.Tokens.{is_among, is_nothing, is_token}
 use Rattle.parse_lines.specs.Content.{HasBytes}
 use Rattle.parse_lines.proofs.Bytes.{has_kind}
 use Rattle.parse_lines.proofs.Bytes.{dark_line as none_ends}
@@ -26,20 +31,34 @@ use Rattle.inline_leaves.specs.Leaves.{kind_view}
 use Rattle.inline_leaves.specs.declared.leaf.LiteralKind.{LiteralKind}
 use Rattle.inline_leaves.specs.declared.leaf.LiteralKind.TheVariants.{Www, Protocol, Email}
 use Rattle.inline_leaves.proofs.Codes.{after_codes, prefix_codes}
-use Rattle.parse_rows.specs.Parts.{EndsLine, HasPartForm}
+use Rattle.parse_rows.specs.Parts.{AreEscapes, EndsLine, HasPartForm}
 use Rattle.parse_rows.proofs.Parts.{parts_law}
 use Rattle.parse_rows.proofs.Bytes.{text_bytes_law}
 use Rattle.parse_rows.proofs.Leaves.{break_bytes_law, line_bytes_law}
 use Rattle.inline_rows.specs.declared.row.SpelledLeaf.TheVariants as spelled
-use Rattle.parse_written.specs.Leaves.{AreAllSpaces, HasForm, IsAutolink, IsHtml}
+use Rattle.parse_written.specs.Leaves.{AreAllSpaces, HasForm, IsAutolink, IsHtml, is_target}
 use Rattle.parse_written.proofs.Forms.{leaf_law}
-use Rattle.parse_written.specs.Written.{IsText}
+use Rattle.parse_written.specs.Written.{IsLiteral, IsText, is_literal}
 use Rattle.parse_written.proofs.Codes.{codes_are}
 use Rattle.parse_inline.specs.Leaves.{literal_names}
 use Rattle.parse_inline.proofs.Data.{dark_text, data_plain, data_spells}
 use Rattle.parse_inline.proofs.Fronts.{WritesNext, leaves_of_front, token_front}
 use Rattle.parse_inline.proofs.LeavesAlike.{data_alike, escapes_alike, leaf_alike}
 use Rattle.parse_inline.proofs.LineEnds.{indent_dark, indent_parts, indent_size}
+
+spaces_inline : (size : ℕ) → EndNoLine (replicate size 32)
+spaces_inline zero = tt
+spaces_inline (suc n) = (refl, spaces_inline n)
+
+are_spaces : (size : ℕ) → list_all (is_among (codes " ")) (replicate size 32) ≡ true
+are_spaces zero = refl
+are_spaces (suc n) = are_spaces n
+
+-- two spaces or more may be a hard break
+spaces_may : (size : ℕ) → 2 ≤ size → is_token n.HardBreakTrailing (replicate size 32) ≡ true
+spaces_may size some =
+    or_right (is_nothing (replicate size 32)) (leb 2 (length (replicate size 32)) && list_all (is_among (codes " ")) (replicate size 32))
+    (ap₂ (λ (s t : Bool). s && t) (le-leb 2 (length (replicate size 32)) (omega (arith, some, length-replicate size 32))) (are_spaces size))
 
 abbrev AreSmall : List ℕ → Type 0
 AreSmall bytes = (k : ℕ) → slice_index bytes k < 256
@@ -57,10 +76,6 @@ passed_first front bytes to p = record {
 
 codes_first : (front bytes : List ℕ) (from to : List InlineCode) → AreBytesAt bytes from → AreCodes front from to → EndNoLine front → IsFirst front bytes to
 codes_first front bytes from to at codes inline = passed_first front bytes to (inline_bytes_law front bytes from to at codes inline)
-
-escaped_line : (bs : List ℕ) → EndNoLine (escaped bs) → EndNoLine bs
-escaped_line [] inline = tt
-escaped_line (b ∷ bs) inline = (inline.1.0, escaped_line bs inline.1.1)
 
 line_append : (xs ys : List ℕ) → EndNoLine xs → EndNoLine ys → EndNoLine (xs ++ ys)
 line_append [] ys first second = second
@@ -100,7 +115,6 @@ record LiteralName (kind : LiteralKind) (name : Name) : Type 0 where
   no_data : same_name name n.Data ≡ false
   no_prefix : same_name name n.BlockQuotePrefix ≡ false
   unsought : is_listed sought_names name ≡ false
-  may : (bytes : List ℕ) → is_token name bytes ≡ true
   spells : (names : Names) (text front : List ℕ) (linked : Bool) → linked ≡ false
       → texts.append (text_part names text linked name front Nil inline.Nil) inline.Nil ≡ leaves (inline.Literal (kind_view kind) front ∷ [])
 
@@ -112,19 +126,19 @@ outside kind front linked is =
 literal_of_kind : (kind : LiteralKind) (name : Name) → is_listed (literal_names kind) name ≡ true → LiteralName kind name
 literal_of_kind Www name listed =
     one_of (LiteralName Www) n.GfmAutolinkLiteralWww [] name
-    (record { no_data = refl; no_prefix = refl; unsought = refl; may = λ bytes. refl; spells = λ names text front linked is. outside inline.Www front linked is })
+    (record { no_data = refl; no_prefix = refl; unsought = refl; spells = λ names text front linked is. outside inline.Www front linked is })
     (λ none. absurd (true≢false (sym none))) listed
 literal_of_kind Email name listed =
     one_of (LiteralName Email) n.GfmAutolinkLiteralEmail [] name
-    (record { no_data = refl; no_prefix = refl; unsought = refl; may = λ bytes. refl; spells = λ names text front linked is. outside inline.Email front linked is })
+    (record { no_data = refl; no_prefix = refl; unsought = refl; spells = λ names text front linked is. outside inline.Email front linked is })
     (λ none. absurd (true≢false (sym none))) listed
 literal_of_kind Protocol name listed =
     one_of (LiteralName Protocol) n.GfmAutolinkLiteralMailto (n.GfmAutolinkLiteralXmpp ∷ n.GfmAutolinkLiteralProtocol ∷ []) name
-    (record { no_data = refl; no_prefix = refl; unsought = refl; may = λ bytes. refl; spells = λ names text front linked is. outside inline.Protocol front linked is })
+    (record { no_data = refl; no_prefix = refl; unsought = refl; spells = λ names text front linked is. outside inline.Protocol front linked is })
     (one_of (LiteralName Protocol) n.GfmAutolinkLiteralXmpp (n.GfmAutolinkLiteralProtocol ∷ []) name
-    (record { no_data = refl; no_prefix = refl; unsought = refl; may = λ bytes. refl; spells = λ names text front linked is. outside inline.Protocol front linked is })
+    (record { no_data = refl; no_prefix = refl; unsought = refl; spells = λ names text front linked is. outside inline.Protocol front linked is })
     (one_of (LiteralName Protocol) n.GfmAutolinkLiteralProtocol [] name
-    (record { no_data = refl; no_prefix = refl; unsought = refl; may = λ bytes. refl; spells = λ names text front linked is. outside inline.Protocol front linked is })
+    (record { no_data = refl; no_prefix = refl; unsought = refl; spells = λ names text front linked is. outside inline.Protocol front linked is })
     (λ none. absurd (true≢false (sym none))))) listed
 
 -- a construct of this shape, where these bytes are ahead
@@ -169,13 +183,13 @@ module _ {A : Type 0} (names : Names) (text bytes : List ℕ) (from to : List In
       leaves_of_front names text stop a b bytes front (drop (length front) bytes) MayBe ls parts to first.parts first.left
       (written (subst (λ xs. StandsInContent text xs stop a) first.parts st)) alike
 
-  pub escape_part : (front : List ℕ) → IsData (escaped front) from to
-      → ((content : List ℕ) → list_any ends_line front ≡ false → StandsInContent text (escaped front ++ content) stop a → IsWhole a
+  pub escape_part : (front : List ℕ) → AreEscapes front from to
+      → ((content : List ℕ) → list_all is_ascii_punctuation front ≡ true → StandsInContent text (escaped front ++ content) stop a → IsWhole a
       → WritesFront names text (escaped front) content Anywhere (map Escape front) stop a b)
       → WritesLeaves names text bytes Anywhere (map Escape front) to stop a b
   escape_part front is written =
-      leaves_first (escaped front) Anywhere (map Escape front) (codes_first (escaped front) bytes from to at is.codes is.inline)
-      (λ here. written (drop (length (escaped front)) bytes) (dark_text front (escaped_line front is.inline)) here whole) (map Escape front)
+      leaves_first (escaped front) Anywhere (map Escape front) (codes_first (escaped front) bytes from to at is.marked.codes is.marked.inline)
+      (λ here. written (drop (length (escaped front)) bytes) is.marks here whole) (map Escape front)
       (λ m m'. escapes_alike m m' front)
 
   pub data_part : (front : List ℕ) → IsData front from to → standing b ≡ standing a
@@ -201,14 +215,14 @@ module _ {A : Type 0} (names : Names) (text bytes : List ℕ) (from to : List In
       })
       (map Data front) (λ m m'. data_alike m m' front)
 
-  pub autolink_part : (email : Bool) (address : List ℕ) → IsAutolink address from to
-      → ((content : List ℕ) → 0 < length address → list_any ends_line address ≡ false → StandsInContent text (in_angles address ++ content) stop a → IsWhole a
+  pub autolink_part : (email : Bool) (address : List ℕ) → IsAutolink email address from to
+      → ((content : List ℕ) → 0 < length address → list_any ends_line address ≡ false → is_target email address ≡ true → StandsInContent text (in_angles address ++ content) stop a → IsWhole a
       → WritesFront names text (in_angles address) content Anywhere (inline.Autolink email address ∷ []) stop a b)
       → WritesLeaves names text bytes Anywhere (inline.Autolink email address ∷ []) to stop a b
   autolink_part email address is written =
       let inside = line_append address (62 ∷ []) is.inline (refl, tt) in
       leaves_first (in_angles address) Anywhere (inline.Autolink email address ∷ []) (codes_first (in_angles address) bytes from to at is.codes (refl, inside))
-      (λ here. written (drop (length (in_angles address)) bytes) is.some (dark_text address is.inline) here whole)
+      (λ here. written (drop (length (in_angles address)) bytes) is.some (dark_text address is.inline) is.target here whole)
       (inline.Autolink email address ∷ []) (λ m m'. leaf_alike m m' (inline.Autolink email address) (leaves (inline.Autolink email address ∷ [])) refl)
 
   pub token_part : (name : Name) (front : List ℕ) (MayBe : Bool → Type 0) (l : InlineLeaf) → IsText front from to → ((m m' : Meaning)
@@ -224,15 +238,16 @@ module _ {A : Type 0} (names : Names) (text bytes : List ℕ) (from to : List In
       unsought may spells here whole same written)
       (l ∷ []) alike
 
-  pub literal_part : (kind : LiteralKind) (name : Name) (front : List ℕ) → is_listed (literal_names kind) name ≡ true → IsText front from to
+  pub literal_part : (kind : LiteralKind) (name : Name) (front : List ℕ) → is_listed (literal_names kind) name ≡ true
+      → (is_literal (kind_view kind) front ≡ true → is_token name front ≡ true) → IsLiteral (kind_view kind) front from to
       → standing b ≡ standing a
       → WritesNext text name (length front) a b
       → WritesLeaves names text bytes (λ linked. linked ≡ false) (inline.Literal (kind_view kind) front ∷ []) to stop a b
-  literal_part kind name front listed is same written =
+  literal_part kind name front listed may is same written =
       let known = literal_of_kind kind name listed in
       let l = inline.Literal (kind_view kind) front in
-      token_part name front (λ linked. linked ≡ false) l is (λ m m'. leaf_alike m m' l (leaves (l ∷ [])) refl) known.no_data known.no_prefix known.unsought
-      (known.may front)
+      token_part name front (λ linked. linked ≡ false) l is.text (λ m m'. leaf_alike m m' l (leaves (l ∷ [])) refl) known.no_data known.no_prefix known.unsought
+      (may is.form)
       (λ linked outer. known.spells names text front linked outer) same written
 
   pub escaped_break_part : IsText (92 ∷ []) from to → standing b ≡ standing a → WritesNext text n.HardBreakEscape 1 a b
@@ -246,12 +261,17 @@ module _ {A : Type 0} (names : Names) (text bytes : List ℕ) (from to : List In
       → WritesLeaves names text bytes Anywhere (inline.TrailingBreak ∷ []) to stop a b
   break_part size is all same written =
       let front = take (indent bytes) bytes in
+      let marks = replicate all.size 32 in
+      let passes = inline_bytes_law marks bytes from to at all.codes (spaces_inline all.size) in
+      let marked : length marks ≡ indent bytes = length-replicate all.size 32 ∙ all.all ∙ ap indent at ∙ prefix_codes is_white refl refl bytes in
+      let may : is_token n.HardBreakTrailing front ≡ true =
+      ap (λ k. is_token n.HardBreakTrailing (take k bytes)) (sym marked) ∙ ap (is_token n.HardBreakTrailing) passes.front ∙ spaces_may all.size all.some in
       let some : 0 < length front = omega (arith, all.some, all.all, ap indent at, prefix_codes is_white refl refl bytes, indent_size bytes) in
       leaves_of_front names text stop a b bytes front (bare bytes) Anywhere (inline.TrailingBreak ∷ []) (inline.TrailingBreak ∷ []) to
       (sym (indent_parts bytes))
       (break_bytes_law bytes from to at all)
       (token_front names text stop a b n.HardBreakTrailing front (bare bytes) size Anywhere (inline.TrailingBreak ∷ []) (is ∙ indent_size bytes) some
-      (indent_dark bytes) refl refl refl refl
+      (indent_dark bytes) refl refl refl may
       (λ linked may. refl) (subst (λ xs. StandsInContent text xs stop a) (sym (indent_parts bytes)) st) whole same written)
       (λ m m'. leaf_alike m m' inline.TrailingBreak (leaves (inline.TrailingBreak ∷ [])) refl)
 

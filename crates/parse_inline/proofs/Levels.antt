@@ -7,6 +7,8 @@ use Rattle.parse_inline.proofs.Prelude.{is_link, is_listed, label_text, LeavesLi
 use Rattle.parse_inline.proofs.Prelude.{mark_name, Meaning, Nil, Nodes, one, Outside, part, plain_both, plain_none, Reference, Resource, same_name}
 use Rattle.parse_inline.proofs.Prelude.{sequence_name, Span, span_name, span_view, SpellsTarget, StandsInContent, Stop, Target, target_of, text_before}
 use Rattle.parse_inline.proofs.Prelude.{text_name, text_names, Walk, WritesInContent, WritesParts}
+use Rattle.std.proofs.Common.{true}
+use Rattle.event_tokens.specs.Tokens.{is_token}
 use Rattle.engine_events.specs.declared.event.Name.TheVariants as n
 use Rattle.definition_inline.specs.Inline as inline
 use Rattle.definition_inline.proofs.DefinitionParts.{before_rest}
@@ -146,6 +148,11 @@ module _ {A : Type 0} (context : InlineContext) (text : List ℕ) (stop : Stop) 
         → Written (level (InSpan span marker size) before ∷ ls) kids content w → EndNoLine (replicate size marker)
     dark_written s marker size before ls kids content w written = (innermost (level (InSpan s marker size) before) ls kids content w written).enters.1
 
+    -- and may have its bytes
+    pub may_written : (span : Span) (marker size : ℕ) (before : Inlines) (ls : List Level) (kids : Inlines) (content : List ℕ) (w : Walk A)
+        → Written (level (InSpan span marker size) before ∷ ls) kids content w → is_token (sequence_name span) (replicate size marker) ≡ true
+    may_written s marker size before ls kids content w written = (innermost (level (InSpan s marker size) before) ls kids content w written).enters.2
+
     -- a span is over
     pub leave_span_written : (span : Span) (marker size : ℕ) (before : Inlines) (ls : List Level) (kids : Inlines) (content front after : List ℕ) (w new : Walk A)
         → Written (level (InSpan span marker size) before ∷ ls) kids content w → content ≡ front ++ after → LeavesSpan text span front after stop w new
@@ -153,7 +160,7 @@ module _ {A : Type 0} (context : InlineContext) (text : List ℕ) (stop : Stop) 
     leave_span_written s marker size before ls kids content front after w new written both leaves =
         let it = innermost (level (InSpan s marker size) before) ls kids content w written in
         let p = it.parts in
-        let enters : EntersSpan text s it.front it.here stop it.outside it.inside = it.enters.2 in
+        let enters : EntersSpan text s it.front it.here stop it.outside it.inside = it.enters.3 in
         let first = forest.void_nodes text (sequence_name s) (end_in enters.outer.out) (end_after (end_in enters.outer.out) (length it.front)) in
         let last = forest.void_nodes text (sequence_name s) (end_in leaves.inner.out) (end_after (end_in leaves.inner.out) (length front)) in
         let own = text_nodes text s (end_in enters.inner.out) p.nodes (end_in w.out) in

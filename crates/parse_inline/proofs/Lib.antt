@@ -24,6 +24,8 @@ pub mod Labels
 pub mod LabelWritten
 pub mod Levels
 pub mod Calls
+pub mod Sequences
+pub mod LiteralNames
 pub mod Places
 pub mod Behind
 pub mod InRows

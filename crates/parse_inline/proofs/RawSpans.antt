@@ -1,7 +1,9 @@
 -- What is written of code and math (CommonMark 6.1).
 use Rattle.std.proofs.Common.{inl, inr, ◌≡◌, ◌⊎◌, ℕ, suc, ◌+◌, ◌-◌, ◌≤◌, ◌<◌, Bool, true, false, not, ◌&&◌, ◌||◌, List, [], ◌∷◌, ◌++◌, Some, refl}
 use Rattle.std.proofs.Common.{sym, ap, ap₂, subst, ◌∙◌, append_assoc, drop, take, length, arith}
+use Rattle.std.specs.Prelude.{codes}
 use Rattle.event_tokens.specs.Tokens.{is_token}
+use Rattle.parse_lines.proofs.Runs.{run_fits}
 use Rattle.parse_inline.proofs.Prelude.{after_return_code, and_parts, Anywhere, append, AreBytesAt, AreCutBetween, ArePartsAlike, Around, cases_Bool, code_of}
 use Rattle.parse_inline.proofs.Prelude.{cond-false, cond-true, content_codes, contents_around, contents_both, End, end_in, ends_line, enter_at, EntersInLine}
 use Rattle.parse_inline.proofs.Prelude.{eqb-true, exit_at, ExitsInLine, InlineCode, inlines_of, is_listed, is_white, IsChunk, IsCodeChunk, IsWhole, leaves}
@@ -28,27 +30,31 @@ either_true : (a b : Bool) → (a || b) ≡ true → (a ≡ true) ⊎ (b ≡ tru
 either_true true b is = inl refl
 either_true false b is = inr is
 
-raw_by : (P : Name → Name → Name → Type 0) (text sequence chunk : Name) → are_raw_names text sequence chunk ≡ true
-    → P n.CodeText n.CodeTextSequence n.CodeTextData
-    → P n.MathText n.MathTextSequence n.MathTextData → P text sequence chunk
-raw_by P text sequence chunk are code math =
-    elim (either_true (same_name text n.CodeText && (same_name sequence n.CodeTextSequence && same_name chunk n.CodeTextData)) _ are) [
+raw_by : (P : ℕ → Name → Name → Name → Type 0) (marker : ℕ) (text sequence chunk : Name) → are_raw_names marker text sequence chunk ≡ true
+    → P 96 n.CodeText n.CodeTextSequence n.CodeTextData
+    → P 36 n.MathText n.MathTextSequence n.MathTextData → P marker text sequence chunk
+raw_by P marker text sequence chunk are code math =
+    elim (either_true ((marker == 96) && (same_name text n.CodeText && (same_name sequence n.CodeTextSequence && same_name chunk n.CodeTextData))) _ are) [
       | inl is ↦
-          let one = and_parts (same_name text n.CodeText) _ is in
+          let marked = and_parts (marker == 96) _ is in
+          let one = and_parts (same_name text n.CodeText) _ marked.1 in
           let two = and_parts (same_name sequence n.CodeTextSequence) _ one.1 in
-          subst (λ x. P x sequence chunk) (sym (same_true the_type tt text n.CodeText one.0))
-          (subst (λ x. P n.CodeText x chunk) (sym (same_true the_type tt sequence n.CodeTextSequence two.0))
-          (subst (λ x. P n.CodeText n.CodeTextSequence x) (sym (same_true the_type tt chunk n.CodeTextData two.1)) code))
+          subst (λ m. P m text sequence chunk) (sym (eqb-true marker 96 marked.0))
+          (subst (λ x. P 96 x sequence chunk) (sym (same_true the_type tt text n.CodeText one.0))
+          (subst (λ x. P 96 n.CodeText x chunk) (sym (same_true the_type tt sequence n.CodeTextSequence two.0))
+          (subst (λ x. P 96 n.CodeText n.CodeTextSequence x) (sym (same_true the_type tt chunk n.CodeTextData two.1)) code)))
       | inr is ↦
-          let one = and_parts (same_name text n.MathText) _ is in
+          let marked = and_parts (marker == 36) _ is in
+          let one = and_parts (same_name text n.MathText) _ marked.1 in
           let two = and_parts (same_name sequence n.MathTextSequence) _ one.1 in
-          subst (λ x. P x sequence chunk) (sym (same_true the_type tt text n.MathText one.0))
-          (subst (λ x. P n.MathText x chunk) (sym (same_true the_type tt sequence n.MathTextSequence two.0))
-          (subst (λ x. P n.MathText n.MathTextSequence x) (sym (same_true the_type tt chunk n.MathTextData two.1)) math))
+          subst (λ m. P m text sequence chunk) (sym (eqb-true marker 36 marked.0))
+          (subst (λ x. P 36 x sequence chunk) (sym (same_true the_type tt text n.MathText one.0))
+          (subst (λ x. P 36 n.MathText x chunk) (sym (same_true the_type tt sequence n.MathTextSequence two.0))
+          (subst (λ x. P 36 n.MathText n.MathTextSequence x) (sym (same_true the_type tt chunk n.MathTextData two.1)) math)))
     ]
 
 -- what is known of them
-record RawNames (text sequence chunk : Name) : Type 0 where
+record RawNames (marker : ℕ) (text sequence chunk : Name) : Type 0 where
   chunks : IsCodeChunk chunk
   text_data : same_name text n.Data ≡ false
   text_prefix : same_name text n.BlockQuotePrefix ≡ false
@@ -57,14 +63,14 @@ record RawNames (text sequence chunk : Name) : Type 0 where
   sequence_prefix : same_name sequence n.BlockQuotePrefix ≡ false
   sequence_sought : is_listed sought_names sequence ≡ false
   sequence_other : is_listed (line_names chunk) sequence ≡ false
-  sequence_may : (bytes : List ℕ) → is_token sequence bytes ≡ true
+  sequence_may : (bytes : List ℕ) (size : ℕ) → size ≤ run marker bytes → is_token sequence (take size bytes) ≡ true
   spells : (names : Names) (bytes : List ℕ) (linked : Bool) (from to : End) (kids : Nodes)
       → inlines_of names bytes linked (one (Around (enter_at bytes text from) kids (exit_at bytes text to))) ≡ leaves (raw_leaf text (code_of names bytes sequence kids) ∷ [])
   alike : (m m' : Meaning) (printed : List ℕ) → ArePartsAlike m m' (leaves (raw_leaf text printed ∷ [])) (leaves (raw_leaf text printed ∷ []))
 
-raw_names : (text sequence chunk : Name) → are_raw_names text sequence chunk ≡ true → RawNames text sequence chunk
-raw_names text sequence chunk are =
-    raw_by RawNames text sequence chunk are
+raw_names : (marker : ℕ) (text sequence chunk : Name) → are_raw_names marker text sequence chunk ≡ true → RawNames marker text sequence chunk
+raw_names marker text sequence chunk are =
+    raw_by RawNames marker text sequence chunk are
     (record {
       chunks = inl refl;
       text_data = refl;
@@ -74,7 +80,7 @@ raw_names text sequence chunk are =
       sequence_prefix = refl;
       sequence_sought = refl;
       sequence_other = refl;
-      sequence_may = λ bytes. refl;
+      sequence_may = λ bytes size few. run_fits (codes "`") 96 bytes size refl few;
       spells = λ names bytes linked from to kids. refl;
       alike = λ m m' printed. leaf_alike m m' (inline.Code printed) (leaves (inline.Code printed ∷ [])) refl;
     })
@@ -87,7 +93,7 @@ raw_names text sequence chunk are =
       sequence_prefix = refl;
       sequence_sought = refl;
       sequence_other = refl;
-      sequence_may = λ bytes. refl;
+      sequence_may = λ bytes size few. run_fits (codes "$") 36 bytes size refl few;
       spells = λ names bytes linked from to kids. refl;
       alike = λ m m' printed. leaf_alike m m' (inline.Math printed) (leaves (inline.Math printed ∷ [])) refl;
     })
@@ -183,7 +189,7 @@ cut_before (b ∷ bs) m others dark =
 
 module _ {A : Type 0} (names : Names) (text : List ℕ) (stop : Stop) where
   pub raw_written : (a b c d e f : Walk A) (name sequence chunk : Name) (marker : ℕ) (printed bytes inside end inner : List ℕ) (to : List InlineCode) (size : ℕ)
-      → are_raw_names name sequence chunk ≡ true → is_raw_marker marker ≡ true → IsRawInBytes marker printed bytes to → size ≡ run marker bytes
+      → are_raw_names marker name sequence chunk ≡ true → is_raw_marker marker ≡ true → IsRawInBytes marker printed bytes to → size ≡ run marker bytes
       → inside ≡ drop size bytes
       → (0 < size → end ≡ unwrap_or (run_of marker size false inside) []) → inner ≡ take (length inside - length end) inside → StandsInContent text bytes stop a
       → IsWhole a → standing b ≡ standing a → ((line : List ℕ) → StandsInLine text line a → EntersInLine text name line a b) → standing c ≡ standing b
@@ -195,7 +201,7 @@ module _ {A : Type 0} (names : Names) (text : List ℕ) (stop : Stop) where
       → WritesLeaves names text bytes Anywhere (raw_leaf name printed ∷ []) to stop a f
   raw_written a b c d e f name sequence chunk marker printed bytes inside end inner to size are marks raw size_is inside_is end_is inner_is st whole same_b enters same_c
       first lines same_e second same_f exits =
-      let known = raw_names name sequence chunk are in
+      let known = raw_names marker name sequence chunk are in
       let dark = marker_dark marker marks in
       let some : 0 < size = omega (arith, raw.some, size_is) in
       let inside_at : inside ≡ after_run marker bytes = inside_is ∙ ap (λ k. drop k bytes) size_is in
@@ -224,7 +230,7 @@ module _ {A : Type 0} (names : Names) (text : List ℕ) (stop : Stop) where
       let t =
       token_in names text stop b c sequence opening tail size opening_size
       (omega (arith, some, opening_size)) opening_dark known.sequence_data known.sequence_prefix
-      (known.sequence_may opening)
+      (known.sequence_may bytes size (omega (arith, size_is)))
       (subst (λ xs. StandsInContent text xs stop b) parts entered.stands) (ap (λ (x : End). x.owed) entered.end ∙ whole) same_c first in
       let (others, begins) = run_first marker raw.end (omega (arith, next.size_is, some)) in
       let cut : AreCutBetween inner (closing ++ after) =
@@ -236,7 +242,7 @@ module _ {A : Type 0} (names : Names) (text : List ℕ) (stop : Stop) where
       let u =
       token_in names text stop d e sequence closing after size closing_size
       (omega (arith, some, closing_size)) closing_dark known.sequence_data known.sequence_prefix
-      (known.sequence_may closing)
+      (known.sequence_may raw.end size (omega (arith, next.size_is)))
       w.writes.stands whole_d same_e second in
       let exited = line_exits text stop e f name after u.writes.stands same_f exits in
       let t_node = token text sequence (end_in b.out).index (length opening) in

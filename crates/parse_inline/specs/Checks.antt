@@ -1,7 +1,8 @@
 -- What is written of the check of a task list item (GFM 5.3).
-use Rattle.std.specs.Prelude.{◌≡◌, ℕ, Bool, List, [], ◌∷◌, ◌++◌}
+use Rattle.std.specs.Prelude.{◌≡◌, ℕ, Bool, List, [], ◌∷◌, ◌++◌, Some}
 use Rattle.definition_text.specs.Content.{content_codes}
 use Rattle.definition_text.specs.Ascii.{right_bracket}
+use Rattle.definition_inline.specs.GfmTaskListItem.{is_done}
 use Rattle.event_grammar.specs.InGrammar.{node_name}
 use Rattle.event_grammar.specs.Trees.{Node, Nodes, Cons}
 use Rattle.parse_output.specs.Forest.{one}
@@ -11,9 +12,10 @@ use Rattle.parse_lines.specs.Quiet.{AreQuiet}
 use Rattle.parse_strings.specs.Plain.{ArePlain}
 use Rattle.parse_inline.specs.Leaves.{check_name}
 
--- bytes begin with one code, and this is what follows it: a closing bracket first
-pub record IsValueOf (bytes value content : List ℕ) : Type 0 where
+-- bytes begin with one code, the mark of an item that is done or not, and this is what follows it: a closing bracket first
+pub record IsValueOf (done : Bool) (bytes value content : List ℕ) : Type 0 where
   pub mark : ℕ
+  pub is : is_done mark ≡ Some done
   pub parts : bytes ≡ value ++ content
   pub codes : content_codes value ≡ mark ∷ []
   pub others : List ℕ

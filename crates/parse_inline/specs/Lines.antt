@@ -25,11 +25,11 @@ IsCodeChunk name = (name ≡ n.CodeTextData) ⊎ (name ≡ n.MathTextData)
 abbrev pub IsChunk : Name → Type 0
 IsChunk name = IsCodeChunk name ⊎ (name ≡ n.HtmlTextData)
 
--- the names of code, of its sequences and of its text, or those of math
-abbrev pub are_raw_names : Name → Name → Name → Bool
-are_raw_names text sequence chunk =
-    (same_name text n.CodeText && (same_name sequence n.CodeTextSequence && same_name chunk n.CodeTextData))
-    || (same_name text n.MathText && (same_name sequence n.MathTextSequence && same_name chunk n.MathTextData))
+-- the byte and the names of code, of its sequences and of its text, or those of math
+abbrev pub are_raw_names : ℕ → Name → Name → Name → Bool
+are_raw_names marker text sequence chunk =
+    ((marker == backtick) && (same_name text n.CodeText && (same_name sequence n.CodeTextSequence && same_name chunk n.CodeTextData)))
+    || ((marker == dollar) && (same_name text n.MathText && (same_name sequence n.MathTextSequence && same_name chunk n.MathTextData)))
 
 -- the byte of the sequences of code, or of math
 abbrev pub is_raw_marker : ℕ → Bool

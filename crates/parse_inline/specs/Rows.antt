@@ -18,6 +18,7 @@ use Rattle.inline_rows.specs.declared.row.InlineRow.TheVariants.{Exit}
 use Rattle.inline_runs.specs.View.{span_view}
 use Rattle.inline_runs.specs.declared.pair.Span as runs
 use Rattle.event_grammar.specs.InGrammar.{node_name}
+use Rattle.event_tokens.specs.Tokens.{is_token}
 use Rattle.event_grammar.specs.References.{label_text, named, own}
 use Rattle.event_grammar.specs.Trees.{Node, Nodes}
 use Rattle.event_meaning.specs.Texts.{inlines_of}
@@ -193,7 +194,8 @@ mark_name Image = n.LabelImage
 -- it is entered by its first bytes
 abbrev pub EntersFrame : {A : Type 0} → List ℕ → Frame → List ℕ → List ℕ → Stop → Walk A → Walk A → Type 0
 EntersFrame text (InSpan span marker size) front content stop old new =
-    (front ≡ replicate size marker) × EndNoLine (replicate size marker) × EntersSpan text span front content stop old new
+    (front ≡ replicate size marker) × EndNoLine (replicate size marker) × (is_token (sequence_name span) (replicate size marker) ≡ true)
+    × EntersSpan text span front content stop old new
 EntersFrame text (InLinked kind target inside) front content stop old new =
     AreBytesAt content inside × EntersLabel text (linked_name kind) (mark_name kind) front content stop old new
 

@@ -32,7 +32,7 @@ pub(crate) struct Raw {
     ghost holds_sequence: { may_hold text sequence ≡ true },
     ghost holds_chunk: { may_hold text chunk ≡ true },
     ghost may_go_on: { has_lines text ≡ true },
-    ghost names: { are_raw_names text sequence chunk ≡ true },
+    ghost names: { are_raw_names marker text sequence chunk ≡ true },
     ghost mark: { is_raw_marker marker ≡ true },
 }
 

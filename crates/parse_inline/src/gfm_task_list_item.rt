@@ -50,7 +50,7 @@ fn push_value<A: Allocator>(
     requires child { may_enter (still_open walk.old) (check_name done) ≡ true }
     requires lines { holds_lines (still_open walk.old) ≡ true }
     ensures open { OnOk result (still_open walk.new ≡ still_open walk.old) }
-    ensures written { OnOk result ((names : Names) (text value content : List ℕ) (stop : Stop) → IsValueOf bytes.now value content
+    ensures written { OnOk result ((names : Names) (text value content : List ℕ) (stop : Stop) → IsValueOf done bytes.now value content
         → StandsInContent text bytes.now stop walk.old → IsWhole walk.old → WritesValue text done value content stop walk.old walk.new) }
 {
     match ending_at(bytes) {

@@ -1,6 +1,7 @@
 //! Constructs that hold no other (CommonMark 2.4, 2.5, 6.1 and 6.5 to 6.8).
 ghost use Rattle.std.specs.Prelude.{◌≡◌, ◌<◌, ◌++◌, ◌∷◌, [], List, OnOk, drop, false, length, map, true, ℕ};
-ghost use Rattle.std.specs.List.{list_any};
+ghost use Rattle.std.specs.Char.{is_ascii_punctuation};
+ghost use Rattle.std.specs.List.{list_all, list_any};
 ghost use Rattle.markdown_options.specs.LineEndings.{ending_bytes};
 ghost use Rattle.markdown_options.specs.declared.line_ending.LineEnding.{LineEnding};
 ghost use Rattle.definition_text.specs.Ascii.{greater_than};
@@ -24,7 +25,7 @@ ghost use Rattle.parse_rows.specs.Bytes.{AreBytesAt};
 ghost use Rattle.parse_rows.specs.Parts.{escaped};
 ghost use Rattle.parse_rows.specs.Rows.{IsPartLaid};
 ghost use Rattle.parse_written.specs.Laid.{IsLeafLaid};
-ghost use Rattle.parse_written.specs.Leaves.{IsReference};
+ghost use Rattle.parse_written.specs.Leaves.{IsReference, is_target};
 
 use crate::code_text::{CODE, MATH, push_raw};
 use crate::gfm_autolink_literal::literal_name;
@@ -100,7 +101,7 @@ pub(crate) fn push_spelled<T, A: Allocator>(
 fn push_escapes<A: Allocator>(walk: &mut Walk<'_, A>, count: usize) -> Result<(), AllocError>
     requires child { may_enter (still_open walk.old) CharacterEscape ≡ true }
     ensures open { OnOk result (still_open walk.new ≡ still_open walk.old) }
-    ensures written { OnOk result ((names : Names) (text front content : List ℕ) (stop : Stop) → count ≡ length front → list_any ends_line front ≡ false
+    ensures written { OnOk result ((names : Names) (text front content : List ℕ) (stop : Stop) → count ≡ length front → list_all is_ascii_punctuation front ≡ true
         → StandsInContent text (escaped front ++ content) stop walk.old → IsWhole walk.old
         → WritesFront names text (escaped front) content Anywhere (map Escape front) stop walk.old walk.new) }
 {
@@ -131,7 +132,7 @@ fn push_autolink<A: Allocator>(
     requires child { may_enter (still_open walk.old) Autolink ≡ true }
     ensures open { OnOk result (still_open walk.new ≡ still_open walk.old) }
     ensures written { OnOk result ((names : Names) (text address content : List ℕ) (stop : Stop) → size ≡ length address → 0 < length address
-        → list_any ends_line address ≡ false → StandsInContent text (in_angles address ++ content) stop walk.old → IsWhole walk.old
+        → list_any ends_line address ≡ false → is_target email address ≡ true → StandsInContent text (in_angles address ++ content) stop walk.old → IsWhole walk.old
         → WritesFront names text (in_angles address) content Anywhere (inline.Autolink email address ∷ []) stop walk.old walk.new) }
 {
     walk.enter(Name::Autolink)?;

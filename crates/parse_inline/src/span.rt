@@ -2,6 +2,7 @@
 ghost use Rattle.std.specs.Prelude.{[], ◌∷◌, ◌≡◌, ◌++◌, List, OnOk, drop, false, length, true, ℕ};
 ghost use Rattle.std.specs.List.{list_any};
 ghost use Rattle.definition_text.specs.Lines.{ends_line};
+ghost use Rattle.event_tokens.specs.Tokens.{is_token};
 ghost use Rattle.parse_output.specs.Children.{may_enter};
 ghost use Rattle.parse_output.specs.Open.{closed};
 ghost use Rattle.parse_lines.specs.InContent.{IsWhole, StandsInContent, Stop};
@@ -33,8 +34,8 @@ pub(crate) fn enter_span<T, A: Allocator>(
     ensures open { OnOk result (open_around open.new.items walk.new ≡ open_around open.old.items walk.old) }
     ensures held { OnOk result (AreHeld open.new.items (still_open walk.new)) }
     ensures written { OnOk result ((text front content : List ℕ) (stop : Stop) → front ++ content ≡ drop walk.old.place reading.now.content.now
-        → length front ≡ sequence_size span (front ++ content) → list_any ends_line front ≡ false → StandsInContent text (front ++ content) stop walk.old
-        → IsWhole walk.old
+        → length front ≡ sequence_size span (front ++ content) → list_any ends_line front ≡ false → is_token (sequence_name span) front ≡ true
+        → StandsInContent text (front ++ content) stop walk.old → IsWhole walk.old
         → EntersSpan text span front content stop walk.old walk.new × (open.new.items ≡ open.old.items ++ held.Span span (length front) ∷ [])) }
 {
     let bytes = bytes_from(reading.content.as_bytes(), walk.place());
@@ -67,7 +68,8 @@ pub(crate) fn leave_span<A: Allocator>(
     requires sequence { may_enter (closed (text_name span) (still_open walk.old)) (sequence_name span) ≡ true }
     ensures open { OnOk result (still_open walk.new ≡ closed (span_name span) (closed (text_name span) (still_open walk.old))) }
     ensures written { OnOk result ((text front content : List ℕ) (stop : Stop) → size ≡ length front → list_any ends_line front ≡ false
-        → StandsInContent text (front ++ content) stop walk.old → IsWhole walk.old → LeavesSpan text span front content stop walk.old walk.new) }
+        → is_token (sequence_name span) front ≡ true → StandsInContent text (front ++ content) stop walk.old → IsWhole walk.old
+        → LeavesSpan text span front content stop walk.old walk.new) }
 {
     let names = span_names(span);
     walk.exit(names.text)?;

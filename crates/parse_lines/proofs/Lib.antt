@@ -18,6 +18,7 @@ pub mod InContent
 pub mod Between
 pub mod Sizes
 pub mod White
+pub mod Runs
 pub mod NextLine
 pub mod ContentLines
 pub mod Dark

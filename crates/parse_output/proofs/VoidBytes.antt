@@ -1,12 +1,12 @@
 -- The events of drafts have bytes that their names may have.
 use Rattle.parse_output.proofs.Prelude.{AreInOrder, Draft, End, end_at, enter_at, Event, exit_at, first_end, Name, same_name}
-use Rattle.std.proofs.Common.{◌≡◌, ℕ, Bool, true, ◌&&◌, if◌then◌else◌, List, [], ◌∷◌, inl, inr, refl, ap, ap₂, ◌∙◌, arith}
+use Rattle.std.proofs.Common.{◌≡◌, ℕ, Bool, true, ◌&&◌, ◌||◌, if◌then◌else◌, List, [], ◌∷◌, inl, inr, refl, ap, ap₂, ◌∙◌, arith}
 use Rattle.std.specs.Prelude.{leb}
 use Rattle.std.proofs.lemmas.Bool.{cases_Bool, le-leb}
 use Rattle.parse_output.specs.Forest.{drafts_events}
 use Rattle.parse_output.specs.declared.draft.Draft.TheVariants as draft
 use Rattle.event_tokens.specs.Bytes.{HaveTheirBytes, are_fit, is_fit}
-use Rattle.event_tokens.specs.Tokens.{Form, fits, is_token, token_form, Any, Ending, All, Most, Run, Only}
+use Rattle.event_tokens.specs.Tokens.{Form, fits, is_token, token_form, Any, Ending, All, Most, Run, Only, Least, Such, Either}
 use Rattle.parse_output.specs.Joined.{end_edge, text_between}
 use Rattle.parse_output.proofs.Joined.{none_between}
 
@@ -21,6 +21,9 @@ nothing_fits (All kind) = refl
 nothing_fits (Most most kind) = ap (λ (b : Bool). b && true) (none_most most)
 nothing_fits (Run marks) = refl
 nothing_fits (Only text) = refl
+nothing_fits (Least least kind) = refl
+nothing_fits (Such test) = refl
+nothing_fits (Either one other) = ap (λ (b : Bool). b || fits other []) (nothing_fits one)
 
 exit_fits : (text : List ℕ) (name : Name) (from : End) (others : List Event) → is_fit text (exit_at text name from) others ≡ true
 exit_fits text name from [] = refl

@@ -11,30 +11,10 @@ use Rattle.definition_text.specs.Indents.{small_indent}
 use Rattle.definition_text.specs.Runs.{is_run as ends_run}
 use Rattle.definition_block.specs.CodeFenced.{is_fence_end}
 use Rattle.definition_block.specs.ThematicBreak.{is_break, is_break_by, is_break_marker, is_break_text}
-use Rattle.event_tokens.specs.Tokens.{fits, is_among, is_run, Run}
+use Rattle.event_tokens.specs.Tokens.{is_among}
+use Rattle.parse_lines.proofs.Runs.{run_fits}
 use Rattle.parse_raw.specs.Bytes.{AreBreak, AreClosing, AreMetadataFence, break_marks, fence_marks}
 use Rattle.parse_raw.proofs.Bytes.{all_drop}
-
--- ---- one byte, again and again
-
-same_run : (byte : ℕ) (xs : List ℕ) → list_all (λ b. b == byte) xs ≡ true → is_run xs ≡ true
-same_run byte [] all = refl
-same_run byte (x ∷ xs) all =
-    let parts = and_parts (x == byte) (list_all (λ b. b == byte) xs) all in
-    subst (λ (k : ℕ). list_all (λ b. b == k) xs ≡ true) (sym (eqb-true x byte parts.0)) parts.1
-
-same_among : (marks : List ℕ) (byte : ℕ) (xs : List ℕ) → is_among marks byte ≡ true → list_all (λ b. b == byte) xs ≡ true
-    → list_all (is_among marks) xs ≡ true
-same_among marks byte [] among all = refl
-same_among marks byte (x ∷ xs) among all =
-    let parts = and_parts (x == byte) (list_all (λ b. b == byte) xs) all in
-    ap₂ (λ (s t : Bool). s && t) (ap (is_among marks) (eqb-true x byte parts.0) ∙ among) (same_among marks byte xs among parts.1)
-
--- the first of a run, so many
-pub run_fits : (marks : List ℕ) (byte : ℕ) (bytes : List ℕ) (k : ℕ) → is_among marks byte ≡ true → k ≤ run byte bytes → fits (Run marks) (take k bytes) ≡ true
-run_fits marks byte bytes k among few =
-    let all = all_prefix (λ b. b == byte) k bytes few in
-    ap₂ (λ (s t : Bool). s && t) (same_run byte (take k bytes) all) (same_among marks byte (take k bytes) among all)
 
 -- ---- thematic breaks
 

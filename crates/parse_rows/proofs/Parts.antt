@@ -1,6 +1,6 @@
 -- Each row of a leaf has its form.
 use Rattle.std.proofs.Common.{inl, inr, ◌≡◌, ℕ, ◌+◌, true, false, ◌&&◌, ◌||◌, List, [], ◌∷◌, map, None, Some, drop, refl, sym}
-use Rattle.std.proofs.Common.{ap, ◌∙◌, subst}
+use Rattle.std.proofs.Common.{ap, ap₂, ◌∙◌, subst, Bool}
 use Rattle.std.specs.Prelude.{◌==◌, nat_le}
 use Rattle.std.proofs.lemmas.Bool.{cond_both, cond-false}
 use Rattle.markdown_options.specs.declared.configuration.Constructs.{Constructs}
@@ -23,7 +23,7 @@ use Rattle.parse_written.specs.Written.{AreSpaces}
 use Rattle.parse_written.proofs.Codes.{codes_both}
 use Rattle.parse_written.proofs.Forms.{differs, leaf_law}
 use Rattle.parse_rows.specs.Laws.{PartsLaw}
-use Rattle.parse_rows.specs.Parts.{escaped, EndsLine}
+use Rattle.parse_rows.specs.Parts.{AreEscapes, escaped, EndsLine}
 use Rattle.parse_rows.specs.Rows.{IsData, AreLeavesLaid}
 
 module _ (context : InlineContext) where
@@ -33,13 +33,19 @@ module _ (context : InlineContext) where
 
   -- ---- escapes
 
-  escapes : (text : List ℕ) (from to : List InlineCode) → AreLeavesLaid context (map inline.Escape text) from to → IsData (escaped text) from to
-  escapes [] from to is = record { codes = is; inline = tt }
+  escapes : (text : List ℕ) (from to : List InlineCode) → AreLeavesLaid context (map inline.Escape text) from to → AreEscapes text from to
+  escapes [] from to is = record { marked = record { codes = is; inline = tt }; marks = refl }
   escapes (b ∷ bs) from to (next, is, more) =
       let first = leaf_law context (inline.Escape b) from next is in
       let others = escapes bs next to more in
-      let here = first.inline in
-      record { codes = codes_both (92 ∷ b ∷ []) (escaped bs) from next to first.codes others.codes; inline = (here.0, (here.1.0, others.inline)) }
+      let here = first.text.inline in
+      record {
+        marked = record {
+          codes = codes_both (92 ∷ b ∷ []) (escaped bs) from next to first.text.codes others.marked.codes;
+          inline = (here.0, (here.1.0, others.marked.inline));
+        };
+        marks = ap₂ (λ (s t : Bool). s && t) first.mark others.marks;
+      }
 
   -- ---- line endings
 

@@ -11,6 +11,8 @@ use Rattle.parse_strings.proofs.Prelude.{marked_text, Names, ne_eqb, or_else, or
 use Rattle.parse_strings.proofs.Prelude.{reference_at, reference_form, reference_leaf, reference_of, reference_text, spaces_at, string_bytes, string_leaf_at}
 use Rattle.parse_strings.proofs.Prelude.{string_parts, true≢false}
 use Rattle.std.specs.Char.{is_ascii_alphanumeric, is_ascii_digit, is_ascii_hexdigit}
+use Rattle.std.specs.Int.{is_in_range}
+use Rattle.std.proofs.lemmas.Bool.Decides.{nat_tests}
 use Rattle.std.specs.Option.{MatchOption}
 use Rattle.std.specs.List.{list_all}
 use Rattle.std.proofs.lemmas.Bool.{cases_lt, and_left, and_right}
@@ -325,12 +327,16 @@ data_step on names (x ∷ xs) n bytes some none e =
 pub same_codes : (xs ys : List ℕ) → AreBytes xs → AreBytes ys → content_codes xs ≡ content_codes ys → xs ≡ ys
 same_codes xs ys first second e = sym (bytes_back xs first) ∙ ap (flat_map code_text) e ∙ bytes_back ys second
 
+-- no line ends with punctuation
+pub mark_dark : (b : ℕ) → is_ascii_punctuation b ≡ true → ends_line b ≡ false
+mark_dark b mark = (or_parts (ends_line b) (eqb b 257) (passes_no_eol is_ascii_punctuation refl refl refl b mark)).0
+
 -- an escape in bytes
 pub record EscapeStep (on : Constructs) (names : Names) (xs : List ℕ) : Type 0 where
   pub byte : ℕ
   pub after : List ℕ
   pub whole : xs ≡ 92 ∷ byte ∷ after
-  pub dark : ends_line byte ≡ false
+  pub mark : is_ascii_punctuation byte ≡ true
   pub text : string_text on names (content_codes xs) ≡ byte ∷ string_text on names (content_codes after)
   pub cut : IsUtf8 xs → IsCharBoundary xs 2
 
@@ -355,7 +361,7 @@ escape_step on names xs found bytes h =
       byte = is.byte;
       after = split.after;
       whole = whole;
-      dark = (or_parts (ends_line is.byte) (eqb is.byte 257) no_eol).0;
+      mark = is.mark;
       text = is.text ∙ ap (λ cs. is.byte ∷ string_text on names cs) (sym split.last);
       cut = λ utf8. boundary_after_byte xs 2 utf8 (omega arith) (omega (arith, ap length whole))
           (mark_ascii (get_or xs 1 0) (bytes 1) (ap is_ascii_punctuation second ∙ is.mark));
@@ -368,6 +374,8 @@ pub record ReferenceStep (on : Constructs) (names : Names) (xs rest : List ℕ) 
   pub more : List ℕ
   pub whole : xs ≡ (38 ∷ (marks ++ ((first ∷ more) ++ 59 ∷ []))) ++ rest
   pub are : AreMarks marks first
+  pub most : length (first ∷ more) ≤ 31
+  pub all : list_all is_ascii_alphanumeric (first ∷ more) ≡ true
   pub dark : list_any ends_line (38 ∷ (marks ++ ((first ∷ more) ++ 59 ∷ []))) ≡ false
   pub text : string_text on names (content_codes xs) ≡ marked_text names marks (first ∷ more) ++ string_text on names (content_codes rest)
   -- the bytes after the first mark
@@ -381,6 +389,8 @@ pub record IsMarked (names : Names) (front : List ℕ) (name : CharacterName) : 
   pub more : List ℕ
   pub whole : front ≡ 38 ∷ (marks ++ ((first ∷ more) ++ 59 ∷ []))
   pub are : AreMarks marks first
+  pub most : length (first ∷ more) ≤ 31
+  pub all : list_all is_ascii_alphanumeric (first ∷ more) ≡ true
   pub dark : list_any is_eol front ≡ false
   pub text : unwrap_or (reference_text names name) [] ≡ marked_text names marks (first ∷ more)
 
@@ -388,6 +398,19 @@ value_dark : (test : ℕ → Bool) → test 10 ≡ false → test 13 ≡ false �
     → list_any is_eol (value ++ 59 ∷ []) ≡ false
 value_dark test feed return both value h =
     list_any-append is_eol value (59 ∷ []) ∙ or_from (list_any is_eol value) false (all_no_eol test feed return both value h) refl
+
+-- what all pass, all pass another test that is weaker
+all_weaker : (test weaker : ℕ → Bool) → ((c : ℕ) → test c ≡ true → weaker c ≡ true) → (xs : List ℕ) → list_all test xs ≡ true → list_all weaker xs ≡ true
+all_weaker test weaker h [] all = refl
+all_weaker test weaker h (x ∷ xs) all =
+    let are = and_parts (test x) (list_all test xs) all in
+    ap₂ (λ (s t : Bool). s && t) (h x are.0) (all_weaker test weaker h xs are.1)
+
+digit_alphanumeric : (c : ℕ) → is_ascii_digit c ≡ true → is_ascii_alphanumeric c ≡ true
+digit_alphanumeric c is = ap (λ (s : Bool). (s || is_in_range 65 90 c) || is_in_range 97 122 c) is
+
+hexdigit_alphanumeric : (c : ℕ) → is_ascii_hexdigit c ≡ true → is_ascii_alphanumeric c ≡ true
+hexdigit_alphanumeric c is = grind (arith, nat_tests, is)
 
 fails_at : (test : ℕ → Bool) (k b : ℕ) → test k ≡ false → test b ≡ true → eqb b k ≡ false
 fails_at test k b fails is = ne_eqb b k (λ e. true≢false (sym is ∙ ap test e ∙ fails))
@@ -400,6 +423,8 @@ marked names front _ (by_name (x ∷ xs) h) = record {
   more = xs;
   whole = refl;
   are = fails_at is_ascii_alphanumeric 35 x refl (and_parts (is_ascii_alphanumeric x) (list_all is_ascii_alphanumeric xs) h.bytes).0;
+  most = h.bounded;
+  all = h.bytes;
   dark = value_dark is_ascii_alphanumeric refl refl refl (x ∷ xs) h.bytes;
   text = refl;
 }
@@ -412,6 +437,8 @@ marked names front _ (by_digits (x ∷ xs) h) =
       more = xs;
       whole = refl;
       are = (refl, or_from (eqb x 120) (eqb x 88) (fails_at is_ascii_digit 120 x refl is) (fails_at is_ascii_digit 88 x refl is));
+      most = omega (arith, h.bounded);
+      all = all_weaker is_ascii_digit is_ascii_alphanumeric digit_alphanumeric (x ∷ xs) h.bytes;
       dark = value_dark is_ascii_digit refl refl refl (x ∷ xs) h.bytes;
       text = refl;
     }
@@ -422,6 +449,8 @@ marked names front _ (lower_x (x ∷ xs) h) = record {
   more = xs;
   whole = refl;
   are = (refl, refl);
+  most = omega (arith, h.bounded);
+  all = all_weaker is_ascii_hexdigit is_ascii_alphanumeric hexdigit_alphanumeric (x ∷ xs) h.bytes;
   dark = value_dark is_ascii_hexdigit refl refl refl (x ∷ xs) h.bytes;
   text = refl;
 }
@@ -432,6 +461,8 @@ marked names front _ (upper_x (x ∷ xs) h) = record {
   more = xs;
   whole = refl;
   are = (refl, refl);
+  most = omega (arith, h.bounded);
+  all = all_weaker is_ascii_hexdigit is_ascii_alphanumeric hexdigit_alphanumeric (x ∷ xs) h.bytes;
   dark = value_dark is_ascii_hexdigit refl refl refl (x ∷ xs) h.bytes;
   text = refl;
 }
@@ -477,6 +508,8 @@ reference_step on names xs rest parts bytes rest_bytes after h =
           ap (λ ys. 38 ∷ ys) (sym (append_assoc m.marks value (59 ∷ []))) in
           cut_last xs (38 ∷ (m.marks ++ value)) rest 59 n (whole ∙ ap (λ ys. ys ++ rest) last) (omega arith) (is ∙ ap length last);
       are = m.are;
+      most = m.most;
+      all = m.all;
       dark = no_ends (38 ∷ (m.marks ++ (value ++ 59 ∷ []))) (ap (list_any is_eol) (sym m.whole) ∙ m.dark);
       text = is.text ∙ ap₂ (λ ys zs. ys ++ string_text on names zs) m.text (sym left);
     }

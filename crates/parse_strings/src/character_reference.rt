@@ -1,6 +1,7 @@
 //! Character references (CommonMark 2.5).
-ghost use Rattle.std.specs.Prelude.{◌≡◌, ◌+◌, ◌<◌, ◌∷◌, ◌++◌, [], IfOk, List, OnOk, false, length, slice_index, true, ℕ};
-ghost use Rattle.std.specs.List.{list_any};
+ghost use Rattle.std.specs.Prelude.{◌≡◌, ◌+◌, ◌<◌, ◌≤◌, ◌∷◌, ◌++◌, [], IfOk, List, OnOk, false, length, slice_index, true, ℕ};
+ghost use Rattle.std.specs.Char.{is_ascii_alphanumeric};
+ghost use Rattle.std.specs.List.{list_all, list_any};
 ghost use Rattle.engine_events.specs.declared.event.Name.TheVariants.{CharacterReference, CharacterReferenceMarkerHexadecimal, CharacterReferenceMarkerNumeric};
 ghost use Rattle.definition_text.specs.Ascii.{ampersand, semicolon};
 ghost use Rattle.definition_text.specs.Lines.{ends_line};
@@ -28,7 +29,8 @@ pub fn push_reference<A: Allocator>(
     requires child { may_enter (still_open walk.old) CharacterReference ≡ true }
     ensures open { OnOk result (still_open walk.new ≡ still_open walk.old) }
     ensures written { OnOk result ((names : Names) (text marks value after content : List ℕ) (first : ℕ) (stop : Stop)
-        → bytes.now ≡ ampersand ∷ (marks ++ first ∷ after) → AreMarks marks first → 0 < length value → size ≡ length marks + length value + 2
+        → bytes.now ≡ ampersand ∷ (marks ++ first ∷ after) → AreMarks marks first → 0 < length value → length value ≤ 31
+        → list_all is_ascii_alphanumeric value ≡ true → size ≡ length marks + length value + 2
         → let front = ampersand ∷ (marks ++ (value ++ semicolon ∷ [])) in list_any ends_line front ≡ false
         → StandsInContent text (front ++ content) stop walk.old → IsWhole walk.old
         → WritesNodeIn names text CharacterReference front (marked_text names marks value) content stop walk.old walk.new) }

@@ -67,7 +67,7 @@ module _ (context : InlineContext) where
 
   leaf_codes : (part : InlineLeaf) (a b : List InlineCode) → IsLeafWritten context part a b → SomeCodes a b
   leaf_codes (Data x) a b is = (x ∷ [], is.codes)
-  leaf_codes (Literal kind text) a b is = (text, is.codes)
+  leaf_codes (Literal kind text) a b is = (text, is.text.codes)
   leaf_codes part a b is = subst (SomeCodes a) (sym is.after) (some_dropped is.size a)
 
   some_end : (target : Target) (inside a b : List InlineCode) → EndsLinked context target inside a b → SomeCodes a b

@@ -13,13 +13,18 @@ use Rattle.parse_written.proofs.Prelude.{take-append-drop, take-append_seam, tex
 use Rattle.std.specs.Char.{is_ascii_digit, is_ascii_hexdigit, is_ascii_alphanumeric}
 use Rattle.std.specs.List.{take_while, list_all}
 use Rattle.std.proofs.lemmas.Bool.{leb-true}
-use Rattle.definition_inline.specs.Autolink.{is_scheme_byte, is_uri_byte, is_email_byte, is_domain_byte, begins_with_scheme, after_uri, domain_end}
+use Rattle.std.proofs.lemmas.List.Folds.{length-prefix_len}
+use Rattle.definition_text.specs.Bytes.{begins_with_letter}
+use Rattle.definition_inline.specs.Autolink.{is_scheme_byte, is_uri_byte, is_email_byte, is_domain, is_domain_byte, begins_with_scheme, after_uri, domain_end}
 use Rattle.definition_inline.specs.CharacterReference.{character_reference, before_semicolon, part_to_semicolon, reference_by_number}
 use Rattle.definition_inline.specs.CharacterReference.{reference_by_name, number_reference}
 use Rattle.definition_inline.specs.Inline.{TaskCheck}
 use Rattle.definition_inline.proofs.GfmAutolinkLiteral.{any_literal}
 use Rattle.parse_written.specs.Laws.{LeafLaw}
-use Rattle.parse_written.specs.Leaves.{Lacks, IsReference, IsRaw, HasForm}
+use Rattle.event_tokens.specs.Tokens.{is_email, is_uri}
+use Rattle.parse_written.specs.Leaves.{Lacks, IsReference, IsRaw, HasForm, is_target}
+use Rattle.parse_written.proofs.Autolinks.{email_whole, uri_whole}
+use Rattle.parse_written.proofs.Passed.{passed_all}
 use Rattle.parse_written.proofs.Codes.{codes_dropped, run_marks}
 use Rattle.parse_written.proofs.HtmlEnds.{EndsWith, html_closed, html_closes}
 use Rattle.parse_written.proofs.Leaves.{is_its_text, codes_of_take}
@@ -137,9 +142,12 @@ module _ (context : InlineContext) where
       (λ e.
       let both = and_parts (c.code == 92) (is_ascii_punctuation next.code) (and_parts on _ e).1 in
       record {
-        codes = (eqb-true c.code 92 both.0, (refl, refl));
-        some = omega arith;
-        inline = (refl, (inline_code is_ascii_punctuation next.code (record { feed = refl; return = refl; both = refl }) both.1, tt));
+        text = record {
+          codes = (eqb-true c.code 92 both.0, (refl, refl));
+          some = omega arith;
+          inline = (refl, (inline_code is_ascii_punctuation next.code (record { feed = refl; return = refl; both = refl }) both.1, tt));
+        };
+        mark = both.1;
       })
 
   break_begins : (from : List InlineCode) → Begins from (escaped_break_at context.options.constructs (codes_of from))
@@ -184,10 +192,15 @@ module _ (context : InlineContext) where
       let size = indent content in
       let breaks = on.hard_break_trailing && is_trailing_break content in
       cond_both (nat_le 1 size && ends_here (bare content)) (Some (leaf (cond breaks (TrailingBreak ∷ []) []) size)) None (Begins from)
-      (λ first. cond_both breaks (TrailingBreak ∷ []) [] (λ parts. Formed from parts size)
+      (λ _. cond_both breaks (TrailingBreak ∷ []) [] (λ parts. Formed from parts size)
       (λ e _.
-      let trailing = (and_parts (nat_le 2 size) _ (and_parts on.hard_break_trailing (is_trailing_break content) e).1).1 in
-      record { size = size; some = omega (arith, leb-true 1 size (and_parts (nat_le 1 size) _ first).0); all = refl; codes = all_spaces from (and_parts (list_all (λ c. c == 32) (take_while is_white content)) _ trailing).0 })
+      let trailing = and_parts (nat_le 2 size) _ (and_parts on.hard_break_trailing (is_trailing_break content) e).1 in
+      record {
+        size = size;
+        some = omega (arith, leb-true 2 size trailing.0);
+        all = refl;
+        codes = all_spaces from (and_parts (list_all (λ c. c == 32) (take_while is_white content)) _ trailing.1).0;
+      })
       (λ _. tt))
       (λ _. tt)
 
@@ -457,10 +470,66 @@ module _ (context : InlineContext) where
   begun_by k [] e = absurd (true≢false (sym e))
   begun_by k (c ∷ cs) e = ap (λ x. x ∷ cs) (sym (eqb-true k c (and_parts (k == c) _ e).0))
 
+  -- ---- they are read alone, too
+
+  abbrev IsReadAlone : Bool → List ℕ → List ℕ → Type 0
+  IsReadAlone email content rest = is_target email (text_before content rest) ≡ true
+
+  letter_first : (scheme others rest : List ℕ) → begins_with_letter ((scheme ++ 58 ∷ others) ++ rest) ≡ true → begins_with_letter (scheme ++ 58 ∷ others) ≡ true
+  letter_first [] others rest is = is
+  letter_first (x ∷ xs) others rest is = is
+
+  uri_alone : (content : List ℕ) → WhereSome (IsReadAlone false content) (uri_end content)
+  uri_alone content =
+      let scheme = take_while is_scheme_byte content in
+      let rest = after_all is_scheme_byte content in
+      let others = take_while is_uri_byte (drop 1 rest) in
+      let left = after_uri rest in
+      cond_both (begins_with_scheme content && begins_with (codes ":") rest) (Some left) None (WhereSome (IsReadAlone false content))
+      (λ e.
+      let begins = and_parts (begins_with_scheme content) _ e in
+      let letter = and_parts (begins_with_letter content) _ begins.0 in
+      let sized = and_parts (nat_le 2 (prefix_len is_scheme_byte content)) _ letter.1 in
+      let size : length scheme ≡ prefix_len is_scheme_byte content = length-prefix_len is_scheme_byte content in
+      let parts : content ≡ (scheme ++ 58 ∷ others) ++ left =
+      sym (take-append-drop (prefix_len is_scheme_byte content) content)
+      ∙ ap (λ xs. scheme ++ xs)
+      (begun_by 58 rest begins.1 ∙ ap (λ xs. 58 ∷ xs) (sym (take-append-drop (prefix_len is_uri_byte (drop 1 rest)) (drop 1 rest))))
+      ∙ sym (append_assoc scheme (58 ∷ others) left) in
+      ap is_uri (text_of_parts content (scheme ++ 58 ∷ others) left parts)
+      ∙ uri_whole scheme others (letter_first scheme others left (subst (λ xs. begins_with_letter xs ≡ true) parts letter.0))
+      (omega (arith, size, leb-true 2 (prefix_len is_scheme_byte content) sized.0))
+      (omega (arith, size, leb-true (prefix_len is_scheme_byte content) 32 sized.1))
+      (passed_all is_scheme_byte content) (passed_all is_uri_byte (drop 1 rest)))
+      (λ _. tt)
+
+  email_alone : (content : List ℕ) → WhereSome (IsReadAlone true content) (email_end content)
+  email_alone content =
+      let user = take_while is_email_byte content in
+      let rest = after_all is_email_byte content in
+      let domain = take_while is_domain_byte (drop 1 rest) in
+      let left = after_all is_domain_byte (drop 1 rest) in
+      let test = nat_le 1 (prefix_len is_email_byte content) in
+      cond_both (test && begins_with (codes "@") rest) (domain_end (drop 1 rest)) None (WhereSome (IsReadAlone true content))
+      (λ e. cond_both (is_domain domain) (Some left) None (WhereSome (IsReadAlone true content))
+      (λ is.
+      let begins = and_parts test _ e in
+      let size : length user ≡ prefix_len is_email_byte content = length-prefix_len is_email_byte content in
+      let parts : content ≡ (user ++ 64 ∷ domain) ++ left =
+      sym (take-append-drop (prefix_len is_email_byte content) content)
+      ∙ ap (λ xs. user ++ xs)
+      (begun_by 64 rest begins.1 ∙ ap (λ xs. 64 ∷ xs) (sym (take-append-drop (prefix_len is_domain_byte (drop 1 rest)) (drop 1 rest))))
+      ∙ sym (append_assoc user (64 ∷ domain) left) in
+      ap is_email (text_of_parts content (user ++ 64 ∷ domain) left parts)
+      ∙ email_whole user domain (omega (arith, size, leb-true 1 (prefix_len is_email_byte content) begins.0))
+      (passed_all is_email_byte content) (passed_all is_domain_byte (drop 1 rest)) is)
+      (λ _. tt))
+      (λ _. tt)
+
   closed_begins : (c : InlineCode) (cs : List InlineCode) → c.code ≡ 60 → (email : Bool) (o : Option (List ℕ)) → WhereSome (IsFilled (codes_of cs)) o
-      → Begins (c ∷ cs) (closed_autolink email (codes_of cs) o)
-  closed_begins c cs first email None p = tt
-  closed_begins c cs first email (Some rest) p =
+      → WhereSome (IsReadAlone email (codes_of cs)) o → Begins (c ∷ cs) (closed_autolink email (codes_of cs) o)
+  closed_begins c cs first email None p alone = tt
+  closed_begins c cs first email (Some rest) p alone =
       let content = codes_of cs in
       let text = text_before content rest in
       let inner = p.inner in
@@ -477,6 +546,7 @@ module _ (context : InlineContext) where
         codes = subst (λ n. AreCodes front (c ∷ cs) (drop n (c ∷ cs))) (sym size) split.0;
         some = subst (λ (xs : List ℕ). 0 < length xs) (sym same) p.some;
         inline = end_no_line text (subst InLine (sym same) inner.inline);
+        target = alone;
       })
 
   autolink_begins : (from : List InlineCode) → Begins from (autolink_at context.options.constructs (codes_of from))
@@ -491,7 +561,8 @@ module _ (context : InlineContext) where
       (λ e.
       let is : c.code ≡ 60 = sym (eqb-true 60 c.code (and_parts (60 == c.code) _ (and_parts on first e).1).0) in
       either_begins (c ∷ cs) (closed_autolink false content (uri_end content)) (closed_autolink true content (email_end content))
-      (closed_begins c cs is false (uri_end content) (uri_inner content)) (closed_begins c cs is true (email_end content) (email_inner content)))
+      (closed_begins c cs is false (uri_end content) (uri_inner content) (uri_alone content))
+      (closed_begins c cs is true (email_end content) (email_inner content) (email_alone content)))
       (λ _. tt)
 
   html_formed : (from : List InlineCode) (o : Option (List ℕ)) → WhereSome (λ rest. EndsWith (map html_byte (codes_of from)) (62 ∷ rest)) o

@@ -41,7 +41,7 @@ module _ (context : InlineContext) where
   leaf_laid : (os : List Open) (part : InlineLeaf) (ss : List Step) (from mid to : List InlineCode) → IsLeafWritten context part from mid
       → AreLaid context os ss mid to → GoesOn os (Holds part ∷ ss) from to
   leaf_laid os (Data b) ss from mid to is p = unspaced os (Holds (Data b) ∷ ss) from to (text_first (b ∷ []) from mid is) (mid, is, p)
-  leaf_laid os (Literal kind text) ss from mid to is p = unspaced os (Holds (Literal kind text) ∷ ss) from to (text_first text from mid is) (mid, is, p)
+  leaf_laid os (Literal kind text) ss from mid to is p = unspaced os (Holds (Literal kind text) ∷ ss) from to (text_first text from mid is.text) (mid, is, p)
   leaf_laid os (LineEnd code) ss from mid to is p =
       record { now = (mid, (from, inl refl, is), p); spaced = λ before spaces. (mid, (from, inr spaces, is), p) }
   leaf_laid os part ss from mid to is p =

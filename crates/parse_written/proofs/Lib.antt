@@ -1,5 +1,7 @@
 mod Prelude
 pub mod Codes
+pub mod Passed
+pub mod Autolinks
 pub mod Between
 pub mod Sides
 pub mod Spans

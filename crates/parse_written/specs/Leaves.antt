@@ -1,5 +1,6 @@
 -- The form of each leaf as it is written (CommonMark 2.4, 2.5, 6.1 and 6.5 to 6.8): which codes stand there, and where it ends.
-use Rattle.std.specs.Prelude.{◌≡◌, ◌<◌, ◌==◌, ℕ, true, false, List, [], ◌∷◌, ◌++◌, Some, drop, length, replicate}
+use Rattle.std.specs.Prelude.{◌≡◌, ◌<◌, ◌≤◌, ◌==◌, ℕ, Bool, true, false, List, [], ◌∷◌, ◌++◌, Some, drop, length, replicate}
+use Rattle.std.specs.Char.{is_ascii_punctuation}
 use Rattle.definition_text.specs.Ascii.{backslash, backtick, dollar, greater_than, less_than, semicolon, space}
 use Rattle.definition_text.specs.Columns.{Code as ContentCode, indent}
 use Rattle.definition_text.specs.Content.{is_eol, text_before}
@@ -10,12 +11,18 @@ use Rattle.definition_inline.specs.CodeText.{code_text, run_of}
 use Rattle.definition_inline.specs.Inline.{InlineLeaf, Data, Escape, Character, Code, Math, Autolink, Literal, Html, EscapedBreak, TrailingBreak, LineEnd}
 use Rattle.definition_inline.specs.Inline.{TaskCheck}
 use Rattle.definition_inline.specs.Scan.{InlineContext}
-use Rattle.parse_written.specs.Written.{AreCodes, EndNoLine, IsText}
+use Rattle.event_tokens.specs.Tokens.{is_email, is_uri}
+use Rattle.parse_written.specs.Written.{AreCodes, EndNoLine, IsLiteral, IsText}
 
 -- this code isn't among codes
 abbrev pub Lacks : ContentCode → List ContentCode → Type 0
 Lacks code [] = Unit {0}
 Lacks code (c ∷ cs) = ((c == code) ≡ false) × Lacks code cs
+
+-- a backslash, and ASCII punctuation (CommonMark 2.4)
+pub record IsEscape (byte : ContentCode) (from to : List InlineCode) : Type 0 where
+  pub text : IsText (backslash ∷ byte ∷ []) from to
+  pub mark : is_ascii_punctuation byte ≡ true
 
 -- a reference: it ends at the first `;`, and its name or number stands for this text (CommonMark 2.5)
 pub record IsReference (context : InlineContext) (text : List ℕ) (from to : List InlineCode) : Type 0 where
@@ -39,11 +46,17 @@ pub record IsRaw (marker : ℕ) (text : List ℕ) (from to : List InlineCode) : 
   pub closing : AreCodes (replicate size marker) end to
   pub read : code_text (text_before (codes_of inside) (codes_of end)) ≡ text
 
--- a URI or an address between `<` and `>`, which has a code at least (CommonMark 6.5)
-pub record IsAutolink (text : List ContentCode) (from to : List InlineCode) : Type 0 where
+-- an address, or a URI (CommonMark 6.5)
+abbrev pub is_target : Bool → List ContentCode → Bool
+is_target true text = is_email text
+is_target false text = is_uri text
+
+-- an address or a URI between `<` and `>`, which has a code at least (CommonMark 6.5)
+pub record IsAutolink (email : Bool) (text : List ContentCode) (from to : List InlineCode) : Type 0 where
   pub codes : AreCodes (less_than ∷ (text ++ greater_than ∷ [])) from to
   pub some : 0 < length text
   pub inline : EndNoLine text
+  pub target : is_target email text ≡ true
 
 -- raw HTML, which ends with `>` (CommonMark 6.6)
 pub record IsHtml (text : List ContentCode) (from to : List InlineCode) : Type 0 where
@@ -51,10 +64,10 @@ pub record IsHtml (text : List ContentCode) (from to : List InlineCode) : Type 0
   pub front : List ContentCode
   pub closed : text ≡ front ++ greater_than ∷ []
 
--- all spaces that come next, of which there is one at least (CommonMark 6.7)
+-- all spaces that come next, of which there are two at least (CommonMark 6.7)
 pub record AreAllSpaces (from to : List InlineCode) : Type 0 where
   pub size : ℕ
-  pub some : 0 < size
+  pub some : 2 ≤ size
   pub all : size ≡ indent (codes_of from)
   pub codes : AreCodes (replicate size space) from to
 
@@ -68,12 +81,12 @@ pub record IsLineEnd (code : ContentCode) (from to : List InlineCode) : Type 0 w
 -- the form of a leaf; no content has a check
 abbrev pub HasForm : InlineContext → InlineLeaf → List InlineCode → List InlineCode → Type 0
 HasForm context (Data b) from to = IsText (b ∷ []) from to
-HasForm context (Escape b) from to = IsText (backslash ∷ b ∷ []) from to
+HasForm context (Escape b) from to = IsEscape b from to
 HasForm context (Character text) from to = IsReference context text from to
 HasForm context (Code text) from to = IsRaw backtick text from to
 HasForm context (Math text) from to = IsRaw dollar text from to
-HasForm context (Autolink email text) from to = IsAutolink text from to
-HasForm context (Literal kind text) from to = IsText text from to
+HasForm context (Autolink email text) from to = IsAutolink email text from to
+HasForm context (Literal kind text) from to = IsLiteral kind text from to
 HasForm context (Html text) from to = IsHtml text from to
 HasForm context EscapedBreak from to = IsText (backslash ∷ []) from to
 HasForm context TrailingBreak from to = AreAllSpaces from to

@@ -1,6 +1,6 @@
 -- Inline structure as it is written in its content (CommonMark 6). A place of a content is given by the codes from there on, so a part is written from one
 -- list of codes to another, which is what follows it.
-use Rattle.std.specs.Prelude.{◌≡◌, ◌<◌, ℕ, true, false, List, [], ◌∷◌, ◌++◌, Some, drop, length, codes, replicate}
+use Rattle.std.specs.Prelude.{◌≡◌, ◌<◌, ℕ, Bool, true, false, ◌||◌, List, [], ◌∷◌, ◌++◌, Some, drop, length, codes, replicate}
 use Rattle.markdown_options.specs.declared.configuration.Constructs.{Constructs}
 use Rattle.markdown_options.specs.declared.configuration.ParseOptions.{ParseOptions}
 use Rattle.definition_text.specs.Ascii.{right_bracket}
@@ -11,10 +11,11 @@ use Rattle.definition_inline.specs.Attention.{is_marker, run_size, is_whole, has
 use Rattle.definition_inline.specs.GfmStrikethrough.{is_tilde}
 use Rattle.definition_inline.specs.HardBreak.{line_spaces_at}
 use Rattle.definition_inline.specs.Inline.{Target, InlineLeaf, Data, Literal, SpanKind, Emphasis, Strong, Strikethrough, Mark, LinkedKind, Link, Image, Inline}
-use Rattle.definition_inline.specs.Inline.{Leaf, Span, Linked, Call, Inlines, Nil, Cons, leaf}
+use Rattle.definition_inline.specs.Inline.{Leaf, Span, Linked, Call, Inlines, Nil, Cons, leaf, LiteralKind, Www, Protocol, Email}
 use Rattle.definition_inline.specs.LabelEnd.{link_tail, label_end_at}
 use Rattle.definition_inline.specs.Mark.{is_equals}
 use Rattle.definition_inline.specs.Scan.{InlineContext, leaf_here}
+use Rattle.event_tokens.specs.Tokens.{begins_address, begins_link, is_address}
 
 -- ---- codes
 
@@ -35,6 +36,19 @@ pub record IsText (text : List Code) (from to : List InlineCode) : Type 0 where
   pub some : 0 < length text
   pub inline : EndNoLine text
 
+-- the text of a literal of a kind (GFM 6.9)
+abbrev pub is_literal : LiteralKind → List Code → Bool
+is_literal Www text = begins_link (codes "www.") text
+is_literal Protocol text =
+    begins_link (codes "http://") text
+    || (begins_link (codes "https://") text || (begins_address (codes "mailto:") text || begins_address (codes "xmpp:") text))
+is_literal Email text = is_address text
+
+-- a literal: its text
+pub record IsLiteral (kind : LiteralKind) (link : List Code) (from to : List InlineCode) : Type 0 where
+  pub text : IsText link from to
+  pub form : is_literal kind link ≡ true
+
 -- spaces and tabs at the end of a line or of the content, which aren't printed and are no hard break (CommonMark 6.7 and 6.8)
 pub record AreSpaces (on : Constructs) (from to : List InlineCode) : Type 0 where
   pub size : ℕ
@@ -52,7 +66,7 @@ pub record IsFound (context : InlineContext) (part : InlineLeaf) (from to : List
 -- a byte and a literal are written as their text (GFM 6.9), any other leaf as the definition finds it (CommonMark 2.4, 2.5, 6.1 and 6.5 to 6.8)
 abbrev pub IsLeafWritten : InlineContext → InlineLeaf → List InlineCode → List InlineCode → Type 0
 IsLeafWritten context (Data b) from to = IsText (b ∷ []) from to
-IsLeafWritten context (Literal kind text) from to = IsText text from to
+IsLeafWritten context (Literal kind text) from to = IsLiteral kind text from to
 IsLeafWritten context part from to = IsFound context part from to
 
 -- ---- spans

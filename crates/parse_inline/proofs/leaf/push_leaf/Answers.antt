@@ -1,5 +1,9 @@
 use Rattle.std.proofs.Common.{◌≡◌, ◌<◌, refl, sym, ap, ap₂, subst, ◌∙◌, drop, take, length}
 use Rattle.parse_inline.proofs.Prelude.{both_ok, bytes_drop, raw_bytes_law, slice_index, utf8_bytes}
+use Rattle.std.proofs.Common.{true}
+use Rattle.event_tokens.specs.Tokens.{is_token}
+use Rattle.inline_leaves.specs.Leaves.{kind_view}
+use Rattle.parse_written.specs.Written.{is_literal}
 use Rattle.inline_leaves.specs.declared.leaf.LeafPart.TheVariants as leaf
 use Rattle.parse_inline.proofs.LeafParts.{autolink_part, break_part, data_part, escape_part, escaped_break_part, html_part, line_end_part}
 use Rattle.parse_inline.proofs.LeafParts.{literal_part, nothing_part, part_from}
@@ -13,7 +17,7 @@ returns-in-Escape-clause-written g c =
     c.bytes_from-bytes.ensures.rest ∙ ap₂ drop c.place.ensures c.as_bytes.ensures.value ∙ sym ahead in
     part_from context text bytes c.bytes_from-bytes.result.now c.args.part (leaf.Escape c.in-Escape.text) from to stop _ _ here c.in-Escape.is laid at st
     (λ form there stands. escape_part context.names text _ from to stop _ _ there stands whole c.in-Escape.text.now form
-    (λ content dark next outside. written context.names text c.in-Escape.text.now content stop refl dark next outside)))
+    (λ content marks next outside. written context.names text c.in-Escape.text.now content stop refl marks next outside)))
     c.push_escapes.ensures.written c.push_escapes.ensures.open
 
 pub returns-in-Unclosed-clause-written : goal.returns-in-Unclosed-clause-written
@@ -36,7 +40,7 @@ returns-in-Autolink-clause-written g c =
     (leaf.Autolink c.in-Autolink.email c.in-Autolink.text) from to stop _ _ here c.in-Autolink.is laid
     at st
     (λ form there stands. autolink_part context.names text _ from to stop _ _ there stands whole c.in-Autolink.email c.in-Autolink.text.now form
-    (λ content some dark next outside. written context.names text c.in-Autolink.text.now content stop refl some dark next outside)))
+    (λ content some dark target next outside. written context.names text c.in-Autolink.text.now content stop refl some dark target next outside)))
     c.push_autolink.ensures.written c.push_autolink.ensures.open
 
 pub returns-in-Literal-clause-written : goal.returns-in-Literal-clause-written
@@ -48,7 +52,10 @@ returns-in-Literal-clause-written g c =
     part_from context text bytes c.bytes_from-bytes.result.now c.args.part
     (leaf.Literal c.in-Literal.kind c.in-Literal.text) from to stop _ _ here c.in-Literal.is laid at st
     (λ form there stands. literal_part context.names text _ from to stop _ _ there stands whole c.in-Literal.kind c.literal_name.result c.in-Literal.text.now
-    c.literal_name.ensures.kind form same (written text)))
+    c.literal_name.ensures.kind
+    (λ is. subst (λ xs. is_token c.literal_name.result xs ≡ true) c.as_bytes-in-Literal.ensures.value
+    (c.literal_name.ensures.may (ap (is_literal (kind_view c.in-Literal.kind)) c.as_bytes-in-Literal.ensures.value ∙ is)))
+    form same (written text)))
     c.text.ensures.written c.text.ensures.stays
 
 pub returns-in-Html-clause-written : goal.returns-in-Html-clause-written

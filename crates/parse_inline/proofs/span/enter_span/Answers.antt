@@ -21,14 +21,14 @@ returns-clause-held g c =
     ∙ ap (λ (names : SpanNames). Entered names.text ∷ Entered names.event ∷ still_open c.args.walk.now) c.span_names-names.ensures)).held
 
 pub returns-clause-written : goal.returns-clause-written
-returns-clause-written g c text front content stop ahead sized dark st whole =
+returns-clause-written g c text front content stop ahead sized dark may st whole =
     let s = c.args.span in
     let size = c.sequence_size-size.result in
     let are = c.span_names-names.ensures in
     let is : size ≡ length front =
     c.sequence_size-size.ensures
     ∙ ap (sequence_size s) (c.bytes_from-bytes.ensures.rest ∙ ap₂ drop c.place.ensures c.as_bytes.ensures.value ∙ sym ahead) ∙ sym sized in (
-      span_entered text stop c.args.walk.now c.enter.new.self c.text.new.self c.enter-2.new.self s size front content is dark
+      span_entered text stop c.args.walk.now c.enter.new.self c.text.new.self c.enter-2.new.self s size front content is dark may
           (subst (λ (names : SpanNames). DoesEnter names.event c.args.walk.now c.enter.new.self) are
           (c.in_ok-enter.ensures.stays, c.in_ok-enter.ensures.written))
           (subst (λ (names : SpanNames). DoesText names.sequence size c.enter.new.self c.text.new.self) are

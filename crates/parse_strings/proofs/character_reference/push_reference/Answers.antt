@@ -1,4 +1,7 @@
-use Rattle.std.proofs.Common.{◌≡◌, ◌++◌, ◌∷◌, [], length, drop, arith, refl, ap, ◌∙◌, append_assoc}
+use Rattle.std.proofs.Common.{◌≡◌, ◌++◌, ◌∷◌, [], length, drop, arith, refl, ap, ap₂, ◌∙◌, append_assoc, true, Bool}
+use Rattle.std.specs.Prelude.{◌&&◌}
+use Rattle.std.proofs.lemmas.Bool.{le-leb}
+use Rattle.event_tokens.specs.Tokens.{is_token}
 use Rattle.parse_strings.proofs.Prelude.{both_ok, End, end_after, line_in_content}
 use Rattle.engine_events.specs.declared.event.Name.TheVariants as n
 use Rattle.parse_lines.proofs.Bytes.{has_bytes}
@@ -10,7 +13,7 @@ use Rattle.parse_strings.proofs.character_reference.push_reference.Goals as goal
 pub returns-clause-written : goal.returns-clause-written
 returns-clause-written g c =
     both_ok c.exit.result
-    (λ exits stays names text marks value after content first stop is are some sized dark st within.
+    (λ exits stays names text marks value after content first stop is are some most alphanumeric sized dark st within.
     let ahead = line_in_content text stop c.args.walk.now (38 ∷ (marks ++ (value ++ 59 ∷ []))) content st dark in
     let line = ahead.line in
     let bare : c.bytes_from.result.now ≡ marks ++ first ∷ after = c.bytes_from.ensures.rest ∙ ap (drop 1) is in
@@ -25,7 +28,9 @@ returns-clause-written g c =
     let at_value = stands_by text _ _ _ (append_assoc value (59 ∷ []) line) marked.writes.stands in
     let size : c.saturating_sub-2.result ≡ length value =
     omega (arith, c.saturating_sub-2.ensures, c.saturating_sub.ensures, sized, c.in_ok-marker.ensures.size marks (first ∷ after) bare are) in
-    let valued = c.in_ok-text-2.ensures.written text value (59 ∷ line) size refl at_value refl in
+    let may : is_token n.CharacterReferenceValue value ≡ true = ap₂ (λ (s t : Bool). s && t) (le-leb (length value) 31 most) alphanumeric in
+    let valued = c.in_ok-text-2.ensures.written text value (59 ∷ line) size refl at_value
+    (has_bytes text value (59 ∷ line) _ _ n.CharacterReferenceValue size at_value marked.whole may) in
     let closed = c.in_ok-text-3.ensures.written text (59 ∷ []) line refl refl valued.stands
     (has_bytes text (59 ∷ []) line 1 _ n.CharacterReferenceMarkerSemi refl valued.stands
     (ap (λ (e : End). e.owed) valued.end ∙ still_whole _ (length value) marked.whole) refl) in
