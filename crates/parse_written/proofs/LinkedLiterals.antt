@@ -61,7 +61,7 @@ user_name_links : (before : List ℕ) → list_all is_link_byte (drop (length be
 user_name_links before =
     let size = suffix_len is_user_byte before in
     cond_both (ends_with (codes "/") (without_last size before)) 0 size (λ n. list_all is_link_byte (drop (length before - n) before) ≡ true)
-    (λ _. ap (list_all is_link_byte) (drop_all before (length before - 0) (omega arith))) (λ _. user_links _ (last_all is_user_byte before))
+    (λ _. ap (list_all is_link_byte) (drop_all before (length before - 0) (omega arith))) (λ _. user_links (drop (length before - size) before) (last_all is_user_byte before))
   where
     drop_all : (xs : List ℕ) (n : ℕ) → n ≡ length xs → drop n xs ≡ []
     drop_all xs n is = ap (λ k. drop k xs) is ∙ drop-length xs
