@@ -48,6 +48,10 @@ pub const SIZE_MAX: usize = usize::MAX / 8;
 /// The text must have at most `SIZE_MAX` bytes. No construct of MDX may be on, which
 /// `Constructs::has_mdx` tests. The only error is `out of memory`.
 ///
+/// Each event that holds no other has bytes that its name may have: a marker is its byte, white space
+/// is spaces and tabs, data ends no line, the value of an escape is punctuation. The table is in
+/// `event_tokens`.
+///
 /// The list is checked against the grammar of events before it is returned. If it had a fault, the call
 /// would fail with `out of memory`; no text is known where it has.
 pub fn parse<'a, T: Tables, A: Allocator + Clone>(

@@ -13,7 +13,7 @@ use Rattle.engine_events.specs.declared.event.Name.TheVariants as n
 use Rattle.definition_page.specs.Page as page
 use Rattle.parse_laid.specs.Leaves.{IsAtxLaid}
 use Rattle.std.specs.Prelude.{codes}
-use Rattle.parse_raw.proofs.Runs.{run_fits}
+use Rattle.parse_lines.proofs.Runs.{run_fits}
 use Rattle.parse_leaves.specs.Atx.{EndsHeading}
 use Rattle.parse_leaves.proofs.AtxLists.{atx_front, atx_on, text_bytes}
 use Rattle.parse_leaves.proofs.AtxParts.{hash_named, hash_within, space_within}

@@ -11,7 +11,7 @@ use Rattle.std.proofs.Common.{true}
 use Rattle.std.specs.List.{list_all}
 use Rattle.std.specs.Prelude.{codes}
 use Rattle.definition_text.specs.Runs.{after_run}
-use Rattle.parse_raw.proofs.Runs.{run_fits}
+use Rattle.parse_lines.proofs.Runs.{run_fits}
 use Rattle.markdown_options.specs.declared.beside.Kind.TheVariants.{Whitespace}
 use Rattle.engine_events.specs.declared.event.Name.TheVariants as n
 use Rattle.definition_inline.specs.GfmAutolinkLiteral.{linked_literals, with_literals}

@@ -9,7 +9,7 @@ use Rattle.std.proofs.Common.{true}
 use Rattle.std.specs.List.{list_all}
 use Rattle.std.specs.Prelude.{codes}
 use Rattle.event_tokens.specs.Tokens.{is_among}
-use Rattle.parse_raw.proofs.Runs.{run_fits}
+use Rattle.parse_lines.proofs.Runs.{run_fits}
 use Rattle.parse_leaves.specs.Entered.{AreUnderline}
 use Rattle.engine_events.specs.declared.event.Name.TheVariants as n
 use Rattle.parse_leaves.proofs.TextLeaves.{open_both}

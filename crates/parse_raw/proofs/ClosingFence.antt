@@ -15,7 +15,8 @@ use Rattle.parse_raw.proofs.FencedCode.{has_some}
 use Rattle.parse_raw.proofs.LeafNodes.{white_written}
 use Rattle.parse_raw.proofs.OpeningFence.{fence_is, sequence_other}
 use Rattle.parse_raw.proofs.RawBlocks.{line_parts}
-use Rattle.parse_raw.proofs.Runs.{run_fits, sequence_fits}
+use Rattle.parse_lines.proofs.Runs.{run_fits}
+use Rattle.parse_raw.proofs.Runs.{sequence_fits}
 use Rattle.parse_raw.proofs.Tokens.{left_none, left_same, token_all, token_on, tokens_both}
 
 module _ {A : Type 0} (math : Bool) (fence_names : FenceNames) (text : List ℕ) where

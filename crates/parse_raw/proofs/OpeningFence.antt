@@ -9,7 +9,8 @@ use Rattle.engine_events.specs.declared.event.Name.TheVariants as n
 use Rattle.parse_raw.proofs.Prelude.{all_prefix, fence_marks}
 use Rattle.event_tokens.specs.Tokens.{is_among}
 use Rattle.parse_raw.specs.FenceParts.{WritesFenceOf}
-use Rattle.parse_raw.proofs.Runs.{run_fits, sequence_fits}
+use Rattle.parse_lines.proofs.Runs.{run_fits}
+use Rattle.parse_raw.proofs.Runs.{sequence_fits}
 use Rattle.parse_raw.proofs.FenceParts.{all_part, dark_both, parts_after, parts_both, run_boundary, token_part, trim_parts}
 
 pub sequence_other : (fence : FenceNames) (math : Bool) → AreNames math fence → (same_name fence.sequence n.CodeFencedFenceInfo ≡ false) × IsRawName fence.sequence

@@ -11,7 +11,7 @@ use Rattle.definition_text.specs.Indents.{small_indent}
 use Rattle.definition_text.specs.Runs.{is_run as ends_run}
 use Rattle.definition_block.specs.CodeFenced.{is_fence_end}
 use Rattle.definition_block.specs.ThematicBreak.{is_break, is_break_by, is_break_marker, is_break_text}
-use Rattle.event_tokens.specs.Tokens.{is_among}
+use Rattle.event_tokens.specs.Tokens.{fits, is_among, Run}
 use Rattle.parse_lines.proofs.Runs.{run_fits}
 use Rattle.parse_raw.specs.Bytes.{AreBreak, AreClosing, AreMetadataFence, break_marks, fence_marks}
 use Rattle.parse_raw.proofs.Bytes.{all_drop}

@@ -38,4 +38,6 @@ mod tabs;
 #[cfg(test)]
 mod texts;
 #[cfg(test)]
+mod tokens;
+#[cfg(test)]
 mod wrong;
