@@ -1,7 +1,7 @@
 -- What is written of the check of a task list item (GFM 5.3).
 use Rattle.std.proofs.Common.{inl, inr, ◌≡◌, ℕ, Bool, true, false, List, [], ◌∷◌, ◌++◌, None, Some, is_some, refl, sym, ap, ap₂, subst, ◌∙◌}
 use Rattle.std.proofs.Common.{append_assoc, drop, take, length, arith}
-use Rattle.std.specs.Prelude.{codes, if◌then◌else◌, slice_index}
+use Rattle.std.specs.Prelude.{if◌then◌else◌, slice_index, ◌||◌}
 use Rattle.std.proofs.lemmas.Bool.{or_cases, or_right, true≢false}
 use Rattle.std.proofs.lemmas.Bool.Decides.{nat_tests}
 use Rattle.definition_text.specs.Columns.{is_white}
@@ -80,7 +80,8 @@ value_may done byte dark is = elim (cases_Bool (is_space byte)) [
         | inl w ↦ w
         | inr e ↦ absurd (true≢false (sym e ∙ dark))
       ] in
-      let open_item : done ≡ false = let made : Some false ≡ Some done = sym (cond-true (is_space byte) (Some false) _ space) ∙ is in cc in
+      let open_item : done ≡ false = let made : Some false ≡ Some done = 
+      sym (cond-true (is_space byte) (Some false) (if (byte == 120) || (byte == 88) then Some true else None) space) ∙ is in cc in
       ap (λ (d : Bool). is_token (check_name d) (byte ∷ [])) open_item
       ∙ or_right (fits EndingForm (byte ∷ [])) (fits (Most 1 is_white) (byte ∷ [])) (ap (λ (w : Bool). w && true) white)
   | inr other ↦ elim (cases_Bool ((byte == 120) || (byte == 88))) [
@@ -89,7 +90,7 @@ value_may done byte dark is = elim (cases_Bool (is_space byte)) [
         sym (cond-false (is_space byte) (Some false) (if (byte == 120) || (byte == 88) then Some true else None) other
         ∙ cond-true ((byte == 120) || (byte == 88)) (Some true) None x) ∙ is in
         let closed_item : done ≡ true = cc in
-        let among : is_among (codes "xX") byte ≡ true = grind (arith, nat_tests, x) in
+        let among : is_among (120 ∷ 88 ∷ []) byte ≡ true = grind (arith, nat_tests, x) in
         ap (λ (d : Bool). is_token (check_name d) (byte ∷ [])) closed_item ∙ ap (λ (s : Bool). s && true) among
     | inr none ↦
         let made : None ≡ Some done =

@@ -26,6 +26,7 @@ use Rattle.parse_written.specs.Laid.{EntersLinked}
 use Rattle.parse_written.specs.Written.{linked_start}
 use Rattle.parse_inline.specs.declared.opened.Open as opened
 use Rattle.parse_inline.specs.declared.opened.Open.TheVariants as opens
+use Rattle.std.proofs.Common.{true}
 use Rattle.event_tokens.specs.Tokens.{is_token}
 use Rattle.parse_inline.specs.Leaves.{MayBeIn}
 use Rattle.parse_inline.specs.Leaving.{sequence_name}

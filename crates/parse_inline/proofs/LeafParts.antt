@@ -4,7 +4,7 @@ use Rattle.std.proofs.Common.{drop, length, map, arith}
 use Rattle.std.proofs.Common.{◌≤◌, zero, suc, ◌&&◌, replicate}
 use Rattle.std.specs.Char.{is_ascii_punctuation}
 use Rattle.std.specs.List.{list_all}
-use Rattle.std.specs.Prelude.{codes, leb, not}
+use Rattle.std.specs.Prelude.{leb, not}
 use Rattle.std.proofs.lemmas.Bool.{le-leb, or_right}
 use Rattle.std.proofs.lemmas.List.{length-replicate}
 use Rattle.event_tokens.specs.Tokens.{is_among, is_nothing, is_token}
@@ -50,15 +50,15 @@ spaces_inline : (size : ℕ) → EndNoLine (replicate size 32)
 spaces_inline zero = tt
 spaces_inline (suc n) = (refl, spaces_inline n)
 
-are_spaces : (size : ℕ) → list_all (is_among (codes " ")) (replicate size 32) ≡ true
+are_spaces : (size : ℕ) → list_all (is_among (32 ∷ [])) (replicate size 32) ≡ true
 are_spaces zero = refl
 are_spaces (suc n) = are_spaces n
 
 -- two spaces or more may be a hard break
 spaces_may : (size : ℕ) → 2 ≤ size → is_token n.HardBreakTrailing (replicate size 32) ≡ true
 spaces_may size some =
-    or_right (is_nothing (replicate size 32)) (leb 2 (length (replicate size 32)) && list_all (is_among (codes " ")) (replicate size 32))
-    (ap₂ (λ (s t : Bool). s && t) (le-leb 2 (length (replicate size 32)) (omega (arith, some, length-replicate size 32))) (are_spaces size))
+    or_right (is_nothing (replicate size 32)) (leb 2 (length (replicate size 32)) && list_all (is_among (32 ∷ [])) (replicate size 32))
+    (ap₂ (λ (s t : Bool). s && t) (le-leb 2 (length (replicate size 32)) (omega (arith, some, length-replicate {A = ℕ} size 32))) (are_spaces size))
 
 abbrev AreSmall : List ℕ → Type 0
 AreSmall bytes = (k : ℕ) → slice_index bytes k < 256
@@ -263,7 +263,7 @@ module _ {A : Type 0} (names : Names) (text bytes : List ℕ) (from to : List In
       let front = take (indent bytes) bytes in
       let marks = replicate all.size 32 in
       let passes = inline_bytes_law marks bytes from to at all.codes (spaces_inline all.size) in
-      let marked : length marks ≡ indent bytes = length-replicate all.size 32 ∙ all.all ∙ ap indent at ∙ prefix_codes is_white refl refl bytes in
+      let marked : length marks ≡ indent bytes = length-replicate {A = ℕ} all.size 32 ∙ all.all ∙ ap indent at ∙ prefix_codes is_white refl refl bytes in
       let may : is_token n.HardBreakTrailing front ≡ true =
       ap (λ k. is_token n.HardBreakTrailing (take k bytes)) (sym marked) ∙ ap (is_token n.HardBreakTrailing) passes.front ∙ spaces_may all.size all.some in
       let some : 0 < length front = omega (arith, all.some, all.all, ap indent at, prefix_codes is_white refl refl bytes, indent_size bytes) in

@@ -1,5 +1,5 @@
 -- The name of a literal may have its bytes: the first tells the protocol (GFM 6.9).
-use Rattle.std.proofs.Common.{inl, inr, ◌≡◌, ◌⊎◌, ℕ, true, false, ◌&&◌, ◌||◌, List, [], ◌∷◌, refl, sym, ap, ◌∙◌, arith, slice_index}
+use Rattle.std.proofs.Common.{inl, inr, ◌≡◌, ◌⊎◌, ℕ, Bool, true, false, ◌&&◌, ◌||◌, List, [], ◌∷◌, refl, sym, ap, ◌∙◌, arith, slice_index}
 use Rattle.std.specs.Char.{to_ascii_lowercase}
 use Rattle.std.specs.Prelude.{codes, ◌==◌}
 use Rattle.std.proofs.lemmas.Bool.{and_parts, eqb-true, or_cases, or_left, or_right, true≢false}
@@ -42,6 +42,15 @@ protocol_by P bytes is http https mail chat =
 -- one byte or another
 abbrev pub is_either : ℕ → ℕ → ℕ → Type 0
 is_either one other b = (b ≡ one) ⊎ (b ≡ other)
+
+abbrev pub is_one : ℕ → ℕ → ℕ → Bool
+is_one one other b = (b == one) || (b == other)
+
+pub m_is : (b : ℕ) → b ≡ 109 → is_one 77 109 b ≡ true
+m_is b is = ap (is_one 77 109) is
+
+pub x_is : (b : ℕ) → b ≡ 120 → is_one 88 120 b ≡ true
+x_is b is = ap (is_one 88 120) is
 
 pub www_may : (bytes : List ℕ) → is_literal Www bytes ≡ true → is_token n.GfmAutolinkLiteralWww bytes ≡ true
 www_may bytes is = or_right (is_nothing bytes) (begins_link (codes "www.") bytes) is
