@@ -80,7 +80,7 @@ value_may done byte dark is = elim (cases_Bool (is_space byte)) [
         | inl w ↦ w
         | inr e ↦ absurd (true≢false (sym e ∙ dark))
       ] in
-      let open_item : done ≡ false = let made : Some false ≡ Some done = 
+      let open_item : done ≡ false = let made : Some false ≡ Some done =
       sym (cond-true (is_space byte) (Some false) (if (byte == 120) || (byte == 88) then Some true else None) space) ∙ is in cc in
       ap (λ (d : Bool). is_token (check_name d) (byte ∷ [])) open_item
       ∙ or_right (fits EndingForm (byte ∷ [])) (fits (Most 1 is_white) (byte ∷ [])) (ap (λ (w : Bool). w && true) white)

@@ -57,8 +57,14 @@ module _ (test : ℕ → Bool) where
       let parts : xs ≡ reverse (drop n back) ++ reverse last =
       sym (reverse-reverse xs) ∙ ap reverse (sym (take-append-drop n back)) ∙ reverse-append last (drop n back) in
       let whole : length xs ≡ length (reverse (drop n back)) + n =
-      omega (arith, length-reverse xs, ap length (take-append-drop n back), length-prefix_len test back, length-reverse (drop n back),
-      length-append last (drop n back)) in
+      omega (
+        arith,
+        length-reverse xs,
+        ap length (take-append-drop n back),
+        length-prefix_len test back,
+        length-reverse (drop n back),
+        length-append last (drop n back),
+      ) in
       let size : length (reverse (drop n back)) ≡ length xs - n = omega (arith, whole) in
       ap (λ ys. list_all test (drop (length xs - n) ys)) parts
       ∙ ap (list_all test) (drop_at (reverse (drop n back)) (reverse last) (length xs - n) size)
