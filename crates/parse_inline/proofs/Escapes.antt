@@ -3,8 +3,8 @@ use Rattle.std.proofs.Common.{◌≡◌, ℕ, suc, ◌+◌, ◌<◌, ◌≤◌, 
 use Rattle.std.proofs.Common.{length, map, get_or, drop-cons, arith}
 use Rattle.parse_inline.proofs.Prelude.{Anywhere, append-nil, AreBytes, AreBytesAt, Around, bytes_drop, codes_of, codes_split, contents_none, drop-append_seam}
 use Rattle.parse_inline.proofs.Prelude.{ends_line, Escape, escaped, InlineCode, InlineContext, inlines_of, is_eol, IsWhole, kids_of, leaves, length-append}
-use Rattle.parse_inline.proofs.Prelude.{length-drop, line_bytes, list_any, list_any-append, map-append, Name, Names, Nil, no_ends, Node, node_name, one}
-use Rattle.parse_inline.proofs.Prelude.{or_parts, plain_none, position_or_len, same_codes, same_name, StandsInContent, Stop, string_of, take-append-drop}
+use Rattle.parse_inline.proofs.Prelude.{length-drop, line_bytes, list_any, map-append, Name, Names, Nil, no_ends, Node, node_name, one}
+use Rattle.parse_inline.proofs.Prelude.{plain_none, position_or_len, same_codes, same_name, StandsInContent, Stop, string_of, take-append-drop}
 use Rattle.parse_inline.proofs.Prelude.{text_of, text_part, text_within, unwrap_or, Walk, WritesFront, WritesLeaves}
 use Rattle.std.proofs.Common.{true}
 use Rattle.std.specs.Char.{is_ascii_alphanumeric, is_ascii_punctuation}

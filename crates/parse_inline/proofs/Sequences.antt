@@ -1,5 +1,5 @@
 -- Which bytes the sequences of spans and of raw text have (CommonMark 6.1 and 6.2, GFM 6.5).
-use Rattle.std.proofs.Common.{inl, inr, ◌≡◌, ℕ, true, false, ◌&&◌, ◌||◌, [], ◌∷◌, refl, sym, ap, subst, ◌∙◌, replicate}
+use Rattle.std.proofs.Common.{inl, inr, ◌≡◌, ℕ, true, false, ◌&&◌, [], ◌∷◌, refl, ap, subst, ◌∙◌, replicate}
 use Rattle.std.specs.Prelude.{◌==◌}
 use Rattle.std.proofs.lemmas.Bool.{and_parts, eqb-true, or_cases, true≢false}
 use Rattle.markdown_options.specs.declared.configuration.ParseOptions.{ParseOptions}

@@ -24,7 +24,7 @@ use Rattle.parse_written.proofs.Codes.{codes_both}
 use Rattle.parse_written.proofs.Forms.{differs, leaf_law}
 use Rattle.parse_rows.specs.Laws.{PartsLaw}
 use Rattle.parse_rows.specs.Parts.{AreEscapes, escaped, EndsLine}
-use Rattle.parse_rows.specs.Rows.{IsData, AreLeavesLaid}
+use Rattle.parse_rows.specs.Rows.{AreLeavesLaid}
 
 module _ (context : InlineContext) where
   -- one leaf

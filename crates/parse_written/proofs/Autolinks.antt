@@ -1,6 +1,6 @@
 -- A URI and an address, alone as in what they are read from (CommonMark 6.5).
-use Rattle.std.proofs.Common.{◌≡◌, ℕ, ◌+◌, ◌≤◌, Bool, true, ◌&&◌, List, [], ◌∷◌, ◌++◌, None, Some, refl, ap, ap₂, ◌∙◌, arith, length, drop}
-use Rattle.parse_written.proofs.Prelude.{after_all, begins_with, codes, cond-true, email_end, nat_le, prefix_len, uri_end}
+use Rattle.std.proofs.Common.{◌≡◌, ℕ, ◌+◌, ◌≤◌, Bool, true, ◌&&◌, List, ◌∷◌, ◌++◌, None, Some, refl, ap, ap₂, ◌∙◌, arith, length, drop}
+use Rattle.parse_written.proofs.Prelude.{after_all, begins_with, codes, cond-true, nat_le, prefix_len}
 use Rattle.std.specs.List.{list_all, take_while}
 use Rattle.std.proofs.lemmas.Bool.{le-leb}
 use Rattle.std.proofs.lemmas.List.{drop_at}

@@ -1,5 +1,5 @@
 -- What passes a test, as far as it goes.
-use Rattle.std.proofs.Common.{inl, inr, ◌≡◌, ℕ, suc, ◌+◌, ◌-◌, Bool, true, false, ◌&&◌, List, [], ◌∷◌, ◌++◌, refl, sym, ap, ap₂, ◌∙◌, arith, length, take}
+use Rattle.std.proofs.Common.{inl, inr, ◌≡◌, ℕ, suc, ◌+◌, ◌-◌, Bool, true, ◌&&◌, List, [], ◌∷◌, ◌++◌, refl, sym, ap, ap₂, ◌∙◌, arith, length, take}
 use Rattle.std.proofs.Common.{drop, reverse}
 use Rattle.parse_written.proofs.Prelude.{after_all, and_parts, cases_Bool, cond-false, cond-true, length-append, prefix_len, reverse-append, reverse-reverse}
 use Rattle.parse_written.proofs.Prelude.{take-append-drop}
