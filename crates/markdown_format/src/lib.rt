@@ -1,0 +1,9 @@
+//! A formatter of Markdown that keeps the page of a text.
+#![tactic(auto)]
+
+mod entry;
+mod reader;
+
+pub use entry::format;
+pub use format_rules::{BreakStyle, Style, TableStyle};
+pub use markdown::SIZE_MAX;
