@@ -14,9 +14,9 @@ Proves and builds the program markdown, and installs it in FOLDER (~/.local/bin)
 Options:
   --program NAME  Install this program instead; may be repeated. NAME is one of
                   markdown (Markdown to HTML), markdown-lint (finds what is
-                  wrong or unwise), markdown-safe (tells whether pages are
-                  safe) or markdown-events (prints the events)
-  --all           Install all four programs
+                  wrong or unwise), markdown-fmt (formats), markdown-safe (tells
+                  whether pages are safe) or markdown-events (prints the events)
+  --all           Install all five programs
   --library       Install the library for C below FOLDER (~/.local): the header,
                   the static and the shared library, and a file for pkg-config
   --help          Print this
@@ -32,12 +32,12 @@ programs='' library='' folder='' noted=''
 while [ $# -gt 0 ]; do
     case $1 in
         --help | -h) print_help; exit ;;
-        --all) programs='markdown markdown-events markdown-lint markdown-safe' ;;
+        --all) programs='markdown markdown-events markdown-lint markdown-fmt markdown-safe' ;;
         --library) library=yes ;;
         --program)
             case ${2:-} in
-                markdown | markdown-events | markdown-lint | markdown-safe) programs="$programs $2" ;;
-                *) fail "--program wants markdown, markdown-events, markdown-lint or markdown-safe" ;;
+                markdown | markdown-events | markdown-lint | markdown-fmt | markdown-safe) programs="$programs $2" ;;
+                *) fail "--program wants markdown, markdown-events, markdown-lint, markdown-fmt or markdown-safe" ;;
             esac
             shift ;;
         -*) fail "$1 is no option; --help lists them" ;;

@@ -34,7 +34,7 @@ LAYERS = (
     "markdown_html markdown_block",
     "markdown_input lint_ format_",
     "markdown_format",
-    "markdown_events markdown_lint markdown_safe markdown_c",
+    "markdown_events markdown_lint markdown_fmt markdown_safe markdown_c",
     "tests_ wrong_",
     "examples_ markdown_bench",
 )

@@ -30,7 +30,7 @@ source=${SOURCE:-${HOMEPAGE:-}}
 
 # The notices of what is in the programs of others. The library has its own.
 notices=$scratch/notices
-"$here/../bin/notices" markdown_program markdown_events markdown_lint markdown_safe > "$notices"
+"$here/../bin/notices" markdown_program markdown_events markdown_lint markdown_fmt markdown_safe > "$notices"
 
 # Makes a package of the tree $scratch/NAME: its name, section and first words of its description; further fields; more of the
 # description.
@@ -89,6 +89,7 @@ add_program markdown markdown-proved "markdown-proved, markdown"
 add_program markdown-events markdown-events markdown-events
 add_program markdown-lint markdown-lint markdown-lint
 add_program markdown-safe markdown-safe markdown-safe
+add_program markdown-fmt markdown-fmt markdown-fmt
 mkdir "$root/DEBIAN"
 cat > "$root/DEBIAN/postinst" <<END
 #!/bin/sh
@@ -109,9 +110,9 @@ END
 chmod 755 "$root/DEBIAN/postinst" "$root/DEBIAN/prerm"
 make_package markdown-proved text "proved converter from Markdown to HTML" "Depends: $(needs "$root/usr/bin/markdown-proved")" "$ABOUT
  .
- Three more programs find what is wrong or unwise in Markdown (markdown-lint),
- print what is where in it (markdown-events), and tell whether HTML pages are
- safe (markdown-safe)."
+ Four more programs find what is wrong or unwise in Markdown (markdown-lint),
+ format it and keep its page (markdown-fmt), print what is where in it
+ (markdown-events), and tell whether HTML pages are safe (markdown-safe)."
 
 # The shared library.
 notices=$folder/share/doc/markdown-proved/NOTICES
