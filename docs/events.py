@@ -21,7 +21,7 @@ NAMES = os.path.join(TOP, "crates", "engine_events", "src", "event.rt")
 # Where the names are listed once more, in the order of their numbers, and how.
 LISTS = {
     "include/markdown.h": r'EACH\(\w+, "(\w+)", \d+\)',
-    "crates/markdown_c/specs/EventNumbers.antt": r"(?m)^name_number names\.(\w+) = \d+$",
+    "crates/markdown_buffers/specs/EventNumbers.antt": r"(?m)^name_number names\.(\w+) = \d+$",
     "packaging/python/markdown_proved/_names.py": r"\b([A-Z]\w+)(?=[ \n])",
     "examples/rust/names.rs": r'"([A-Z]\w+)"',
 }
@@ -72,7 +72,7 @@ def check_lists():
         if re.findall(form, text) != event_names():
             fail(f"{path} has other names of events than crates/engine_events/src/event.rt")
     header = re.findall(r'EACH\((\w+), "(\w+)", (\d+)\)', text_of(HEADER))
-    numbers = re.findall(r"= (\d+)$", text_of(os.path.join(TOP, "crates/markdown_c/specs/EventNumbers.antt")), re.M)[-len(header):]
+    numbers = re.findall(r"= (\d+)$", text_of(os.path.join(TOP, "crates/markdown_buffers/specs/EventNumbers.antt")), re.M)[-len(header):]
     if [int(it) for it in numbers] != list(range(len(header))):
         fail("EventNumbers.antt skips a number")
     for place, (constant, name, number) in enumerate(header):

@@ -34,7 +34,8 @@ LAYERS = (
     "markdown_html markdown_block",
     "markdown_input lint_ format_",
     "markdown_format",
-    "markdown_events markdown_lint markdown_fmt markdown_safe markdown_c",
+    "markdown_events markdown_lint markdown_fmt markdown_safe markdown_c_options markdown_buffers",
+    "markdown_c",
     "tests_ wrong_",
     "examples_ markdown_bench",
 )

@@ -28,6 +28,12 @@ lists_events() { "$1" < "$events/stdin" | cmp - "$events/stdout"; }
 stops() { [ "$("$1" 3 < "$events/stdin" | wc -l)" = 3 ] && { status=0; "$1" 0 < "$events/stdin" || status=$?; [ "$status" = 3 ]; }; }
 # Whether a command that gets the path of a text prints its table of contents.
 lists_contents() { "$@" page.md > "$scratch/contents.out" < page.md && cmp "$scratch/contents.out" contents.md; }
+writes_comments() ( cd "$here/comments" && "$@" 1.md 2.md | cmp - page.html )
+# Whether the ids of footnotes begin with a prefix.
+prefixes() { [ "$(printf 'a[^1]\n\n[^1]: b' | "$@" --gfm --prefix=c- | grep -o 'id="c-fn[^"]*"' | tr '\n' ' ')" = 'id="c-fnref-1" id="c-fn-1" ' ]; }
+# Whether the page with each feature is a safe page, and a page with a script isn't.
+tests_pages() { "$1" < "$page/stdout" && { status=0; printf '<script></script>' | "$1" || status=$?; [ "$status" = 1 ]; }; }
+tells_pages() { [ "$("$@" < "$page/stdout")" = true ] && [ "$(printf '<script></script>' | "$@")" = false ]; }
 tries() {
     name=$1
     shift
@@ -60,7 +66,7 @@ library=${1:-$scratch}
 check "C" compile -o "$scratch/convert" "$here/c/convert.c"
 tries "C" "$scratch/convert"
 check "C: the version" tells_version
-if works nm --version; then check "the functions of the library" exports "markdown_convert markdown_list_events markdown_version "; fi
+if works nm --version; then check "the functions of the library" exports "markdown_check_page markdown_convert markdown_convert_with markdown_list_events markdown_list_events_with markdown_version "; fi
 if works objdump --version; then check "the name of the library" names_itself libmarkdown-proved.so.0.1; fi
 check "C: events" compile -o "$scratch/events" "$here/c/events.c"
 check "C: events" lists_events "$scratch/events"
@@ -68,22 +74,30 @@ check "C: a callback that stops" stops "$scratch/events"
 check "C: contents" compile -o "$scratch/contents" "$here/c/contents.c"
 cd "$here/contents"
 check "C: contents" lists_contents "$scratch/contents"
+check "C: comments" compile -o "$scratch/comments" "$here/c/comments.c"
+check "C: comments" writes_comments "$scratch/comments"
+check "C: safe pages" compile -o "$scratch/safe_page" "$here/c/safe_page.c"
+check "C: safe pages" tests_pages "$scratch/safe_page"
 check "C: refusals" compile -Wl,--wrap=malloc -Wl,--wrap=realloc -o "$scratch/refusals" "$here/c/refusals.c"
 check "C: refusals" "$scratch/refusals"
 if works valgrind true; then
     check "C: memory" converts valgrind -q --error-exitcode=9 --leak-check=full "$scratch/convert"
     check "C: memory of events" lists_contents valgrind -q --error-exitcode=9 --leak-check=full "$scratch/contents"
+    check "C: memory of comments" writes_comments valgrind -q --error-exitcode=9 --leak-check=full "$scratch/comments"
     check "C: memory of refusals" valgrind -q --error-exitcode=9 --leak-check=full "$scratch/refusals"
 fi
 if works pkg-config --version && works ${CXX:-c++} --version; then
     check "C++" compile_shared -o "$scratch/cpp" "$here/cpp/convert.cpp"
     tries "C++" "$scratch/cpp"
+    check "C++: a prefix" prefixes "$scratch/cpp"
 fi
 if works rustc --version; then
     check "Rust" rustc --edition 2021 -O -L "$library/lib" -o "$scratch/rust" "$here/rust/convert.rs"
     tries "Rust" "$scratch/rust"
     check "Rust: events" rustc --edition 2021 -O -L "$library/lib" -o "$scratch/rust_events" "$here/rust/list_events.rs"
     check "Rust: events" lists_events "$scratch/rust_events"
+    check "Rust: a prefix" prefixes "$scratch/rust"
+    check "Rust: safe pages" tells_pages "$scratch/rust" --safe-page
 fi
 if works python3 -c 'import ctypes'; then
     PYTHONPATH=$here/../packaging/python PYTHONDONTWRITEBYTECODE=1

@@ -2,8 +2,8 @@
  * link it.
  *
  * Input and HTML are UTF-8. Lengths are in bytes; no terminating NUL is read or written. No function aborts or keeps state
- * between calls, so threads may call them at the same time. markdown_convert and markdown_list_events free all memory that they
- * take from malloc.
+ * between calls, so threads may call them at the same time. The functions of the library free all memory that they take from
+ * malloc.
  *
  * The library is compiled for x86-64-v2 (SSE4.2 and POPCNT: processors since about 2009). The loader refuses the shared library
  * on an older one. A program with the static library can ask markdown_is_supported first.
@@ -16,6 +16,7 @@
 #include <stddef.h>
 #include <stdint.h>
 #include <stdlib.h>
+#include <string.h>
 
 /* The version of this header, as a text and as a number: major, minor and patch, a byte each. */
 #define MARKDOWN_VERSION_TEXT "0.1.0"
@@ -56,6 +57,124 @@ enum {
         + MARKDOWN_FOOTNOTES + MARKDOWN_TAGFILTER
 };
 
+/* Constructs, to be added up. A construct that is off is text. MARKDOWN_COMMONMARK has those of CommonMark. */
+enum {
+    /* * and _ for emphasis and strong emphasis. */
+    MARKDOWN_CONSTRUCT_ATTENTION = 1,
+    /* Links in angle brackets, such as <https://a.b>. */
+    MARKDOWN_CONSTRUCT_AUTOLINK = 2,
+    /* Block quotes by >. */
+    MARKDOWN_CONSTRUCT_BLOCK_QUOTE = 4,
+    /* A backslash before punctuation. */
+    MARKDOWN_CONSTRUCT_CHARACTER_ESCAPE = 8,
+    /* Characters by name or number, such as &amp; and &#38;. */
+    MARKDOWN_CONSTRUCT_CHARACTER_REFERENCE = 16,
+    /* Code blocks by indentation. */
+    MARKDOWN_CONSTRUCT_CODE_INDENTED = 32,
+    /* Code blocks between fences of backticks or tildes. */
+    MARKDOWN_CONSTRUCT_CODE_FENCED = 64,
+    /* Code spans between backticks. */
+    MARKDOWN_CONSTRUCT_CODE_TEXT = 128,
+    /* Definitions of links, such as [a]: b. */
+    MARKDOWN_CONSTRUCT_DEFINITION = 256,
+    /* Metadata at the start, between lines of --- or +++. It is skipped. */
+    MARKDOWN_CONSTRUCT_FRONTMATTER = 512,
+    /* Bare links, such as www.a.b, https://a.b and a@b.c. */
+    MARKDOWN_CONSTRUCT_GFM_AUTOLINK_LITERAL = 1024,
+    /* Definitions of footnotes, such as [^a]: b. */
+    MARKDOWN_CONSTRUCT_GFM_FOOTNOTE_DEFINITION = 2048,
+    /* Calls of footnotes, such as [^a]. */
+    MARKDOWN_CONSTRUCT_GFM_LABEL_START_FOOTNOTE = 4096,
+    /* Strikethrough by ~~. */
+    MARKDOWN_CONSTRUCT_GFM_STRIKETHROUGH = 8192,
+    /* Tables. */
+    MARKDOWN_CONSTRUCT_GFM_TABLE = 16384,
+    /* Check boxes at the start of items, such as [x]. */
+    MARKDOWN_CONSTRUCT_GFM_TASK_LIST_ITEM = 32768,
+    /* Line breaks by a backslash. */
+    MARKDOWN_CONSTRUCT_HARD_BREAK_ESCAPE = 65536,
+    /* Line breaks by spaces at the end of a line. */
+    MARKDOWN_CONSTRUCT_HARD_BREAK_TRAILING = 131072,
+    /* Headings by #. */
+    MARKDOWN_CONSTRUCT_HEADING_ATX = 262144,
+    /* Headings with a line of = or - below. */
+    MARKDOWN_CONSTRUCT_HEADING_SETEXT = 524288,
+    /* HTML blocks. */
+    MARKDOWN_CONSTRUCT_HTML_FLOW = 1048576,
+    /* HTML in text. */
+    MARKDOWN_CONSTRUCT_HTML_TEXT = 2097152,
+    /* The start ![ of an image. */
+    MARKDOWN_CONSTRUCT_LABEL_START_IMAGE = 4194304,
+    /* The start [ of a link. */
+    MARKDOWN_CONSTRUCT_LABEL_START_LINK = 8388608,
+    /* The end ] of a link or an image. */
+    MARKDOWN_CONSTRUCT_LABEL_END = 16777216,
+    /* Lists. */
+    MARKDOWN_CONSTRUCT_LIST_ITEM = 33554432,
+    /* Marked text by ==. */
+    MARKDOWN_CONSTRUCT_MARK = 67108864,
+    /* Blocks of math between lines of $$. */
+    MARKDOWN_CONSTRUCT_MATH_FLOW = 134217728,
+    /* Math in text, between dollars. */
+    MARKDOWN_CONSTRUCT_MATH_TEXT = 268435456,
+    /* Breaks by a line of *, - or _. */
+    MARKDOWN_CONSTRUCT_THEMATIC_BREAK = 536870912
+};
+
+/* The constructs of CommonMark, as a sum. */
+enum { MARKDOWN_COMMONMARK = 603914751 };
+
+/* Switches, to be added up. */
+enum {
+    /* Images may have any protocol. */
+    MARKDOWN_SWITCH_ALLOW_ANY_IMG_SRC = 1,
+    /* Keep HTML of the input. Only for input from trusted authors. */
+    MARKDOWN_SWITCH_ALLOW_DANGEROUS_HTML = 2,
+    /* Links and images may have any protocol, such as javascript. Only for input from trusted authors. */
+    MARKDOWN_SWITCH_ALLOW_DANGEROUS_PROTOCOL = 4,
+    /* In HTML that is kept: escape < before the names title, textarea, style, xmp, iframe, noembed, noframes, script and
+     * plaintext. */
+    MARKDOWN_SWITCH_GFM_TAGFILTER = 8,
+    /* A reader may check the check boxes of items. */
+    MARKDOWN_SWITCH_GFM_TASK_LIST_ITEM_CHECKABLE = 16,
+    /* One tilde strikes text too, as in ~a~. */
+    MARKDOWN_SWITCH_GFM_STRIKETHROUGH_SINGLE_TILDE = 32,
+    /* One dollar makes math too, as in $a$. */
+    MARKDOWN_SWITCH_MATH_TEXT_SINGLE_DOLLAR = 64
+};
+
+/* Line endings. */
+enum { MARKDOWN_LINE_FEED = 0, MARKDOWN_CARRIAGE_RETURN = 1, MARKDOWN_CARRIAGE_RETURN_LINE_FEED = 2 };
+
+/* Text in UTF-8: length bytes at start. start is never NULL, even if length is 0. */
+typedef struct markdown_text {
+    const unsigned char *start;
+    size_t length;
+} markdown_text;
+
+/* Options: what can be asked of the functions that end in _with. markdown_options_of makes them; change its fields then. */
+typedef struct markdown_options {
+    /* How many bytes this struct has. Later versions may have a larger one. */
+    size_t size;
+    /* The sum of the constructs that are on. */
+    uint64_t constructs;
+    /* The sum of the switches that are on. */
+    uint32_t switches;
+    /* The line ending of the HTML if the input has none. */
+    uint32_t default_line_ending;
+    /* What screen readers say of the link from a footnote back to its call. By default "Back to content". */
+    markdown_text gfm_footnote_back_label;
+    /* What the ids of footnotes and of their calls begin with. By default "user-content-". Give each input on a page another
+     * prefix. */
+    markdown_text gfm_footnote_clobber_prefix;
+    /* The heading above the footnotes. By default "Footnotes". */
+    markdown_text gfm_footnote_label;
+    /* The attributes of that heading, printed as they are. By default "class=\"sr-only\"". Never text of the input's author. */
+    markdown_text gfm_footnote_label_attributes;
+    /* The tag name of that heading, printed as it is. By default "h2". Never text of the input's author. */
+    markdown_text gfm_footnote_label_tag_name;
+} markdown_options;
+
 /* The status that a call returns. */
 enum {
     /* The HTML is in the buffer, or the events are in the array. */
@@ -64,7 +183,7 @@ enum {
     MARKDOWN_ROOM = 1,
     /* The input isn't UTF-8. */
     MARKDOWN_UTF8 = 2,
-    /* A flag isn't known. */
+    /* A flag or an option isn't known, a text of the options isn't UTF-8, or the options have another size. */
     MARKDOWN_FLAGS = 3,
     /* The input has more than SIZE_MAX / 8 bytes. */
     MARKDOWN_SIZE = 4,
@@ -105,12 +224,66 @@ uint32_t markdown_version(void);
 uint32_t markdown_convert(const unsigned char *text, size_t text_length, uint32_t flags, unsigned char *buffer,
                           size_t room, size_t *length);
 
+/* Returns a text of a string that ends with NUL. */
+static inline markdown_text markdown_text_of(const char *string)
+{
+    markdown_text text;
+    text.start = (const unsigned char *)string;
+    text.length = strlen(string);
+    return text;
+}
+
+/* Returns the options of a sum of flags, to be changed: the constructs, switches and texts that markdown_convert takes for these
+ * flags. With an unknown flag the size becomes 0, so that each call refuses the options with MARKDOWN_FLAGS. */
+static inline markdown_options markdown_options_of(uint32_t flags)
+{
+    markdown_options options;
+    options.size = flags < 2 * (uint32_t)MARKDOWN_MARK ? sizeof options : 0;
+    options.constructs = MARKDOWN_COMMONMARK;
+    if (flags & MARKDOWN_STRIKETHROUGH)
+        options.constructs |= MARKDOWN_CONSTRUCT_GFM_STRIKETHROUGH;
+    if (flags & MARKDOWN_MATH)
+        options.constructs |= MARKDOWN_CONSTRUCT_MATH_FLOW | MARKDOWN_CONSTRUCT_MATH_TEXT;
+    if (flags & MARKDOWN_FRONTMATTER)
+        options.constructs |= MARKDOWN_CONSTRUCT_FRONTMATTER;
+    if (flags & MARKDOWN_TASK_LIST_ITEMS)
+        options.constructs |= MARKDOWN_CONSTRUCT_GFM_TASK_LIST_ITEM;
+    if (flags & MARKDOWN_TABLES)
+        options.constructs |= MARKDOWN_CONSTRUCT_GFM_TABLE;
+    if (flags & MARKDOWN_AUTOLINK_LITERALS)
+        options.constructs |= MARKDOWN_CONSTRUCT_GFM_AUTOLINK_LITERAL;
+    if (flags & MARKDOWN_FOOTNOTES)
+        options.constructs |= MARKDOWN_CONSTRUCT_GFM_FOOTNOTE_DEFINITION | MARKDOWN_CONSTRUCT_GFM_LABEL_START_FOOTNOTE;
+    if (flags & MARKDOWN_MARK)
+        options.constructs |= MARKDOWN_CONSTRUCT_MARK;
+    if (flags & MARKDOWN_PLAIN)
+        options.constructs = 0;
+    options.switches = MARKDOWN_SWITCH_GFM_STRIKETHROUGH_SINGLE_TILDE | MARKDOWN_SWITCH_MATH_TEXT_SINGLE_DOLLAR;
+    if (flags & MARKDOWN_DANGEROUS)
+        options.switches |= MARKDOWN_SWITCH_ALLOW_DANGEROUS_HTML | MARKDOWN_SWITCH_ALLOW_DANGEROUS_PROTOCOL;
+    if (flags & MARKDOWN_TAGFILTER)
+        options.switches |= MARKDOWN_SWITCH_GFM_TAGFILTER;
+    options.default_line_ending = MARKDOWN_LINE_FEED;
+    options.gfm_footnote_back_label = markdown_text_of("Back to content");
+    options.gfm_footnote_clobber_prefix = markdown_text_of("user-content-");
+    options.gfm_footnote_label = markdown_text_of("Footnotes");
+    options.gfm_footnote_label_attributes = markdown_text_of("class=\"sr-only\"");
+    options.gfm_footnote_label_tag_name = markdown_text_of("h2");
+    return options;
+}
+
+/* Converts the text_length bytes at text into HTML by options, as markdown_convert does by flags. Texts of the options that
+ * aren't the default ones are copied while it runs. options must not overlap buffer and length. */
+uint32_t markdown_convert_with(const unsigned char *text, size_t text_length, const markdown_options *options,
+                               unsigned char *buffer, size_t room, size_t *length);
+
 /* Converts the text_length bytes at text into a buffer that it allocates or grows, and returns a status, never MARKDOWN_ROOM.
  *
  * *buffer is NULL or comes from malloc, and has *room bytes. Both are updated if the buffer grows. The caller frees the buffer,
  * whatever the status. text may be NULL if text_length is 0. A buffer that is used for call after call soon stops growing. */
-static inline uint32_t markdown_convert_growing(const unsigned char *text, size_t text_length, uint32_t flags,
-                                                unsigned char **buffer, size_t *room, size_t *length)
+static inline uint32_t markdown_convert_growing_with(const unsigned char *text, size_t text_length,
+                                                     const markdown_options *options, unsigned char **buffer, size_t *room,
+                                                     size_t *length)
 {
     static const unsigned char none[1] = {0};
     size_t wanted = text_length / 4 < SIZE_MAX - text_length - 64 ? text_length + text_length / 4 + 64 : text_length;
@@ -126,10 +299,18 @@ static inline uint32_t markdown_convert_growing(const unsigned char *text, size_
             *buffer = grown;
             *room = wanted;
         }
-        status = markdown_convert(text == NULL ? none : text, text_length, flags, *buffer, *room, length);
+        status = markdown_convert_with(text == NULL ? none : text, text_length, options, *buffer, *room, length);
         wanted = *length;
     }
     return status;
+}
+
+/* Converts by flags in place of options, otherwise as markdown_convert_growing_with does. */
+static inline uint32_t markdown_convert_growing(const unsigned char *text, size_t text_length, uint32_t flags,
+                                                unsigned char **buffer, size_t *room, size_t *length)
+{
+    markdown_options options = markdown_options_of(flags);
+    return markdown_convert_growing_with(text, text_length, &options, buffer, room, length);
 }
 
 /* Finds the events of the text_length bytes at text, writes them into the array of room events, and returns a status. Flags for
@@ -142,14 +323,19 @@ static inline uint32_t markdown_convert_growing(const unsigned char *text, size_
 uint32_t markdown_list_events(const unsigned char *text, size_t text_length, uint32_t flags, markdown_event *events, size_t room,
                               size_t *count);
 
+/* Finds the events of the text_length bytes at text by options, as markdown_list_events does by flags. Only the constructs and
+ * the switches for one tilde and one dollar make a difference. */
+uint32_t markdown_list_events_with(const unsigned char *text, size_t text_length, const markdown_options *options,
+                                   markdown_event *events, size_t room, size_t *count);
+
 /* Finds the events of the text_length bytes at text, calls back for each of them in order, and returns a status, never
  * MARKDOWN_ROOM.
  *
  * If the callback returns another number than 0, it isn't called again, and the status is MARKDOWN_STOPPED. It may do what it
  * likes: the library doesn't run meanwhile. With any other status than MARKDOWN_OK and MARKDOWN_STOPPED it wasn't called. text
  * may be NULL if text_length is 0. The events take 32 bytes each, from malloc, until the call returns. */
-static inline uint32_t markdown_events(const unsigned char *text, size_t text_length, uint32_t flags,
-                                       int (*callback)(const markdown_event *event, void *context), void *context)
+static inline uint32_t markdown_events_with(const unsigned char *text, size_t text_length, const markdown_options *options,
+                                            int (*callback)(const markdown_event *event, void *context), void *context)
 {
     static const unsigned char none[1] = {0};
     markdown_event *events = NULL;
@@ -164,7 +350,7 @@ static inline uint32_t markdown_events(const unsigned char *text, size_t text_le
             return MARKDOWN_MEMORY;
         }
         events = grown;
-        status = markdown_list_events(text == NULL ? none : text, text_length, flags, events, room, &count);
+        status = markdown_list_events_with(text == NULL ? none : text, text_length, options, events, room, &count);
         room = count;
     }
     for (i = 0; i < count && status == MARKDOWN_OK; i++)
@@ -172,6 +358,31 @@ static inline uint32_t markdown_events(const unsigned char *text, size_t text_le
             status = MARKDOWN_STOPPED;
     free(events);
     return status;
+}
+
+/* Finds events by flags in place of options, otherwise as markdown_events_with does. */
+static inline uint32_t markdown_events(const unsigned char *text, size_t text_length, uint32_t flags,
+                                       int (*callback)(const markdown_event *event, void *context), void *context)
+{
+    markdown_options options = markdown_options_of(flags);
+    return markdown_events_with(text, text_length, &options, callback, context);
+}
+
+/* Tests whether the length bytes at page, HTML of any origin, are a safe page, and returns MARKDOWN_OK or MARKDOWN_MEMORY.
+ *
+ * *is_safe becomes 1 if they are, and otherwise 0. A safe page is UTF-8, and has only tags of a fixed table, each void or closed,
+ * whose links and images have a permitted protocol or none: no script, no style, no other attribute. The HTML that
+ * markdown_convert makes without MARKDOWN_DANGEROUS is a safe page. page must not be NULL, even if length is 0, and must not
+ * overlap is_safe. */
+uint32_t markdown_check_page(const unsigned char *page, size_t length, uint32_t *is_safe);
+
+/* Returns 1 if the length bytes at page are a safe page, as markdown_check_page tests it. Returns 0 if they aren't, or if memory
+ * runs out. page may be NULL if length is 0. */
+static inline int markdown_is_safe_page(const unsigned char *page, size_t length)
+{
+    static const unsigned char none[1] = {0};
+    uint32_t is_safe = 0;
+    return markdown_check_page(page == NULL ? none : page, length, &is_safe) == MARKDOWN_OK && is_safe == 1;
 }
 
 /* Returns whether this processor has what the library is compiled for. */

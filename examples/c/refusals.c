@@ -169,7 +169,89 @@ static int check_callback(void)
     return 0;
 }
 
+/* Whether a sum of flags gives the same page by flags and by the options of these. */
+static int check_options(void)
+{
+    static unsigned char other[sizeof buffer];
+    CHECK(sizeof(markdown_options) == 104 && sizeof(markdown_event) == 32);
+    for (uint32_t flags = 0; flags < 2048; flags++) {
+        markdown_options options = markdown_options_of(flags);
+        size_t length = 7, other_length = 8;
+        memset(other, '?', sizeof other);
+        CHECK(convert(flags, sizeof buffer, &length) == MARKDOWN_OK);
+        CHECK(markdown_convert_with(TEXT, sizeof TEXT - 1, &options, other, sizeof other, &other_length) == MARKDOWN_OK);
+        CHECK(length == other_length && memcmp(buffer, other, sizeof buffer) == 0);
+    }
+    return 0;
+}
+
+static uint32_t convert_with(const markdown_options *options, size_t *length)
+{
+    memset(buffer, '?', sizeof buffer);
+    return markdown_convert_with(TEXT, sizeof TEXT - 1, options, buffer, sizeof buffer, length);
+}
+
+static int check_options_refused(void)
+{
+    size_t length = 7, count = 7;
+    markdown_options options = markdown_options_of(2048);
+    CHECK(convert_with(&options, &length) == MARKDOWN_FLAGS && length == 0 && is_untouched_from(0));
+    CHECK(markdown_list_events_with(TEXT, sizeof TEXT - 1, &options, array, 256, &count) == MARKDOWN_FLAGS && count == 0);
+    options = markdown_options_of(0);
+    options.size += 8;
+    CHECK(convert_with(&options, &length) == MARKDOWN_FLAGS);
+    options = markdown_options_of(0);
+    options.constructs |= UINT64_C(1) << 30;
+    CHECK(convert_with(&options, &length) == MARKDOWN_FLAGS);
+    options = markdown_options_of(0);
+    options.switches |= 128;
+    CHECK(convert_with(&options, &length) == MARKDOWN_FLAGS);
+    options = markdown_options_of(0);
+    options.default_line_ending = 3;
+    CHECK(convert_with(&options, &length) == MARKDOWN_FLAGS);
+    options = markdown_options_of(0);
+    options.gfm_footnote_label = markdown_text_of("\xff");
+    CHECK(convert_with(&options, &length) == MARKDOWN_FLAGS);
+    return 0;
+}
+
+/* Each request for memory refused in turn, with texts that are copied. */
+static int check_options_memory(void)
+{
+    size_t length = 7;
+    uint32_t status = MARKDOWN_MEMORY;
+    long granted;
+    markdown_options options = markdown_options_of(MARKDOWN_GFM);
+    options.gfm_footnote_back_label = options.gfm_footnote_clobber_prefix = options.gfm_footnote_label = markdown_text_of("a");
+    options.gfm_footnote_label_attributes = options.gfm_footnote_label_tag_name = markdown_text_of("b");
+    for (granted = 0; status == MARKDOWN_MEMORY; granted++) {
+        left = granted;
+        status = convert_with(&options, &length);
+        left = -1;
+        CHECK(status == MARKDOWN_MEMORY ? length == 0 && is_untouched_from(0) : status == MARKDOWN_OK);
+    }
+    CHECK(granted > 15 && length == LENGTH && memcmp(buffer, PAGE, LENGTH) == 0);
+    return 0;
+}
+
+static int check_safe_pages(void)
+{
+    static const unsigned char UNSAFE[] = "<p onclick=\"a\">b</p>";
+    uint32_t is_safe = 7;
+    CHECK(markdown_is_safe_page((const unsigned char *)PAGE, LENGTH) && markdown_is_safe_page(NULL, 0));
+    CHECK(!markdown_is_safe_page(UNSAFE, sizeof UNSAFE - 1) && !markdown_is_safe_page((const unsigned char *)"\xff", 1));
+    CHECK(markdown_check_page(UNSAFE, sizeof UNSAFE - 1, &is_safe) == MARKDOWN_OK && is_safe == 0);
+    CHECK(markdown_check_page((const unsigned char *)PAGE, LENGTH, &is_safe) == MARKDOWN_OK && is_safe == 1);
+    left = 0;
+    CHECK(markdown_check_page((const unsigned char *)PAGE, LENGTH, &is_safe) == MARKDOWN_MEMORY && is_safe == 0);
+    left = 0;
+    CHECK(!markdown_is_safe_page((const unsigned char *)PAGE, LENGTH));
+    left = -1;
+    return 0;
+}
+
 int main(void)
 {
-    return check_room() || check_refusals() || check_memory() || check_growing() || check_events() || check_callback();
+    return check_room() || check_refusals() || check_memory() || check_growing() || check_events() || check_callback()
+        || check_options() || check_options_refused() || check_options_memory() || check_safe_pages();
 }

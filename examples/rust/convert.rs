@@ -1,15 +1,21 @@
-//! Reads Markdown from standard input, and writes its HTML to standard output.
+//! Reads Markdown from standard input, and writes its HTML to standard output. With `--prefix=TEXT` the ids of footnotes begin
+//! with TEXT. With `--safe-page` the input is HTML, and it is written whether it is a safe page.
 
+#[allow(dead_code)]
 mod markdown;
 
-use markdown::{to_html, Flags};
+use markdown::{is_safe_page, to_html_with_options, Flags, Options};
 use std::error::Error;
 use std::io::{self, Read, Write};
 
 fn main() -> Result<(), Box<dyn Error>> {
+    let words: Vec<String> = std::env::args().skip(1).collect();
     let mut flags = Flags::default();
-    for word in std::env::args().skip(1) {
+    let mut prefix = "user-content-";
+    let mut is_page = false;
+    for word in &words {
         match word.as_str() {
+            "--safe-page" => is_page = true,
             "--gfm" => flags = flags.with_gfm(),
             "--dangerous" => flags.dangerous = true,
             "--plain" => flags.plain = true,
@@ -22,11 +28,19 @@ fn main() -> Result<(), Box<dyn Error>> {
             "--footnotes" => flags.footnotes = true,
             "--tagfilter" => flags.tagfilter = true,
             "--mark" => flags.mark = true,
-            _ => return Err(format!("an unknown word: {word}").into()),
+            _ => match word.strip_prefix("--prefix=") {
+                Some(text) => prefix = text,
+                None => return Err(format!("an unknown word: {word}").into()),
+            },
         }
     }
     let mut text = String::new();
     io::stdin().read_to_string(&mut text)?;
-    io::stdout().write_all(to_html(&text, flags)?.as_bytes())?;
+    if is_page {
+        println!("{}", is_safe_page(&text)?);
+        return Ok(());
+    }
+    let options = Options::from(flags).gfm_footnote_clobber_prefix(prefix);
+    io::stdout().write_all(to_html_with_options(&text, &options)?.as_bytes())?;
     Ok(())
 }

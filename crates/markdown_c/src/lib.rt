@@ -1,8 +1,8 @@
-//! Converts Markdown to HTML, and lists its events, called from C.
+//! Converts Markdown to HTML, lists its events, and tests pages, called from C.
 #![tactic(auto)]
 
 mod convert;
+mod convert_with;
 mod events;
-mod flags;
-mod flat_event;
+mod safe_page;
 mod version;

@@ -1,0 +1,4 @@
+mod Listed
+mod Pages
+mod Statuses
+mod Written

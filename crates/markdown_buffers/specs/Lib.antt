@@ -1,0 +1,5 @@
+pub mod EventNumbers
+pub mod Events
+pub mod FlatEvents
+pub mod Pages
+pub mod Statuses

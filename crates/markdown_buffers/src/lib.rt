@@ -1,0 +1,9 @@
+//! Markdown to HTML and to its events, written into buffers of the caller's. Each call returns a
+//! status.
+#![tactic(auto)]
+
+pub mod convert;
+pub mod events;
+pub mod flat_event;
+pub mod safe_page;
+pub mod status;

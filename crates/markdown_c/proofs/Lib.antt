@@ -1,3 +1,0 @@
-mod Listed
-mod Pages
-mod Written

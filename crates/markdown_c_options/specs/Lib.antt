@@ -1,0 +1,4 @@
+pub mod Constructs
+pub mod Flags
+pub mod FlatOptions
+pub mod Switches
