@@ -1,10 +1,14 @@
 """Markdown to HTML and to events, by a proved converter.
 
-    >>> from markdown_proved import events, to_html
+    >>> from markdown_proved import events, is_safe_page, to_html
     >>> to_html("# Hello, *world*")
     '<h1>Hello, <em>world</em></h1>'
     >>> to_html("~~a~~ www.example.com", gfm=True)
     '<p><del>a</del> <a href="http://www.example.com">www.example.com</a></p>'
+    >>> to_html("a[^b]\\n\\n[^b]: c", footnotes=True, prefix="comment-2-").count("comment-2-fn-b")
+    2
+    >>> is_safe_page("<p onclick=alert()>a</p>")
+    False
     >>> [event.text for event in events("# a *b*") if event.enters and event.name == "Emphasis"]
     ['*b*']
 
@@ -32,7 +36,8 @@ if TYPE_CHECKING:
     from ._library import Options, ReadOptions
 
 __all__ = [
-    "to_html", "events", "load", "Event", "Flags", "Library", "DANGEROUS", "PLAIN", "STRIKETHROUGH", "MATH", "FRONTMATTER", "TASK_LIST_ITEMS", "TABLES", "AUTOLINK_LITERALS", "FOOTNOTES",
+    "to_html", "is_safe_page", "events", "load", "Event", "Flags", "Library",
+    "DANGEROUS", "PLAIN", "STRIKETHROUGH", "MATH", "FRONTMATTER", "TASK_LIST_ITEMS", "TABLES", "AUTOLINK_LITERALS", "FOOTNOTES",
     "TAGFILTER", "MARK", "GFM",
 ]
 
@@ -80,6 +85,13 @@ def to_html(text: Union[str, _Bytes], flags: int = 0, **options: Unpack[Options]
     Raises ValueError for wrong flags, for input that isn't UTF-8 and for input that is too large, and MemoryError.
     """
     return _own().to_html(text, flags, **options)
+
+
+def is_safe_page(page: Union[str, _Bytes]) -> bool:
+    """Return whether ``page`` is HTML as the converter prints it without ``dangerous``: known tags, each closed, with known
+    attributes, and no script, whatever text it was made of.
+    """
+    return _own().is_safe_page(page)
 
 
 @overload

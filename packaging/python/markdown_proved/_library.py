@@ -32,7 +32,7 @@ class Flags(enum.IntFlag):
 
 
 class ReadOptions(TypedDict, total=False):
-    """How a text is read. Each is off by default."""
+    """How a text is read. A construct that isn't given is on if CommonMark has it, or if a flag turns it on."""
 
     plain: bool  # turn every construct off: the input is paragraphs; this wins over the flags below
     gfm: bool  # what GitHub turns on: strikethrough, task list items, tables, links, footnotes, tag filter
@@ -44,13 +44,53 @@ class ReadOptions(TypedDict, total=False):
     autolink_literals: bool  # ``www.a.b``, ``https://a.b`` and ``a@b.c`` are links
     footnotes: bool  # ``[^a]`` calls the footnote that ``[^a]: b`` defines
     mark: bool  # ``==a==`` is marked text
+    single_tilde: bool  # one tilde strikes text, as in ``~a~``; on by default
+    single_dollar: bool  # one dollar makes math, as in ``$a$``; on by default
+    attention: bool
+    autolink: bool
+    block_quote: bool
+    character_escape: bool
+    character_reference: bool
+    code_indented: bool
+    code_fenced: bool
+    code_text: bool
+    definition: bool
+    gfm_autolink_literal: bool
+    gfm_footnote_definition: bool
+    gfm_label_start_footnote: bool
+    gfm_strikethrough: bool
+    gfm_table: bool
+    gfm_task_list_item: bool
+    hard_break_escape: bool
+    hard_break_trailing: bool
+    heading_atx: bool
+    heading_setext: bool
+    html_flow: bool
+    html_text: bool
+    label_start_image: bool
+    label_start_link: bool
+    label_end: bool
+    list_item: bool
+    math_flow: bool
+    math_text: bool
+    thematic_break: bool
 
 
 class Options(ReadOptions, total=False):
     """How a text is read, and how its HTML is printed."""
 
     dangerous: bool  # keep HTML and every protocol of the input; only for input from trusted authors
+    dangerous_html: bool  # keep HTML of the input
+    dangerous_protocol: bool  # keep every protocol of links and images
+    any_image_protocol: bool  # keep every protocol of images
     tagfilter: bool  # with HTML that is kept: escape ``<`` before nine names, as ``script``
+    checkable_tasks: bool  # check boxes of items aren't disabled
+    prefix: str  # what the ids of footnotes begin with: ``user-content-``
+    footnote_label: str  # the heading above footnotes: ``Footnotes``
+    footnote_label_tag: str  # its tag name, printed as given: ``h2``
+    footnote_label_attributes: str  # its attributes, printed as given: ``class="sr-only"``
+    footnote_back_label: str  # the label of the link from a footnote to its call: ``Back to content``
+    line_ending: str  # what ends a line of the HTML if the input has no line ending: ``\n``, ``\r`` or ``\r\n``
 
 
 class Event(Generic[AnyStr]):
@@ -95,30 +135,130 @@ _BYTE: Final = struct.Struct("=B")
 
 # (That of GitHub comes first, so that the others may turn off what it turns on.)
 _FLAG_NAMES: Final = {"gfm": Flags.GFM, **{flag.name.lower(): flag for flag in Flags if flag.name}}
+# The constructs of the struct markdown_options, in the order of their numbers.
+_CONSTRUCTS: Final = """
+    attention autolink block_quote character_escape character_reference code_indented code_fenced code_text definition frontmatter
+    gfm_autolink_literal gfm_footnote_definition gfm_label_start_footnote gfm_strikethrough gfm_table gfm_task_list_item
+    hard_break_escape hard_break_trailing heading_atx heading_setext html_flow html_text label_start_image label_start_link
+    label_end list_item mark math_flow math_text thematic_break
+""".split()
+_CONSTRUCT_NUMBERS: Final = {name: 1 << place for place, name in enumerate(_CONSTRUCTS)}
+_CONSTRUCT_KEYWORDS: Final = {name: number for name, number in _CONSTRUCT_NUMBERS.items() if name not in _FLAG_NAMES}
+# The switches of that struct, in the order of their numbers.
+_SWITCHES: Final = (
+    "any_image_protocol", "dangerous_html", "dangerous_protocol", "tagfilter", "checkable_tasks", "single_tilde", "single_dollar",
+)
+_SWITCH_NUMBERS: Final = {name: 1 << place for place, name in enumerate(_SWITCHES)}
+_CORE: Final = sum(
+    number for name, number in _CONSTRUCT_NUMBERS.items()
+    if not name.startswith(("gfm_", "math_")) and name not in ("frontmatter", "mark")
+)
+# The constructs that a flag turns on.
+_OF_FLAGS: Final = {
+    Flags.STRIKETHROUGH: ("gfm_strikethrough",),
+    Flags.MATH: ("math_flow", "math_text"),
+    Flags.FRONTMATTER: ("frontmatter",),
+    Flags.TASK_LIST_ITEMS: ("gfm_task_list_item",),
+    Flags.TABLES: ("gfm_table",),
+    Flags.AUTOLINK_LITERALS: ("gfm_autolink_literal",),
+    Flags.FOOTNOTES: ("gfm_footnote_definition", "gfm_label_start_footnote"),
+    Flags.MARK: ("mark",),
+}
+_LINE_ENDINGS: Final = {"\n": 0, "\r": 1, "\r\n": 2}
+
+
+class _String(ctypes.Structure):
+    _fields_ = [("data", ctypes.c_char_p), ("size", ctypes.c_size_t)]
+
+
+class _Options(ctypes.Structure):
+    """The struct markdown_options."""
+
+    _fields_ = [
+        ("size", ctypes.c_size_t),
+        ("constructs", ctypes.c_uint64),
+        ("switches", ctypes.c_uint32),
+        ("line_ending", ctypes.c_uint32),
+        ("footnote_back_label", _String),
+        ("prefix", _String),
+        ("footnote_label", _String),
+        ("footnote_label_attributes", _String),
+        ("footnote_label_tag", _String),
+    ]
+
+
+_DEFAULT_TEXTS: Final = {
+    "footnote_back_label": "Back to content",
+    "prefix": "user-content-",
+    "footnote_label": "Footnotes",
+    "footnote_label_attributes": 'class="sr-only"',
+    "footnote_label_tag": "h2",
+}
 # Keywords that only the HTML depends on.
-_PRINTING: Final = frozenset({"dangerous", "tagfilter"})
+_PRINTING: Final = frozenset({
+    "dangerous", "dangerous_html", "dangerous_protocol", "any_image_protocol", "tagfilter", "checkable_tasks", "line_ending",
+    *_DEFAULT_TEXTS,
+})
 
 
 def _wrong_type(name: str, wanted: str, value: object) -> TypeError:
     return TypeError(f"{name} must be {wanted}, not {type(value).__name__}")
 
 
-def _flags_of(call: str, flags: int, options: Mapping[str, Any], unknown: FrozenSet[str] = frozenset()) -> int:
-    """The sum of flags with those that are given as keywords. Those that are unknown to the call are refused."""
+def _flags_of(call: str, flags: int, options: Mapping[str, Any], unknown: FrozenSet[str]) -> int:
+    """The sum of flags with those that are given as keywords."""
     if not isinstance(flags, int):
         raise _wrong_type("flags", "an int", flags)
     if not 0 <= flags < 2 * Flags.MARK:
         raise ValueError(_FAULTS[_FLAGS])
     for name, value in options.items():
-        if name in unknown or name not in _FLAG_NAMES:
+        if name in unknown:
             raise TypeError(f"{call}() got an unexpected keyword argument {name!r}")
-        if not isinstance(value, bool):
-            raise _wrong_type(name, "a bool", value)
+        if name in _FLAG_NAMES or name in _CONSTRUCT_NUMBERS or name in _SWITCH_NUMBERS:
+            if not isinstance(value, bool):
+                raise _wrong_type(name, "a bool", value)
+        elif name in _DEFAULT_TEXTS or name == "line_ending":
+            if not isinstance(value, str):
+                raise _wrong_type(name, "a str", value)
+        else:
+            raise TypeError(f"{call}() got an unexpected keyword argument {name!r}")
     for name, flag in _FLAG_NAMES.items():
         given = options.get(name)
         if given is not None:
             flags = flags | flag if given else flags & ~flag
     return flags
+
+
+def _switched(number: int, numbers: Mapping[str, int], options: Mapping[str, Any]) -> int:
+    """A sum of numbers, with those that are given as keywords turned on or off."""
+    for name, value in options.items():
+        if name in numbers:
+            number = number | numbers[name] if value else number & ~numbers[name]
+    return number
+
+
+def _options_of(call: str, flags: int, options: Mapping[str, Any], unknown: FrozenSet[str] = frozenset()) -> _Options:
+    """The options of flags and keywords. Those that are unknown to the call are refused."""
+    flags = _flags_of(call, flags, options, unknown)
+    constructs = 0
+    if not flags & Flags.PLAIN:
+        constructs = _CORE + sum(_CONSTRUCT_NUMBERS[name] for flag, names in _OF_FLAGS.items() if flags & flag for name in names)
+    switches = _SWITCH_NUMBERS["single_tilde"] + _SWITCH_NUMBERS["single_dollar"]
+    if flags & Flags.DANGEROUS:
+        switches += _SWITCH_NUMBERS["dangerous_html"] + _SWITCH_NUMBERS["dangerous_protocol"]
+    if flags & Flags.TAGFILTER:
+        switches += _SWITCH_NUMBERS["tagfilter"]
+    ending = options.get("line_ending", "\n")
+    if ending not in _LINE_ENDINGS:
+        raise ValueError("line_ending must be '\\n', '\\r' or '\\r\\n'")
+    given = _Options(
+        ctypes.sizeof(_Options), _switched(constructs, _CONSTRUCT_KEYWORDS, options), _switched(switches, _SWITCH_NUMBERS, options),
+        _LINE_ENDINGS[ending],
+    )
+    for name, default in _DEFAULT_TEXTS.items():
+        data = options.get(name, default).encode()
+        setattr(given, name, _String(data, len(data)))
+    return given
 
 
 class _Given:
@@ -189,8 +329,9 @@ class Library:
     """A shared library with the calls of markdown.h. Its methods are described at the functions of the module."""
 
     version: str
-    _convert: Any
-    _list_events: Any
+    _convert_with: Any
+    _list_events_with: Any
+    _check_page: Any
 
     def __init__(self, path: Union[str, "os.PathLike[str]"]) -> None:
         library = ctypes.CDLL(os.path.abspath(os.fspath(path)))
@@ -200,31 +341,43 @@ class Library:
         # Below 1.0 each minor version may have other calls.
         if self.version.split(".")[:2] != __version__.split(".")[:2]:
             raise ImportError(f"{os.fspath(path)} is version {self.version}, and this module needs {__version__}")
-        size = ctypes.c_size_t
-        for name in ("convert", "list_events"):
+        size, number = ctypes.c_size_t, ctypes.c_uint32
+        out, text, options = [ctypes.c_void_p, size, ctypes.POINTER(size)], [ctypes.c_char_p, size], ctypes.POINTER(_Options)
+        for name, arguments in (
+            ("convert_with", [*text, options, *out]),
+            ("list_events_with", [*text, options, *out]),
+            ("check_page", [*text, ctypes.POINTER(number)]),
+        ):
             call = getattr(library, f"markdown_{name}")
-            call.restype = ctypes.c_uint32
-            call.argtypes = [ctypes.c_char_p, size, ctypes.c_uint32, ctypes.c_void_p, size, ctypes.POINTER(size)]
+            call.restype = number
+            call.argtypes = arguments
             setattr(self, f"_{name}", call)
 
     def to_html(self, text: _Text, flags: int = 0, **options: Any) -> Any:
         given = _Given("text", text)
         page = _Array(_BYTE, len(given.data) + len(given.data) // 4 + 64)
-        self._call(self._convert, given.data, _flags_of("to_html", flags, options), page)
+        self._call(self._convert_with, given.data, _options_of("to_html", flags, options), page)
         return given.returned(page.data())
+
+    def is_safe_page(self, page: _Text) -> bool:
+        data = _Given("page", page).data
+        is_safe = ctypes.c_uint32()
+        if self._check_page(data, len(data), ctypes.byref(is_safe)) != _OK:
+            raise MemoryError
+        return is_safe.value == 1
 
     def events(self, text: _Text, flags: int = 0, **options: Any) -> Any:
         given = _Given("text", text)
         array = _Array(_EVENT, len(given.data) // 2 + 64)  # READMEs have an event for three bytes
-        self._call(self._list_events, given.data, _flags_of("events", flags, options, _PRINTING), array)
+        self._call(self._list_events_with, given.data, _options_of("events", flags, options, _PRINTING), array)
         return iter(_Events(given, array.data()))
 
     @staticmethod
-    def _call(call: Any, data: bytes, flags: int, array: _Array) -> None:
+    def _call(call: Any, data: bytes, options: _Options, array: _Array) -> None:
         """Calls with an array that grows until it has room."""
         status = _ROOM
         while status == _ROOM:
-            status = call(data, len(data), flags, *array.arguments())
+            status = call(data, len(data), ctypes.byref(options), *array.arguments())
         if status == _MEMORY:
             raise MemoryError
         if status != _OK:

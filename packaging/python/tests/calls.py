@@ -6,7 +6,7 @@ import sys
 from typing import Any, Callable, Type
 
 import markdown_proved
-from markdown_proved import GFM, MATH, Flags, events, to_html
+from markdown_proved import GFM, MATH, Flags, events, is_safe_page, to_html
 
 passed = failed = 0
 
@@ -50,6 +50,28 @@ for call, name in CALLS:
     check(f"{name}: flags of a wrong type", fault(call, "", "gfm"), (TypeError, "flags must be an int, not str"))
     check(f"{name}: wrong flags", fault(call, "", 2048), (ValueError, "wrong flags"))
     check(f"{name}: no UTF-8", fault(call, b"\xff"), (ValueError, "input is not UTF-8"))
+
+check("a construct that is off", to_html("# a\n\n*b*", heading_atx=False), "<p># a</p>\n<p><em>b</em></p>")
+check("a construct beside plain", to_html("# *a*", plain=True, heading_atx=True), "<h1>*a*</h1>")
+check("half of math", to_html("$a$", math=True, math_text=False), "<p>$a$</p>")
+check("one tilde", to_html("~a~", strikethrough=True, single_tilde=False), "<p>~a~</p>")
+check("HTML without protocols", to_html("<b> [c](d:e)", dangerous_html=True), '<p><b> <a href="">c</a></p>')
+check("images of any protocol", to_html("![a](b:c)", any_image_protocol=True), '<p><img src="b:c" alt="a" /></p>')
+check("checkable tasks", to_html("- [ ] a", gfm=True, checkable_tasks=True), '<ul>\n<li><input type="checkbox" /> a</li>\n</ul>')
+check("a line ending", to_html("- a", line_ending="\r\n"), "<ul>\r\n<li>a</li>\r\n</ul>")
+check("a wrong line ending", fault(to_html, "", line_ending="\v"), (ValueError, "line_ending must be '\\n', '\\r' or '\\r\\n'"))
+check("a text of a wrong type", fault(to_html, "", prefix=b"a"), (TypeError, "prefix must be a str, not bytes"))
+check("an option of the page alone", fault(events, "", prefix="a"), (TypeError, "events() got an unexpected keyword argument 'prefix'"))
+notes = to_html(
+    "a[^b]\n\n[^b]: c", footnotes=True, prefix="1-", footnote_label="N", footnote_label_tag="h3", footnote_label_attributes="",
+    footnote_back_label="back",
+)
+check("texts of footnotes", [part in notes for part in ('id="1-fn-b"', 'href="#1-fnref-b"', ">N</h3>", 'aria-label="back"')], [True] * 4)
+
+check("a safe page", is_safe_page(to_html("<script> [a](javascript:b)")), True)
+check("a page that isn't safe", is_safe_page("<p onclick=alert()>a</p>"), False)
+check("a page that isn't UTF-8", is_safe_page(b"\xff"), False)
+check("a page of a wrong type", fault(is_safe_page, 3), (TypeError, "page must be str, bytes, bytearray or memoryview, not int"))
 
 found = list(events("> # é *b*\n"))
 check("events", [(event.kind, event.name) for event in found[:3]], [("enter", "BlockQuote"), ("enter", "BlockQuotePrefix"), ("enter", "BlockQuoteMarker")])
