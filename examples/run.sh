@@ -66,7 +66,7 @@ library=${1:-$scratch}
 check "C" compile -o "$scratch/convert" "$here/c/convert.c"
 tries "C" "$scratch/convert"
 check "C: the version" tells_version
-if works nm --version; then check "the functions of the library" exports "markdown_check_page markdown_convert markdown_convert_with markdown_list_events markdown_list_events_with markdown_version "; fi
+if works nm --version; then check "the functions of the library" exports "markdown_check_page markdown_convert markdown_convert_by_numbers markdown_convert_with markdown_decode markdown_list_events markdown_list_events_with markdown_normalize_label markdown_version "; fi
 if works objdump --version; then check "the name of the library" names_itself libmarkdown-proved.so.0.1; fi
 check "C: events" compile -o "$scratch/events" "$here/c/events.c"
 check "C: events" lists_events "$scratch/events"

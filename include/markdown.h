@@ -277,6 +277,11 @@ static inline markdown_options markdown_options_of(uint32_t flags)
 uint32_t markdown_convert_with(const unsigned char *text, size_t text_length, const markdown_options *options,
                                unsigned char *buffer, size_t room, size_t *length);
 
+/* Converts the text_length bytes at text into HTML by numbers of options, with the default texts, as markdown_convert_with does.
+ * It needs no struct: a sum of constructs, a sum of switches, and a line ending. WebAssembly has this call alone. */
+uint32_t markdown_convert_by_numbers(const unsigned char *text, size_t text_length, uint64_t constructs, uint32_t switches,
+                                     uint32_t default_line_ending, unsigned char *buffer, size_t room, size_t *length);
+
 /* Converts the text_length bytes at text into a buffer that it allocates or grows, and returns a status, never MARKDOWN_ROOM.
  *
  * *buffer is NULL or comes from malloc, and has *room bytes. Both are updated if the buffer grows. The caller frees the buffer,
@@ -367,6 +372,18 @@ static inline uint32_t markdown_events(const unsigned char *text, size_t text_le
     markdown_options options = markdown_options_of(flags);
     return markdown_events_with(text, text_length, &options, callback, context);
 }
+
+/* Writes what the text_length bytes at text stand for as a destination, a title or an info into the room bytes at buffer, and
+ * returns a status: escapes and character references are replaced, and spaces and tabs around line endings are dropped.
+ *
+ * *length becomes its length if the status is MARKDOWN_OK or MARKDOWN_ROOM, otherwise 0. Only with MARKDOWN_OK is the buffer
+ * written, from its start. No pointer may be NULL, and what they point to must not overlap. */
+uint32_t markdown_decode(const unsigned char *text, size_t text_length, unsigned char *buffer, size_t room, size_t *length);
+
+/* Writes the form in which a label matches others into the room bytes at buffer, and returns a status, as markdown_decode does: its
+ * case folded, no white space at its ends, and one space for white space inside. The label is the bytes between its brackets. */
+uint32_t markdown_normalize_label(const unsigned char *label, size_t label_length, unsigned char *buffer, size_t room,
+                                  size_t *length);
 
 /* Tests whether the length bytes at page, HTML of any origin, are a safe page, and returns MARKDOWN_OK or MARKDOWN_MEMORY.
  *

@@ -63,6 +63,22 @@ mod calls {
             length: *mut usize,
         ) -> u32;
 
+        pub fn markdown_decode(
+            text: *const u8,
+            text_length: usize,
+            buffer: *mut u8,
+            room: usize,
+            length: *mut usize,
+        ) -> u32;
+
+        pub fn markdown_normalize_label(
+            label: *const u8,
+            label_length: usize,
+            buffer: *mut u8,
+            room: usize,
+            length: *mut usize,
+        ) -> u32;
+
         pub fn markdown_check_page(page: *const u8, length: usize, is_safe: *mut u32) -> u32;
     }
 }
@@ -262,7 +278,9 @@ impl From<Flags> for Options<'static> {
         ]
         .into_iter()
         .filter(|(asked, _)| *asked && !flags.plain)
-        .fold(options, |options, (_, construct)| options.construct(construct, true))
+        .fold(options, |options, (_, construct)| {
+            options.construct(construct, true)
+        })
         .switch(Switch::AllowDangerousHtml, flags.dangerous)
         .switch(Switch::AllowDangerousProtocol, flags.dangerous)
         .switch(Switch::GfmTagfilter, flags.tagfilter)
@@ -275,14 +293,22 @@ impl<'a> Options<'a> {
     /// Turns a construct on or off.
     pub fn construct(mut self, construct: Construct, on: bool) -> Self {
         let number = construct as u64;
-        self.constructs = if on { self.constructs | number } else { self.constructs & !number };
+        self.constructs = if on {
+            self.constructs | number
+        } else {
+            self.constructs & !number
+        };
         self
     }
 
     /// Turns a switch on or off.
     pub fn switch(mut self, switch: Switch, on: bool) -> Self {
         let number = switch as u32;
-        self.switches = if on { self.switches | number } else { self.switches & !number };
+        self.switches = if on {
+            self.switches | number
+        } else {
+            self.switches & !number
+        };
         self
     }
 
@@ -359,7 +385,9 @@ impl std::error::Error for Fault {}
 pub(crate) fn fault_of(status: u32) -> Fault {
     match status {
         calls::SIZE => Fault::Size,
-        calls::UTF8 | calls::FLAGS => unreachable!("texts are UTF-8, and flags and options are known"),
+        calls::UTF8 | calls::FLAGS => {
+            unreachable!("texts are UTF-8, and flags and options are known")
+        }
         _ => Fault::Memory,
     }
 }
@@ -372,27 +400,44 @@ pub fn to_html(text: &str, flags: Flags) -> Result<String, Fault> {
 /// The HTML of a text, by options.
 pub fn to_html_with_options(text: &str, options: &Options) -> Result<String, Fault> {
     let options = options.for_c();
-    let mut page = vec![0; text.len() + text.len() / 4 + 64];
+    filled(text, |buffer, room, length| {
+        // SAFETY: each pointer leads to as many bytes as are told, and the buffer is borrowed by nobody else.
+        unsafe {
+            calls::markdown_convert_with(text.as_ptr(), text.len(), &options, buffer, room, length)
+        }
+    })
+}
+
+/// What a destination, a title or an info stands for: escapes and character references are replaced, and spaces and tabs around
+/// line endings are dropped.
+pub fn decode(text: &str) -> Result<String, Fault> {
+    // SAFETY: as above.
+    filled(text, |buffer, room, length| unsafe {
+        calls::markdown_decode(text.as_ptr(), text.len(), buffer, room, length)
+    })
+}
+
+/// The form in which a label, without its brackets, matches other labels: its case folded, no white space at its ends, and one
+/// space for white space inside.
+pub fn normalize_label(label: &str) -> Result<String, Fault> {
+    // SAFETY: as above.
+    filled(label, |buffer, room, length| unsafe {
+        calls::markdown_normalize_label(label.as_ptr(), label.len(), buffer, room, length)
+    })
+}
+
+/// What a call makes of a text, in a buffer that grows until it has room.
+fn filled(text: &str, call: impl Fn(*mut u8, usize, *mut usize) -> u32) -> Result<String, Fault> {
+    let mut buffer = vec![0; text.len() + text.len() / 4 + 64];
     loop {
         let mut length = 0;
-        // SAFETY: each pointer leads to as many bytes as are told, and the page is borrowed by nobody else.
-        let status = unsafe {
-            calls::markdown_convert_with(
-                text.as_ptr(),
-                text.len(),
-                &options,
-                page.as_mut_ptr(),
-                page.len(),
-                &mut length,
-            )
-        };
-        match status {
+        match call(buffer.as_mut_ptr(), buffer.len(), &mut length) {
             calls::OK => {
-                page.truncate(length);
-                return Ok(String::from_utf8(page).expect("a page is UTF-8"));
+                buffer.truncate(length);
+                return Ok(String::from_utf8(buffer).expect("what the library writes is UTF-8"));
             }
-            calls::ROOM => page.resize(length, 0),
-            _ => return Err(fault_of(status)),
+            calls::ROOM => buffer.resize(length, 0),
+            status => return Err(fault_of(status)),
         }
     }
 }

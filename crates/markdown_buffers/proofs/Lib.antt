@@ -2,3 +2,4 @@ mod Listed
 mod Pages
 mod Statuses
 mod Written
+mod WrittenTexts

@@ -3,3 +3,4 @@ pub mod Events
 pub mod FlatEvents
 pub mod Pages
 pub mod Statuses
+pub mod Texts

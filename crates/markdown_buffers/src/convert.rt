@@ -5,6 +5,7 @@ ghost use Rattle.markdown_definition.specs.Html.{html};
 ghost use Rattle.markdown_tables.specs.Builtin.{builtin_tables};
 ghost use Rattle.markdown_c_options.specs.Flags.{AreFlags, MeanFlags};
 ghost use Rattle.markdown_c_options.specs.FlatOptions.{IsKnown, StandsFor};
+ghost use Rattle.markdown_c_options.specs.Switches.{AreNumbers, MeanNumbers};
 ghost use Rattle.markdown_buffers.specs.Pages.{StoresPage};
 ghost use Rattle.markdown_buffers.specs.Statuses.{NamesCause};
 
@@ -12,6 +13,7 @@ use crate::status::{FLAGS, MEMORY, OK, ROOM, SIZE, UTF8};
 use markdown::{Options, SIZE_MAX, fits, to_html_with_options};
 use markdown_c_options::flags::{ALL, flagged_options};
 use markdown_c_options::flat_options::{FlatOptions, asked_options, is_known};
+use markdown_c_options::switches::{are_known, options_of_numbers};
 use std::alloc::{AllocError, Allocator, Global};
 use std::mem::ManuallyDrop;
 
@@ -65,6 +67,30 @@ pub fn convert_with<A: Allocator + Clone>(
         Ok(options) => convert_by(alloc, text, &options, buffer, size),
         Err(_) => cause(text),
     }
+}
+
+/// Converts a text to HTML in a buffer by numbers of options, and returns a status, as
+/// [`convert_with`] does by a struct with the default texts.
+#[tactic(auto, using(crate::proofs::Statuses::unknown_options, crate::proofs::Pages::no_page))]
+pub fn convert_by_numbers<A: Allocator + Clone>(
+    alloc: A,
+    text: &[u8],
+    constructs: u64,
+    switches: u32,
+    line_ending: u32,
+    buffer: &mut [u8],
+    size: &mut usize,
+) -> u32
+    ensures cause { NamesCause (AreNumbers constructs switches line_ending) text.now result }
+    ensures page { StoresPage (MeanNumbers constructs switches line_ending) text.now buffer.old buffer.new size.new result }
+{
+    *size = 0;
+    if !are_known(constructs, switches, line_ending) {
+        return FLAGS;
+    }
+    // Not dropped (see `convert`).
+    let options = ManuallyDrop::new(options_of_numbers(constructs, switches, line_ending));
+    convert_by(alloc, text, &*options, buffer, size)
 }
 
 /// The status of a call that has no memory: another cause comes first.

@@ -7,3 +7,4 @@ pub mod events;
 pub mod flat_event;
 pub mod safe_page;
 pub mod status;
+pub mod texts;

@@ -2,7 +2,9 @@
 #![tactic(auto)]
 
 mod convert;
+mod convert_by_numbers;
 mod convert_with;
 mod events;
 mod safe_page;
+mod texts;
 mod version;

@@ -1,5 +1,5 @@
 -- The options of numbers: constructs, switches and a line ending.
-use Rattle.std.specs.Prelude.{ℕ, if◌then◌else◌, ◌==◌}
+use Rattle.std.specs.Prelude.{◌≡◌, ◌<◌, ◌^◌, ℕ, if◌then◌else◌, ◌==◌}
 use Rattle.markdown_options.specs.declared.configuration.Options.{Options}
 use Rattle.markdown_options.specs.declared.configuration.ParseOptions.{ParseOptions}
 use Rattle.markdown_options.specs.declared.line_ending.LineEnding.{LineEnding}
@@ -34,3 +34,11 @@ options_of_numbers constructs switches ending = record {
     gfm_task_list_item_checkable = has_flag 16 switches;
   };
 }
+
+-- numbers of options are known
+abbrev pub AreNumbers : ℕ → ℕ → ℕ → Type 0
+AreNumbers constructs switches ending = (constructs < 2 ^ 30) × (switches < 128) × (ending < 3)
+
+-- options are those of numbers, with the default texts
+abbrev pub MeanNumbers : ℕ → ℕ → ℕ → Options → Type 0
+MeanNumbers constructs switches ending options = options ≡ options_of_numbers constructs switches ending

@@ -1,9 +1,9 @@
 //! The options of numbers: constructs, switches and a line ending.
-ghost use Rattle.std.specs.Prelude.{◌≡◌, ◌<◌, false};
+ghost use Rattle.std.specs.Prelude.{◌≡◌, ◌<◌, ◌↔◌, IsTrue, false};
 ghost use Rattle.markdown_options.specs.Mdx.{has_mdx, HasNoMdx};
-ghost use Rattle.markdown_c_options.specs.Switches.{ending_of, options_of_numbers, parse_options_of};
+ghost use Rattle.markdown_c_options.specs.Switches.{ending_of, options_of_numbers, parse_options_of, AreNumbers};
 
-use crate::constructs::constructs_of;
+use crate::constructs::{self, constructs_of};
 use crate::flags::has_flag;
 use markdown_options::{CompileOptions, LineEnding, Options, ParseOptions};
 
@@ -45,6 +45,13 @@ fn ending_of(number: u32) -> LineEnding
     }
 }
 
+/// Whether numbers of options are known.
+pub fn are_known(constructs: u64, switches: u32, ending: u32) -> bool
+    ensures { IsTrue result ↔ AreNumbers constructs switches ending }
+{
+    constructs <= constructs::ALL && switches <= ALL && ending <= LAST_ENDING
+}
+
 /// How a text is read by these numbers.
 pub fn parse_options_of(constructs: u64, switches: u32) -> ParseOptions
     ensures options { result ≡ parse_options_of constructs switches }
@@ -59,7 +66,7 @@ pub fn parse_options_of(constructs: u64, switches: u32) -> ParseOptions
 }
 
 /// The options of these numbers, with the default texts.
-pub(crate) fn options_of_numbers(constructs: u64, switches: u32, ending: u32) -> Options
+pub fn options_of_numbers(constructs: u64, switches: u32, ending: u32) -> Options
     ensures options { result ≡ options_of_numbers constructs switches ending }
     ensures without_mdx { HasNoMdx result }
 {

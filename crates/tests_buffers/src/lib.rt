@@ -17,3 +17,5 @@ mod options;
 mod refusals;
 #[cfg(test)]
 mod safe_page;
+#[cfg(test)]
+mod texts;

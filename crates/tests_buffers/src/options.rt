@@ -1,7 +1,7 @@
 //! Texts and their pages by options.
 use crate::asserts::assert_no_fault;
 use crate::given::{COMMONMARK, SINGLE, numbers};
-use markdown_buffers::convert::convert_with;
+use markdown_buffers::convert::{convert_by_numbers, convert_with};
 use markdown_buffers::status::OK;
 use markdown_c_options::flat_options::FlatOptions;
 use std::alloc::{AllocError, Global};
@@ -165,10 +165,30 @@ fn is_page(
     Ok(status == OK && size == page.len() && buffer.as_slice() == page.as_bytes())
 }
 
+/// Whether a text has this page by the numbers alone.
+fn is_page_by_numbers(alloc: Global, row: &Row) -> Result<bool, AllocError> {
+    let Row(text, constructs, switches, page) = row;
+    let mut buffer = Vec::from_elem(alloc, 0u8, page.len())?;
+    let mut size = 0;
+    let text = text.as_bytes();
+    let status = convert_by_numbers(
+        alloc,
+        text,
+        *constructs,
+        *switches,
+        0,
+        &mut buffer,
+        &mut size,
+    );
+    Ok(status == OK && size == page.len() && buffer.as_slice() == page.as_bytes())
+}
+
 /// The first text with another page.
 fn first_other(alloc: Global, rows: &[Row]) -> Result<Option<&'static str>, AllocError> {
-    for Row(text, constructs, switches, page) in rows {
-        if !is_page(alloc, text, &numbers(*constructs, *switches), page)? {
+    for row in rows {
+        let Row(text, constructs, switches, page) = row;
+        let options = numbers(*constructs, *switches);
+        if !is_page(alloc, text, &options, page)? || !is_page_by_numbers(alloc, row)? {
             return Ok(Some(text));
         }
     }

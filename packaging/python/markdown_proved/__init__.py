@@ -36,7 +36,7 @@ if TYPE_CHECKING:
     from ._library import Options, ReadOptions
 
 __all__ = [
-    "to_html", "is_safe_page", "events", "load", "Event", "Flags", "Library",
+    "to_html", "is_safe_page", "events", "decode", "normalize_label", "load", "Event", "Flags", "Library",
     "DANGEROUS", "PLAIN", "STRIKETHROUGH", "MATH", "FRONTMATTER", "TASK_LIST_ITEMS", "TABLES", "AUTOLINK_LITERALS", "FOOTNOTES",
     "TAGFILTER", "MARK", "GFM",
 ]
@@ -108,3 +108,37 @@ def events(text: Union[str, _Bytes], flags: int = 0, **options: Unpack[ReadOptio
     Raises the errors of ``to_html``, before the first event.
     """
     return _own().events(text, flags, **options)
+
+
+@overload
+def decode(text: str) -> str: ...
+
+
+@overload
+def decode(text: _Bytes) -> bytes: ...
+
+
+def decode(text: Union[str, _Bytes]) -> Any:
+    """Return what ``text`` stands for as a destination, a title or an info: escapes and character references are replaced, and
+    spaces and tabs around line endings are dropped.
+
+    Raises ValueError for input that isn't UTF-8, and MemoryError.
+    """
+    return _own().decode(text)
+
+
+@overload
+def normalize_label(label: str) -> str: ...
+
+
+@overload
+def normalize_label(label: _Bytes) -> bytes: ...
+
+
+def normalize_label(label: Union[str, _Bytes]) -> Any:
+    """Return the form in which ``label``, without its brackets, matches other labels: with its case folded, and one space for
+    white space inside.
+
+    Raises ValueError for input that isn't UTF-8, and MemoryError.
+    """
+    return _own().normalize_label(label)

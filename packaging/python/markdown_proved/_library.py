@@ -5,7 +5,7 @@ import ctypes
 import enum
 import os
 import struct
-from typing import Any, AnyStr, Final, FrozenSet, Generic, Iterator, List, Mapping, Tuple, TypedDict, Union
+from typing import Any, AnyStr, Final, FrozenSet, Generic, Iterator, List, Mapping, Optional, Tuple, TypedDict, Union
 
 from ._names import EVENT_NAMES
 
@@ -331,6 +331,8 @@ class Library:
     version: str
     _convert_with: Any
     _list_events_with: Any
+    _decode: Any
+    _normalize_label: Any
     _check_page: Any
 
     def __init__(self, path: Union[str, "os.PathLike[str]"]) -> None:
@@ -346,6 +348,8 @@ class Library:
         for name, arguments in (
             ("convert_with", [*text, options, *out]),
             ("list_events_with", [*text, options, *out]),
+            ("decode", [*text, *out]),
+            ("normalize_label", [*text, *out]),
             ("check_page", [*text, ctypes.POINTER(number)]),
         ):
             call = getattr(library, f"markdown_{name}")
@@ -372,12 +376,24 @@ class Library:
         self._call(self._list_events_with, given.data, _options_of("events", flags, options, _PRINTING), array)
         return iter(_Events(given, array.data()))
 
+    def decode(self, text: _Text) -> Any:
+        return self._changed(self._decode, _Given("text", text))
+
+    def normalize_label(self, label: _Text) -> Any:
+        return self._changed(self._normalize_label, _Given("label", label))
+
+    def _changed(self, call: Any, given: _Given) -> Any:
+        room = _Array(_BYTE, len(given.data) + len(given.data) // 4 + 64)
+        self._call(call, given.data, None, room)
+        return given.returned(room.data())
+
     @staticmethod
-    def _call(call: Any, data: bytes, options: _Options, array: _Array) -> None:
+    def _call(call: Any, data: bytes, options: Optional[_Options], array: _Array) -> None:
         """Calls with an array that grows until it has room."""
+        given: List[Any] = [data, len(data)] + ([] if options is None else [ctypes.byref(options)])
         status = _ROOM
         while status == _ROOM:
-            status = call(data, len(data), ctypes.byref(options), *array.arguments())
+            status = call(*given, *array.arguments())
         if status == _MEMORY:
             raise MemoryError
         if status != _OK:

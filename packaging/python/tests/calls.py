@@ -6,7 +6,7 @@ import sys
 from typing import Any, Callable, Type
 
 import markdown_proved
-from markdown_proved import GFM, MATH, Flags, events, is_safe_page, to_html
+from markdown_proved import GFM, MATH, Flags, decode, events, is_safe_page, normalize_label, to_html
 
 passed = failed = 0
 
@@ -72,6 +72,10 @@ check("a safe page", is_safe_page(to_html("<script> [a](javascript:b)")), True)
 check("a page that isn't safe", is_safe_page("<p onclick=alert()>a</p>"), False)
 check("a page that isn't UTF-8", is_safe_page(b"\xff"), False)
 check("a page of a wrong type", fault(is_safe_page, 3), (TypeError, "page must be str, bytes, bytearray or memoryview, not int"))
+
+check("decoded", (decode("a&amp;\\*&copy;"), decode(b"&lt;")), ("a&*©", b"<"))
+check("a label", (normalize_label(" Á\n b "), normalize_label(b"A")), ("á b", b"a"))
+check("a label that isn't UTF-8", fault(normalize_label, b"\xff"), (ValueError, "input is not UTF-8"))
 
 found = list(events("> # é *b*\n"))
 check("events", [(event.kind, event.name) for event in found[:3]], [("enter", "BlockQuote"), ("enter", "BlockQuotePrefix"), ("enter", "BlockQuoteMarker")])
