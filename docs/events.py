@@ -6,7 +6,7 @@ usage: docs/events.py            writes them
 
 The grammar is read from crates/event_grammar/src, the example's list from the stored run of crates/tests_events. Both ways
 fail where a name has no row and isn't void, or a row names what is no event; where the header for C, the specification of
-its numbers or the modules for Python and Rust have other names; where a number of the header isn't that of .ci/numbers, or
+its numbers or the modules for Python, Rust and JavaScript have other names; where a number of the header isn't that of .ci/numbers, or
 where code or a module has another one; and where a name that a list may have is in no stored run.
 """
 import glob
@@ -24,6 +24,7 @@ LISTS = {
     "crates/markdown_buffers/specs/EventNumbers.antt": r"(?m)^name_number names\.(\w+) = \d+$",
     "packaging/python/markdown_proved/_names.py": r"\b([A-Z]\w+)(?=[ \n])",
     "examples/rust/names.rs": r'"([A-Z]\w+)"',
+    "web/names.mjs": r"\b([A-Z]\w+)(?=[ \n])",
 }
 HEADER = os.path.join(TOP, "include", "markdown.h")
 # Modules that have numbers of the header.
@@ -67,8 +68,8 @@ def check_lists():
     """Fails where a list for C, Python or Rust has other names, or another order or number."""
     for path, form in LISTS.items():
         text = text_of(os.path.join(TOP, path))
-        if path.endswith(".py"):
-            text = re.search(r'EVENT_NAMES = """(.*?)"""', text, re.S)[1]
+        if path.endswith((".py", ".mjs")):
+            text = re.search(r'EVENT_NAMES = (?:"""|`)(.*?)(?:"""|`)', text, re.S)[1]
         if re.findall(form, text) != event_names():
             fail(f"{path} has other names of events than crates/engine_events/src/event.rt")
     header = re.findall(r'EACH\((\w+), "(\w+)", (\d+)\)', text_of(HEADER))

@@ -12,7 +12,7 @@ version=$(sed -n 's/^#define MARKDOWN_VERSION_TEXT "\(.*\)"$/\1/p' "$top/include
 scratch=$(mktemp -d)
 trap 'rm -rf "$scratch"' EXIT
 mkdir "$scratch/package"
-cp "$folder/markdown.wasm" "$folder/markdown.mjs" "$folder/markdown.d.mts" "$folder/NOTICES" "$top/LICENSE" \
+cp "$folder/markdown.wasm" "$folder/markdown.mjs" "$folder/names.mjs" "$folder/markdown.d.mts" "$folder/NOTICES" "$top/LICENSE" \
     "$top/packaging/node/README.md" "$top/packaging/node/cli.mjs" "$scratch/package"
 chmod +x "$scratch/package/cli.mjs"
 # An address that isn't given has no line.

@@ -23,15 +23,13 @@ export declare const MARK: 1024;
 /** GitHub Flavored Markdown: the sum of the flags that GitHub turns on. */
 export declare const GFM: 996;
 
-/** What differs from safe CommonMark. Each is off by default. */
-export interface Options {
-    /** A sum of flags, which the other options add to, or take from. */
+/** How a text is read. A construct that isn't given is on if CommonMark has it, or if another option turns it on. */
+export interface ReadOptions {
+    /** A sum of flags, to which the options below add. */
     flags?: number;
     /** What GitHub turns on: strikethrough, task list items, tables, links, footnotes, tag filter. */
     gfm?: boolean;
-    /** Keep HTML and every protocol of the input. Only for input from trusted authors. */
-    dangerous?: boolean;
-    /** Turn every construct off: the input is paragraphs. This wins over the options below. */
+    /** Turn every construct off: the input is paragraphs. This wins over the options below that have no name of a construct. */
     plain?: boolean;
     /** `~~a~~` and `~a~` are struck through. */
     strikethrough?: boolean;
@@ -47,29 +45,105 @@ export interface Options {
     autolinkLiterals?: boolean;
     /** `[^a]` calls the footnote that `[^a]: b` defines. */
     footnotes?: boolean;
-    /** With `dangerous`: escape `<` before nine names, as `script`. */
-    tagfilter?: boolean;
     /** `==a==` is marked text. */
     mark?: boolean;
+    /** One tilde strikes text, as in `~a~`. On by default. */
+    singleTilde?: boolean;
+    /** One dollar makes math, as in `$a$`. On by default. */
+    singleDollar?: boolean;
+    attention?: boolean;
+    autolink?: boolean;
+    blockQuote?: boolean;
+    characterEscape?: boolean;
+    characterReference?: boolean;
+    codeIndented?: boolean;
+    codeFenced?: boolean;
+    codeText?: boolean;
+    definition?: boolean;
+    gfmAutolinkLiteral?: boolean;
+    gfmFootnoteDefinition?: boolean;
+    gfmLabelStartFootnote?: boolean;
+    gfmStrikethrough?: boolean;
+    gfmTable?: boolean;
+    gfmTaskListItem?: boolean;
+    hardBreakEscape?: boolean;
+    hardBreakTrailing?: boolean;
+    headingAtx?: boolean;
+    headingSetext?: boolean;
+    htmlFlow?: boolean;
+    htmlText?: boolean;
+    labelStartImage?: boolean;
+    labelStartLink?: boolean;
+    labelEnd?: boolean;
+    listItem?: boolean;
+    mathFlow?: boolean;
+    mathText?: boolean;
+    thematicBreak?: boolean;
 }
 
-/** An instance of the library. It keeps nothing between calls. */
+/** How a text is read, and how its HTML is printed. */
+export interface Options extends ReadOptions {
+    /** Keep HTML and every protocol of the input. Only for input from trusted authors. */
+    dangerous?: boolean;
+    /** Keep HTML of the input. */
+    dangerousHtml?: boolean;
+    /** Keep every protocol of links and images. */
+    dangerousProtocol?: boolean;
+    /** Keep every protocol of images. */
+    anyImageProtocol?: boolean;
+    /** With HTML that is kept: escape `<` before nine names, as `script`. */
+    tagfilter?: boolean;
+    /** Check boxes of items aren't disabled. */
+    checkableTasks?: boolean;
+    /** What ends a line of the HTML if the input has no line ending. By default LF. */
+    lineEnding?: "\n" | "\r" | "\r\n";
+}
+
+/** Something begins or ends at a point of a text. */
+export interface Event<Text extends string | Uint8Array = string> {
+    readonly kind: "enter" | "exit";
+    /** What begins or ends: `Paragraph`, .. */
+    readonly name: string;
+    /** How many bytes of the text in UTF-8 are before. */
+    readonly offset: number;
+    /** The line, from 1. */
+    readonly line: number;
+    /** The column, from 1: a byte takes one, a tab goes to the next stop. */
+    readonly column: number;
+    /** Within the tab at `offset`: how many of its columns are before. Otherwise 0. */
+    readonly columns: number;
+    /** What is between the enter and the exit. */
+    readonly text: Text;
+}
+
+/**
+ * An instance of the library. It keeps nothing between calls. Texts are strings, or bytes in UTF-8; a lone surrogate in a string is
+ * converted to U+FFFD. Options are an object, or a sum of flags. Without options the HTML is safe to show.
+ *
+ * All calls throw a `TypeError` for an unknown option or one of a wrong type, and an `Error`: "wrong flags", "input is not UTF-8",
+ * "input is too large" or "out of memory".
+ */
 export interface Markdown {
     /** The version, as `0.1.0`. */
     readonly version: string;
-    /**
-     * Returns the HTML of `text`. Without options it is safe to show. A lone surrogate in `text` is converted to U+FFFD.
-     * @param options an object, or a sum of flags
-     * @throws TypeError for a text of another type, and for an unknown option or one of a wrong type
-     * @throws Error "wrong flags", "input is too large" or "out of memory"
-     */
+    /** Returns the HTML of `text`. */
     toHtml(text: string, options?: Options | number): string;
-    /**
-     * Returns the HTML of a text in UTF-8, in UTF-8.
-     * @param options an object, or a sum of flags
-     * @throws Error "input is not UTF-8", and as `toHtml`
-     */
+    /** Returns the HTML of a text in UTF-8, in UTF-8. */
     convert(text: Uint8Array, options?: Options | number): Uint8Array;
+    /**
+     * Returns whether `page` is HTML as the converter prints it without `dangerous`: known tags, each closed, with known attributes,
+     * and no script, whatever text it was made of.
+     */
+    isSafePage(page: string | Uint8Array): boolean;
+    /** Returns the events of `text`, in order: what begins and ends where. */
+    events<Text extends string | Uint8Array>(text: Text, options?: ReadOptions | number): Event<Text>[];
+    /**
+     * Returns what `text` stands for as a destination, a title or an info: escapes and character references are replaced, and
+     * spaces and tabs around line endings are dropped.
+     */
+    decode<Text extends string | Uint8Array>(text: Text): Text;
+    /** Returns the form in which a label, without its brackets, matches others: its case folded, and one space for white space. */
+    normalizeLabel<Text extends string | Uint8Array>(label: Text): Text;
 }
 
 /**

@@ -1,24 +1,42 @@
-// Markdown to HTML: the library as a WebAssembly module, for browsers and Node.
+// Markdown to HTML and to events: the library as a WebAssembly module, for browsers and Node.
 //
 //     import { load } from "./markdown.mjs";
 //     const markdown = await load();
 //     markdown.toHtml("# Hello, *world*", { gfm: true });
+import { EVENT_NAMES } from "./names.mjs";
 
 // Flags, to be added up. include/markdown.h says what each does.
 export const DANGEROUS = 1, PLAIN = 2, STRIKETHROUGH = 4, MATH = 8, FRONTMATTER = 16, TASK_LIST_ITEMS = 32, TABLES = 64;
 export const AUTOLINK_LITERALS = 128, FOOTNOTES = 256, TAGFILTER = 512, MARK = 1024;
 export const GFM = STRIKETHROUGH + TASK_LIST_ITEMS + TABLES + AUTOLINK_LITERALS + FOOTNOTES + TAGFILTER;
 
-// Options by their names. That of GitHub comes first, so that the others may turn off what it turns on.
+const OK = 0, ROOM = 1;
+const WRONG_FLAGS = "wrong flags", OUT_OF_MEMORY = "out of memory";
+const FAULTS = ["", "", "input is not UTF-8", WRONG_FLAGS, "input is too large", OUT_OF_MEMORY];
+
+// Options that are flags. That of GitHub comes first, so that the others may turn off what it turns on.
 const FLAGS = {
     gfm: GFM, dangerous: DANGEROUS, plain: PLAIN, strikethrough: STRIKETHROUGH, math: MATH, frontmatter: FRONTMATTER,
     taskListItems: TASK_LIST_ITEMS, tables: TABLES, autolinkLiterals: AUTOLINK_LITERALS, footnotes: FOOTNOTES,
     tagfilter: TAGFILTER, mark: MARK,
 };
-
-const OK = 0, ROOM = 1;
-const WRONG_FLAGS = "wrong flags", OUT_OF_MEMORY = "out of memory";
-const FAULTS = ["", "", "input is not UTF-8", WRONG_FLAGS, "input is too large", OUT_OF_MEMORY];
+// The constructs of the struct markdown_options, in the order of their numbers, and the flags that turn them on, if not all do.
+const CONSTRUCTS = {
+    attention: 0, autolink: 0, blockQuote: 0, characterEscape: 0, characterReference: 0, codeIndented: 0, codeFenced: 0,
+    codeText: 0, definition: 0, frontmatter: FRONTMATTER, gfmAutolinkLiteral: AUTOLINK_LITERALS, gfmFootnoteDefinition: FOOTNOTES,
+    gfmLabelStartFootnote: FOOTNOTES, gfmStrikethrough: STRIKETHROUGH, gfmTable: TABLES, gfmTaskListItem: TASK_LIST_ITEMS,
+    hardBreakEscape: 0, hardBreakTrailing: 0, headingAtx: 0, headingSetext: 0, htmlFlow: 0, htmlText: 0, labelStartImage: 0,
+    labelStartLink: 0, labelEnd: 0, listItem: 0, mark: MARK, mathFlow: MATH, mathText: MATH, thematicBreak: 0,
+};
+// The switches of that struct, in the order of their numbers, and the flags that turn them on; 0 is never, -1 always.
+const SWITCHES = {
+    anyImageProtocol: 0, dangerousHtml: DANGEROUS, dangerousProtocol: DANGEROUS, tagfilter: TAGFILTER, checkableTasks: 0,
+    singleTilde: -1, singleDollar: -1,
+};
+const LINE_ENDINGS = ["\n", "\r", "\r\n"];
+const NAMES = new Set(["lineEnding", ...Object.keys(FLAGS), ...Object.keys(CONSTRUCTS), ...Object.keys(SWITCHES)]);
+// The sizes of structs.
+const OPTIONS_SIZE = 104, EVENT_SIZE = 32;
 
 // A page of WebAssembly's memory.
 const PAGE = 65536;
@@ -29,23 +47,6 @@ const encoder = new TextEncoder();
 const decoder = new TextDecoder("utf-8", { ignoreBOM: true });
 
 const roundUp = (n, to) => Math.ceil(n / to) * to;
-
-// Returns the sum of flags of options: an object, or a sum.
-function flagsOf(options = {}) {
-    const given = typeof options === "number" ? { flags: options } : options;
-    if (given === null || typeof given !== "object") throw new TypeError("options must be an object or a sum of flags");
-    for (const [name, value] of Object.entries(given)) {
-        if (name === "flags" || value === undefined) continue;
-        if (!Object.keys(FLAGS).includes(name)) throw new TypeError(`unknown option ${name}`);
-        if (typeof value !== "boolean") throw new TypeError(`${name} must be a boolean`);
-    }
-    const { flags = 0 } = given;
-    if (flags >>> 0 !== flags) throw new Error(WRONG_FLAGS);
-    return Object.entries(FLAGS).reduce((sum, [name, flag]) => {
-        if (given[name] === undefined) return sum;
-        return given[name] ? sum | flag : sum & ~flag;
-    }, flags);
-}
 
 // A heap in the module's own memory. Only the block allocated last is freed by itself: a call keeps nothing, so `reset` frees
 // everything before the next one.
@@ -119,6 +120,99 @@ class Heap {
     }
 }
 
+// What begins or ends at a point of a text.
+class Event {
+    #list;
+    #index;
+
+    constructor(list, index, view) {
+        this.#list = list;
+        this.#index = index;
+        this.kind = view.getUint8(26) === 0 ? "enter" : "exit";
+        this.name = EVENT_NAMES[view.getUint16(24, true)];
+        this.offset = integer(view, 0);
+        this.line = integer(view, 8);
+        this.column = integer(view, 16);
+        this.columns = view.getUint8(27);
+    }
+
+    get text() {
+        const other = this.#list[others(this.#list)[this.#index]].offset;
+        return sourceOf.get(this.#list).part(Math.min(this.offset, other), Math.max(this.offset, other));
+    }
+}
+
+// The texts of lists of events, and for each event the index of its exit or enter.
+const sourceOf = new WeakMap(), othersOf = new WeakMap();
+
+function others(list) {
+    let found = othersOf.get(list);
+    if (found === undefined) {
+        const entered = [];
+        found = new Uint32Array(list.length);
+        list.forEach((event, index) => {
+            if (event.kind === "enter") entered.push(index);
+            else {
+                const start = entered.pop();
+                found[start] = index;
+                found[index] = start;
+            }
+        });
+        othersOf.set(list, found);
+    }
+    return found;
+}
+
+const integer = (view, at) => Number(view.getBigUint64(at, true));
+
+// A text as it was given, in UTF-8.
+class Source {
+    constructor(text) {
+        this.isString = typeof text === "string";
+        if (!this.isString && !(text instanceof Uint8Array)) throw new TypeError("the text must be a string or a Uint8Array");
+        this.bytes = this.isString ? encoder.encode(text) : text;
+    }
+
+    part(start, end) {
+        return this.isString ? decoder.decode(this.bytes.subarray(start, end)) : this.bytes.slice(start, end);
+    }
+}
+
+// The numbers that are turned on by flags or by options of their own, added up.
+function numbers(table, flags, options) {
+    return Object.entries(table).reduce((sum, [name, flag], place) => {
+        const own = name in FLAGS ? undefined : options[name]; // a construct's own name wins over plain
+        const isOn = own ?? (flag === -1 || (flag !== 0 && (flags & flag) !== 0));
+        return isOn ? sum + 2 ** place : sum;
+    }, 0);
+}
+
+// The numbers of the struct markdown_options. Its texts are the default ones: others would need the heap of the C library.
+function read(options) {
+    const given = typeof options === "number" ? { flags: options } : options ?? {};
+    if (typeof given !== "object") throw new TypeError("options must be an object or a sum of flags");
+    let flags = given.flags ?? 0;
+    if (flags >>> 0 !== flags || flags >= 2 * MARK) throw new Error(WRONG_FLAGS);
+    for (const [name, value] of Object.entries(given)) {
+        if (name === "flags" || value === undefined) continue;
+        if (!NAMES.has(name)) throw new TypeError(`unknown option ${name}`);
+        const type = name === "lineEnding" ? "string" : "boolean";
+        if (typeof value !== type) throw new TypeError(`${name} must be a ${type}`);
+    }
+    for (const [name, flag] of Object.entries(FLAGS)) {
+        if (given[name] !== undefined) flags = given[name] ? flags | flag : flags & ~flag;
+    }
+    const ending = LINE_ENDINGS.indexOf(given.lineEnding ?? "\n");
+    if (ending < 0) throw new TypeError("lineEnding must be LF, CR or both");
+    const core = Object.fromEntries(Object.entries(CONSTRUCTS).map(([name, flag]) => [name, flag || -1]));
+    const none = Object.fromEntries(Object.keys(CONSTRUCTS).map(name => [name, 0]));
+    return {
+        constructs: numbers(flags & PLAIN ? none : core, flags, given),
+        switches: numbers(SWITCHES, flags, given),
+        ending,
+    };
+}
+
 class Markdown {
     #module;
     #heap;
@@ -140,12 +234,49 @@ class Markdown {
     }
 
     convert(text, options) {
-        if (!(text instanceof Uint8Array)) throw new TypeError("the text must be a Uint8Array");
-        const flags = flagsOf(options) >>> 0;
+        const { bytes } = new Source(text);
+        const room = bytes.length + Math.ceil(bytes.length / 4) + 64;
+        const { constructs, switches, ending } = read(options);
+        return this.#call("markdown_convert_by_numbers", bytes, [BigInt(constructs), switches, ending], [{ size: 1, room }])[0];
+    }
+
+    isSafePage(page) {
+        const number = this.#call("markdown_check_page", new Source(page).bytes, null, [], 4);
+        return number[0] === 1;
+    }
+
+    events(text, options) {
+        const source = new Source(text);
+        const room = (source.bytes.length >> 1) + 64; // READMEs have an event for three bytes
+        const [array] = this.#call("markdown_list_events_with", source.bytes, read(options), [{ size: EVENT_SIZE, room }]);
+        const list = [];
+        for (let at = 0; at < array.length; at += EVENT_SIZE) list.push(new Event(list, list.length, new DataView(array.buffer, at)));
+        sourceOf.set(list, source);
+        return list;
+    }
+
+    decode(text) {
+        return this.#changed("markdown_decode", text);
+    }
+
+    normalizeLabel(label) {
+        return this.#changed("markdown_normalize_label", label);
+    }
+
+    #changed(name, text) {
+        const source = new Source(text);
+        const room = source.bytes.length + (source.bytes.length >> 2) + 64;
+        const [bytes] = this.#call(name, source.bytes, null, [{ size: 1, room }]);
+        return source.isString ? decoder.decode(bytes) : bytes;
+    }
+
+    // Calls a function of the library with a text, options or numbers if it takes some, arrays to be filled and a number of this size, and
+    // returns these arrays, or the number's bytes.
+    #call(name, text, options, arrays, number = 0) {
         try {
-            const html = this.#convert(text, flags);
+            const filled = this.#filled(this.#exports[name], text, options, arrays, number);
             if (this.#exports.memory.buffer.byteLength > KEPT) this.#replace();
-            return html;
+            return filled;
         } catch (fault) {
             // After a trap, as a stack overflow, the instance can't be used again.
             this.#replace();
@@ -153,20 +284,52 @@ class Markdown {
         }
     }
 
-    #convert(text, flags) {
-        const { memory, markdown_convert } = this.#exports;
-        let room = text.length + Math.ceil(text.length / 4) + 64;
+    #filled(call, text, options, arrays, number) {
         for (;;) {
             this.#heap.reset();
-            const [length, from, to] = [8, text.length, room].map(size => this.#heap.allocate(size));
-            if (length === null || from === null || to === null) throw new Error(OUT_OF_MEMORY);
-            new Uint8Array(memory.buffer).set(text, from);
-            const status = markdown_convert(BigInt(from), BigInt(text.length), flags, BigInt(to), BigInt(room), BigInt(length));
-            const size = Number(new DataView(memory.buffer).getBigUint64(length, true));
-            if (status === OK) return new Uint8Array(memory.buffer).slice(to, to + size);
+            const words = [this.#put(text), BigInt(text.length)];
+            if (Array.isArray(options)) words.push(...options);
+            else if (options !== null) words.push(this.#putOptions(options));
+            const places = arrays.map(({ size, room }) => ({ at: this.#reserve(size * room), used: this.#reserve(8) }));
+            arrays.forEach(({ room }, index) => words.push(places[index].at, BigInt(room), places[index].used));
+            const out = number === 0 ? [] : [this.#reserve(number)];
+            const status = call(...words, ...out);
+            const bytes = new Uint8Array(this.#exports.memory.buffer);
+            const part = (at, size) => bytes.slice(Number(at), Number(at) + size);
+            const used = places.map(place => integer(new DataView(bytes.buffer), Number(place.used)));
+            if (status === OK && number !== 0) return part(out[0], number);
+            if (status === OK) return arrays.map(({ size }, index) => part(places[index].at, used[index] * size));
             if (status !== ROOM) throw new Error(FAULTS[status]);
-            room = size;
+            arrays.forEach((array, index) => (array.room = Math.max(array.room, used[index])));
         }
+    }
+
+    // The address of a new block of the module's memory.
+    #reserve(size) {
+        const at = this.#heap.allocate(size);
+        if (at === null) throw new Error(OUT_OF_MEMORY);
+        return BigInt(at);
+    }
+
+    #put(bytes) {
+        const at = this.#reserve(bytes.length);
+        new Uint8Array(this.#exports.memory.buffer).set(bytes, Number(at));
+        return at;
+    }
+
+    // (Calls that take the struct read no texts of it; each is empty here.)
+    #putOptions({ constructs, switches, ending }) {
+        const at = this.#reserve(OPTIONS_SIZE);
+        const view = new DataView(this.#exports.memory.buffer, Number(at));
+        view.setBigUint64(0, BigInt(OPTIONS_SIZE), true);
+        view.setBigUint64(8, BigInt(constructs), true);
+        view.setUint32(16, switches, true);
+        view.setUint32(20, ending, true);
+        for (let text = 24; text < OPTIONS_SIZE; text += 16) {
+            view.setBigUint64(text, at, true);
+            view.setBigUint64(text + 8, 0n, true);
+        }
+        return at;
     }
 
     #use(heap, instance) {

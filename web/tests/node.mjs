@@ -29,6 +29,8 @@ function fault(call) {
     }
 }
 
+const same = (what, found, wanted) => check(`${what}: ${JSON.stringify(found)}`, JSON.stringify(found) === JSON.stringify(wanted));
+
 // The examples are in the tests as rows `(TEXT, HTML)`, with the escapes of Rust.
 const ROW = /\(\s*"((?:[^"\\]|\\.)*)",\s*"((?:[^"\\]|\\.)*)",?\s*\)/gs;
 const ESCAPES = { n: "\n", t: "\t", r: "\r", 0: "\0", "\\": "\\", '"': '"' };
@@ -52,11 +54,29 @@ check("safe", markdown.toHtml("<b>a</b> [b](javascript:c)") === '<p>&lt;b&gt;a&l
 check("plain", markdown.toHtml("# a", PLAIN) === "<p># a</p>");
 check("an empty text", markdown.toHtml("") === "");
 check("a page far longer than its text", markdown.toHtml('"'.repeat(1000)) === `<p>${"&quot;".repeat(1000)}</p>`);
-check("options", markdown.toHtml("~~a~~ www.b.c", { gfm: true, autolinkLiterals: false }) === "<p><del>a</del> www.b.c</p>");
-check("flags and options", markdown.toHtml("~~a~~ ==b==", { flags: GFM, mark: true }) === "<p><del>a</del> <mark>b</mark></p>");
-check("an unknown option", fault(() => markdown.toHtml("", { gmf: true })) === "unknown option gmf");
-check("an option of a wrong type", fault(() => markdown.toHtml("", { gfm: 1 })) === "gfm must be a boolean");
-check("a text of a wrong type", fault(() => markdown.toHtml(3)) === "the text must be a string");
+same("options", markdown.toHtml("~~a~~ www.b.c", { gfm: true, autolinkLiterals: false }), "<p><del>a</del> www.b.c</p>");
+same("flags and options", markdown.toHtml("~~a~~ $b$", { flags: GFM, mathText: true }), '<p><del>a</del> <code class="language-math math-inline">b</code></p>');
+same("a construct that is off", markdown.toHtml("# a\n\n*b*", { headingAtx: false }), "<p># a</p>\n<p><em>b</em></p>");
+same("a construct beside plain", markdown.toHtml("# *a*", { plain: true, headingAtx: true }), "<h1>*a*</h1>");
+same("one tilde", markdown.toHtml("~a~", { strikethrough: true, singleTilde: false }), "<p>~a~</p>");
+same("HTML without protocols", markdown.toHtml("<b> [c](d:e)", { dangerousHtml: true }), '<p><b> <a href="">c</a></p>');
+same("a line ending", markdown.toHtml("- a", { lineEnding: "\r\n" }), "<ul>\r\n<li>a</li>\r\n</ul>");
+same("checkable tasks", markdown.toHtml("- [ ] a", { gfm: true, checkableTasks: true }), '<ul>\n<li><input type="checkbox" /> a</li>\n</ul>');
+same("a text among options", fault(() => markdown.toHtml("", { prefix: "a" })), "unknown option prefix");
+same("an unknown option", fault(() => markdown.toHtml("", { gmf: true })), "unknown option gmf");
+same("an option of a wrong type", fault(() => markdown.toHtml("", { gfm: 1 })), "gfm must be a boolean");
+same("a text of a wrong type", fault(() => markdown.events(3)), "the text must be a string or a Uint8Array");
+same("a safe page", [markdown.toHtml("<script> [a](javascript:b)"), "<p onclick=alert()>a</p>"].map(page => markdown.isSafePage(page)), [true, false]);
+
+const events = markdown.events("> # é *b*\n").filter(event => event.name === "Emphasis");
+same("events", events.map(({ kind, offset, line, column, columns, text }) => [kind, offset, line, column, columns, text]), [
+    ["enter", 7, 1, 8, 0, "*b*"], ["exit", 10, 1, 11, 0, "*b*"],
+]);
+same("texts of bytes", [...markdown.events(new TextEncoder().encode("é *b*")).find(event => event.name === "Emphasis").text], [42, 98, 42]);
+same("decoded", markdown.decode("a&amp;\\*&copy;"), "a&*©");
+same("a label", markdown.normalizeLabel(" Á\n b "), "á b");
+check("many events", markdown.events("*a* ".repeat(20000)).length > 200000);
+
 check("wrong flags", fault(() => markdown.toHtml("a", 2048)) === "wrong flags" && fault(() => markdown.toHtml("a", 2 ** 32)) === "wrong flags");
 check("no UTF-8", fault(() => markdown.convert(new Uint8Array([97, 255]))) === "input is not UTF-8");
 
