@@ -278,7 +278,7 @@ uint32_t markdown_convert_with(const unsigned char *text, size_t text_length, co
                                unsigned char *buffer, size_t room, size_t *length);
 
 /* Converts the text_length bytes at text into HTML by numbers of options, with the default texts, as markdown_convert_with does.
- * It needs no struct: a sum of constructs, a sum of switches, and a line ending. WebAssembly has this call alone. */
+ * It needs no struct: a sum of constructs, a sum of switches, and a line ending. The JavaScript module calls it. */
 uint32_t markdown_convert_by_numbers(const unsigned char *text, size_t text_length, uint64_t constructs, uint32_t switches,
                                      uint32_t default_line_ending, unsigned char *buffer, size_t room, size_t *length);
 

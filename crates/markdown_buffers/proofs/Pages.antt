@@ -1,5 +1,5 @@
 -- What a call for a page leaves in a buffer, status by status.
-use Rattle.std.proofs.Common.{◌≡◌, ◌≤◌, ◌<◌, ◌++◌, ℕ, List, length, drop, refl, sym, ap, subst, arith}
+use Rattle.std.proofs.Common.{◌≡◌, ◌≤◌, ◌<◌, ◌++◌, ℕ, List, length, drop, refl, sym, subst, arith}
 use Rattle.markdown_options.specs.declared.configuration.Options.{Options}
 use Rattle.markdown_definition.specs.Html.{html}
 use Rattle.markdown_tables.specs.Builtin.{builtin_tables}

@@ -1,5 +1,5 @@
 -- Which status comes of which cause.
-use Rattle.std.proofs.Common.{◌≡◌, ◌≤◌, ◌<◌, ◌*◌, ◌^◌, ◌-◌, ℕ, List, length, arith}
+use Rattle.std.proofs.Common.{◌≡◌, ◌≤◌, ◌*◌, ◌^◌, ◌-◌, ℕ, List, length, arith}
 use Rattle.std.specs.Str.{IsUtf8}
 use Rattle.markdown_buffers.specs.Statuses.{IsTooLong, NamesCause}
 

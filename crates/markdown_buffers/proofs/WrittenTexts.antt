@@ -1,5 +1,5 @@
 -- What a call for a string or a label leaves in a buffer, status by status.
-use Rattle.std.proofs.Common.{◌≡◌, ◌≤◌, ◌<◌, ◌++◌, ℕ, List, length, drop, arith}
+use Rattle.std.proofs.Common.{◌≡◌, ◌≤◌, ℕ, List, length, arith}
 use Rattle.std.specs.Str.{IsUtf8}
 use Rattle.markdown_buffers.specs.Pages.{HoldsPage}
 use Rattle.markdown_buffers.specs.Texts.{StoresText}

@@ -1,5 +1,5 @@
 -- The options that a struct of C stands for.
-use Rattle.std.proofs.Common.{◌≡◌, ℕ, ap, ◌∙◌, option_map}
+use Rattle.std.proofs.Common.{◌≡◌, ap, ◌∙◌, option_map}
 use Rattle.std.specs.Prelude.{codes, string_bytes}
 use Rattle.markdown_options.specs.declared.configuration.Options.{Options}
 use Rattle.markdown_c_options.specs.declared.flat_options.FlatOptions.{FlatOptions}

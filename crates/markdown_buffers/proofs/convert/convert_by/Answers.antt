@@ -1,4 +1,4 @@
-use Rattle.std.proofs.Common.{rules, ◌≡◌, ◌<◌, ◌≤◌, ◌++◌, ap, ◌∙◌, arith, refl, drop, length, string_bytes}
+use Rattle.std.proofs.Common.{rules, ◌≡◌, ◌<◌, ◌≤◌, ap, ◌∙◌, refl, length, string_bytes}
 use Rattle.markdown_definition.specs.Html.{html}
 use Rattle.markdown_tables.specs.Builtin.{builtin_tables}
 use Rattle.markdown_buffers.proofs.Pages.{page_in_buffer, page_without_room}

@@ -1,4 +1,4 @@
-use Rattle.std.proofs.Common.{rules, ◌≡◌, ap, ◌∙◌, subst, length}
+use Rattle.std.proofs.Common.{◌≡◌, ap, ◌∙◌, subst, length}
 use Rattle.markdown_buffers.specs.Pages.{HoldsPage}
 use Rattle.markdown_buffers.specs.Texts.{decoded}
 use Rattle.markdown_buffers.proofs.WrittenTexts.{text_written}

@@ -1,4 +1,4 @@
-use Rattle.std.proofs.Common.{rules, ◌≡◌, ap, ◌∙◌, subst, length}
+use Rattle.std.proofs.Common.{◌≡◌, ap, ◌∙◌, subst, length}
 use Rattle.definition_text.specs.Content.{content_codes}
 use Rattle.definition_inline.specs.LabelMatch.{normal_label}
 use Rattle.markdown_buffers.specs.Pages.{HoldsPage}
