@@ -1,13 +1,10 @@
-//! The rules of the linter: what is wrong or unwise in a text, found in its events.
+//! What the rules of the linter find in a text: all rules that are on, and the comments that turn rules
+//! off.
 #![tactic(auto)]
 
-mod document;
-mod finding;
-mod label;
-mod place;
-mod rules;
+pub mod rules;
+mod silence;
 
-pub use document::Document;
-pub use finding::Finding;
-pub use place::Place;
-pub use rules::{RULES, Rule, findings_of};
+pub use lint_document::{Columns, Document, Finding, Place, Places, Rule, RuleSet, Span};
+pub use lint_links::Folder;
+pub use rules::{Settings, findings_of, right_numbers};

@@ -1,116 +1,85 @@
-//! The table of rules. Each rule is a file of its own.
-mod bare_url;
-mod duplicate_heading;
-mod heading_increment;
-mod list_marker;
-mod no_alt_text;
-mod tab_indent;
-mod trailing_spaces;
-mod undefined_reference;
-mod unused_definition;
-
-use crate::document::Document;
-use crate::finding::{Finding, Report};
+//! Which rules there are, and what they find.
+use crate::silence::without_silenced;
+use lint_blanks::{
+    blank_lines, fence_blank_lines, final_newline, heading_blank_lines, list_blank_lines,
+    tab_indent, trailing_spaces,
+};
+use lint_document::{Document, Finding, Report, Rule, RuleSet};
+use lint_headings::{duplicate_heading, heading_increment, heading_punctuation, second_title};
+use lint_links::{Folder, bare_url, empty_link, missing_file, missing_fragment, no_alt_text};
+use lint_lists::{list_indent, list_marker, list_numbers, nested_list_indent};
+use lint_raw::{code_language, raw_html, switches};
+use lint_references::{undefined_reference, unused_definition};
 use std::alloc::{AllocError, Global};
 
-/// A rule: a row of the table.
-#[derive(Clone, Copy, Debug)]
-pub struct Rule {
-    /// Its name in findings.
-    pub name: &'static str,
-    /// What it finds.
-    pub finds: &'static str,
-    /// How it is checked.
-    check: Check,
+/// What is to be found.
+#[derive(Clone, Copy)]
+pub struct Settings {
+    /// The rules that are on.
+    pub rules: RuleSet,
+    /// Whether headings of different sections may have the same text.
+    pub siblings: bool,
 }
 
-/// All rules, in the order of their findings at one place. A new rule is a file, a row here, and its
-/// function in `Check::run`.
-pub const RULES: [Rule; 9] = [
-    Rule {
-        name: "heading-increment",
-        finds: "a heading whose rank is more than one above that of the heading before",
-        check: Check::HeadingIncrement,
-    },
-    Rule {
-        name: "duplicate-heading",
-        finds: "a heading with the same text as an earlier one",
-        check: Check::DuplicateHeading,
-    },
-    Rule {
-        name: "bare-url",
-        finds: "a URL in text that is no link",
-        check: Check::BareUrl,
-    },
-    Rule {
-        name: "undefined-reference",
-        finds: "a reference or footnote call without a definition",
-        check: Check::UndefinedReference,
-    },
-    Rule {
-        name: "unused-definition",
-        finds: "a definition of a link or a footnote that nothing refers to",
-        check: Check::UnusedDefinition,
-    },
-    Rule {
-        name: "no-alt-text",
-        finds: "an image without a description",
-        check: Check::NoAltText,
-    },
-    Rule {
-        name: "trailing-spaces",
-        finds: "spaces or tabs at the end of a line that are no hard break",
-        check: Check::TrailingSpaces,
-    },
-    Rule {
-        name: "tab-indent",
-        finds: "a tab in the indent of a line",
-        check: Check::TabIndent,
-    },
-    Rule {
-        name: "list-marker",
-        finds: "a list right after a list with another marker",
-        check: Check::ListMarker,
-    },
-];
-
-/// The function of a rule, by its file.
-#[derive(Clone, Copy, Debug)]
-enum Check {
-    HeadingIncrement,
-    DuplicateHeading,
-    BareUrl,
-    UndefinedReference,
-    UnusedDefinition,
-    NoAltText,
-    TrailingSpaces,
-    TabIndent,
-    ListMarker,
-}
-
-impl Check {
-    /// Reports what the rule finds in a document.
-    fn run(self, document: &Document<'_>, report: &mut Report) -> Result<(), AllocError> {
-        match self {
-            Check::HeadingIncrement => heading_increment::check(document, report),
-            Check::DuplicateHeading => duplicate_heading::check(document, report),
-            Check::BareUrl => bare_url::check(document, report),
-            Check::UndefinedReference => undefined_reference::check(document, report),
-            Check::UnusedDefinition => unused_definition::check(document, report),
-            Check::NoAltText => no_alt_text::check(document, report),
-            Check::TrailingSpaces => trailing_spaces::check(document, report),
-            Check::TabIndent => tab_indent::check(document, report),
-            Check::ListMarker => list_marker::check(document, report),
+/// What the rules find in a document, which is in a folder, by where it is; at one place in the order of
+/// the rules.
+pub fn findings_of<F: Folder>(
+    alloc: Global,
+    document: &Document<'_>,
+    settings: &Settings,
+    folder: &F,
+) -> Result<Vec<Finding>, AllocError> {
+    let mut report = Report::new(alloc);
+    for rule in Rule::ALL {
+        if settings.rules.has(rule) {
+            report.begin(rule);
+            check(rule, document, settings, folder, &mut report)?;
         }
     }
+    without_silenced(alloc, report.into_findings()?, &switches(alloc, document)?)
 }
 
-/// What the rules find in a document, by line and column; at one place in the order of the table.
-pub fn findings_of(alloc: Global, document: &Document<'_>) -> Result<Vec<Finding>, AllocError> {
+/// The numbers of items that `list-numbers` would find, one after the other, if each was mended; but for those
+/// where comments turn that rule off. The words of a finding are the number that the item should have.
+pub fn right_numbers(alloc: Global, document: &Document<'_>) -> Result<Vec<Finding>, AllocError> {
     let mut report = Report::new(alloc);
-    for rule in RULES {
-        report.begin(rule.name);
-        rule.check.run(document, &mut report)?;
+    report.begin(Rule::ListNumbers);
+    list_numbers::renumber(document, &mut report)?;
+    without_silenced(alloc, report.into_findings()?, &switches(alloc, document)?)
+}
+
+/// Reports what a rule finds.
+fn check<F: Folder>(
+    rule: Rule,
+    document: &Document<'_>,
+    settings: &Settings,
+    folder: &F,
+    report: &mut Report,
+) -> Result<(), AllocError> {
+    match rule {
+        Rule::HeadingIncrement => heading_increment::check(document, report),
+        Rule::DuplicateHeading => duplicate_heading::check(document, settings.siblings, report),
+        Rule::SecondTitle => second_title::check(document, report),
+        Rule::HeadingPunctuation => heading_punctuation::check(document, report),
+        Rule::HeadingBlankLines => heading_blank_lines::check(document, report),
+        Rule::FenceBlankLines => fence_blank_lines::check(document, report),
+        Rule::ListBlankLines => list_blank_lines::check(document, report),
+        Rule::BlankLines => blank_lines::check(document, report),
+        Rule::FinalNewline => final_newline::check(document, report),
+        Rule::TrailingSpaces => trailing_spaces::check(document, report),
+        Rule::TabIndent => tab_indent::check(document, report),
+        Rule::ListMarker => list_marker::check(document, report),
+        Rule::ListIndent => list_indent::check(document, report),
+        Rule::NestedListIndent => nested_list_indent::check(document, report),
+        Rule::ListNumbers => list_numbers::check(document, report),
+        Rule::RawHtml => raw_html::check(document, report),
+        Rule::CodeLanguage => code_language::check(document, report),
+        Rule::BareUrl => bare_url::check(document, report),
+        Rule::NoAltText => no_alt_text::check(document, report),
+        Rule::EmptyLink => empty_link::check(document, report),
+        Rule::MissingFragment => missing_fragment::check(document, report),
+        Rule::MissingFile => missing_file::check(document, folder, report),
+        Rule::UndefinedReference => undefined_reference::check(document, report),
+        Rule::UnusedDefinition => unused_definition::check(document, report),
     }
-    report.into_findings()
 }

@@ -1,35 +1,111 @@
 //! Files and their findings.
 use crate::outcome::Outcome;
-use lint_rules::{Document, Finding, findings_of};
-use markdown_input::{Fault, Flags, text};
+use lint_events::events_of;
+use lint_files::{FolderOf, markdown_files};
+use lint_output::{Form, write_findings};
+use lint_rules::{Document, Finding, Settings, findings_of};
+use lint_settings::Options;
+use markdown_input::{Fault, STANDARD_INPUT, text};
 use markdown_tables::Builtin;
-use parse_events::{SIZE_MAX, parse};
-use std::alloc::Global;
-use std::io::{self, BufWriter, Write};
+use std::io::{BufWriter, Write};
+use std::path::Path;
 
-/// Checks files, and prints what is found in them. A file that can't be checked is named on
-/// standard error, and the others are checked all the same.
-pub(crate) fn lint_files(rt: &HostRuntime, flags: Flags, names: &[&str]) -> Result<Outcome, Fault> {
-    let mut writer = BufWriter::new(rt.alloc(), rt.stdout()).map_err(|error| Fault::writing(
-        &error,
-    ))?;
-    let mut outcome = Outcome::Clean;
-    for name in names {
-        match findings_in(rt, flags, name) {
-            Ok(findings) => {
-                write_findings(&mut writer, name, &findings).map_err(|error| Fault::writing(
-                    &error,
-                ))?;
-                outcome = outcome.and(outcome_of(&findings));
-            }
-            Err(fault) => {
-                let _ = eprintln!(rt; "markdown-lint: {name}: {}", fault.words());
-                outcome = Outcome::Fault;
-            }
+/// How files are checked.
+#[derive(Drop)]
+pub(crate) struct Lint<'a> {
+    pub(crate) rt: &'a HostRuntime,
+    pub(crate) options: Options,
+    /// Whether findings are printed as JSON.
+    pub(crate) json: bool,
+}
+
+impl Lint<'_> {
+    /// Checks files and folders, and prints what is found in them. One that can't be checked is named on
+    /// standard error, and the others are checked all the same.
+    pub(crate) fn check_all(&self, names: &[&str]) -> Result<Outcome, Fault> {
+        let mut writer = match BufWriter::new(self.rt.alloc(), self.rt.stdout()) {
+            Ok(writer) => writer,
+            Err(error) => return Err(Fault::writing(&error)),
+        };
+        let mut outcome = Outcome::Clean;
+        for name in names {
+            outcome = outcome.and(self.check_name(name, &mut writer)?);
+        }
+        match writer.flush() {
+            Ok(()) => Ok(outcome),
+            Err(error) => Err(Fault::writing(&error)),
         }
     }
-    writer.flush().map_err(|error| Fault::writing(&error))?;
-    Ok(outcome)
+
+    /// Checks a file, or the files below a folder.
+    fn check_name<W: Write>(&self, name: &str, writer: &mut W) -> Result<Outcome, Fault> {
+        if name == STANDARD_INPUT || !Path::new(name).is_dir(self.rt) {
+            return self.check_file(name, writer);
+        }
+        let files = match markdown_files(self.rt, name) {
+            Ok(files) => files,
+            Err(error) => return Ok(self.fault(name, Fault::reading(&error))),
+        };
+        let mut outcome = Outcome::Clean;
+        for file in &files {
+            outcome = outcome.and(self.check_file(file.as_str(), writer)?);
+        }
+        Ok(outcome)
+    }
+
+    /// Names a file that can't be checked.
+    fn fault(&self, name: &str, fault: Fault) -> Outcome {
+        let rt = self.rt;
+        let _ = eprintln!(rt; "markdown-lint: {name}: {}", fault.words());
+        Outcome::Fault
+    }
+
+    /// Checks a file, or standard input. Fails if the findings can't be written.
+    fn check_file<W: Write>(&self, name: &str, writer: &mut W) -> Result<Outcome, Fault> {
+        let text = match text(self.rt, name) {
+            Ok(text) => text,
+            Err(fault) => return Ok(self.fault(name, fault)),
+        };
+        let findings = match self.findings(name, text.as_str()) {
+            Ok(findings) => findings,
+            Err(fault) => return Ok(self.fault(name, fault)),
+        };
+        let form = Form {
+            columns: self.options.columns,
+            json: self.json,
+        };
+        match write_findings(
+            self.rt.alloc(),
+            writer,
+            form,
+            name,
+            text.as_str(),
+            &findings,
+        ) {
+            Ok(()) => Ok(outcome_of(&findings)),
+            Err(error) => Err(Fault::writing(&error)),
+        }
+    }
+
+    /// The findings of a text. Fails with `Size` or `Memory`.
+    fn findings(&self, name: &str, text: &str) -> Result<Vec<Finding>, Fault> {
+        let flags = self.options.flags;
+        let events = events_of(self.rt.alloc(), text, &flags.options(), &Builtin)?;
+        let document = Document {
+            bytes: text.as_bytes(),
+            events: &events,
+            gfm: flags.gfm,
+        };
+        let settings = Settings {
+            rules: self.options.rules(),
+            siblings: self.options.siblings,
+        };
+        let folder = FolderOf {
+            rt: self.rt,
+            file: name,
+        };
+        Ok(findings_of(self.rt.alloc(), &document, &settings, &folder)?)
+    }
 }
 
 fn outcome_of(findings: &[Finding]) -> Outcome {
@@ -38,35 +114,4 @@ fn outcome_of(findings: &[Finding]) -> Outcome {
     } else {
         Outcome::Findings
     }
-}
-
-/// Writes findings, one a line, after the name of their file.
-fn write_findings<W: Write>(writer: &mut W, name: &str, findings: &[Finding]) -> io::Result<()> {
-    for finding in findings {
-        writeln!(writer, "{name}:{finding}")?;
-    }
-    Ok(())
-}
-
-/// The findings of a file, or of standard input.
-fn findings_in(rt: &HostRuntime, flags: Flags, name: &str) -> Result<Vec<Finding>, Fault> {
-    let text = text(rt, name)?;
-    lint(rt.alloc(), flags, &text)
-}
-
-/// The findings of a text. Fails with `Size` or `Memory`.
-fn lint(alloc: Global, flags: Flags, text: &str) -> Result<Vec<Finding>, Fault> {
-    if text.len() > SIZE_MAX {
-        return Err(Fault::Size);
-    }
-    let options = flags.options();
-    let Ok((events, _)) = parse(alloc, text, &options, &Builtin) else {
-        return Err(Fault::Memory);
-    };
-    let document = Document {
-        bytes: text.as_bytes(),
-        events: &events,
-        gfm: flags.gfm,
-    };
-    Ok(findings_of(alloc, &document)?)
 }

@@ -1,15 +1,15 @@
 //! Finds what is wrong or unwise in Markdown: one finding a line, `FILE:LINE:COLUMN: WHAT (RULE)`.
 #![tactic(auto)]
 
-mod command;
 mod lint;
 mod outcome;
+mod settings;
 
-use command::Command;
-use lint::lint_files;
-use markdown_input::{Fault, words};
+use lint::Lint;
+use lint_settings::{Refusal, Request};
+use markdown_input::{Fault, STANDARD_INPUT, words};
 use outcome::Outcome;
-use std::io;
+use settings::options;
 use std::process::ExitCode;
 
 fn main(rt: HostRuntime) -> ExitCode {
@@ -23,15 +23,39 @@ fn main(rt: HostRuntime) -> ExitCode {
 /// Runs the command line.
 fn run(rt: &HostRuntime) -> Result<Outcome, Fault> {
     let words = words(rt)?;
-    let command = Command::read(rt.alloc(), &words)?;
-    if let Some(answer) = command.answer {
-        return print_answer(rt, answer).map_err(|error| Fault::writing(&error));
+    match Request::read(rt.alloc(), &words) {
+        Ok(request) => check(rt, &request),
+        Err(Refusal::Answer(answer)) => print_answer(rt, answer),
+        Err(Refusal::Rule(word)) => {
+            let _ = eprintln!(rt; "markdown-lint: no rule {word:?}; --help lists the rules");
+            Ok(Outcome::Fault)
+        }
+        Err(Refusal::Words) => Err(Fault::Words),
+        Err(Refusal::Memory) => Err(Fault::Memory),
     }
-    lint_files(rt, command.flags, &command.files)
+}
+
+/// Checks the files of a request.
+fn check(rt: &HostRuntime, request: &Request<'_>) -> Result<Outcome, Fault> {
+    let Some(mut options) = options(rt, request.config())? else {
+        return Ok(Outcome::Fault);
+    };
+    request.add_to(&mut options);
+    let lint = Lint {
+        rt,
+        options,
+        json: request.json(),
+    };
+    match request.files() {
+        Some(files) => lint.check_all(files),
+        None => lint.check_all(&[STANDARD_INPUT]),
+    }
 }
 
 /// Prints the help or the version to standard output.
-fn print_answer(rt: &HostRuntime, answer: &str) -> io::Result<Outcome> {
-    print!(rt; "{answer}")?;
-    Ok(Outcome::Clean)
+fn print_answer(rt: &HostRuntime, answer: &str) -> Result<Outcome, Fault> {
+    match print!(rt; "{answer}") {
+        Ok(()) => Ok(Outcome::Clean),
+        Err(error) => Err(Fault::writing(&error)),
+    }
 }

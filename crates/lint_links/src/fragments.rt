@@ -1,0 +1,111 @@
+//! The fragments of a text: those of its headings, and those that tags of raw HTML give.
+use crate::decoded::{Decoder, text_of};
+use crate::html_id::id_at;
+use crate::slug::Slugs;
+use engine_events::event::{Kind, Name};
+use lint_document::document::Depth;
+use lint_document::heading::HeadingText;
+use lint_document::{Document, headings};
+use std::alloc::{AllocError, Global};
+use std::collections::BTreeSet;
+
+/// The fragments of a text.
+#[derive(Drop)]
+pub(crate) struct Fragments {
+    headings: Slugs,
+    tags: BTreeSet<String>,
+    alloc: Global,
+}
+
+impl Fragments {
+    /// The fragments of a text.
+    pub(crate) fn of(alloc: Global, document: &Document<'_>) -> Result<Fragments, AllocError> {
+        let mut fragments = Fragments {
+            headings: Slugs::new(alloc),
+            tags: BTreeSet::new(alloc),
+            alloc,
+        };
+        fragments.add_headings(document)?;
+        fragments.add_tags(document)?;
+        Ok(fragments)
+    }
+
+    /// Whether a link to this fragment leads somewhere.
+    pub(crate) fn has(&self, fragment: &str) -> bool {
+        fragment == "top" || self.headings.has(fragment) || self.tags.contains(fragment)
+    }
+
+    fn add_headings(&mut self, document: &Document<'_>) -> Result<(), AllocError> {
+        for heading in &headings(self.alloc, document)? {
+            let mut said = String::new(self.alloc);
+            if let Some(text) = heading.text {
+                push_said(document, text, &mut said)?;
+            }
+            self.headings.add(said.as_str())?;
+        }
+        Ok(())
+    }
+
+    fn add_tags(&mut self, document: &Document<'_>) -> Result<(), AllocError> {
+        for step in document.steps() {
+            if step.kind == Kind::Exit
+                && matches!(step.name, Name::HtmlFlowData | Name::HtmlTextData)
+            {
+                self.add_ids(step.bytes)?;
+            }
+        }
+        Ok(())
+    }
+
+    /// Adds the values of the attributes `id` and `name` in a line of raw HTML.
+    fn add_ids(&mut self, html: &[u8]) -> Result<(), AllocError> {
+        let mut end = 0;
+        for index in 0..html.len() {
+            if index < end {
+                continue;
+            }
+            if let Some(value) = id_at(html, index) {
+                end = value.end;
+                self.add_tag(html.get(value.start..value.end))?;
+            }
+        }
+        Ok(())
+    }
+
+    fn add_tag(&mut self, id: Option<&[u8]>) -> Result<(), AllocError> {
+        if let Some(id) = id {
+            let id = String::from_str(self.alloc, text_of(id))?;
+            self.tags.insert(id)?;
+        }
+        Ok(())
+    }
+}
+
+/// Appends what the text of a heading says: its letters, without tags, destinations and images.
+fn push_said(
+    document: &Document<'_>,
+    text: HeadingText,
+    said: &mut String,
+) -> Result<(), AllocError> {
+    let mut decoder = Decoder::default();
+    let mut silent = Depth::default();
+    for step in document.steps_from(text.number) {
+        if step.index > text.span.end {
+            break;
+        }
+        if is_silent(step.name) {
+            silent.count(step.kind);
+        } else if !silent.is_inside() {
+            decoder.read(document, &step, said)?;
+        }
+    }
+    Ok(())
+}
+
+/// Whether nothing in an event of this name is text of a heading.
+fn is_silent(name: Name) -> bool {
+    matches!(
+        name,
+        Name::Resource | Name::Reference | Name::Image | Name::GfmFootnoteCall
+    )
+}

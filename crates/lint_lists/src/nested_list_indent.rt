@@ -1,0 +1,34 @@
+//! nested-list-indent (MD007): a list of bullets in others that isn't indented by two columns a level.
+//!
+//! Two columns are what `- ` takes, so that the items in an item are below its text. Lists in items with
+//! numbers aren't looked at, and of a list only its first item.
+//!
+//! Example: four spaces and `- b` on the line after `- a`.
+use crate::item::{Item, items};
+use lint_document::{Document, Report};
+use std::alloc::AllocError;
+
+/// The columns of a level.
+const LEVEL_INDENT: usize = 2;
+
+/// Reports lists of bullets that aren't indented by two columns a level.
+pub fn check(document: &Document<'_>, report: &mut Report) -> Result<(), AllocError> {
+    for item in &items(report.alloc(), document)? {
+        if let Some(wanted) = wanted_indent(item) {
+            let indent = item.marker.indent;
+            let what = format!(in report.alloc(); "list indented by {indent}, wanted {wanted}")?;
+            report.add_made(item.marker.span, what)?;
+        }
+    }
+    Ok(())
+}
+
+/// The indent that a list should have, if it has another and this is its first item.
+fn wanted_indent(item: &Item) -> Option<usize> {
+    let level = item.level?;
+    let wanted = level.saturating_mul(LEVEL_INDENT);
+    let is_right = item.first.is_some()
+        || item.marker.number.is_some()
+        || item.marker.indent == wanted;
+    if is_right { None } else { Some(wanted) }
+}

@@ -1,0 +1,17 @@
+//! Why a file of settings can't be used.
+use std::alloc::AllocError;
+
+/// Why a file of settings can't be used.
+#[derive(Debug, Drop)]
+pub enum ConfigFault {
+    /// What is wrong on a line, which counts from 1.
+    Line(usize, String),
+    /// Memory ran out.
+    Memory,
+}
+
+impl From<AllocError> for ConfigFault {
+    fn from(_error: AllocError) -> ConfigFault {
+        ConfigFault::Memory
+    }
+}
