@@ -1,11 +1,11 @@
 -- The test goes on from tag to tag.
 use Rattle.std.proofs.Common.{◌≡◌, ℕ, ◌-◌, ◌<◌, List, [], ◌∷◌, ◌++◌, Bool, true, false, ◌&&◌, cond, eqb, Option, None, Some, Bor, length, take, drop, refl, sym}
-use Rattle.std.proofs.Common.{ap, ◌∙◌, subst, inl, inr, arith}
+use Rattle.std.proofs.Common.{ap, ◌∙◌, subst, arith}
 use Rattle.std.specs.Prelude.{◌==◌}
 use Rattle.std.specs.List.{starts_with}
 use Rattle.std.specs.Option.{IfSome, is_some, option_map, option_copied}
 use Rattle.std.specs.Str.{bytes_eq}
-use Rattle.std.proofs.lemmas.Bool.{cases_Bool, cond-true, cond-false, true≢false, false≢true, and_parts, eqb-true, eq-eqb, ne_eqb}
+use Rattle.std.proofs.lemmas.Bool.{cond_both, cond-true, cond-false, true≢false, false≢true, and_parts, eqb-true, eq-eqb, ne_eqb}
 use Rattle.std.proofs.lemmas.List.{take_rest}
 use Rattle.html_safe_page.specs.Table.{start_rows, void_rows}
 use Rattle.html_safe_page.specs.SafePage.{Tag, End, void_end}
@@ -14,7 +14,7 @@ use Rattle.html_safe_page.specs.Machine.{split_tag, close, with_open_tag, follow
 use Rattle.html_safe_page.specs.Views.{onto, open_names}
 use Rattle.html_safe_page.proofs.Options.{map_if}
 use Rattle.html_safe_page.proofs.Text.{split}
-use Rattle.html_safe_page.proofs.Steps.{are_ends, closes}
+use Rattle.html_safe_page.proofs.Steps.{are_ends, closes, some_mapped}
 
 onto_last : (xs : List (Bor (List ℕ))) (x : Bor (List ℕ)) (others : List (List ℕ)) → onto (xs ++ x ∷ []) others ≡ x.now ∷ onto xs others
 onto_last [] x others = refl
@@ -54,9 +54,6 @@ no_slash [] ns h = sym (ap (λ o. with_open_tag o (read_tag void_rows void_end [
 no_slash (b ∷ bs) ns h =
     cond-false (eqb b 47) (close bs ns) _ (ne_eqb b 47 (λ e. true≢false (sym (ap (λ x. x && true) (eq-eqb 47 b (sym e))) ∙ h)))
 
-name_of : Tag → List ℕ
-name_of t = t.name
-
 opened_start : (start void : Option Tag) (n : List ℕ) (ns : List (List ℕ)) → Some n ≡ option_map (λ (t : Tag). t.name) start
     → with_open_tag start void ns ≡ Some (n ∷ ns)
 opened_start None void n ns h = absurd (true≢false (ap is_some h))
@@ -66,13 +63,14 @@ opened_start (Some tag) void n ns h = ap (λ o. Some (get o ∷ ns)) (sym h)
     get None = []
     get (Some x) = x
 
-opened_void : (start void : Option Tag) (r : Option (Bor (List ℕ))) (t : Bool) (ns : List (List ℕ)) → None ≡ option_map (λ (t : Tag). t.name) start
-    → option_copied r ≡ option_map (λ (t : Tag). t.name) void → t ≡ is_some r → with_open_tag start void ns ≡ if_goes_on t ns
-opened_void (Some tag) void r t ns h k e = absurd (false≢true (ap is_some h))
-opened_void None None None t ns h k e = ap (λ t. if_goes_on t ns) (sym e)
-opened_void None None (Some x) t ns h k e = absurd (true≢false (ap is_some k))
-opened_void None (Some tag) None t ns h k e = absurd (false≢true (ap is_some k))
-opened_void None (Some tag) (Some x) t ns h k e = ap (λ t. if_goes_on t ns) (sym e)
+opened_void : (start void : Option Tag) (t : Bool) (ns : List (List ℕ)) → None ≡ option_map (λ (t : Tag). t.name) start → t ≡ is_some void
+    → with_open_tag start void ns ≡ if_goes_on t ns
+opened_void (Some tag) void t ns h e = absurd (false≢true (ap is_some h))
+opened_void None None t ns h e = ap (λ t. if_goes_on t ns) (sym e)
+opened_void None (Some tag) t ns h e = ap (λ t. if_goes_on t ns) (sym e)
+
+pub same_some : (r : Option (Bor (List ℕ))) (o : Option Tag) → option_copied r ≡ option_map (λ (t : Tag). t.name) o → is_some r ≡ is_some o
+same_some r o h = sym (some_mapped (λ (x : Bor (List ℕ)). x.now) r) ∙ ap is_some h ∙ some_mapped (λ (t : Tag). t.name) o
 
 pub started : (tag : List ℕ) (name : Bor (List ℕ)) (old new : List (Bor (List ℕ))) → starts_with eqb tag (47 ∷ []) ≡ false → new ≡ old ++ name ∷ []
     → Some name.now ≡ option_map (λ (t : Tag). t.name) (read_tag start_rows [] tag) → follows tag (open_names old) ≡ Some (open_names new)
@@ -81,38 +79,26 @@ started tag name old new h e k =
     ∙ opened_start (read_tag start_rows [] tag) (read_tag void_rows void_end tag) name.now (open_names old) k
     ∙ ap (λ x. Some x) (sym (ap open_names e ∙ open_push old name))
 
-pub stayed : (tag : List ℕ) (r : Option (Bor (List ℕ))) (t : Bool) (ns : List (List ℕ)) → starts_with eqb tag (47 ∷ []) ≡ false
-    → None ≡ option_map (λ (t : Tag). t.name) (read_tag start_rows [] tag) → option_copied r
-    ≡ option_map (λ (t : Tag). t.name) (read_tag void_rows void_end tag) → t ≡ is_some r
+pub stayed : (tag : List ℕ) (t : Bool) (ns : List (List ℕ)) → starts_with eqb tag (47 ∷ []) ≡ false
+    → None ≡ option_map (λ (t : Tag). t.name) (read_tag start_rows [] tag) → t ≡ is_some (read_tag void_rows void_end tag)
     → follows tag ns ≡ if_goes_on t ns
-stayed tag r t ns h k l e = no_slash tag ns h ∙ opened_void (read_tag start_rows [] tag) (read_tag void_rows void_end tag) r t ns k l e
+stayed tag t ns h k e = no_slash tag ns h ∙ opened_void (read_tag start_rows [] tag) (read_tag void_rows void_end tag) t ns k e
 
--- ---- pages
-
-pub at_less : (rest : List ℕ) (first : ℕ) (after : List ℕ) (ns : List (List ℕ)) → rest ≡ first ∷ after → first ≡ 60
-    → closes (read rest) ns ≡ closes (read (60 ∷ after)) ns
-at_less rest first after ns e k = ap (λ x. closes (read x) ns) e ∙ ap (λ b. closes (read (b ∷ after)) ns) k
+-- ---- what follows a tag is shorter
 
 split_shorter : (bytes : List ℕ) → IfSome (split_tag bytes) (λ q. length q.rest < length bytes)
 split_shorter [] = tt
 split_shorter (b ∷ bs) =
     let P = λ (q : QuotedText). length q.rest < length (b ∷ bs) in
     let more = option_map (longer b) (split_tag bs) in
-    let other = cond (eqb b 60) None more in
-    elim (cases_Bool (eqb b 62)) [
-      | inl e ↦ subst (λ o. IfSome o P) (sym (cond-true (eqb b 62) (Some (split [] bs)) other e)) (omega arith)
-      | inr e ↦
-          subst (λ o. IfSome o P) (sym (cond-false (eqb b 62) (Some (split [] bs)) other e))
-          (elim (cases_Bool (eqb b 60)) [
-            | inl k ↦ subst (λ o. IfSome o P) (sym (cond-true (eqb b 60) None more k)) tt
-            | inr k ↦
-                subst (λ o. IfSome o P) (sym (cond-false (eqb b 60) None more k))
-                (map_if (split_tag bs) (longer b) (λ q. length q.rest < length bs) P (split_shorter bs) (λ q h. omega (arith, h)))
-          ])
-    ]
+    cond_both (eqb b 62) (Some (split [] bs)) (cond (eqb b 60) None more) (λ o. IfSome o P) (λ _. omega arith)
+    (λ _. cond_both (eqb b 60) None more (λ o. IfSome o P) (λ _. tt)
+    (λ _. map_if (split_tag bs) (longer b) (λ q. length q.rest < length bs) P (split_shorter bs) (λ q h. omega (arith, h))))
 
 pub shorter : (bytes : List ℕ) (q : QuotedText) → Some q ≡ split_tag bytes → length q.rest < length bytes
 shorter bytes q h = subst (λ o. IfSome o (λ q. length q.rest < length bytes)) (sym h) (split_shorter bytes)
+
+-- ---- pages
 
 still_open : (xs : List (Bor (List ℕ))) (n : List ℕ) (ns : List (List ℕ)) → are_ends (Last End) (onto xs (n ∷ ns)) ≡ false
 still_open [] n ns = refl

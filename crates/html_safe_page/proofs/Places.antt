@@ -1,76 +1,122 @@
--- The loops of the test, place by place.
-use Rattle.std.proofs.Common.{◌≡◌, ℕ, ◌+◌, ◌-◌, ◌<◌, List, [], ◌∷◌, ◌++◌, Bool, true, false, ◌&&◌, cond, eqb, Option, None, Some, Bor, codes, length, take}
-use Rattle.std.proofs.Common.{drop, get_or, refl, sym, ap, ◌∙◌, append_assoc}
+-- Bytes up to a place.
+use Rattle.std.proofs.Common.{◌≡◌, ℕ, suc, ◌+◌, List, [], ◌∷◌, ◌++◌, Bool, true, false, not, ◌||◌, cond, eqb, Option, None, Some, Bor, codes, length, take}
+use Rattle.std.proofs.Common.{drop, refl, sym, ap, ◌∙◌, inl, inr, arith}
 use Rattle.std.specs.Cmp.Lexicographic.{pointwise}
-use Rattle.std.specs.Option.{IfSome, MatchOption, is_some, option_and_then, option_map, option_copied}
-use Rattle.std.proofs.lemmas.Bool.{cond-true, cond-false}
+use Rattle.std.specs.List.{position_or_len}
+use Rattle.std.specs.Option.{IfSome, MatchOption, option_and_then, option_map, option_copied}
+use Rattle.std.proofs.lemmas.Bool.{cases_Bool, cond-true, cond-false, true≢false, false≢true, eq-eqb, ne_eqb}
 use Rattle.std.proofs.lemmas.Bool.Decides.{Decides-eqb}
-use Rattle.std.proofs.lemmas.List.{at_drop_more, take_more, take_rest, append-nil}
 use Rattle.std.proofs.lemmas.Slice.Eq.{strip_prefix_is}
 use Rattle.html_safe_page.specs.SafePage.{attribute_start}
-use Rattle.html_safe_page.specs.Reader.{strip, read_text, QuotedText, longer, before_quote}
-use Rattle.html_safe_page.specs.Machine.{may_stand, split_tag}
+use Rattle.html_safe_page.specs.Reader.{strip, QuotedText, longer, before_quote}
+use Rattle.html_safe_page.specs.Machine.{split_tag}
 use Rattle.html_safe_page.proofs.Text.{split, strip_sound}
 use Rattle.html_safe_page.proofs.Spelled.{strip_spelled}
-use Rattle.html_safe_page.proofs.Steps.{text_more}
 
-pub text_place : (bytes : List ℕ) (i : ℕ) → i < length bytes
-    → is_some (read_text (drop i bytes))
-    ≡ (may_stand (get_or bytes i 0) (take (length bytes - (i + 1)) (drop (i + 1) bytes)) && is_some (read_text (drop (i + 1) bytes)))
-text_place bytes i lt =
-    at_drop_more (λ x. is_some (read_text x)) bytes i 0 lt
-    ∙ text_more (get_or bytes i 0) (drop (i + 1) bytes)
-    ∙ ap (λ x. may_stand (get_or bytes i 0) x && is_some (read_text (drop (i + 1) bytes))) (sym (take_rest bytes (i + 1)))
+-- ---- bytes up to one of a set
 
--- ---- two parts
+-- two parts of bytes, where the second begins with this byte
+abbrev pub parts_by : ℕ → List ℕ → List ℕ → Option QuotedText
+parts_by last inside [] = None
+parts_by last inside (b ∷ bs) = cond (eqb b last) (Some (split inside bs)) None
 
-abbrev pub after : List ℕ → Option QuotedText → Option QuotedText
-after bytes o = option_map (λ q. split (bytes ++ q.inside) q.rest) o
+longer_if : (t : Bool) (b : ℕ) (q : QuotedText) → cond t (Some (longer b q)) None ≡ option_map (longer b) (cond t (Some q) None)
+longer_if true b q = refl
+longer_if false b q = refl
 
-after_longer : (bytes : List ℕ) (b : ℕ) (o : Option QuotedText) → after bytes (option_map (longer b) o) ≡ after (bytes ++ b ∷ []) o
-after_longer bytes b None = refl
-after_longer bytes b (Some q) = ap (λ x. Some (split x q.rest)) (sym (append_assoc bytes (b ∷ []) q.inside))
+parts_longer : (last b : ℕ) (inside rest : List ℕ) → parts_by last (b ∷ inside) rest ≡ option_map (longer b) (parts_by last inside rest)
+parts_longer last b inside [] = refl
+parts_longer last b inside (c ∷ cs) = longer_if (eqb c last) b (split inside cs)
 
-later : (f : List ℕ → Option QuotedText) (bytes : List ℕ) (i : ℕ) → i < length bytes
-    → f (get_or bytes i 0 ∷ drop (i + 1) bytes) ≡ option_map (longer (get_or bytes i 0)) (f (drop (i + 1) bytes))
-    → after (take (i + 1) bytes) (f (drop (i + 1) bytes)) ≡ after (take i bytes) (f (drop i bytes))
-later f bytes i lt h =
-    ap (λ x. after x (f (drop (i + 1) bytes))) (take_more bytes i 0 lt)
-    ∙ sym (ap (after (take i bytes)) (at_drop_more f bytes i 0 lt ∙ h) ∙ after_longer (take i bytes) (get_or bytes i 0) (f (drop (i + 1) bytes)))
+-- a reader of bytes up to the last one of a part, which stops before others
+module _ (f : List ℕ → Option QuotedText) (stop : ℕ → Bool) (last : ℕ)
+    (none : f [] ≡ None)
+    (ended : (b : ℕ) (bs : List ℕ) → eqb b last ≡ true → f (b ∷ bs) ≡ Some (split [] bs))
+    (ends : (b : ℕ) → eqb b last ≡ true → stop b ≡ true)
+    (stopped : (b : ℕ) (bs : List ℕ) → stop b ≡ true → eqb b last ≡ false → f (b ∷ bs) ≡ None)
+    (passed : (b : ℕ) (bs : List ℕ) → stop b ≡ false → f (b ∷ bs) ≡ option_map (longer b) (f bs)) where
+  parted : (bytes : List ℕ) → parts_by last (take (position_or_len stop bytes) bytes) (drop (position_or_len stop bytes) bytes) ≡ f bytes
+  parted [] = sym none
+  parted (b ∷ bs) =
+      let n = position_or_len stop bs in
+      let more : 1 + n ≡ suc n = omega arith in
+      let at = λ (m : ℕ). parts_by last (take m (b ∷ bs)) (drop m (b ∷ bs)) in
+      let first = λ (t : Bool). at (cond (not t) (1 + n) 0) in
+      elim (cases_Bool (eqb b last)) [
+        | inl e ↦ ap first (ends b e) ∙ cond-true (eqb b last) (Some (split [] bs)) None e ∙ sym (ended b bs e)
+        | inr e ↦ elim (cases_Bool (stop b)) [
+          | inl k ↦ ap first k ∙ cond-false (eqb b last) (Some (split [] bs)) None e ∙ sym (stopped b bs k e)
+          | inr k ↦
+              ap first k
+              ∙ ap at more
+              ∙ parts_longer last b (take n bs) (drop n bs)
+              ∙ ap (option_map (longer b)) (parted bs)
+              ∙ sym (passed b bs k)
+        ]
+      ]
 
-here : (f : List ℕ → Option QuotedText) (bytes : List ℕ) (i : ℕ) → i < length bytes
-    → f (get_or bytes i 0 ∷ drop (i + 1) bytes) ≡ Some (split [] (drop (i + 1) bytes))
-    → Some (split (take i bytes) (take (length bytes - (i + 1)) (drop (i + 1) bytes))) ≡ after (take i bytes) (f (drop i bytes))
-here f bytes i lt h =
-    ap (λ x. Some (split (take i bytes) x)) (take_rest bytes (i + 1))
-    ∙ ap (λ x. Some (split x (drop (i + 1) bytes))) (sym (append-nil (take i bytes)))
-    ∙ sym (ap (after (take i bytes)) (at_drop_more f bytes i 0 lt ∙ h))
+no_left : (a b : Bool) → (a || b) ≡ false → a ≡ false
+no_left true b h = absurd (true≢false h)
+no_left false b h = refl
 
-pub quoted_later : (bytes : List ℕ) (i : ℕ) → i < length bytes → eqb (get_or bytes i 0) 34 ≡ false
-    → after (take (i + 1) bytes) (before_quote (drop (i + 1) bytes)) ≡ after (take i bytes) (before_quote (drop i bytes))
-quoted_later bytes i lt h = later before_quote bytes i lt (cond-false (eqb (get_or bytes i 0) 34) _ _ h)
+no_right : (a b : Bool) → (a || b) ≡ false → b ≡ false
+no_right true b h = absurd (true≢false h)
+no_right false b h = h
 
-pub quoted_here : (bytes : List ℕ) (i : ℕ) → i < length bytes → eqb (get_or bytes i 0) 34 ≡ true
-    → Some (split (take i bytes) (take (length bytes - (i + 1)) (drop (i + 1) bytes))) ≡ after (take i bytes) (before_quote (drop i bytes))
-quoted_here bytes i lt h = here before_quote bytes i lt (cond-true (eqb (get_or bytes i 0) 34) _ _ h)
+abbrev pub ends_tag : ℕ → Bool
+ends_tag b = eqb b 62 || eqb b 60
 
-pub tag_later : (bytes : List ℕ) (i : ℕ) → i < length bytes → eqb (get_or bytes i 0) 62 ≡ false → eqb (get_or bytes i 0) 60 ≡ false
-    → after (take (i + 1) bytes) (split_tag (drop (i + 1) bytes)) ≡ after (take i bytes) (split_tag (drop i bytes))
-tag_later bytes i lt h k = later split_tag bytes i lt (cond-false (eqb (get_or bytes i 0) 62) _ _ h ∙ cond-false (eqb (get_or bytes i 0) 60) _ _ k)
+abbrev pub is_quote : ℕ → Bool
+is_quote b = eqb b 34 || eqb b 34
 
-pub tag_here : (bytes : List ℕ) (i : ℕ) → i < length bytes → eqb (get_or bytes i 0) 62 ≡ true
-    → Some (split (take i bytes) (take (length bytes - (i + 1)) (drop (i + 1) bytes))) ≡ after (take i bytes) (split_tag (drop i bytes))
-tag_here bytes i lt h = here split_tag bytes i lt (cond-true (eqb (get_or bytes i 0) 62) _ _ h)
+tag_parted : (bytes : List ℕ) → parts_by 62 (take (position_or_len ends_tag bytes) bytes) (drop (position_or_len ends_tag bytes) bytes) ≡ split_tag bytes
+tag_parted bytes =
+    parted split_tag ends_tag 62 refl
+    (λ b bs e. cond-true (eqb b 62) (Some (split [] bs)) (cond (eqb b 60) None (option_map (longer b) (split_tag bs))) e)
+    (λ b e. ap (λ x. x || eqb b 60) e)
+    (λ b bs k e.
+    cond-false (eqb b 62) (Some (split [] bs)) (cond (eqb b 60) None (option_map (longer b) (split_tag bs))) e
+    ∙ cond-true (eqb b 60) None (option_map (longer b) (split_tag bs)) (sym (ap (λ x. x || eqb b 60) e) ∙ k))
+    (λ b bs k.
+    cond-false (eqb b 62) (Some (split [] bs)) (cond (eqb b 60) None (option_map (longer b) (split_tag bs))) (no_left (eqb b 62) (eqb b 60) k)
+    ∙ cond-false (eqb b 60) None (option_map (longer b) (split_tag bs)) (no_right (eqb b 62) (eqb b 60) k))
+    bytes
 
-pub tag_nowhere : (bytes : List ℕ) (i : ℕ) → i < length bytes → eqb (get_or bytes i 0) 62 ≡ false → eqb (get_or bytes i 0) 60 ≡ true
-    → None ≡ after (take i bytes) (split_tag (drop i bytes))
-tag_nowhere bytes i lt h k =
-    sym (ap (after (take i bytes)) (at_drop_more split_tag bytes i 0 lt ∙ cond-false (eqb (get_or bytes i 0) 62) _ _ h
-    ∙ cond-true (eqb (get_or bytes i 0) 60) _ _ k))
+quote_parted : (bytes : List ℕ) → parts_by 34 (take (position_or_len is_quote bytes) bytes) (drop (position_or_len is_quote bytes) bytes) ≡ before_quote bytes
+quote_parted bytes =
+    parted before_quote is_quote 34 refl
+    (λ b bs e. cond-true (eqb b 34) (Some (split [] bs)) (option_map (longer b) (before_quote bs)) e)
+    (λ b e. ap (λ x. x || eqb b 34) e)
+    (λ b bs k e. absurd (false≢true (sym (ap (λ x. x || x) e) ∙ k)))
+    (λ b bs k. cond-false (eqb b 34) (Some (split [] bs)) (option_map (longer b) (before_quote bs)) (no_left (eqb b 34) (eqb b 34) k))
+    bytes
 
-pub after_none : (o : Option QuotedText) → after [] o ≡ o
-after_none None = refl
-after_none (Some q) = refl
+both_parts : (last n m : ℕ) (bytes inside rest : List ℕ) → n ≡ m → inside ≡ take n bytes → rest ≡ drop n bytes
+    → parts_by last inside rest ≡ parts_by last (take m bytes) (drop m bytes)
+both_parts last n m bytes inside rest e h k =
+    ap (λ x. parts_by last x rest) h
+    ∙ ap (λ x. parts_by last (take n bytes) x) k
+    ∙ ap (λ n. parts_by last (take n bytes) (drop n bytes)) e
+
+pub tag_parts : (bytes inside rest : List ℕ) (n : ℕ) → n ≡ position_or_len ends_tag bytes → inside ≡ take n bytes → rest ≡ drop n bytes
+    → parts_by 62 inside rest ≡ split_tag bytes
+tag_parts bytes inside rest n e h k = both_parts 62 n (position_or_len ends_tag bytes) bytes inside rest e h k ∙ tag_parted bytes
+
+pub quote_parts : (bytes inside rest : List ℕ) (n : ℕ) → n ≡ position_or_len is_quote bytes → inside ≡ take n bytes → rest ≡ drop n bytes
+    → parts_by 34 inside rest ≡ before_quote bytes
+quote_parts bytes inside rest n e h k = both_parts 34 n (position_or_len is_quote bytes) bytes inside rest e h k ∙ quote_parted bytes
+
+pub parts_none : (last : ℕ) (inside rest : List ℕ) → length rest ≡ 0 → None ≡ parts_by last inside rest
+parts_none last inside [] h = refl
+parts_none last inside (b ∷ bs) h = absurd (omega (arith, h))
+
+pub parts_other : (last b : ℕ) (inside rest after : List ℕ) → rest ≡ b ∷ after → (b ≡ last → ⊥) → None ≡ parts_by last inside rest
+parts_other last b inside rest after e h =
+    sym (ap (parts_by last inside) e ∙ cond-false (eqb b last) (Some (split inside after)) None (ne_eqb b last h))
+
+pub parts_found : (last b : ℕ) (inside rest after : List ℕ) → rest ≡ b ∷ after → b ≡ last → Some (split inside after) ≡ parts_by last inside rest
+parts_found last b inside rest after e h =
+    sym (ap (parts_by last inside) e ∙ cond-true (eqb b last) (Some (split inside after)) None (eq-eqb b last h))
 
 -- ---- what bytes begin with
 

@@ -3,6 +3,7 @@ use Rattle.std.specs.Prelude.{ℕ, List, [], ◌∷◌, Option, None, Some, map}
 use Rattle.std.proofs.Common.{Bor}
 use Rattle.html_safe_page.specs.Table as table
 use Rattle.html_safe_page.specs.Reader.{QuotedText}
+use Rattle.html_safe_page.specs.Machine.{Next, next}
 use Rattle.html_safe_page.specs.declared.tags.Row.{Row}
 
 abbrev pub names_of : List (Bor (List ℕ)) → List (List ℕ)
@@ -24,3 +25,8 @@ onto (n ∷ names) others = onto names (n.now ∷ others)
 -- the names of open tags, the innermost first
 abbrev pub open_names : List (Bor (List ℕ)) → List (List ℕ)
 open_names names = onto names []
+
+-- what follows, if anything may, after which these tags are open
+abbrev pub if_next : Option (Bor (List ℕ)) → List (List ℕ) → Option Next
+if_next None names = None
+if_next (Some rest) names = Some (next rest.now names)

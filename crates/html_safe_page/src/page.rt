@@ -2,12 +2,13 @@
 ghost use Rattle.std.specs.Prelude.{◌≡◌, ◌↔◌, IfOk, IsTrue};
 ghost use Rattle.html_safe_page.specs.SafePage.{IsSafePage, OneReading};
 ghost use Rattle.html_safe_page.specs.Closed.{Closure};
-ghost use Rattle.html_safe_page.specs.Machine.{split_tag, follows, if_goes_on};
-ghost use Rattle.html_safe_page.specs.Views.{open_names, quoted_of};
+ghost use Rattle.html_safe_page.specs.Machine.{split_tag, follows, if_goes_on, after_tag};
+ghost use Rattle.html_safe_page.specs.Views.{open_names, quoted_of, if_next};
 
-use crate::letters::may_stand;
-use crate::tags::{START_ROWS, VOID_ROWS, tag_name};
+use crate::letters::after_letters;
+use crate::tags::{is_frequent, is_void, start_name};
 use std::alloc::{AllocError, Allocator};
+use text_search::{BytePair, next_of};
 
 /// A page has at most one reading.
 pub fn one_reading_law()
@@ -20,18 +21,24 @@ pub fn closure_law()
     ensures { Closure }
 {}
 
+/// `>` and `<`.
+const TAG_ENDS: BytePair = BytePair {
+    first: b'>',
+    second: b'<',
+};
+
 /// The bytes of a tag before its `>`, and what follows that.
 fn split_tag(bytes: &[u8]) -> Option<(&[u8], &[u8])>
     ensures { quoted_of result ≡ split_tag bytes.now }
 {
-    for (i, b) in bytes.iter().enumerate() {
-        match *b {
-            b'>' => return Some((&bytes[..i], &bytes[i + 1..])),
-            b'<' => return None,
-            _ => {}
-        }
+    let (inside, rest) = bytes.split_at(next_of(bytes, TAG_ENDS));
+    let Some((end, after)) = rest.split_first() else {
+        return None;
+    };
+    if *end != b'>' {
+        return None;
     }
-    None
+    Some((inside, after))
 }
 
 /// Opens or closes an element by its tag. Returns false if the tag isn't allowed here.
@@ -44,11 +51,37 @@ fn follow<'a, A: Allocator>(names: &mut Vec<&'a [u8], A>, tag: &'a [u8]) -> Resu
             None => false,
         });
     }
-    if let Some(name) = tag_name(&START_ROWS, b"", tag) {
+    if is_frequent(tag) {
+        names.push(tag)?;
+        return Ok(true);
+    }
+    if let Some(name) = start_name(tag) {
         names.push(name)?;
         return Ok(true);
     }
-    Ok(tag_name(&VOID_ROWS, b" /", tag).is_some())
+    Ok(is_void(tag))
+}
+
+/// What follows the tag at the start, if it is allowed here. Opens or closes its element.
+fn after_tag<'a, A: Allocator>(
+    names: &mut Vec<&'a [u8], A>,
+    bytes: &'a [u8],
+) -> Result<Option<&'a [u8]>, AllocError>
+    ensures { IfOk result (λ next. after_tag bytes.now (open_names names.old.items) ≡ if_next next (open_names names.new.items)) }
+{
+    let Some((first, after)) = bytes.split_first() else {
+        return Ok(None);
+    };
+    if *first != b'<' {
+        return Ok(None);
+    }
+    let Some((tag, next)) = split_tag(after) else {
+        return Ok(None);
+    };
+    if !follow(names, tag)? {
+        return Ok(None);
+    }
+    Ok(Some(next))
 }
 
 /// Returns whether a page is safe. `specs/SafePage.antt` defines that. A safe page has only
@@ -64,21 +97,12 @@ pub fn is_safe_page<A: Allocator>(alloc: A, page: &str) -> Result<bool, AllocErr
     ensures { IfOk result (λ safe. IsTrue safe ↔ IsSafePage page.now) }
 {
     let mut names = Vec::new(alloc);
-    let mut rest = page.as_bytes();
-    while let Some((first, after)) = rest.split_first() {
-        if *first == b'<' {
-            let Some((tag, next)) = split_tag(after) else {
-                return Ok(false);
-            };
-            if !follow(&mut names, tag)? {
-                return Ok(false);
-            }
-            rest = next;
-        } else if may_stand(*first, after) {
-            rest = after;
-        } else {
+    let mut rest = after_letters(page.as_bytes());
+    while !rest.is_empty() {
+        let Some(next) = after_tag(&mut names, rest)? else {
             return Ok(false);
-        }
+        };
+        rest = after_letters(next);
     }
     Ok(names.is_empty())
 }

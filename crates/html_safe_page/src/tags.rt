@@ -1,20 +1,24 @@
 //! The tags of a safe page.
-ghost use Rattle.std.specs.Prelude.{◌≡◌, map};
+ghost use Rattle.std.specs.Prelude.{◌≡◌, [], map};
+ghost use Rattle.std.specs.List.{list_any};
+ghost use Rattle.std.specs.Str.{bytes_eq};
 ghost use Rattle.std.specs.Option.{is_some, option_map, option_copied};
-ghost use Rattle.html_safe_page.specs.SafePage.{attribute_start};
+ghost use Rattle.html_safe_page.specs.SafePage.{attribute_start, void_end};
 ghost use Rattle.html_safe_page.specs.Reader.{before_quote, strip, read_value, read_attributes, read_row, read_tag};
-ghost use Rattle.html_safe_page.specs.Machine.{after_attribute};
+ghost use Rattle.html_safe_page.specs.Machine.{after_attribute, is_frequent};
+ghost use Rattle.html_safe_page.specs.Table.{start_rows, void_rows};
 ghost use Rattle.html_safe_page.specs.Views.{row_of, names_of, quoted_of};
 
-use crate::letters::is_text;
+use crate::letters::{is_text, strip};
 use html_escape::is_permitted;
 use markdown_options::constants::{SAFE_PROTOCOL_HREF, SAFE_PROTOCOL_SRC};
+use text_search::{BytePair, next_of};
 
 /// The name of a tag, and the names of its attributes in order.
-pub struct Row(&'static str, &'static [&'static str]);
+struct Row(&'static str, &'static [&'static str]);
 
 /// Tags that have an end tag.
-pub const START_ROWS: [Row; 35] = [
+const START_ROWS: [Row; 35] = [
     Row("blockquote", &[]),
     Row("pre", &[]),
     Row("p", &[]),
@@ -59,7 +63,7 @@ pub const START_ROWS: [Row; 35] = [
 ];
 
 /// Void tags, which have no end tag.
-pub const VOID_ROWS: [Row; 8] = [
+const VOID_ROWS: [Row; 8] = [
     Row("hr", &[]),
     Row("br", &[]),
     Row("img", &["src", "alt"]),
@@ -82,23 +86,24 @@ fn is_value(name: &str, value: &[u8]) -> bool
         }
 }
 
+/// `"`.
+const QUOTE: BytePair = BytePair {
+    first: b'"',
+    second: b'"',
+};
+
 /// The bytes before the first `"`, and those after it.
 fn split_quoted(bytes: &[u8]) -> Option<(&[u8], &[u8])>
     ensures { quoted_of result ≡ before_quote bytes.now }
 {
-    for (i, b) in bytes.iter().enumerate() {
-        if *b == b'"' {
-            return Some((&bytes[..i], &bytes[i + 1..]));
-        }
+    let (inside, rest) = bytes.split_at(next_of(bytes, QUOTE));
+    let Some((quote, after)) = rest.split_first() else {
+        return None;
+    };
+    if *quote != b'"' {
+        return None;
     }
-    None
-}
-
-/// The bytes after a text, if they begin with it.
-fn strip<'a>(prefix: &[u8], bytes: &'a [u8]) -> Option<&'a [u8]>
-    ensures { option_copied result ≡ strip prefix.now bytes.now }
-{
-    bytes.strip_prefix(prefix)
+    Some((inside, after))
 }
 
 /// The bytes after the start of an attribute of this name, if they begin with it.
@@ -148,7 +153,7 @@ fn fits(row: &Row, ending: &[u8], tag: &[u8]) -> bool
 }
 
 /// Returns the name of a tag, if it is the one of a row, with this ending.
-pub fn tag_name<'a>(rows: &'a [Row], ending: &[u8], tag: &[u8]) -> Option<&'a [u8]>
+fn tag_name<'a>(rows: &'a [Row], ending: &[u8], tag: &[u8]) -> Option<&'a [u8]>
     ensures { option_copied result ≡ option_map (λ t. t.name) (read_tag (map row_of rows.now) ending.now tag.now) }
 {
     for row in rows {
@@ -157,4 +162,48 @@ pub fn tag_name<'a>(rows: &'a [Row], ending: &[u8], tag: &[u8]) -> Option<&'a [u
         }
     }
     None
+}
+
+/// Where the rows of `a` start.
+const A_ROWS: usize = 31;
+
+/// Names of frequent start tags without attributes.
+const FREQUENT: [&str; 14] = [
+    "p", "li", "code", "em", "strong", "ul", "td", "tr", "pre", "h2", "h3", "h1", "ol", "h4",
+];
+
+/// Returns whether a tag is a frequent start tag without attributes, so that it is its own name.
+/// That takes half the time of a walk over all rows.
+pub fn is_frequent(tag: &[u8]) -> bool
+    ensures { result ≡ is_frequent tag.now }
+{
+    is_one_of(&FREQUENT, tag)
+}
+
+fn is_one_of(names: &[&str], tag: &[u8]) -> bool
+    ensures { result ≡ list_any (λ n. bytes_eq n.now tag.now) names.now }
+{
+    for name in names {
+        if name.as_bytes() == tag {
+            return true;
+        }
+    }
+    false
+}
+
+/// Returns the name of a start tag, if it is one of the table.
+pub fn start_name(tag: &[u8]) -> Option<&'static [u8]>
+    ensures { option_copied result ≡ option_map (λ t. t.name) (read_tag start_rows [] tag.now) }
+{
+    if tag.starts_with(b"a") {
+        return tag_name(&START_ROWS[A_ROWS..], b"", tag);
+    }
+    tag_name(&START_ROWS, b"", tag)
+}
+
+/// Returns whether a tag is a void tag of the table.
+pub fn is_void(tag: &[u8]) -> bool
+    ensures { result ≡ is_some (read_tag void_rows void_end tag.now) }
+{
+    tag_name(&VOID_ROWS, b" /", tag).is_some()
 }
