@@ -1,20 +1,19 @@
 -- The test goes on from tag to tag.
 use Rattle.std.proofs.Common.{◌≡◌, ℕ, ◌-◌, ◌<◌, List, [], ◌∷◌, ◌++◌, Bool, true, false, ◌&&◌, cond, eqb, Option, None, Some, Bor, length, take, drop, refl, sym}
 use Rattle.std.proofs.Common.{ap, ◌∙◌, subst, arith}
-use Rattle.std.specs.Prelude.{◌==◌}
 use Rattle.std.specs.List.{starts_with}
 use Rattle.std.specs.Option.{IfSome, is_some, option_map, option_copied}
 use Rattle.std.specs.Str.{bytes_eq}
 use Rattle.std.proofs.lemmas.Bool.{cond_both, cond-true, cond-false, true≢false, false≢true, and_parts, eqb-true, eq-eqb, ne_eqb}
 use Rattle.std.proofs.lemmas.List.{take_rest}
 use Rattle.html_safe_page.specs.Table.{start_rows, void_rows}
-use Rattle.html_safe_page.specs.SafePage.{Tag, End, void_end}
-use Rattle.html_safe_page.specs.Reader.{QuotedText, longer, read_tag, Last, read}
+use Rattle.html_safe_page.specs.SafePage.{Tag, void_end}
+use Rattle.html_safe_page.specs.Reader.{QuotedText, longer, read_tag}
 use Rattle.html_safe_page.specs.Machine.{split_tag, close, with_open_tag, follows, if_goes_on}
 use Rattle.html_safe_page.specs.Views.{onto, open_names}
 use Rattle.html_safe_page.proofs.Options.{map_if}
 use Rattle.html_safe_page.proofs.Text.{split}
-use Rattle.html_safe_page.proofs.Steps.{are_ends, closes, some_mapped}
+use Rattle.html_safe_page.proofs.Steps.{some_mapped}
 
 onto_last : (xs : List (Bor (List ℕ))) (x : Bor (List ℕ)) (others : List (List ℕ)) → onto (xs ++ x ∷ []) others ≡ x.now ∷ onto xs others
 onto_last [] x others = refl
@@ -98,16 +97,16 @@ split_shorter (b ∷ bs) =
 pub shorter : (bytes : List ℕ) (q : QuotedText) → Some q ≡ split_tag bytes → length q.rest < length bytes
 shorter bytes q h = subst (λ o. IfSome o (λ q. length q.rest < length bytes)) (sym h) (split_shorter bytes)
 
--- ---- pages
+-- ---- names
 
-still_open : (xs : List (Bor (List ℕ))) (n : List ℕ) (ns : List (List ℕ)) → are_ends (Last End) (onto xs (n ∷ ns)) ≡ false
-still_open [] n ns = refl
-still_open (x ∷ xs) n ns = still_open xs x.now (n ∷ ns)
+onto_more : (xs : List (Bor (List ℕ))) (n : List ℕ) (ns : List (List ℕ)) → onto xs (n ∷ ns) ≡ [] → ⊥
+onto_more [] n ns h = cc
+onto_more (x ∷ xs) n ns h = onto_more xs x.now (n ∷ ns) h
 
-pub none_open : (xs : List (Bor (List ℕ))) → are_ends (Last End) (open_names xs) ≡ (length xs == 0)
-none_open [] = refl
-none_open (x ∷ xs) = still_open xs x.now [] ∙ sym (ne_eqb (length (x ∷ xs)) 0 (λ e. omega (arith, e)))
+pub none_open : (xs : List (Bor (List ℕ))) → open_names xs ≡ [] → length xs ≡ 0
+none_open [] h = refl
+none_open (x ∷ xs) h = absurd (onto_more xs x.now [] h)
 
-pub at_end : (rest : List ℕ) (ns : List (List ℕ)) → length rest ≡ 0 → closes (read rest) ns ≡ are_ends (Last End) ns
-at_end [] ns h = refl
-at_end (b ∷ bs) ns h = absurd (omega (arith, h))
+pub open_none : (xs : List (Bor (List ℕ))) → length xs ≡ 0 → open_names xs ≡ []
+open_none [] h = refl
+open_none (x ∷ xs) h = absurd (omega (arith, h))

@@ -12,6 +12,7 @@ use Rattle.html_safe_page.proofs.Text.{is_plain, split}
 use Rattle.html_safe_page.proofs.Pages.{items_read}
 use Rattle.html_safe_page.proofs.Sound.{tag_append}
 use Rattle.html_safe_page.proofs.Steps.{all_plain, not_here, are_ends, closes, ends_first, letter_more, no_tag, bad_tag, good_tag, decided}
+use Rattle.html_safe_page.proofs.Passed.{not_true, stops}
 use Rattle.html_safe_page.proofs.Follow.{shorter}
 
 -- ---- a safe page before what closes tags
@@ -47,19 +48,20 @@ page_ahead items after ns safe h =
     ∙ ends_first (join items) found.0 ns
     ∙ found.2
 
--- ---- letters before a tag stand before anything
+-- ---- letters before what is none stand before anything
 
-strip_kept : (name bytes after others : List ℕ) → all_plain name ≡ true → is_some (strip name (bytes ++ 60 ∷ after)) ≡ true
+strip_kept : (name bytes end others : List ℕ) → all_plain name ≡ true → stops end ≡ true → is_some (strip name (bytes ++ end)) ≡ true
     → is_some (strip name (bytes ++ others)) ≡ true
-strip_kept [] bytes after others h k = refl
-strip_kept (p ∷ ps) [] after others h k =
-    absurd (false≢true (sym (not_here 60 p (strip ps after) refl (and_parts (is_plain (kind p)) (all_plain ps) h).0) ∙ k))
-strip_kept (p ∷ ps) (b ∷ bs) after others h k =
-    let old = strip ps (bs ++ 60 ∷ after) in
+strip_kept [] bytes end others h s k = refl
+strip_kept (p ∷ ps) [] [] others h s k = absurd (false≢true k)
+strip_kept (p ∷ ps) [] (b ∷ bs) others h s k =
+    absurd (false≢true (sym (not_here b p (strip ps bs) (not_true (is_plain (kind b)) s) (and_parts (is_plain (kind p)) (all_plain ps) h).0) ∙ k))
+strip_kept (p ∷ ps) (b ∷ bs) end others h s k =
+    let old = strip ps (bs ++ end) in
     elim (cases_Bool (eqb b p)) [
       | inl e ↦
           ap is_some (cond-true (eqb b p) (strip ps (bs ++ others)) None e)
-          ∙ strip_kept ps bs after others (and_parts (is_plain (kind p)) (all_plain ps) h).1 (ap is_some (sym (cond-true (eqb b p) old None e)) ∙ k)
+          ∙ strip_kept ps bs end others (and_parts (is_plain (kind p)) (all_plain ps) h).1 s (ap is_some (sym (cond-true (eqb b p) old None e)) ∙ k)
       | inr e ↦ absurd (false≢true (ap is_some (sym (cond-false (eqb b p) old None e)) ∙ k))
     ]
 
@@ -67,24 +69,24 @@ either_kept : (a b x y : Bool) → (a ≡ true → x ≡ true) → (b ≡ true �
 either_kept true b x y p q h = or_left x y (p refl)
 either_kept false b x y p q h = or_right x y (q h)
 
-reference_kept : (bytes after others : List ℕ) → begins_reference (bytes ++ 60 ∷ after) ≡ true → begins_reference (bytes ++ others) ≡ true
-reference_kept bytes after others h =
-    let one = λ (name : List ℕ) (plain : all_plain name ≡ true). strip_kept name bytes after others plain in
+reference_kept : (bytes end others : List ℕ) → stops end ≡ true → begins_reference (bytes ++ end) ≡ true → begins_reference (bytes ++ others) ≡ true
+reference_kept bytes end others s h =
+    let one = λ (name : List ℕ) (plain : all_plain name ≡ true). strip_kept name bytes end others plain s in
     either_kept _ _ _ _
     (either_kept _ _ _ _ (either_kept _ _ _ _ (one (codes "amp;") refl) (one (codes "quot;") refl)) (one (codes "lt;") refl))
     (one (codes "gt;") refl) h
 
-stands_kept : (k : Kind) (bytes after others : List ℕ) → stands k (bytes ++ 60 ∷ after) ≡ true → stands k (bytes ++ others) ≡ true
-stands_kept And bytes after others h = reference_kept bytes after others h
-stands_kept Quote bytes after others h = h
-stands_kept Less bytes after others h = h
-stands_kept Greater bytes after others h = h
-stands_kept Plain bytes after others h = refl
+pub stands_kept : (k : Kind) (bytes end others : List ℕ) → stops end ≡ true → stands k (bytes ++ end) ≡ true → stands k (bytes ++ others) ≡ true
+stands_kept And bytes end others s h = reference_kept bytes end others s h
+stands_kept Quote bytes end others s h = h
+stands_kept Less bytes end others s h = h
+stands_kept Greater bytes end others s h = h
+stands_kept Plain bytes end others s h = refl
 
 -- ---- tags before a tag end before it
 
 -- more bytes after what follows a tag
-abbrev with_more : List ℕ → QuotedText → QuotedText
+abbrev pub with_more : List ℕ → QuotedText → QuotedText
 with_more more q = split q.inside (q.rest ++ more)
 
 split_step : (b : ℕ) (bs more : List ℕ) (ends begins : Bool) (o : Option QuotedText)
@@ -95,7 +97,7 @@ split_step b bs more false true o = refl
 split_step b bs more false false None = refl
 split_step b bs more false false (Some q) = refl
 
-split_before : (bytes after : List ℕ) → split_tag (bytes ++ 60 ∷ after) ≡ option_map (with_more (60 ∷ after)) (split_tag bytes)
+pub split_before : (bytes after : List ℕ) → split_tag (bytes ++ 60 ∷ after) ≡ option_map (with_more (60 ∷ after)) (split_tag bytes)
 split_before [] after = refl
 split_before (b ∷ bs) after =
     ap (λ o. cond (eqb b 62) (Some (split [] (bs ++ 60 ∷ after))) (cond (eqb b 60) None (option_map (longer b) o))) (split_before bs after)
@@ -115,7 +117,7 @@ split_more (b ∷ bs) more =
     cond-false (eqb b 62) (Some (split [] (bs ++ more))) (cond (eqb b 60) None later_more) e
     ∙ cond-false (eqb b 60) None later_more k ∙ ap (option_map (longer b)) h)))
 
-split_found : (bytes more : List ℕ) (q : QuotedText) → split_tag bytes ≡ Some q → split_tag (bytes ++ more) ≡ Some (with_more more q)
+pub split_found : (bytes more : List ℕ) (q : QuotedText) → split_tag bytes ≡ Some q → split_tag (bytes ++ more) ≡ Some (with_more more q)
 split_found bytes more q e = subst (λ o. IfSome o (λ q. split_tag (bytes ++ more) ≡ Some (with_more more q))) e (split_more bytes more)
 
 -- ---- parting a page before a tag
@@ -160,16 +162,16 @@ parted (suc most) (b ∷ bs) after ns le h =
             rest.1,
             λ others c.
                 letter_more b (bs ++ others) ns e
-                ∙ and_from (may_stand b (bs ++ others)) (closes (read (bs ++ others)) ns) (stands_kept (kind b) bs after others both.0) (rest.2 others c),
+                ∙ and_from (may_stand b (bs ++ others)) (closes (read (bs ++ others)) ns) (stands_kept (kind b) bs (60 ∷ after) others refl both.0) (rest.2 others c),
           )
     ]
 
 -- ---- a page put into another one
 
-closes_safe : (page : List ℕ) → IsSafePage page → closes (read page) [] ≡ true
+pub closes_safe : (page : List ℕ) → IsSafePage page → closes (read page) [] ≡ true
 closes_safe page p = (decided page (closes (read page) []) refl).1 p
 
-safe_closed : (page : List ℕ) → closes (read page) [] ≡ true → IsSafePage page
+pub safe_closed : (page : List ℕ) → closes (read page) [] ≡ true → IsSafePage page
 safe_closed page h = (decided page (closes (read page) []) refl).0 h
 
 pub put_in : (before after inner : List ℕ) → IsSafePage (before ++ 60 ∷ after) → IsSafePage inner → IsSafePage (before ++ (inner ++ 60 ∷ after))

@@ -26,7 +26,7 @@ is_inner Less = false
 is_inner Greater = false
 is_inner Plain = true
 
-abbrev all_inner : List ℕ → Bool
+abbrev pub all_inner : List ℕ → Bool
 all_inner bytes = list_all (λ b. is_inner (kind b)) bytes
 
 inner_step : (k : Kind) (b : ℕ) (bytes : List ℕ) (r : Rest) → is_inner k ≡ true → step k b (Inside bytes r) ≡ Inside (b ∷ bytes) r
@@ -60,7 +60,7 @@ word_inner (b ∷ bs) h =
     let parts = and_parts (is_word_byte b) (list_all is_word_byte bs) h in
     and_from (is_inner (kind b)) (all_inner bs) (plain_inner (kind b) (and_parts (is_plain (kind b)) _ parts.0).0) (word_inner bs parts.1)
 
-name_inner : (name : List ℕ) → is_word name ≡ true → all_inner name ≡ true
+pub name_inner : (name : List ℕ) → is_word name ≡ true → all_inner name ≡ true
 name_inner [] h = refl
 name_inner (b ∷ bs) h = word_inner (b ∷ bs) h
 
@@ -100,7 +100,7 @@ name_starts (b ∷ bs) rest h = (and_parts (is_word_byte b) (list_all is_word_by
 tag_starts : (tag : Tag) (x : List ℕ) → is_worded tag ≡ true → starts_word (spell_tag tag x) ≡ true
 tag_starts tag x h = name_starts tag.name (spell_attributes tag.attributes x) (and_parts (is_word tag.name) (is_worded_list tag.attributes) h).0
 
-start_words : list_all is_worded_row start_rows ≡ true
+pub start_words : list_all is_worded_row start_rows ≡ true
 unfolding start_rows
 start_words = refl
 

@@ -5,4 +5,4 @@ mod letters;
 mod page;
 mod tags;
 
-pub use page::{closure_law, is_safe_page, one_reading_law};
+pub use page::{closure_law, is_safe_page, one_reading_law, unsafe_place};

@@ -3,6 +3,7 @@ ghost use Rattle.std.specs.Prelude.{◌≡◌, ◌↔◌, IfOk, IsTrue};
 ghost use Rattle.html_safe_page.specs.SafePage.{IsSafePage, OneReading};
 ghost use Rattle.html_safe_page.specs.Closed.{Closure};
 ghost use Rattle.html_safe_page.specs.Machine.{split_tag, follows, if_goes_on, after_tag};
+ghost use Rattle.html_safe_page.specs.Place.{IsUnsafePlace};
 ghost use Rattle.html_safe_page.specs.Views.{open_names, quoted_of, if_next};
 
 use crate::letters::after_letters;
@@ -84,6 +85,32 @@ fn after_tag<'a, A: Allocator>(
     Ok(Some(next))
 }
 
+/// Returns the offset, in bytes, of the first place where a page isn't safe, or `None` if it is.
+///
+/// The place is that of the first letter, reference or tag that can't follow what is before it, or
+/// the end of the page if elements are left open. So the bytes before it are the longest beginning
+/// of the page that end tags make a safe page.
+///
+/// Time is linear in the page. Memory is taken for the list of open tags. The only error is out of
+/// memory.
+pub fn unsafe_place<A: Allocator>(alloc: A, page: &str) -> Result<Option<usize>, AllocError>
+    ensures { IfOk result (IsUnsafePlace page.now) }
+{
+    let mut names = Vec::new(alloc);
+    let mut rest = after_letters(page.as_bytes());
+    while !rest.is_empty() {
+        let Some(next) = after_tag(&mut names, rest)? else {
+            return Ok(Some(page.len().saturating_sub(rest.len())));
+        };
+        rest = after_letters(next);
+    }
+    if names.is_empty() {
+        Ok(None)
+    } else {
+        Ok(Some(page.len()))
+    }
+}
+
 /// Returns whether a page is safe. `specs/SafePage.antt` defines that. A safe page has only
 ///
 /// - bytes other than `&`, `"`, `<` and `>`;
@@ -96,13 +123,5 @@ fn after_tag<'a, A: Allocator>(
 pub fn is_safe_page<A: Allocator>(alloc: A, page: &str) -> Result<bool, AllocError>
     ensures { IfOk result (λ safe. IsTrue safe ↔ IsSafePage page.now) }
 {
-    let mut names = Vec::new(alloc);
-    let mut rest = after_letters(page.as_bytes());
-    while !rest.is_empty() {
-        let Some(next) = after_tag(&mut names, rest)? else {
-            return Ok(false);
-        };
-        rest = after_letters(next);
-    }
-    Ok(names.is_empty())
+    Ok(unsafe_place(alloc, page)?.is_none())
 }

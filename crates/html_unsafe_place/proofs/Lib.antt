@@ -1,2 +1,1 @@
-pub mod Beginnings
 mod Names

@@ -1,8 +1,8 @@
 -- The first place of a page that isn't safe.
-use Rattle.std.specs.Prelude.{◌≡◌, ◌+◌, ◌≤◌, ◌==◌, if◌then◌else◌, ℕ, List, [], ◌∷◌, Option, None, Some, length, take, drop}
+use Rattle.std.specs.Prelude.{◌≡◌, ◌+◌, ◌==◌, if◌then◌else◌, ℕ, List, [], ◌∷◌, Option, None, Some, take, drop}
 use Rattle.definition_text.specs.Ascii.{line_feed}
 use Rattle.html_safe_page.specs.SafePage.{IsSafePage}
-use Rattle.html_unsafe_place.specs.Reads.{IsBeginning}
+use Rattle.html_safe_page.specs.Place.{IsUnsafeAt}
 use Rattle.html_unsafe_place.specs.What.{unsafe_at}
 use Rattle.html_unsafe_place.specs.declared.place.UnsafePlace.{UnsafePlace}
 
@@ -22,13 +22,7 @@ pub record IsPlaceAt (page : List ℕ) (n : ℕ) (found : UnsafePlace) : Type 0 
   pub column : found.column ≡ column_after 1 (take n page)
   pub what : found.what ≡ unsafe_at (drop n page)
 
--- a page isn't safe, but end tags make a safe page of its first n bytes
-pub record IsUnsafeAt (page : List ℕ) (n : ℕ) : Type 0 where
-  pub not_safe : IsSafePage page → ⊥
-  pub within : n ≤ length page
-  pub beginning : IsBeginning (take n page)
-
--- nothing for a safe page, and otherwise such a place
+-- nothing for a safe page, and otherwise the place after its longest beginning that end tags make a safe page
 abbrev pub IsFirstUnsafe : List ℕ → Option UnsafePlace → Type 0
 IsFirstUnsafe page None = IsSafePage page
 IsFirstUnsafe page (Some found) = (n : ℕ) × (IsUnsafeAt page n × IsPlaceAt page n found)

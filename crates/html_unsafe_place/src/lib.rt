@@ -2,7 +2,6 @@
 #![tactic(auto)]
 
 mod place;
-mod reading;
 mod what;
 
 pub use place::{UnsafePlace, first_unsafe};

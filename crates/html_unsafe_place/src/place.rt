@@ -2,9 +2,8 @@
 ghost use Rattle.std.specs.Prelude.{◌≡◌, ◌≤◌, IfOk, length};
 ghost use Rattle.html_unsafe_place.specs.Place.{line_after, column_after, IsPlaceAt, IsFirstUnsafe};
 
-use crate::reading::unread_size;
 use crate::what::{Unsafe, unsafe_at};
-use html_safe_page::is_safe_page;
+use html_safe_page::unsafe_place;
 use std::alloc::{AllocError, Allocator};
 
 /// A place of a page that isn't safe.
@@ -23,17 +22,13 @@ pub struct UnsafePlace {
 /// The place is that of the first letter, reference or tag that can't follow what is before it, or
 /// the end of the page if elements are left open. Time is linear in the page. The only error is out
 /// of memory.
-pub fn first_unsafe<A: Allocator + Clone>(
-    alloc: A,
-    page: &str,
-) -> Result<Option<UnsafePlace>, AllocError>
+pub fn first_unsafe<A: Allocator>(alloc: A, page: &str) -> Result<Option<UnsafePlace>, AllocError>
     ensures { IfOk result (IsFirstUnsafe page.now) }
 {
-    if is_safe_page(alloc.clone()?, page)? {
+    let Some(offset) = unsafe_place(alloc, page)? else {
         return Ok(None);
-    }
-    let size = unread_size(alloc, page)?;
-    Ok(Some(place_at(page.as_bytes(), page.len() - size)))
+    };
+    Ok(Some(place_at(page.as_bytes(), offset)))
 }
 
 /// The place of this offset, and what is there.

@@ -2,7 +2,7 @@ use Rattle.std.proofs.Common.{◌∙◌, ap, sym}
 use Rattle.html_safe_page.specs.Machine.{if_goes_on}
 use Rattle.html_safe_page.specs.Views.{open_names}
 use Rattle.html_safe_page.proofs.Text.{split}
-use Rattle.html_safe_page.proofs.Goes.{tag_at_end, tag_other, tag_unended, tag_refused, tag_passed}
+use Rattle.html_safe_page.proofs.Led.{tag_at_end, tag_other, tag_unended, tag_refused, tag_passed}
 use Rattle.html_safe_page.proofs.page.after_tag.Goals as goal
 
 pub returns-in_default : goal.returns-in_default
