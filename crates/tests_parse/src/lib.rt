@@ -38,6 +38,4 @@ mod tabs;
 #[cfg(test)]
 mod texts;
 #[cfg(test)]
-mod tokens;
-#[cfg(test)]
 mod wrong;
