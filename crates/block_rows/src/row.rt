@@ -10,33 +10,34 @@ use markdown_options::LineEnding;
 /// front of what the rows before it left.
 #[derive(Clone, Copy, Debug, PartialEq, Eq)]
 pub enum Row {
-    /// A paragraph of so many lines, at least one (CommonMark 4.8).
+    /// A paragraph of this many lines, at least one (CommonMark 4.8).
     Paragraph(usize),
-    /// A paragraph of whole lines that stand right after another in the text. Its one line is the
-    /// text of them, with their endings.
+    /// A paragraph of whole lines that follow each other in the text. Its one line is the text of them,
+    /// with their endings.
     WholeParagraph,
     /// An ATX heading of a rank, from 1 to 6. Its one line is its content (CommonMark 4.2).
     Heading(u8),
-    /// A setext heading of a rank, 1 or 2, and of so many lines, at least one (CommonMark 4.3).
+    /// A setext heading of a rank, 1 or 2, and of this many lines, at least one (CommonMark 4.3).
     SetextHeading { rank: u8, count: usize },
     /// A thematic break (CommonMark 4.1).
     Break,
-    /// Indented code of so many lines, at least one (CommonMark 4.4).
+    /// Indented code of this many lines, at least one (CommonMark 4.4).
     IndentedCode(usize),
-    /// Fenced code of so many lines, with its info as one more line before them (CommonMark 4.5).
+    /// Fenced code of this many lines, with its info as one more line before them (CommonMark 4.5).
     FencedCode(usize),
-    /// The same where no fence closes it.
+    /// Fenced code that no fence closes, of this many lines, with its info as one more line before them
+    /// (CommonMark 4.5).
     UnclosedCode(usize),
-    /// Fenced code, closed by a fence, of whole lines that stand right after another in the text, if
-    /// it has any. Its two lines are its info and the text of them, with their endings.
+    /// Fenced code, closed by a fence, of whole lines that follow each other in the text, if it has any.
+    /// Its two lines are its info and the text of them, with their endings.
     WholeCode,
-    /// An HTML block of so many lines, at least one (CommonMark 4.6).
+    /// An HTML block of this many lines, at least one (CommonMark 4.6).
     Html(usize),
-    /// A table of so many lines, at least two: its head, its row of delimiters, and the rows of its body
+    /// A table of this many lines, at least two: its head, its row of delimiters, and the rows of its body
     /// (GFM 4.10).
     Table(usize),
-    /// A link reference definition of so many lines, at least one: its label, destination and
-    /// title are read off them again (CommonMark 4.7).
+    /// A link reference definition of this many lines, at least one. Its label, destination and title are
+    /// read from them a second time (CommonMark 4.7).
     Definition(usize),
     /// A block quote starts (CommonMark 5.1).
     EnterQuote,

@@ -8,7 +8,7 @@ use markdown_options::LineEnding;
 pub enum OpenLeaf<'a> {
     /// A paragraph, or nothing where there is no line.
     Text,
-    /// Indented code of so many lines. The lines after them are blank, and may end it.
+    /// Indented code of this many lines. The lines after them are blank, and may end it.
     Indented {
         count: usize,
         ending: Option<LineEnding>,

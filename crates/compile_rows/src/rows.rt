@@ -146,9 +146,9 @@ fn pass_over(skipped: usize, events: &[Event]) -> (usize, &[Event])
 pub enum Mode {
     /// A text, whose children have rows.
     Text,
-    /// A span, a link, an image or a label in front of its text.
+    /// A span, a link, an image or a label, before its text.
     Before,
-    /// One of these behind its text.
+    /// A span, a link, an image or a label, after its text.
     Behind,
 }
 

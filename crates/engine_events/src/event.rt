@@ -39,256 +39,257 @@ pub struct Link {
 
 /// What begins or ends.
 ///
-/// The five names of MDX are never made; they are kept to be refused.
+/// "Void" means that it holds no other event. The five names of MDX are never made; they are kept to
+/// be refused.
 #[derive(Clone, Copy, Debug, PartialEq, Eq)]
 pub enum Name {
-    /// A run of `*`, `_`, `~` or `=` while a text is read. Never in a finished list.
+    /// A run of `*`, `_`, `~` or `=` while a text is read (CommonMark 6.2). Never in a finished list.
     AttentionSequence,
-    /// A link in `<` and `>` (CommonMark 6.5).
+    /// A link in angle brackets, from `<` to `>` (CommonMark 6.5).
     Autolink,
-    /// The address in an autolink. Void.
+    /// The email address between the angle brackets of an autolink. Void.
     AutolinkEmail,
-    /// The `<` or the `>` of an autolink. Void.
+    /// The `<` or the `>` of an autolink: one byte. Void.
     AutolinkMarker,
-    /// The URL in an autolink, with its scheme. Void.
+    /// The URL between the angle brackets of an autolink, with its scheme. Void.
     AutolinkProtocol,
-    /// The ending of a blank line (CommonMark 4.9). Void.
+    /// The ending of a blank line: LF, CR or CR LF (CommonMark 4.9). Void.
     BlankLineEnding,
-    /// A block quote (CommonMark 5.1).
+    /// A block quote, with the prefixes of its lines (CommonMark 5.1).
     BlockQuote,
-    /// The `>` of a block quote. Void.
+    /// The `>` of a block quote: one byte. Void.
     BlockQuoteMarker,
-    /// The `>` at the start of a line, with a space or tab after it.
+    /// The prefix of a block quote on a line: `>`, and the space or column of a tab after it.
     BlockQuotePrefix,
-    /// U+FEFF at the start of the text: three bytes. Void.
+    /// U+FEFF at the start of the text: the bytes EF BB BF. Void.
     ByteOrderMark,
-    /// A backslash and the punctuation after it (CommonMark 2.4).
+    /// A backslash and the ASCII punctuation after it: two bytes (CommonMark 2.4).
     CharacterEscape,
-    /// The backslash of an escape. Void.
+    /// The backslash of a character escape: one byte. Void.
     CharacterEscapeMarker,
-    /// The byte after the backslash. Void.
+    /// The byte that a backslash escapes: ASCII punctuation. Void.
     CharacterEscapeValue,
     /// A character by its name or number, from `&` to `;` (CommonMark 2.5).
     CharacterReference,
-    /// The `&` of a reference. Void.
+    /// The `&` of a character reference: one byte. Void.
     CharacterReferenceMarker,
-    /// The `x` or `X` of a hexadecimal reference. Void.
+    /// The `x` or `X` of a hexadecimal character reference: one byte. Void.
     CharacterReferenceMarkerHexadecimal,
-    /// The `#` of a reference by number. Void.
+    /// The `#` of a character reference by number: one byte. Void.
     CharacterReferenceMarkerNumeric,
-    /// The `;` of a reference. Void.
+    /// The `;` of a character reference: one byte. Void.
     CharacterReferenceMarkerSemi,
-    /// The name or the digits of a reference. Void.
+    /// The name, 1 to 7 digits, or 1 to 6 hexadecimal digits of a character reference. Void.
     CharacterReferenceValue,
-    /// Fenced code (CommonMark 4.5).
+    /// Fenced code, from its opening fence to its closing one, if there is one (CommonMark 4.5).
     CodeFenced,
-    /// The opening or closing fence of code, without white space before it.
+    /// The opening or the closing fence of code, without the white space before it.
     CodeFencedFence,
-    /// The first word after an opening fence: the language.
+    /// The first word after the opening fence of code: the language.
     CodeFencedFenceInfo,
-    /// What follows the info on an opening fence.
+    /// All that follows the language on the opening fence of code.
     CodeFencedFenceMeta,
-    /// The backticks or tildes of a fence. Void.
+    /// The run of backticks or tildes of a code fence: at least three. Void.
     CodeFencedFenceSequence,
     /// A line of fenced or indented code, without its indent and its ending. Void.
     CodeFlowChunk,
-    /// Indented code (CommonMark 4.4).
+    /// Indented code, from its first line to its last one with text (CommonMark 4.4).
     CodeIndented,
-    /// Code in a text, with its backticks (CommonMark 6.1).
+    /// A code span, with its runs of backticks (CommonMark 6.1).
     CodeText,
-    /// A part of a line of code in a text. Void.
+    /// The part of a code span on one line, without the line ending. Void.
     CodeTextData,
-    /// The backticks before or after code in a text. Void.
+    /// The run of backticks before or after the text of a code span. Void.
     CodeTextSequence,
     /// The lines of a paragraph before they are read. Never in a finished list.
     Content,
     /// Bytes that stand for themselves, on one line. Void.
     Data,
-    /// A link reference definition (CommonMark 4.7).
+    /// A link reference definition: a label, `:`, a destination, and a title, if any (CommonMark 4.7).
     Definition,
-    /// The destination of a definition.
+    /// The destination of a definition, with its angle brackets, if any.
     DefinitionDestination,
-    /// A destination in `<` and `>`.
+    /// The destination of a definition in angle brackets, with these.
     DefinitionDestinationLiteral,
-    /// The `<` or `>` of a destination. Void.
+    /// The `<` or the `>` around the destination of a definition: one byte. Void.
     DefinitionDestinationLiteralMarker,
-    /// A destination without `<` and `>`.
+    /// The destination of a definition without angle brackets.
     DefinitionDestinationRaw,
-    /// The destination itself.
+    /// The text of a definition's destination, without angle brackets.
     DefinitionDestinationString,
-    /// The label of a definition, with its brackets.
+    /// The label of a definition, from `[` to `]`.
     DefinitionLabel,
-    /// The `[` or `]` of a definition's label. Void.
+    /// The `[` or the `]` of a definition's label: one byte. Void.
     DefinitionLabelMarker,
-    /// The label itself.
+    /// The text of a definition's label, between the brackets.
     DefinitionLabelString,
-    /// The `:` after the label of a definition or a footnote definition. Void.
+    /// The `:` after the label of a definition or of a footnote definition: one byte. Void.
     DefinitionMarker,
     /// The title of a definition, with its quotes or parentheses.
     DefinitionTitle,
-    /// A quote or parenthesis of a definition's title. Void.
+    /// The `"`, `'`, `(` or `)` before or after the title of a definition: one byte. Void.
     DefinitionTitleMarker,
-    /// The title itself.
+    /// The text of a definition's title, between the quotes or parentheses.
     DefinitionTitleString,
     /// Emphasis, with its sequences (CommonMark 6.2).
     Emphasis,
-    /// The `*` or `_` before or after emphasis. Void.
+    /// The `*` or `_` before or after emphasized text: one byte. Void.
     EmphasisSequence,
-    /// What is emphasized.
+    /// The text that is emphasized, between the sequences.
     EmphasisText,
-    /// Frontmatter, with its fences (in no standard).
+    /// Metadata at the start of the text, from its opening fence to its closing one (in no standard).
     Frontmatter,
     /// A line of frontmatter, without its ending. Void.
     FrontmatterChunk,
-    /// The first or last line of frontmatter.
+    /// The opening or the closing fence of frontmatter, with the white space after it.
     FrontmatterFence,
-    /// The `---` or `+++` of a fence. Void.
+    /// The `---` or `+++` of a frontmatter fence: three bytes. Void.
     FrontmatterSequence,
-    /// An email address that is a link (GFM 6.9). Void.
+    /// An email address that is a link without brackets (GFM 6.9). Void.
     GfmAutolinkLiteralEmail,
-    /// An email address after `mailto:`, with it. Void.
+    /// An email address after `mailto:`, with that, as a link without brackets (GFM 6.9). Void.
     GfmAutolinkLiteralMailto,
-    /// A link that begins with `http://` or `https://`. Void.
+    /// A link without brackets that begins with `http://` or `https://` (GFM 6.9). Void.
     GfmAutolinkLiteralProtocol,
-    /// A link that begins with `www.`. Void.
+    /// A link without brackets that begins with `www.` (GFM 6.9). Void.
     GfmAutolinkLiteralWww,
-    /// An address after `xmpp:`, with it. Void.
+    /// An address after `xmpp:`, with that, as a link without brackets (GFM 6.9). Void.
     GfmAutolinkLiteralXmpp,
-    /// A call of a footnote, as `[^a]`.
+    /// A call of a footnote, from `[^` to `]` (in neither standard).
     GfmFootnoteCall,
-    /// The `[^` of a call.
+    /// The `[^` that starts a footnote call: two bytes.
     GfmFootnoteCallLabel,
-    /// The `^` of a call. Void.
+    /// The `^` of a footnote call: one byte. Void.
     GfmFootnoteCallMarker,
-    /// A footnote definition: a container.
+    /// A footnote definition: a container (in neither standard).
     GfmFootnoteDefinition,
-    /// The label of a footnote definition, from `[` to `]`.
+    /// The label of a footnote definition, from `[^` to `]`.
     GfmFootnoteDefinitionLabel,
-    /// The `[` or `]` of such a label. Void.
+    /// The `[` or the `]` of a footnote definition's label: one byte. Void.
     GfmFootnoteDefinitionLabelMarker,
-    /// The label itself.
+    /// The text of a footnote definition's label, between `[^` and `]`.
     GfmFootnoteDefinitionLabelString,
-    /// The `^` before such a label. Void.
+    /// The `^` of a footnote definition's label: one byte. Void.
     GfmFootnoteDefinitionMarker,
-    /// The label, the `:`, and the white space after it.
+    /// The label of a footnote definition, its `:`, and the white space after that.
     GfmFootnoteDefinitionPrefix,
     /// Text that is struck through, with its sequences (GFM 6.5).
     GfmStrikethrough,
-    /// The one or two tildes before or after it. Void.
+    /// The one or two tildes before or after text that is struck through. Void.
     GfmStrikethroughSequence,
-    /// What is struck through.
+    /// The text that is struck through, between the sequences.
     GfmStrikethroughText,
-    /// A table (GFM 4.10).
+    /// A table: its head, and its body, if any (GFM 4.10).
     GfmTable,
     /// The rows of a table after its delimiter row.
     GfmTableBody,
-    /// A cell of a row, with the white space in it.
+    /// A cell of a row of a table, with the white space in it.
     GfmTableCell,
-    /// A bar between cells, or at an end of a row. Void.
+    /// The bar between two cells, or at an end of a row: one byte. Void.
     GfmTableCellDivider,
-    /// The text of a cell.
+    /// The text of a cell, without the white space around it.
     GfmTableCellText,
-    /// A cell of the delimiter row.
+    /// A cell of the delimiter row of a table, with the white space in it.
     GfmTableDelimiterCell,
-    /// The dashes of such a cell, with its colons.
+    /// The dashes of a delimiter cell, with the colons beside them.
     GfmTableDelimiterCellValue,
-    /// The dashes. Void.
+    /// The dashes of a delimiter cell: at least one. Void.
     GfmTableDelimiterFiller,
-    /// A colon, which aligns the column. Void.
+    /// The colon beside the dashes of a delimiter cell, which aligns the column: one byte. Void.
     GfmTableDelimiterMarker,
-    /// The row of delimiters.
+    /// The second row of a table, which has a delimiter for each column.
     GfmTableDelimiterRow,
-    /// The first row and the delimiter row.
+    /// The first row of a table and its delimiter row.
     GfmTableHead,
-    /// A row of cells.
+    /// A row of cells of a table, except the delimiter row.
     GfmTableRow,
     /// The check of a task list item, from `[` to `]` (GFM 5.3).
     GfmTaskListItemCheck,
-    /// The `[` or `]` of a check. Void.
+    /// The `[` or the `]` of a task list item's check: one byte. Void.
     GfmTaskListItemMarker,
-    /// The `x` or `X` in a check. Void.
+    /// The `x` or `X` of a check that is done: one byte. Void.
     GfmTaskListItemValueChecked,
-    /// The white space in a check. Void.
+    /// The white space in a check that isn't done. Void.
     GfmTaskListItemValueUnchecked,
-    /// A backslash at the end of a line (CommonMark 6.7). Void.
+    /// A backslash at the end of a line, which breaks it: one byte (CommonMark 6.7). Void.
     HardBreakEscape,
-    /// Two spaces or more at the end of a line (CommonMark 6.7). Void.
+    /// Two or more spaces at the end of a line, which break it (CommonMark 6.7). Void.
     HardBreakTrailing,
     /// A heading that begins with `#` (CommonMark 4.2).
     HeadingAtx,
-    /// The `#`s before or after such a heading's text. Void.
+    /// The run of `#` before the text of an ATX heading, 1 to 6 bytes, or the run after it. Void.
     HeadingAtxSequence,
-    /// The text of such a heading.
+    /// The text of an ATX heading, between the sequences.
     HeadingAtxText,
-    /// A heading with a line below it (CommonMark 4.3).
+    /// A heading with an underline (CommonMark 4.3).
     HeadingSetext,
-    /// The text of such a heading, which may have several lines.
+    /// The text of a setext heading: one or more lines.
     HeadingSetextText,
-    /// The line below such a heading.
+    /// The underline of a setext heading, with the white space after it.
     HeadingSetextUnderline,
-    /// The `=`s or `-`s of that line. Void.
+    /// The run of `=` or `-` that underlines a setext heading. Void.
     HeadingSetextUnderlineSequence,
     /// An HTML block (CommonMark 4.6).
     HtmlFlow,
     /// A line of an HTML block, without its ending. Void.
     HtmlFlowData,
-    /// Raw HTML in a text (CommonMark 6.6).
+    /// Raw HTML in a text: a tag, a comment and so on (CommonMark 6.6).
     HtmlText,
-    /// A part of a line of raw HTML in a text. Void.
+    /// The part of raw HTML in a text on one line, without the line ending. Void.
     HtmlTextData,
-    /// An image (CommonMark 6.4).
+    /// An image: its label, and a resource or a reference, if any (CommonMark 6.4).
     Image,
     /// The brackets of a link, an image or a footnote call, and what is between them.
     Label,
-    /// The `]` of a label.
+    /// The `]` that ends the label of a link, an image or a footnote call: one byte.
     LabelEnd,
-    /// The `![` of an image.
+    /// The `![` that starts the label of an image: two bytes.
     LabelImage,
-    /// The `!` of an image. Void.
+    /// The `!` of an image: one byte. Void.
     LabelImageMarker,
-    /// The `[` of a link.
+    /// The `[` that starts the label of a link: one byte.
     LabelLink,
-    /// A bracket of a label. Void.
+    /// The `[` or the `]` of a link's, an image's or a footnote call's label: one byte. Void.
     LabelMarker,
-    /// What is between the brackets.
+    /// The text between the brackets of a link, an image or a footnote call.
     LabelText,
-    /// A line ending: LF, CR or CR LF. Void.
+    /// A line ending: LF, CR or CR LF (CommonMark 2.1). Void.
     LineEnding,
-    /// A link (CommonMark 6.3).
+    /// A link: its label, and a resource or a reference, if any (CommonMark 6.3).
     Link,
-    /// An item of a list (CommonMark 5.2).
+    /// An item of a list: a container (CommonMark 5.2).
     ListItem,
     /// The marker of an item: `*`, `+` or `-`, or the `.` or `)` after a number. Void.
     ListItemMarker,
     /// The number and the marker of an item, and the white space after them.
     ListItemPrefix,
-    /// The number of an ordered item. Void.
+    /// The number of an ordered item: 1 to 9 digits. Void.
     ListItemValue,
-    /// An ordered list (CommonMark 5.3).
+    /// An ordered list: items with numbers (CommonMark 5.3).
     ListOrdered,
-    /// A bullet list (CommonMark 5.3).
+    /// A bullet list: items without numbers (CommonMark 5.3).
     ListUnordered,
     /// Marked text, with its sequences (in no standard).
     Mark,
-    /// The `==` before or after it. Void.
+    /// The `==` before or after marked text: two bytes. Void.
     MarkSequence,
-    /// What is marked.
+    /// The text that is marked, between the sequences.
     MarkText,
-    /// A block of math, with its fences (in no standard).
+    /// A block of math, from its opening fence to its closing one, if there is one (in no standard).
     MathFlow,
-    /// A line of such a block, without its indent and its ending. Void.
+    /// A line of a block of math, without its indent and its ending. Void.
     MathFlowChunk,
-    /// The opening or closing fence of math.
+    /// The opening or the closing fence of math, without the white space before it.
     MathFlowFence,
-    /// What follows an opening fence of math.
+    /// All that follows the dollars of the opening fence of math.
     MathFlowFenceMeta,
-    /// The dollars of a fence. Void.
+    /// The run of dollars of a math fence: at least two. Void.
     MathFlowFenceSequence,
-    /// Math in a text, with its dollars (in no standard).
+    /// Math in a text, with its runs of dollars (in no standard).
     MathText,
-    /// A part of a line of math in a text. Void.
+    /// The part of math in a text on one line, without the line ending. Void.
     MathTextData,
-    /// The dollars before or after math in a text. Void.
+    /// The run of dollars before or after math in a text. Void.
     MathTextSequence,
     /// An import or export of MDX. Never in a list.
     MdxEsm,
@@ -302,43 +303,43 @@ pub enum Name {
     MdxTextExpression,
     /// A paragraph (CommonMark 4.8).
     Paragraph,
-    /// The second pair of brackets of a link or an image, full or collapsed.
+    /// The second pair of brackets of a link or an image: a label, or nothing (CommonMark 6.3).
     Reference,
-    /// A bracket of a reference. Void.
+    /// The `[` or the `]` of a reference: one byte. Void.
     ReferenceMarker,
-    /// The label between them.
+    /// The label of a full reference, between the brackets.
     ReferenceString,
-    /// The destination and the title of a link or an image, from `(` to `)`.
+    /// The destination and the title of a link or an image, from `(` to `)` (CommonMark 6.3).
     Resource,
-    /// The destination of a resource.
+    /// The destination of a resource, with its angle brackets, if any.
     ResourceDestination,
-    /// A destination in `<` and `>`.
+    /// The destination of a resource in angle brackets, with these.
     ResourceDestinationLiteral,
-    /// The `<` or `>` of a destination. Void.
+    /// The `<` or the `>` around the destination of a resource: one byte. Void.
     ResourceDestinationLiteralMarker,
-    /// A destination without `<` and `>`.
+    /// The destination of a resource without angle brackets.
     ResourceDestinationRaw,
-    /// The destination itself.
+    /// The text of a resource's destination, without angle brackets.
     ResourceDestinationString,
-    /// A parenthesis of a resource. Void.
+    /// The `(` or the `)` of a resource: one byte. Void.
     ResourceMarker,
     /// The title of a resource, with its quotes or parentheses.
     ResourceTitle,
-    /// A quote or parenthesis of a title. Void.
+    /// The `"`, `'`, `(` or `)` before or after the title of a resource: one byte. Void.
     ResourceTitleMarker,
-    /// The title itself.
+    /// The text of a resource's title, between the quotes or parentheses.
     ResourceTitleString,
-    /// Spaces and tabs, one or more columns. Void.
+    /// Spaces and tabs that are no text: one or more, or columns of a cut tab. Void.
     SpaceOrTab,
     /// Strong emphasis, with its sequences (CommonMark 6.2).
     Strong,
-    /// The two `*` or `_` before or after it. Void.
+    /// The `**` or `__` before or after strongly emphasized text: two bytes. Void.
     StrongSequence,
-    /// What is strongly emphasized.
+    /// The text that is strongly emphasized, between the sequences.
     StrongText,
-    /// A thematic break (CommonMark 4.1).
+    /// A thematic break: one line (CommonMark 4.1).
     ThematicBreak,
-    /// A run of the bytes of a thematic break. Void.
+    /// A run of `*`, `-` or `_` of a thematic break, without white space. Void.
     ThematicBreakSequence,
 }
 

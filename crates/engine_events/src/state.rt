@@ -6,644 +6,644 @@ use std::mem::size_of;
 /// The states of inline constructs: a construct, then where in it the state reads.
 #[derive(Clone, Copy, Debug, PartialEq, Eq)]
 pub enum Inline {
-    /// At a byte that may begin a run.
+    /// A run of `*`, `_`, `~` or `=`: at a byte that may begin a run.
     AttentionStart,
-    /// In a run.
+    /// A run of `*`, `_`, `~` or `=`: in a run.
     AttentionInside,
-    /// At a `<`.
+    /// An autolink: at a `<`.
     AutolinkStart,
-    /// After the `<`.
+    /// An autolink: after the `<`.
     AutolinkOpen,
-    /// After the first letter.
+    /// An autolink: after its first letter.
     AutolinkSchemeOrEmailAtext,
-    /// In a scheme or in the name of an email, after two bytes at least.
+    /// An autolink: in a scheme or in the name of an email, after two bytes at least.
     AutolinkSchemeInsideOrEmailAtext,
-    /// In a URL.
+    /// An autolink: in a URL.
     AutolinkUrlInside,
-    /// In the name of an email.
+    /// An autolink: in the name of an email.
     AutolinkEmailAtext,
-    /// After the `@` or a dot.
+    /// An autolink: after the `@` of an email address, or after a dot behind that.
     AutolinkEmailAtSignOrDot,
-    /// In a label, after a letter or a digit.
+    /// An autolink: in a label of an email address, after a letter or a digit.
     AutolinkEmailLabel,
-    /// In a label, at any byte.
+    /// An autolink: in a label of an email address, at any byte.
     AutolinkEmailValue,
-    /// At a backslash.
+    /// A character escape: at a backslash.
     CharacterEscapeStart,
-    /// After the backslash.
+    /// A character escape: after the backslash.
     CharacterEscapeInside,
-    /// At an `&`.
+    /// A character reference: at an `&`.
     CharacterReferenceStart,
-    /// After the `&`.
+    /// A character reference: after the `&`.
     CharacterReferenceOpen,
-    /// After the `#`.
+    /// A character reference: after the `#`.
     CharacterReferenceNumeric,
-    /// In the value.
+    /// A character reference: in the value.
     CharacterReferenceValue,
-    /// At an `h`.
+    /// A bare link by its protocol: at an `h`.
     GfmAutolinkLiteralProtocolStart,
-    /// After the literal.
+    /// A bare link by its protocol: after the literal.
     GfmAutolinkLiteralProtocolAfter,
-    /// In `http` or `https`.
+    /// A bare link by its protocol: in `http` or `https`.
     GfmAutolinkLiteralProtocolPrefixInside,
-    /// In `//`, or after it.
+    /// A bare link by its protocol: in `//`, or after it.
     GfmAutolinkLiteralProtocolSlashesInside,
-    /// At a `w`.
+    /// A bare link by `www.`: at a `w`.
     GfmAutolinkLiteralWwwStart,
-    /// After the literal.
+    /// A bare link by `www.`: after the literal.
     GfmAutolinkLiteralWwwAfter,
-    /// In `www.`.
+    /// A bare link by `www.`: in `www.`.
     GfmAutolinkLiteralWwwPrefixInside,
-    /// After `www.`.
+    /// A bare link by `www.`: after `www.`.
     GfmAutolinkLiteralWwwPrefixAfter,
-    /// In a domain.
+    /// The domain of a bare link: in it.
     GfmAutolinkLiteralDomainInside,
-    /// At a `.` or `_` of a domain.
+    /// The domain of a bare link: at a `.` or `_`.
     GfmAutolinkLiteralDomainAtPunctuation,
-    /// Where a domain ends.
+    /// The domain of a bare link: where it ends.
     GfmAutolinkLiteralDomainAfter,
-    /// After the domain.
+    /// The path of a bare link: after the domain.
     GfmAutolinkLiteralPathInside,
-    /// At punctuation that isn't cut.
+    /// The path of a bare link: at punctuation that isn't cut.
     GfmAutolinkLiteralPathAtPunctuation,
-    /// Where the literal ends.
+    /// The path of a bare link: where the literal ends.
     GfmAutolinkLiteralPathAfter,
-    /// In what is cut, if only such follows up to the end.
+    /// What may be cut from a bare link: in it, if only such bytes follow up to the end.
     GfmAutolinkLiteralTrail,
-    /// After a `]`.
+    /// What may be cut from a bare link: after a `]`.
     GfmAutolinkLiteralTrailBracketAfter,
-    /// After an `&`.
+    /// What may be cut from a bare link: after an `&`.
     GfmAutolinkLiteralTrailCharRefStart,
-    /// In letters and digits after an `&`.
+    /// What may be cut from a bare link: in letters and digits after an `&`.
     GfmAutolinkLiteralTrailCharRefInside,
-    /// At a `[`.
+    /// The start of a footnote call: at a `[`.
     GfmLabelStartFootnoteStart,
-    /// After the `[`.
+    /// The start of a footnote call: after the `[`.
     GfmLabelStartFootnoteOpen,
-    /// At a `[`.
+    /// The check of a task: at a `[`.
     GfmTaskListItemCheckStart,
-    /// After the `[`.
+    /// The check of a task: after the `[`.
     GfmTaskListItemCheckInside,
-    /// At the `]`, or at a further column of the tab before it.
+    /// The check of a task: at the `]`, or at a further column of the tab before it.
     GfmTaskListItemCheckClose,
-    /// After the `]`: looks ahead.
+    /// The check of a task: after the `]`, where it looks ahead.
     GfmTaskListItemCheckAfter,
-    /// Before or after spaces and tabs, which something follows.
+    /// The check of a task: before or after the spaces and tabs behind it, which something follows.
     GfmTaskListItemCheckAfterSpaceOrTab,
-    /// At a backslash.
+    /// A hard break by a backslash: at a backslash.
     HardBreakEscapeStart,
-    /// After the backslash.
+    /// A hard break by a backslash: after the backslash.
     HardBreakEscapeAfter,
-    /// At a `<`.
+    /// Raw HTML in a text: at a `<`.
     HtmlTextStart,
-    /// After the `<`.
+    /// Raw HTML in a text: after the `<`.
     HtmlTextOpen,
-    /// After `<!`.
+    /// Raw HTML in a text: after `<!`.
     HtmlTextDeclarationOpen,
-    /// After `<!-`.
+    /// Raw HTML in a text: after `<!-`.
     HtmlTextCommentOpenInside,
-    /// In a comment.
+    /// Raw HTML in a text: in a comment.
     HtmlTextComment,
-    /// In a comment, after a `-`.
+    /// Raw HTML in a text: in a comment, after a `-`.
     HtmlTextCommentClose,
-    /// In a comment, after `--`.
+    /// Raw HTML in a text: in a comment, after `--`.
     HtmlTextCommentEnd,
-    /// In `<![CDATA[`, after the first bracket.
+    /// Raw HTML in a text: in `<![CDATA[`, after the first bracket.
     HtmlTextCdataOpenInside,
-    /// In CDATA.
+    /// Raw HTML in a text: in CDATA.
     HtmlTextCdata,
-    /// In CDATA, after a `]`.
+    /// Raw HTML in a text: in CDATA, after a `]`.
     HtmlTextCdataClose,
-    /// In CDATA, after `]]`.
+    /// Raw HTML in a text: in CDATA, after `]]`.
     HtmlTextCdataEnd,
-    /// In a declaration.
+    /// Raw HTML in a text: in a declaration.
     HtmlTextDeclaration,
-    /// In an instruction.
+    /// Raw HTML in a text: in an instruction.
     HtmlTextInstruction,
-    /// In an instruction, after a `?`.
+    /// Raw HTML in a text: in an instruction, after a `?`.
     HtmlTextInstructionClose,
-    /// After `</`.
+    /// Raw HTML in a text: after `</`.
     HtmlTextTagCloseStart,
-    /// In the name of a closing tag.
+    /// Raw HTML in a text: in the name of a closing tag.
     HtmlTextTagClose,
-    /// In a closing tag, after its name.
+    /// Raw HTML in a text: in a closing tag, after its name.
     HtmlTextTagCloseBetween,
-    /// In the name of an opening tag.
+    /// Raw HTML in a text: in the name of an opening tag.
     HtmlTextTagOpen,
-    /// In an opening tag, before an attribute or the end.
+    /// Raw HTML in a text: in an opening tag, before an attribute or the end.
     HtmlTextTagOpenBetween,
-    /// In the name of an attribute.
+    /// Raw HTML in a text: in the name of an attribute.
     HtmlTextTagOpenAttributeName,
-    /// After the name of an attribute.
+    /// Raw HTML in a text: after the name of an attribute.
     HtmlTextTagOpenAttributeNameAfter,
-    /// After the `=` of an attribute.
+    /// Raw HTML in a text: after the `=` of an attribute.
     HtmlTextTagOpenAttributeValueBefore,
-    /// In a value between quotes.
+    /// Raw HTML in a text: in a value between quotes.
     HtmlTextTagOpenAttributeValueQuoted,
-    /// In a value with no quotes.
+    /// Raw HTML in a text: in a value with no quotes.
     HtmlTextTagOpenAttributeValueUnquoted,
-    /// After a value between quotes.
+    /// Raw HTML in a text: after a value between quotes.
     HtmlTextTagOpenAttributeValueQuotedAfter,
-    /// At the `>`.
+    /// Raw HTML in a text: at the `>`.
     HtmlTextEnd,
-    /// At a line ending.
+    /// Raw HTML in a text: at a line ending.
     HtmlTextLineEndingBefore,
-    /// After a line ending.
+    /// Raw HTML in a text: after a line ending.
     HtmlTextLineEndingAfter,
-    /// After a line ending and the spaces and tabs there.
+    /// Raw HTML in a text: after a line ending and the spaces and tabs there.
     HtmlTextLineEndingAfterPrefix,
-    /// At a `]`.
+    /// The end of a label: at a `]`.
     LabelEndStart,
-    /// After the `]`.
+    /// The end of a label: after the `]`.
     LabelEndAfter,
-    /// If there is no full reference. After a label that isn't defined there is no other reference.
+    /// A reference: if it isn't a full one. After a label that isn't defined there is no other reference.
     LabelEndReferenceNotFull,
-    /// Where a link, an image or a call ends.
+    /// The end of a label: where a link, an image or a call ends.
     LabelEndOk,
-    /// If no label ends here.
+    /// The end of a label: if no label ends here.
     LabelEndNok,
-    /// At a `(`.
+    /// A resource: at a `(`.
     LabelEndResourceStart,
-    /// After the `(`.
+    /// A resource: after the `(`.
     LabelEndResourceBefore,
-    /// Before a destination, or at the `)`.
+    /// A resource: before a destination, or at the `)`.
     LabelEndResourceOpen,
-    /// After the destination.
+    /// A resource: after the destination.
     LabelEndResourceDestinationAfter,
-    /// If there is no destination.
+    /// A resource: if there is no destination.
     LabelEndResourceDestinationMissing,
-    /// After the destination and white space.
+    /// A resource: after the destination and white space.
     LabelEndResourceBetween,
-    /// After the title.
+    /// A resource: after the title.
     LabelEndResourceTitleAfter,
-    /// At the `)`.
+    /// A resource: at the `)`.
     LabelEndResourceEnd,
-    /// At a `[`.
+    /// A reference: at a `[` that may begin a label.
     LabelEndReferenceFull,
-    /// After a label.
+    /// A reference: after a label.
     LabelEndReferenceFullAfter,
-    /// If there is no label.
+    /// A reference: if there is no label.
     LabelEndReferenceFullMissing,
-    /// At a `[`.
+    /// A reference: at a `[` that may begin `[]`.
     LabelEndReferenceCollapsed,
-    /// At the `]`.
+    /// A reference: at the `]` of `[]`.
     LabelEndReferenceCollapsedOpen,
-    /// At a `!`.
+    /// The start of an image: at a `!`.
     LabelStartImageStart,
-    /// After the `!`.
+    /// The start of an image: after the `!`.
     LabelStartImageOpen,
-    /// After the `[`: while footnotes are called, no `^` follows.
+    /// The start of an image: after the `[`. While footnotes are called, no `^` follows.
     LabelStartImageAfter,
-    /// At a `[`.
+    /// The start of a link: at a `[`.
     LabelStartLinkStart,
-    /// At a byte that begins no construct, or one that failed.
+    /// Data: at a byte that begins no construct, or one that failed.
     DataStart,
-    /// Between data and line endings.
+    /// Data: between data and line endings.
     DataAtBreak,
-    /// In data.
+    /// Data: in it.
     DataInside,
-    /// At the first byte.
+    /// A destination: at the first byte.
     DestinationStart,
-    /// After the `<`, or at the `>`.
+    /// A destination: after its `<`, or at its `>`.
     DestinationEnclosedBefore,
-    /// Between the angle brackets.
+    /// A destination: between the angle brackets.
     DestinationEnclosed,
-    /// Between the angle brackets, after a backslash.
+    /// A destination: between the angle brackets, after a backslash.
     DestinationEnclosedEscape,
-    /// With no angle brackets around.
+    /// A destination: with no angle brackets around.
     DestinationRaw,
-    /// With no angle brackets around, after a backslash.
+    /// A destination: with no angle brackets around, after a backslash.
     DestinationRawEscape,
-    /// At a `[`.
+    /// A label: at a `[`.
     LabelStart,
-    /// Between the parts of the text.
+    /// A label: between the parts of the text.
     LabelAtBreak,
-    /// After a line ending.
+    /// A label: after a line ending.
     LabelEolAfter,
-    /// If there is no label.
+    /// A label: if there is no label.
     LabelNok,
-    /// In data.
+    /// A label: in its data.
     LabelInside,
-    /// After a backslash.
+    /// A label: after a backslash.
     LabelEscape,
-    /// At the first.
+    /// Spaces and tabs: at the first of them.
     SpaceOrTabStart,
-    /// At the next.
+    /// Spaces and tabs: at the next of them.
     SpaceOrTabInside,
-    /// After them.
+    /// Spaces and tabs: after the last of them.
     SpaceOrTabAfter,
-    /// At the first byte.
+    /// White space with at most one line ending: at the first byte.
     SpaceOrTabEolStart,
-    /// After spaces and tabs.
+    /// White space with at most one line ending: after spaces and tabs.
     SpaceOrTabEolAfterFirst,
-    /// Where there are none.
+    /// White space with at most one line ending: where no space or tab comes first.
     SpaceOrTabEolAtEol,
-    /// After the line ending.
+    /// White space with at most one line ending: after the line ending.
     SpaceOrTabEolAfterEol,
-    /// After it all.
+    /// White space with at most one line ending: after all of it.
     SpaceOrTabEolAfterMore,
-    /// At a first marker.
+    /// A title: at its first marker.
     TitleStart,
-    /// After the first marker, or at the last.
+    /// A title: after its first marker, or at its last one.
     TitleBegin,
-    /// Between the parts of the text.
+    /// A title: between the parts of the text.
     TitleAtBreak,
-    /// After a line ending.
+    /// A title: after a line ending.
     TitleAfterEol,
-    /// If there is no title.
+    /// A title: if there is no title.
     TitleNok,
-    /// In data.
+    /// A title: in its data.
     TitleInside,
-    /// After a backslash.
+    /// A title: after a backslash.
     TitleEscape,
-    /// At a byte that may begin a run.
+    /// A code span, or math in a text: at a byte that may begin a run.
     RawTextStart,
-    /// In the opening run.
+    /// A code span, or math in a text: in the opening run.
     RawTextSequenceOpen,
-    /// Between the parts of the text.
+    /// A code span, or math in a text: between the parts of the text.
     RawTextBetween,
-    /// In the text.
+    /// A code span, or math in a text: between its runs.
     RawTextData,
-    /// In a run that may close the text.
+    /// A code span, or math in a text: in a run that may close the text.
     RawTextSequenceClose,
-    /// At the first byte.
+    /// A string: at the first byte.
     StringStart,
-    /// Before each part.
+    /// A string: before each of its parts.
     StringBefore,
-    /// Where no construct is.
+    /// A string: where no construct is.
     StringBeforeData,
-    /// At the start of a text.
+    /// A text: at its start.
     TextStart,
-    /// Before each part.
+    /// A text: before each of its parts.
     TextBefore,
-    /// At a `<` that begins no autolink.
+    /// A text: at a `<` that begins no autolink.
     TextBeforeHtml,
-    /// At a backslash that escapes nothing.
+    /// A text: at a backslash that escapes nothing.
     TextBeforeHardBreakEscape,
-    /// At a `[` that begins no footnote call.
+    /// A text: at a `[` that begins no footnote call.
     TextBeforeLabelStartLink,
-    /// Where no construct is.
+    /// A text: where no construct is.
     TextBeforeData,
 }
 
 /// The states of block constructs: a construct, then where in it the state reads.
 #[derive(Clone, Copy, Debug, PartialEq, Eq)]
 pub enum Block {
-    /// At the start of a line.
+    /// A blank line: at the start of a line.
     BlankLineStart,
-    /// After spaces and tabs.
+    /// A blank line: after spaces and tabs.
     BlankLineAfter,
-    /// At the start.
+    /// A block quote: at the start.
     BlockQuoteStart,
-    /// At the start of a further line.
+    /// A block quote: at the start of a further line.
     BlockQuoteContStart,
-    /// At the `>`.
+    /// A block quote: at the `>`.
     BlockQuoteContBefore,
-    /// After the `>`.
+    /// A block quote: after the `>`.
     BlockQuoteContAfter,
-    /// At the start of a line.
+    /// Indented code: at the start of a line.
     CodeIndentedStart,
-    /// Before or after a chunk.
+    /// Indented code: before or after a chunk.
     CodeIndentedAtBreak,
-    /// In a chunk.
+    /// Indented code: in a chunk.
     CodeIndentedInside,
-    /// At the end.
+    /// Indented code: at the end.
     CodeIndentedAfter,
-    /// At a line ending, or at the start of a line.
+    /// Indented code: at a line ending, or at the start of a line.
     CodeIndentedFurtherStart,
-    /// After an indent.
+    /// Indented code: after an indent.
     CodeIndentedFurtherBegin,
-    /// In a chunk that may be blank.
+    /// Indented code: in a chunk that may be blank.
     CodeIndentedFurtherAfter,
-    /// At the start of a line of content.
+    /// The lines of a paragraph: at the start of one.
     ContentChunkStart,
-    /// In a line of content.
+    /// The lines of a paragraph: in one.
     ContentChunkInside,
-    /// At the start of a line that may begin a definition.
+    /// The lines of a paragraph: at the start of one that may begin a definition.
     ContentDefinitionBefore,
-    /// After a definition.
+    /// The lines of a paragraph: after a definition.
     ContentDefinitionAfter,
-    /// At the start of a line.
+    /// A definition: at the start of a line.
     DefinitionStart,
-    /// At the `[`.
+    /// A definition: at the `[`.
     DefinitionBefore,
-    /// After the label.
+    /// A definition: after the label.
     DefinitionLabelAfter,
-    /// Where no label is.
+    /// A definition: if there is no label.
     DefinitionLabelNok,
-    /// After the `:`.
+    /// A definition: after the `:`.
     DefinitionMarkerAfter,
-    /// Before the destination.
+    /// A definition: before the destination.
     DefinitionDestinationBefore,
-    /// After the destination.
+    /// A definition: after the destination.
     DefinitionDestinationAfter,
-    /// Where no destination is.
+    /// A definition: if there is no destination.
     DefinitionDestinationMissing,
-    /// After it all.
+    /// A definition: after all of it.
     DefinitionAfter,
-    /// After spaces and tabs at the end.
+    /// A definition: after the spaces and tabs at its end.
     DefinitionAfterWhitespace,
-    /// At the white space before a title.
+    /// A definition: at the white space before a title.
     DefinitionTitleBefore,
-    /// At the title.
+    /// A definition: at the title.
     DefinitionTitleBeforeMarker,
-    /// After the title.
+    /// A definition: after the title.
     DefinitionTitleAfter,
-    /// After spaces and tabs.
+    /// A definition: after the title and spaces and tabs.
     DefinitionTitleAfterOptionalWhitespace,
-    /// At the start of a text.
+    /// A document: at its start.
     DocumentStart,
-    /// After a byte order mark.
+    /// A document: after a byte order mark.
     DocumentBeforeFrontmatter,
-    /// Before a container that is open.
+    /// A document: before a container that is open.
     DocumentContainerExistingBefore,
-    /// After a container that goes on.
+    /// A document: after an open container that continues.
     DocumentContainerExistingAfter,
-    /// Before a new container.
+    /// A document: before a new container.
     DocumentContainerNewBefore,
-    /// Where no quote begins.
+    /// A document: if no quote begins.
     DocumentContainerNewBeforeNotBlockQuote,
-    /// Where no item begins.
+    /// A document: if no item begins.
     DocumentContainerNewBeforeNotList,
-    /// Where no footnote begins: over the columns of a blank line that belong to containers.
+    /// A document: if no footnote begins. It reads the columns of a blank line that belong to containers.
     DocumentContainerNewBeforeNotGfmFootnoteDefinition,
-    /// After a container that begins.
+    /// A document: after a container that begins.
     DocumentContainerNewAfter,
-    /// After the containers of a line.
+    /// A document: after the containers of a line.
     DocumentContainersAfter,
-    /// In a line.
+    /// A document: in a line.
     DocumentFlowInside,
-    /// After a line.
+    /// A document: after a line.
     DocumentFlowEnd,
-    /// At the start of a line.
+    /// A block: at the start of a line.
     FlowStart,
-    /// Before a blank line.
+    /// A block: before a blank line.
     FlowBlankLineBefore,
-    /// Before indented code.
+    /// A block: before indented code.
     FlowBeforeCodeIndented,
-    /// Before fenced code or math.
+    /// A block: before fenced code or math.
     FlowBeforeRaw,
-    /// Before HTML.
+    /// A block: before HTML.
     FlowBeforeHtml,
-    /// Before an ATX heading.
+    /// A block: before an ATX heading.
     FlowBeforeHeadingAtx,
-    /// Before an underline.
+    /// A block: before a setext underline.
     FlowBeforeHeadingSetext,
-    /// Before a thematic break.
+    /// A block: before a thematic break.
     FlowBeforeThematicBreak,
-    /// Before a row of a table.
+    /// A block: before a row of a table.
     FlowBeforeGfmTable,
-    /// Before a line of content.
+    /// A block: before a line of a paragraph.
     FlowBeforeContent,
-    /// At the end of a blank line.
+    /// A block: at the end of a blank line.
     FlowBlankLineAfter,
-    /// After a block, or a line of content.
+    /// A block: after it, or after a line of a paragraph.
     FlowAfter,
-    /// At the start of a text.
+    /// Frontmatter: at the start of the text.
     FrontmatterStart,
-    /// In the opening fence.
+    /// Frontmatter: in the opening fence.
     FrontmatterOpenSequence,
-    /// After the opening fence.
+    /// Frontmatter: after the opening fence.
     FrontmatterOpenAfter,
-    /// At a closing fence.
+    /// Frontmatter: at a closing fence.
     FrontmatterCloseStart,
-    /// In a closing fence.
+    /// Frontmatter: in a closing fence.
     FrontmatterCloseSequence,
-    /// After a closing fence.
+    /// Frontmatter: after a closing fence.
     FrontmatterCloseAfter,
-    /// At the start of a line.
+    /// Frontmatter: at the start of a line.
     FrontmatterContentStart,
-    /// In a line.
+    /// Frontmatter: in a line.
     FrontmatterContentInside,
-    /// At the end of a line.
+    /// Frontmatter: at the end of a line.
     FrontmatterContentEnd,
-    /// At the end.
+    /// Frontmatter: at the end.
     FrontmatterAfter,
-    /// At the start.
+    /// A footnote definition: at the start.
     GfmFootnoteDefinitionStart,
-    /// At the `[`.
+    /// A footnote definition: at the `[`.
     GfmFootnoteDefinitionLabelBefore,
-    /// At the `^`.
+    /// A footnote definition: at the `^`.
     GfmFootnoteDefinitionLabelAtMarker,
-    /// In the label.
+    /// A footnote definition: in the label.
     GfmFootnoteDefinitionLabelInside,
-    /// After a backslash.
+    /// A footnote definition: after a backslash.
     GfmFootnoteDefinitionLabelEscape,
-    /// After the label.
+    /// A footnote definition: after the label.
     GfmFootnoteDefinitionLabelAfter,
-    /// After the `:`.
+    /// A footnote definition: after the `:`.
     GfmFootnoteDefinitionWhitespaceAfter,
-    /// At the start of a further line.
+    /// A footnote definition: at the start of a further line.
     GfmFootnoteDefinitionContStart,
-    /// At a blank line, on which all items and footnotes go on that may.
+    /// A footnote definition: at a blank line, on which all items and footnotes continue that may.
     GfmFootnoteDefinitionContBlank,
-    /// At a line with content.
+    /// A footnote definition: at a line with content.
     GfmFootnoteDefinitionContFilled,
-    /// At the start of a line.
+    /// A table: at the start of a line.
     GfmTableStart,
-    /// Before the row of the head.
+    /// A table: before the row of the head.
     GfmTableHeadRowBefore,
-    /// At the first bar, or elsewhere.
+    /// A table: at the first bar, or elsewhere.
     GfmTableHeadRowStart,
-    /// Between the parts of the row.
+    /// A table: between the parts of the row.
     GfmTableHeadRowBreak,
-    /// In a cell.
+    /// A table: in a cell.
     GfmTableHeadRowData,
-    /// After a backslash.
+    /// A table: after a backslash.
     GfmTableHeadRowEscape,
-    /// At the start of the row of delimiters.
+    /// A table: at the start of the row of delimiters.
     GfmTableHeadDelimiterStart,
-    /// At a bar, or at the first value.
+    /// A table: at a bar, or at the first value.
     GfmTableHeadDelimiterBefore,
-    /// After a bar.
+    /// A table: after a bar.
     GfmTableHeadDelimiterCellBefore,
-    /// Before a value.
+    /// A table: before a value.
     GfmTableHeadDelimiterValueBefore,
-    /// After a colon on the left.
+    /// A table: after a colon on the left.
     GfmTableHeadDelimiterLeftAlignmentAfter,
-    /// In dashes.
+    /// A table: in dashes.
     GfmTableHeadDelimiterFiller,
-    /// After a value.
+    /// A table: after a value.
     GfmTableHeadDelimiterRightAlignmentAfter,
-    /// After a value, or at the end of the row.
+    /// A table: after a value, or at the end of the row.
     GfmTableHeadDelimiterCellAfter,
-    /// Where no row of delimiters is.
+    /// A table: if there is no row of delimiters.
     GfmTableHeadDelimiterNok,
-    /// At the start of a row.
+    /// A table: at the start of a row.
     GfmTableBodyRowStart,
-    /// Between the parts of a row.
+    /// A table: between the parts of a row.
     GfmTableBodyRowBreak,
-    /// In a cell.
+    /// A table: in a cell.
     GfmTableBodyRowData,
-    /// After a backslash.
+    /// A table: after a backslash.
     GfmTableBodyRowEscape,
-    /// At the start of a line.
+    /// An ATX heading: at the start of a line.
     HeadingAtxStart,
-    /// At the first `#`.
+    /// An ATX heading: at the first `#`.
     HeadingAtxBefore,
-    /// In the opening sequence.
+    /// An ATX heading: in the opening sequence.
     HeadingAtxSequenceOpen,
-    /// Between the parts.
+    /// An ATX heading: between the parts.
     HeadingAtxAtBreak,
-    /// In a further sequence.
+    /// An ATX heading: in a further sequence.
     HeadingAtxSequenceFurther,
-    /// In text.
+    /// An ATX heading: in its text.
     HeadingAtxData,
-    /// At the start of a line.
+    /// The underline of a setext heading: at the start of a line.
     HeadingSetextStart,
-    /// At the first marker.
+    /// The underline of a setext heading: at the first marker.
     HeadingSetextBefore,
-    /// In the underline.
+    /// The underline of a setext heading: in its run.
     HeadingSetextInside,
-    /// After spaces and tabs.
+    /// The underline of a setext heading: after spaces and tabs.
     HeadingSetextAfter,
-    /// At the start of a line.
+    /// An HTML block: at the start of a line.
     HtmlFlowStart,
-    /// At the `<`.
+    /// An HTML block: at the `<`.
     HtmlFlowBefore,
-    /// After the `<`.
+    /// An HTML block: after the `<`.
     HtmlFlowOpen,
-    /// After `<!`.
+    /// An HTML block: after `<!`.
     HtmlFlowDeclarationOpen,
-    /// After `<!-`.
+    /// An HTML block: after `<!-`.
     HtmlFlowCommentOpenInside,
-    /// In `<![CDATA[`.
+    /// An HTML block: in `<![CDATA[`.
     HtmlFlowCdataOpenInside,
-    /// After `</`.
+    /// An HTML block: after `</`.
     HtmlFlowTagCloseStart,
-    /// In the name of a tag.
+    /// An HTML block: in the name of a tag.
     HtmlFlowTagName,
-    /// After the `/` of a block's tag.
+    /// An HTML block: after the `/` of a block's tag.
     HtmlFlowBasicSelfClosing,
-    /// In a closing tag.
+    /// An HTML block: in a closing tag.
     HtmlFlowCompleteClosingTagAfter,
-    /// Before an attribute.
+    /// An HTML block: before an attribute.
     HtmlFlowCompleteAttributeNameBefore,
-    /// In the name of an attribute.
+    /// An HTML block: in the name of an attribute.
     HtmlFlowCompleteAttributeName,
-    /// After the name of an attribute.
+    /// An HTML block: after the name of an attribute.
     HtmlFlowCompleteAttributeNameAfter,
-    /// Before the value of an attribute.
+    /// An HTML block: before the value of an attribute.
     HtmlFlowCompleteAttributeValueBefore,
-    /// In a quoted value.
+    /// An HTML block: in a quoted value.
     HtmlFlowCompleteAttributeValueQuoted,
-    /// In a value.
+    /// An HTML block: in a value.
     HtmlFlowCompleteAttributeValueUnquoted,
-    /// After a quoted value.
+    /// An HTML block: after a quoted value.
     HtmlFlowCompleteAttributeValueQuotedAfter,
-    /// At the end of a tag.
+    /// An HTML block: at the end of a tag.
     HtmlFlowCompleteEnd,
-    /// After a tag.
+    /// An HTML block: after a tag.
     HtmlFlowCompleteAfter,
-    /// In a line.
+    /// An HTML block: in a line.
     HtmlFlowContinuation,
-    /// At a line ending, or at the end.
+    /// An HTML block: at a line ending, or at the end.
     HtmlFlowContinuationStart,
-    /// At a line ending that isn't followed by a lazy line.
+    /// An HTML block: at a line ending that isn't followed by a lazy line.
     HtmlFlowContinuationStartNonLazy,
-    /// At the start of a line.
+    /// An HTML block: at the start of a line.
     HtmlFlowContinuationBefore,
-    /// After a `-` of a comment.
+    /// An HTML block: after a `-` of a comment.
     HtmlFlowContinuationCommentInside,
-    /// After a `<`.
+    /// An HTML block: after a `<`.
     HtmlFlowContinuationRawTagOpen,
-    /// In the name of a closing tag.
+    /// An HTML block: in the name of a closing tag.
     HtmlFlowContinuationRawEndTag,
-    /// After a `]`.
+    /// An HTML block: after a `]`.
     HtmlFlowContinuationCdataInside,
-    /// Where a `>` ends it.
+    /// An HTML block: where a `>` ends it.
     HtmlFlowContinuationDeclarationInside,
-    /// In the last line.
+    /// An HTML block: in the last line.
     HtmlFlowContinuationClose,
-    /// At the end.
+    /// An HTML block: at the end.
     HtmlFlowContinuationAfter,
-    /// At the line ending before a blank line.
+    /// An HTML block: at the line ending before a blank line.
     HtmlFlowBlankLineBefore,
-    /// At the start.
+    /// A list item: at the start.
     ListItemStart,
-    /// At the marker or the number.
+    /// A list item: at the marker or the number.
     ListItemBefore,
-    /// At the marker.
+    /// A list item: at the marker.
     ListItemBeforeUnordered,
-    /// At the number.
+    /// A list item: at the number.
     ListItemBeforeOrdered,
-    /// In the number.
+    /// A list item: in the number.
     ListItemValue,
-    /// At the marker.
+    /// A list item: at the marker.
     ListItemMarker,
-    /// After the marker.
+    /// A list item: after the marker.
     ListItemMarkerAfter,
-    /// After the marker of an item that begins with content.
+    /// A list item: after the marker of an item that begins with content.
     ListItemMarkerAfterFilled,
-    /// At the white space.
+    /// A list item: at the white space.
     ListItemWhitespace,
-    /// After up to four columns of a first line, or up to the width of a further one.
+    /// A list item: after up to four columns of a first line, or up to the width of a further one.
     ListItemWhitespaceAfter,
-    /// At more white space.
+    /// A list item: at further white space.
     ListItemPrefixOther,
-    /// At the content.
+    /// A list item: at the content.
     ListItemAfter,
-    /// At the start of a further line.
+    /// A list item: at the start of a further line.
     ListItemContStart,
-    /// At a blank line, on which all items and footnotes go on that may.
+    /// A list item: at a blank line, on which all items and footnotes continue that may.
     ListItemContBlank,
-    /// At a line with content.
+    /// A list item: at a line with content.
     ListItemContFilled,
-    /// At the first byte.
+    /// A paragraph: at the first byte.
     ParagraphStart,
-    /// At the start of a further line.
+    /// A paragraph: at the start of a further line.
     ParagraphLineStart,
-    /// In a line.
+    /// A paragraph: in a line.
     ParagraphInside,
-    /// At the start of a text.
+    /// A byte order mark: at the start of the text.
     BomStart,
-    /// In the mark.
+    /// A byte order mark: in its bytes.
     BomInside,
-    /// At a line ending.
+    /// A next line that isn't lazy: at a line ending.
     NonLazyContinuationStart,
-    /// At the start of the next line.
+    /// A next line that isn't lazy: at the start of the next line.
     NonLazyContinuationAfter,
-    /// At the start of a line.
+    /// Fenced code or math: at the start of a line.
     RawFlowStart,
-    /// At the fence.
+    /// Fenced code or math: at the fence.
     RawFlowBeforeSequenceOpen,
-    /// In the opening fence.
+    /// Fenced code or math: in the opening fence.
     RawFlowSequenceOpen,
-    /// Before the info, or at the end of the line.
+    /// Fenced code or math: before the info, or at the end of the line.
     RawFlowInfoBefore,
-    /// In the info.
+    /// Fenced code or math: in the info.
     RawFlowInfo,
-    /// Before what follows the info, or at the end of the line.
+    /// Fenced code or math: before what follows the info, or at the end of the line.
     RawFlowMetaBefore,
-    /// In what follows the info.
+    /// Fenced code or math: in what follows the info.
     RawFlowMeta,
-    /// At a line ending that isn't followed by a lazy line.
+    /// Fenced code or math: at a line ending that isn't followed by a lazy line.
     RawFlowAtNonLazyBreak,
-    /// At the line ending before a closing fence.
+    /// Fenced code or math: at the line ending before a closing fence.
     RawFlowCloseStart,
-    /// At a closing fence.
+    /// Fenced code or math: at a closing fence.
     RawFlowBeforeSequenceClose,
-    /// In a closing fence.
+    /// Fenced code or math: in a closing fence.
     RawFlowSequenceClose,
-    /// After a closing fence.
+    /// Fenced code or math: after a closing fence.
     RawFlowSequenceCloseAfter,
-    /// At the line ending before content.
+    /// Fenced code or math: at the line ending before content.
     RawFlowContentBefore,
-    /// At the start of a line.
+    /// Fenced code or math: at the start of a line.
     RawFlowContentStart,
-    /// Before content.
+    /// Fenced code or math: before content.
     RawFlowBeforeContentChunk,
-    /// In content.
+    /// Fenced code or math: in content.
     RawFlowContentChunk,
-    /// At the end.
+    /// Fenced code or math: at the end.
     RawFlowAfter,
-    /// At the start of a line.
+    /// A thematic break: at the start of a line.
     ThematicBreakStart,
-    /// At the first marker.
+    /// A thematic break: at the first marker.
     ThematicBreakBefore,
-    /// Before a run, or at the end.
+    /// A thematic break: before a run, or at the end.
     ThematicBreakAtBreak,
-    /// In a run.
+    /// A thematic break: in a run.
     ThematicBreakSequence,
 }
 

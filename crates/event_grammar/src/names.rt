@@ -187,15 +187,15 @@ pub fn asks_bytes(name: Name) -> bool
 /// What is asked of an event that holds no other, by its name.
 #[derive(Clone, Copy, Debug, PartialEq, Eq)]
 pub enum Void {
-    /// It holds others, or its name is one of MDX.
+    /// An event that holds others, or one of MDX.
     Not,
-    /// It is spaces and tabs.
+    /// Spaces and tabs.
     Space,
-    /// Its bytes are a line ending.
+    /// A line ending: LF, CR or CR LF.
     Ending,
-    /// Its bytes are what its name says.
+    /// Bytes that the name restricts: a number, the sequence of a heading, the value of a reference.
     Asking,
-    /// Nothing is asked of its bytes.
+    /// Any bytes.
     Plain,
 }
 

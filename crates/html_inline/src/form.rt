@@ -8,11 +8,11 @@ use std::alloc::{AllocError, Allocator};
 /// How a text is printed.
 #[derive(Clone, Copy)]
 pub enum Form {
-    /// As it is.
+    /// The text as it is.
     Bytes,
-    /// With U+FFFD for NUL.
+    /// The text with U+FFFD for NUL.
     Plain,
-    /// With U+FFFD for NUL, and with references for `"`, `&`, `<` and `>`.
+    /// The text with U+FFFD for NUL, and with references for `"`, `&`, `<` and `>`.
     Encoded,
 }
 

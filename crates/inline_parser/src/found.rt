@@ -11,9 +11,9 @@ use std::slice::from_ref;
 pub enum FoundRows<'a, A: Allocator> {
     /// The content is text alone: nothing starts in it.
     Alone(InlineRow<'a>),
-    /// They stand in the room for rows.
+    /// The rows are in the room for rows.
     InRoom(&'a [InlineRow<'a>]),
-    /// They have addresses, or links without literals, and were made anew (GFM 6.9).
+    /// The rows have addresses, or links without literals, and are a list of their own (GFM 6.9).
     InList(Vec<InlineRow<'a>, A>),
 }
 

@@ -28,7 +28,7 @@ pub struct VerbatimText<'a> {
 pub enum SpelledLeaf<'a> {
     /// The text of a code span, in which line endings are printed as they are (CommonMark 6.1).
     Code(&'a str),
-    /// The same of math.
+    /// The text of math in a text, in which line endings are printed as they are.
     Math(&'a str),
     /// The check of a task list item, done or not (GFM 5.3).
     Check(bool),
@@ -39,11 +39,11 @@ pub enum SpelledLeaf<'a> {
 pub enum InlineRow<'a> {
     /// Bytes that are text.
     Text(&'a str),
-    /// The same, where they are printed as they are.
+    /// Bytes that are text, and are printed as they are.
     Verbatim(VerbatimText<'a>),
     /// A construct that holds no other.
     Leaf(LeafPart<'a>),
-    /// The same, as a list of events spells it.
+    /// A construct that holds no other, as a list of events spells it.
     Spelled(SpelledLeaf<'a>),
     /// The start of what stands between two runs (CommonMark 6.2 and GFM 6.5).
     EnterSpan(Span),

@@ -12,11 +12,11 @@ use crate::run::Run;
 pub enum Span {
     /// Emphasis, of one `*` or `_` on each side.
     Emphasis,
-    /// Strong emphasis, of two.
+    /// Strong emphasis, of two `*` or `_` on each side.
     Strong,
-    /// Strikethrough, of one or two `~`.
+    /// Strikethrough, of one or two `~` on each side.
     Strikethrough,
-    /// Marked text, of two `=`.
+    /// Marked text, of two `=` on each side.
     Mark,
 }
 

@@ -7,9 +7,9 @@ use engine_events::event::Name;
 pub enum Draft {
     /// Something begins where the draft before ends.
     Enter(Name),
-    /// Something ends there.
+    /// Something ends where the draft before ends.
     Exit(Name),
-    /// Something that holds no other begins there, and ends at an index, before so many columns of
-    /// the tab at it.
+    /// Something that holds no other begins where the draft before ends. It ends at an index, before this
+    /// many columns of the tab at it.
     Void { name: Name, owed: u8, index: usize },
 }

@@ -10,9 +10,13 @@ use std::process::Abort;
 /// What is read, and whether its resolvers run.
 #[derive(Clone, Copy)]
 pub enum Way {
+    /// A text, without its resolvers.
     Text,
+    /// A text, after its resolvers.
     ResolvedText,
+    /// A string, without its resolvers.
     String,
+    /// A string, after its resolvers.
     ResolvedString,
 }
 

@@ -24,7 +24,7 @@ pub enum OptionSet {
     BlocksAndMath,
     /// Blocks, with raw HTML printed.
     BlocksAndRawHtml,
-    /// Blocks, with raw HTML printed but for the tags that GFM filters.
+    /// Blocks, with raw HTML printed except the tags that GFM filters.
     BlocksAndFilteredHtml,
     /// The default options.
     CommonMark,
@@ -48,11 +48,11 @@ pub enum OptionSet {
     Gfm,
     /// The options of GitHub, with marked text.
     GfmAndMark,
-    /// The options of GitHub, with raw HTML printed but for the tags that GFM filters.
+    /// The options of GitHub, with raw HTML printed except the tags that GFM filters.
     GfmAndRawHtml,
     /// CommonMark with every extension.
     Everything,
-    /// CommonMark with every extension, and with raw HTML printed but for the tags that GFM filters.
+    /// CommonMark with every extension, and with raw HTML printed except the tags that GFM filters.
     EverythingAndRawHtml,
     /// The options of GitHub, with another prefix of the ids of footnotes.
     FootnotesPrefixed,
