@@ -24,6 +24,8 @@ impl Edit {
 
 /// Edits of a text, in groups. The edits of a group only make sense together, such as those of the
 /// two markers of an emphasis.
+///
+/// If memory runs out while edits are added, `finish` fails. So who adds edits has no error to pass on.
 #[derive(Drop)]
 pub struct Edits {
     edits: Vec<Edit>,
@@ -33,6 +35,8 @@ pub struct Edits {
     groups: usize,
     /// Whether the next edit begins a group.
     begins: bool,
+    /// Whether memory ran out while edits were added.
+    is_out_of_memory: bool,
     /// The window of each group, once the edits are finished.
     windows: Vec<Window>,
 }
@@ -45,6 +49,7 @@ impl Edits {
             bytes: Vec::new(alloc),
             groups: 0,
             begins: true,
+            is_out_of_memory: false,
             windows: Vec::new(alloc),
         }
     }
@@ -64,61 +69,82 @@ impl Edits {
         self.begins = true;
     }
 
+    /// Notes that memory ran out while edits were added.
+    pub fn fail(&mut self) {
+        self.is_out_of_memory = true;
+    }
+
     /// Adds an edit that removes the bytes from an index to another. What is written next comes in
     /// their place.
-    pub fn edit(&mut self, start: usize, end: usize) -> Result<(), AllocError> {
+    pub fn edit(&mut self, start: usize, end: usize) {
         if self.begins {
             self.groups = self.groups.saturating_add(1);
             self.begins = false;
         }
         let size = self.bytes.len();
-        self.edits.push(Edit {
+        let edit = Edit {
             start,
             end,
             new_start: size,
             new_end: size,
             group: self.groups.saturating_sub(1),
-        })?;
-        Ok(())
+        };
+        if self.edits.push(edit).is_err() {
+            self.fail();
+        }
     }
 
     /// Adds bytes to what the last edit puts in place of the text's. Without an edit does nothing.
-    pub fn write(&mut self, bytes: &[u8]) -> Result<(), AllocError> {
-        self.bytes.extend_from_slice(bytes)?;
-        if let Some(edit) = self.edits.last_mut() {
-            edit.new_end = self.bytes.len();
+    pub fn write(&mut self, bytes: &[u8]) {
+        if self.bytes.extend_from_slice(bytes).is_err() {
+            self.fail();
         }
-        Ok(())
+        self.end_edit();
     }
 
     /// Adds a byte to what the last edit puts in place of the text's, a number of times.
-    pub fn write_times(&mut self, byte: u8, times: usize) -> Result<(), AllocError> {
-        for _ in 0..times {
-            self.bytes.push(byte)?;
+    pub fn write_times(&mut self, byte: u8, times: usize) {
+        let size = self.bytes.len().saturating_add(times);
+        if self.bytes.resize(size, byte).is_err() {
+            self.fail();
         }
+        self.end_edit();
+    }
+
+    /// Adds white space that takes the columns of bytes: a tab for a tab, and otherwise a space.
+    pub fn write_blank(&mut self, bytes: &[u8]) {
+        for byte in bytes {
+            self.write_times(if *byte == b'\t' { b'\t' } else { b' ' }, 1);
+        }
+    }
+
+    /// Ends the new bytes of the last edit.
+    fn end_edit(&mut self) {
         if let Some(edit) = self.edits.last_mut() {
             edit.new_end = self.bytes.len();
         }
-        Ok(())
     }
 
     /// Adds an edit that puts bytes in place of those from an index to another.
-    pub fn replace(&mut self, start: usize, end: usize, new: &[u8]) -> Result<(), AllocError> {
-        self.edit(start, end)?;
-        self.write(new)
+    pub fn replace(&mut self, start: usize, end: usize, new: &[u8]) {
+        self.edit(start, end);
+        self.write(new);
     }
 
     /// Removes edits that change nothing and groups without edits, and sorts the others by place. Groups
     /// are numbered by the places of their first edits.
     ///
     /// `blocks` are the places where the blocks of the text start, in order. A window of a group begins
-    /// and ends at such places.
+    /// and ends at such places. Fails if memory ran out while edits were added, or runs out now.
     pub fn finish(
         &mut self,
         alloc: Global,
         text: &[u8],
         blocks: &[usize],
     ) -> Result<(), AllocError> {
+        if self.is_out_of_memory {
+            return Err(AllocError);
+        }
         self.edits = self.changes(alloc, text)?;
         self.edits.sort_by_key(|edit| (edit.start, edit.end))?;
         self.number_groups(alloc)?;

@@ -1,10 +1,8 @@
 //! The rules of the formatter: what they change in a text, found in its events.
 #![tactic(auto)]
 
-mod document;
 mod rules;
-mod style;
 
-pub use document::Document;
-pub use rules::{RULES, Rule};
-pub use style::{BreakStyle, Style, TableStyle};
+pub use format_document::Document;
+pub use format_inline::{BreakStyle, Style, TableStyle};
+pub use rules::{RULES, Rule, all_edits};

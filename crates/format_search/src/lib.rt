@@ -1,9 +1,9 @@
 //! The search for those edits of a text that keep its page.
 #![tactic(auto)]
 
-mod passes;
+mod formatter;
 mod reader;
 mod search;
 
-pub use passes::formatted;
+pub use formatter::Formatter;
 pub use reader::Reader;

@@ -57,7 +57,7 @@ impl<'a, R: Reader> Search<'a, R> {
     }
 
     /// The text after all edits, if its page stays.
-    fn with_all(&self) -> Result<Option<String>, AllocError> {
+    pub(crate) fn with_all(&self) -> Result<Option<String>, AllocError> {
         let kept = vec![in self.alloc; true; self.edits.groups()]?;
         self.with(&kept)
     }
@@ -110,11 +110,19 @@ impl<'a, R: Reader> Search<'a, R> {
 
     /// Whether the page of a window stays with the groups that are kept.
     fn keeps_page(&self, window: Window, kept: &[bool]) -> Result<bool, AllocError> {
-        let Some(old) = self.text.get(window.start..window.end) else {
-            return Ok(false);
-        };
         match self.edits.apply(self.alloc, self.text, window, kept)? {
-            Some(new) => have_same_page(self.reader, old, &new),
+            Some(new) => self.has_page_of(window, &new),
+            None => Ok(false),
+        }
+    }
+
+    /// Whether a text has the page of a window.
+    fn has_page_of(&self, window: Window, new: &str) -> Result<bool, AllocError> {
+        if window.size() == self.text.len() {
+            return has_page(self.reader, new, self.page);
+        }
+        match self.text.get(window.start..window.end) {
+            Some(old) => have_same_page(self.reader, old, new),
             None => Ok(false),
         }
     }

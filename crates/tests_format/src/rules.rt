@@ -159,6 +159,8 @@ const TABLES: &[Table] = &[
                 "| a |\n| ---: |\n| b\\|c |\n",
             ),
             ("| | a |\n|-|-|\n", "| | a |\n|---|---|\n"),
+            ("|a\\\\|b|\n|-|-|\n", "|a\\\\|b|\n|-|-|\n"),
+            ("|a\\\\\\|b|\n|-|\n", "|a\\\\\\|b|\n|-|\n"),
         ],
     },
     Table {
@@ -166,6 +168,21 @@ const TABLES: &[Table] = &[
         texts: pages![
             ("[a]:b   \"c\"\n", "[a]: b \"c\"\n"),
             ("[a]:\n  b\n", "[a]:\n  b\n"),
+        ],
+    },
+    // Edits of several rules that keep the page together, that overlap, and that don't keep it.
+    Table {
+        rule: "all at once",
+        texts: pages![
+            ("* a\n* b\n\n\n_c_ \n", "- a\n- b\n\n*c*\n"),
+            ("A\n=\n~~~\nb\n~~~\n", "# A\n\n```\nb\n```\n"),
+            (" 3)  a\n 9)  b\n\n     c\n", "3) a\n4) b\n\n   c\n"),
+            ("|_a_|\n|-|\n", "| *a* |\n|---|\n"),
+            ("a\n \n \n \nb\n", "a\n\nb\n"),
+            ("    a\nb\n", "```\na\n```\n\nb\n"),
+            ("*   a\n\n        b\n", "- a\n\n  ```\n  b\n  ```\n"),
+            ("+ ***\n", "+ ---\n"),
+            ("*a __b *c d__ e*\n\n_f_\n", "*a __b *c d__ e*\n\n*f*\n"),
         ],
     },
 ];

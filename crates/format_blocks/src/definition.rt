@@ -3,46 +3,37 @@
 //! Parts on lines of their own stay there.
 //!
 //! Example: `[a]:b   "c"` becomes `[a]: b "c"`.
-use crate::document::{Document, Node};
 use engine_events::event::Name;
+use format_document::{Document, Node};
 use format_edits::Edits;
-use std::alloc::AllocError;
 
 /// Makes definitions alike.
-pub(crate) fn edit(document: &Document<'_>, edits: &mut Edits) -> Result<(), AllocError> {
+pub fn edit(document: &Document<'_>, edits: &mut Edits) {
     for (index, node) in document.nodes().iter().enumerate() {
         if node.name == Name::Definition {
-            edit_definition(document, index, edits)?;
+            edit_definition(document, index, edits);
         }
     }
-    Ok(())
 }
 
 /// Makes a definition alike the others.
-fn edit_definition(
-    document: &Document<'_>,
-    index: usize,
-    edits: &mut Edits,
-) -> Result<(), AllocError> {
+fn edit_definition(document: &Document<'_>, index: usize, edits: &mut Edits) {
     edits.begin_group();
     for (_, kid) in document.kids(index) {
         if is_gap(document, kid) {
-            edits.replace(kid.start.index, kid.end.index, b" ")?;
+            edits.replace(kid.start, kid.end, b" ");
         }
-        let end = kid.end.index;
-        if kid.name == Name::DefinitionMarker && !is_white_at(document, end) {
-            edits.replace(end, end, b" ")?;
+        if kid.name == Name::DefinitionMarker && !is_white_at(document, kid.end) {
+            edits.replace(kid.end, kid.end, b" ");
         }
     }
-    Ok(())
 }
 
 /// Whether a node is white space between parts on one line.
 fn is_gap(document: &Document<'_>, node: &Node) -> bool {
-    let before = document.byte_before(node.start.index);
     node.name == Name::SpaceOrTab
         && node.is_whole()
-        && !matches!(before, None | Some(b'\n' | b'\r'))
+        && !document.before_on_line(node.start).is_empty()
 }
 
 /// Whether white space or the end of the text is at an index.

@@ -3,28 +3,22 @@
 //! Lists side by side would become one, so every other one has `*`.
 //!
 //! Example: `+ a` becomes `- a`.
-use crate::document::{Document, Kids, holds_blocks, is_between_blocks};
 use engine_events::event::Name;
+use format_document::{Document, Kids, holds_blocks, is_between_blocks};
 use format_edits::Edits;
-use std::alloc::AllocError;
 
 /// Makes the markers of bullet lists alike.
-pub(crate) fn edit(document: &Document<'_>, edits: &mut Edits) -> Result<(), AllocError> {
-    edit_lists(document, document.top(), edits)?;
+pub fn edit(document: &Document<'_>, edits: &mut Edits) {
+    edit_lists(document, document.top(), edits);
     for (index, node) in document.nodes().iter().enumerate() {
         if holds_blocks(node.name) {
-            edit_lists(document, document.kids(index), edits)?;
+            edit_lists(document, document.kids(index), edits);
         }
     }
-    Ok(())
 }
 
 /// Makes the markers of the bullet lists among blocks side by side alike.
-fn edit_lists(
-    document: &Document<'_>,
-    kids: Kids<'_>,
-    edits: &mut Edits,
-) -> Result<(), AllocError> {
+fn edit_lists(document: &Document<'_>, kids: Kids<'_>, edits: &mut Edits) {
     // Whether the block before is a list with this marker.
     let mut is_after_dash = false;
     for (index, kid) in kids {
@@ -36,30 +30,21 @@ fn edit_lists(
             edit_markers(
                 document,
                 index,
-                if is_after_dash { b"*" } else { b"-" },
+                if is_after_dash { b'*' } else { b'-' },
                 edits,
-            )?;
+            );
         }
         is_after_dash = is_bullets && !is_after_dash;
     }
-    Ok(())
 }
 
 /// Gives the items of a list a marker.
-fn edit_markers(
-    document: &Document<'_>,
-    list: usize,
-    new: &[u8],
-    edits: &mut Edits,
-) -> Result<(), AllocError> {
+fn edit_markers(document: &Document<'_>, list: usize, new: u8, edits: &mut Edits) {
     edits.begin_group();
     for (item, _) in document.kids(list) {
-        let Some((prefix, _)) = document.kid(item, Name::ListItemPrefix) else {
-            continue;
-        };
-        if let Some((_, marker)) = document.kid(prefix, Name::ListItemMarker) {
-            edits.replace(marker.start.index, marker.end.index, new)?;
+        if let Some(prefix) = document.prefix_of(item) {
+            edits.edit(prefix.marker, prefix.marker_end());
+            edits.write_times(new, 1);
         }
     }
-    Ok(())
 }

@@ -1,0 +1,137 @@
+//! Passes over the rules.
+use crate::reader::Reader;
+use crate::search::Search;
+use format_edits::Edits;
+use format_rules::{Document, RULES, Style, all_edits};
+use std::alloc::{AllocError, Global};
+
+/// The most passes over the rules. A pass may keep edits that the one before had to leave out.
+const PASSES_MAX: usize = 5;
+
+/// What texts are formatted by.
+#[derive(Drop)]
+pub struct Formatter<'a, R> {
+    pub alloc: Global,
+    pub reader: &'a R,
+    pub style: &'a Style,
+}
+
+impl<'a, R: Reader> Formatter<'a, R> {
+    /// The edits that all rules make of a text at once. There are none if the text can't be read.
+    pub fn edits(&self, text: &str) -> Result<Edits, AllocError> {
+        match self.document(text)? {
+            Some(document) => all_edits(self.alloc, &document, self.style),
+            None => Ok(Edits::new(self.alloc)),
+        }
+    }
+
+    /// A text with its events, or none if it can't be read.
+    fn document<'t>(&self, text: &'t str) -> Result<Option<Document<'t>>, AllocError> {
+        match self.reader.events(text)? {
+            Some(events) => {
+                let document = Document::new(self.alloc, text.as_bytes(), events)?;
+                Ok(Some(document))
+            }
+            None => Ok(None),
+        }
+    }
+
+    /// A text after passes over the rules until one changes nothing. `page` is its page, and `edits` are
+    /// those that all rules make of it at once.
+    ///
+    /// Edits are made only if the reader finds the page unchanged.
+    pub fn formatted(&self, text: &str, page: &str, edits: Edits) -> Result<String, AllocError> {
+        let mut value = String::from_str(self.alloc, text)?;
+        let mut edits = edits;
+        for _ in 0..PASSES_MAX {
+            if edits.is_empty() {
+                break;
+            }
+            match self.after_pass(&value, page, edits)? {
+                Some(next) => {
+                    edits = self.edits(&next)?;
+                    value = next;
+                }
+                None => return Ok(value),
+            }
+        }
+        Ok(value)
+    }
+
+    /// A text after all edits at once, or, if they change the page, after the rules one after the other.
+    /// Returns none if nothing changes.
+    fn after_pass(
+        &self,
+        text: &str,
+        page: &str,
+        edits: Edits,
+    ) -> Result<Option<String>, AllocError> {
+        let at_once = self.search(text, page, &edits).with_all()?;
+        if at_once.is_some() {
+            return Ok(at_once);
+        }
+        self.after_rules(text, page)
+    }
+
+    /// A text after the rules one after the other. Returns none if nothing changes.
+    fn after_rules(&self, text: &str, page: &str) -> Result<Option<String>, AllocError> {
+        let mut value = String::from_str(self.alloc, text)?;
+        let mut rule = 0;
+        for _ in 0..RULES.len() {
+            if let Some(next) = self.after_rule(&value, page, &mut rule)? {
+                value = next;
+            }
+        }
+        let changed = value.as_str() != text;
+        Ok(changed.then_some(value))
+    }
+
+    /// A text after the first rule from a number on that has edits, or none if no edit is made. The
+    /// number is then that of the rule after it.
+    fn after_rule(
+        &self,
+        text: &str,
+        page: &str,
+        rule: &mut usize,
+    ) -> Result<Option<String>, AllocError> {
+        if *rule >= RULES.len() {
+            return Ok(None);
+        }
+        let edits = self.first_edits(text, rule)?;
+        if edits.is_empty() {
+            return Ok(None);
+        }
+        self.search(text, page, &edits).edited()
+    }
+
+    /// The edits of the first rule from a number on that has some.
+    fn first_edits(&self, text: &str, rule: &mut usize) -> Result<Edits, AllocError> {
+        match self.document(text)? {
+            Some(document) => self.edits_by(&document, rule),
+            None => Ok(Edits::new(self.alloc)),
+        }
+    }
+
+    /// The edits of the first rule from a number on that has some, by a document.
+    fn edits_by(&self, document: &Document<'_>, rule: &mut usize) -> Result<Edits, AllocError> {
+        for row in RULES.iter().skip(*rule) {
+            *rule = rule.saturating_add(1);
+            let edits = row.edits(self.alloc, document, self.style)?;
+            if !edits.is_empty() {
+                return Ok(edits);
+            }
+        }
+        Ok(Edits::new(self.alloc))
+    }
+
+    /// The search among edits of a text with this page.
+    fn search<'s>(&'s self, text: &'s str, page: &'s str, edits: &'s Edits) -> Search<'s, R> {
+        Search {
+            alloc: self.alloc,
+            reader: self.reader,
+            text,
+            page,
+            edits,
+        }
+    }
+}
