@@ -2,10 +2,14 @@
 """Formats copies of Markdown files with markdown-fmt, and prints figures.
 
 usage: bench/format.py PROGRAM [READER [WORD..]] < NAMES
+       bench/format.py PROGRAM --hostile
 
 PROGRAM is markdown-fmt. NAMES has the name of a file in each line. A file whose name ends in .gz is unpacked. Equal files count once, and
 files that aren't UTF-8 don't count. READER is another program that makes HTML, such as `cmark-gfm --unsafe -e table`: its pages of each
 text before and after are compared, too.
+
+--hostile prints the seconds of the processor for texts that are long, deep, or have many edits that change the page, and for
+texts twice as long.
 """
 import gzip
 import os
@@ -56,10 +60,39 @@ def page(reader, text):
     return subprocess.run(reader, input=text, capture_output=True, check=True).stdout
 
 
+# What a hostile text repeats, and how many times.
+HOSTILE = (
+    ("* a\n", 150_000),
+    ("# a\nb\n", 150_000),
+    ("> ", 50_000),
+    ("1) ", 10_000),
+    ("_a ", 100_000),
+    ("|a|\n|-|\n|b|\n\n", 30_000),
+    ("*foo __bar *baz bim__ bam*\n\n", 10_000),
+    ("- *foo __bar *baz bim__ bam*\n", 3_000),
+)
+
+
+def hostile_seconds(program, text):
+    """The seconds of the processor that a text takes on standard input."""
+    began = processor_time()
+    subprocess.run([program, "--gfm"], input=text.encode(), stdout=subprocess.DEVNULL, check=True)
+    return processor_time() - began
+
+
+def print_hostile(program):
+    for words, count in HOSTILE:
+        once, twice = (hostile_seconds(program, words * times + "a\n") for times in (count, 2 * count))
+        print(f"{words!r} {count} times: {once:.2f} s, twice as many: {twice:.2f} s", flush=True)
+
+
 def main():
     if len(sys.argv) < 2:
         sys.exit(__doc__.strip())
     program, reader = os.path.abspath(sys.argv[1]), sys.argv[2:]
+    if reader == ["--hostile"]:
+        print_hostile(program)
+        return
     before = texts(sys.stdin.read().splitlines())
     with tempfile.TemporaryDirectory() as folder:
         for number, text in enumerate(before):
