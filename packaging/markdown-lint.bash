@@ -14,7 +14,7 @@ _markdown_lint() {
                 case $word in
                     -*)
                         compgen -W '--gfm --frontmatter --math --mark --all --disable --only --siblings
-                            --columns --config --json --help --version' -- "$word"
+                            --columns --config --fix --json --help --version' -- "$word"
                         ;;
                     *) compgen -f -- "$word" ;;
                 esac

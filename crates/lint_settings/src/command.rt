@@ -8,6 +8,7 @@ pub(crate) fn command<'a>(alloc: Global) -> Result<Command<'a>, AllocError> {
         .no_binary_name(true)
         .version("0.1.0");
     with_rules(alloc, with_constructs(alloc, command)?)?
+        .arg(flag(alloc, "fix"))?
         .arg(flag(alloc, "json"))?
         .arg(files(alloc))
 }

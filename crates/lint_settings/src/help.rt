@@ -21,6 +21,8 @@ Options:
       --columns WHAT     Count bytes, with tab stops (the default), or characters
       --config FILE      Read settings from a file, and not from the first
                          .markdown-lint.toml in this folder and those around it
+      --fix              Mend what can be mended with the same page, and print
+                         what is left; of standard input print the text
       --json             Print each finding as an object of JSON
   -h, --help             Print help
   -V, --version          Print version

@@ -1,7 +1,7 @@
 //! What the linter is asked for: by the words of its command line, and by its file of settings.
 //!
 //!     markdown-lint [--gfm] [--frontmatter] [--math] [--mark] [--all] [--disable RULE].. [--only RULE]..
-//!         [--siblings] [--columns bytes|characters] [--config FILE] [--json] [--help] [--version] [FILE..]
+//!         [--siblings] [--columns bytes|characters] [--config FILE] [--fix] [--json] [--help] [--version] [FILE..]
 #![tactic(auto)]
 
 mod command;

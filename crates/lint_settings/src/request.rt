@@ -41,6 +41,11 @@ impl<'w> Request<'w> {
         self.matches.get_str("config")
     }
 
+    /// Whether findings are mended.
+    pub fn fix(&self) -> bool {
+        self.is_set("fix")
+    }
+
     /// Whether findings are printed as JSON.
     pub fn json(&self) -> bool {
         self.is_set("json")

@@ -1,4 +1,5 @@
 //! Files and their findings.
+use crate::mend::{mended_file, mended_text};
 use crate::outcome::Outcome;
 use lint_events::events_of;
 use lint_files::{FolderOf, markdown_files};
@@ -15,6 +16,8 @@ use std::path::Path;
 pub(crate) struct Lint<'a> {
     pub(crate) rt: &'a HostRuntime,
     pub(crate) options: Options,
+    /// Whether findings are mended.
+    pub(crate) fix: bool,
     /// Whether findings are printed as JSON.
     pub(crate) json: bool,
 }
@@ -62,10 +65,13 @@ impl Lint<'_> {
 
     /// Checks a file, or standard input. Fails if the findings can't be written.
     fn check_file<W: Write>(&self, name: &str, writer: &mut W) -> Result<Outcome, Fault> {
-        let text = match text(self.rt, name) {
+        let text = match self.text(name) {
             Ok(text) => text,
             Err(fault) => return Ok(self.fault(name, fault)),
         };
+        if self.fix && name == STANDARD_INPUT {
+            return print_text(writer, text.as_str());
+        }
         let findings = match self.findings(name, text.as_str()) {
             Ok(findings) => findings,
             Err(fault) => return Ok(self.fault(name, fault)),
@@ -87,6 +93,18 @@ impl Lint<'_> {
         }
     }
 
+    /// The text of a file, or of standard input, mended if that is asked for.
+    fn text(&self, name: &str) -> Result<String, Fault> {
+        let text = text(self.rt, name)?;
+        if !self.fix {
+            Ok(text)
+        } else if name == STANDARD_INPUT {
+            mended_text(self.rt, &self.options, text.as_str())
+        } else {
+            mended_file(self.rt, &self.options, name, text.as_str())
+        }
+    }
+
     /// The findings of a text. Fails with `Size` or `Memory`.
     fn findings(&self, name: &str, text: &str) -> Result<Vec<Finding>, Fault> {
         let flags = self.options.flags;
@@ -105,6 +123,14 @@ impl Lint<'_> {
             file: name,
         };
         Ok(findings_of(self.rt.alloc(), &document, &settings, &folder)?)
+    }
+}
+
+/// Prints a text that was mended.
+fn print_text<W: Write>(writer: &mut W, text: &str) -> Result<Outcome, Fault> {
+    match write!(writer, "{text}") {
+        Ok(()) => Ok(Outcome::Clean),
+        Err(error) => Err(Fault::writing(&error)),
     }
 }
 

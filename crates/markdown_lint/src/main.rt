@@ -2,6 +2,7 @@
 #![tactic(auto)]
 
 mod lint;
+mod mend;
 mod outcome;
 mod settings;
 
@@ -44,6 +45,7 @@ fn check(rt: &HostRuntime, request: &Request<'_>) -> Result<Outcome, Fault> {
     let lint = Lint {
         rt,
         options,
+        fix: request.fix(),
         json: request.json(),
     };
     match request.files() {

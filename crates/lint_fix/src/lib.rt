@@ -1,0 +1,9 @@
+//! Mends what the rules of the linter find in a text, where its page stays the same.
+#![tactic(auto)]
+
+mod entry;
+mod reader;
+
+pub use entry::fix;
+pub use lint_edits::Finder;
+pub use markdown::SIZE_MAX;
