@@ -28,6 +28,9 @@ lists_events() { "$1" < "$events/stdin" | cmp - "$events/stdout"; }
 stops() { [ "$("$1" 3 < "$events/stdin" | wc -l)" = 3 ] && { status=0; "$1" 0 < "$events/stdin" || status=$?; [ "$status" = 3 ]; }; }
 # Whether a command that gets the path of a text prints its table of contents.
 lists_contents() { "$@" page.md > "$scratch/contents.out" < page.md && cmp "$scratch/contents.out" contents.md; }
+lists_links() { "$@" < "$here/links/page.md" | cmp - "$here/links/links.txt"; }
+# Whether a command that gets the path of a text prints its links that lead to no file.
+finds_missing() ( cd "$here/links" && "$@" page.md | cmp - missing.txt )
 writes_comments() ( cd "$here/comments" && "$@" 1.md 2.md | cmp - page.html )
 # Whether the ids of footnotes begin with a prefix.
 prefixes() { [ "$(printf 'a[^1]\n\n[^1]: b' | "$@" --gfm --prefix=c- | grep -o 'id="c-fn[^"]*"' | tr '\n' ' ')" = 'id="c-fnref-1" id="c-fn-1" ' ]; }
@@ -66,7 +69,7 @@ library=${1:-$scratch}
 check "C" compile -o "$scratch/convert" "$here/c/convert.c"
 tries "C" "$scratch/convert"
 check "C: the version" tells_version
-if works nm --version; then check "the functions of the library" exports "markdown_check_page markdown_convert markdown_convert_by_numbers markdown_convert_with markdown_decode markdown_list_events markdown_list_events_with markdown_normalize_label markdown_version "; fi
+if works nm --version; then check "the functions of the library" exports "markdown_check_page markdown_convert markdown_convert_by_numbers markdown_convert_with markdown_decode markdown_list_events markdown_list_events_with markdown_list_links_with markdown_normalize_label markdown_version "; fi
 if works objdump --version; then check "the name of the library" names_itself libmarkdown-proved.so.0.1; fi
 check "C: events" compile -o "$scratch/events" "$here/c/events.c"
 check "C: events" lists_events "$scratch/events"
@@ -74,6 +77,8 @@ check "C: a callback that stops" stops "$scratch/events"
 check "C: contents" compile -o "$scratch/contents" "$here/c/contents.c"
 cd "$here/contents"
 check "C: contents" lists_contents "$scratch/contents"
+check "C: links" compile -o "$scratch/links" "$here/c/links.c"
+check "C: links" lists_links "$scratch/links"
 check "C: comments" compile -o "$scratch/comments" "$here/c/comments.c"
 check "C: comments" writes_comments "$scratch/comments"
 check "C: safe pages" compile -o "$scratch/safe_page" "$here/c/safe_page.c"
@@ -83,6 +88,7 @@ check "C: refusals" "$scratch/refusals"
 if works valgrind true; then
     check "C: memory" converts valgrind -q --error-exitcode=9 --leak-check=full "$scratch/convert"
     check "C: memory of events" lists_contents valgrind -q --error-exitcode=9 --leak-check=full "$scratch/contents"
+    check "C: memory of links" lists_links valgrind -q --error-exitcode=9 --leak-check=full "$scratch/links"
     check "C: memory of comments" writes_comments valgrind -q --error-exitcode=9 --leak-check=full "$scratch/comments"
     check "C: memory of refusals" valgrind -q --error-exitcode=9 --leak-check=full "$scratch/refusals"
 fi
@@ -96,6 +102,8 @@ if works rustc --version; then
     tries "Rust" "$scratch/rust"
     check "Rust: events" rustc --edition 2021 -O -L "$library/lib" -o "$scratch/rust_events" "$here/rust/list_events.rs"
     check "Rust: events" lists_events "$scratch/rust_events"
+    check "Rust: links" rustc --edition 2021 -O -L "$library/lib" -o "$scratch/rust_links" "$here/rust/list_links.rs"
+    check "Rust: links" lists_links "$scratch/rust_links"
     check "Rust: a prefix" prefixes "$scratch/rust"
     check "Rust: safe pages" tells_pages "$scratch/rust" --safe-page
 fi
@@ -103,6 +111,7 @@ if works python3 -c 'import ctypes'; then
     PYTHONPATH=$here/../packaging/python PYTHONDONTWRITEBYTECODE=1
     export PYTHONPATH PYTHONDONTWRITEBYTECODE
     tries "Python" python3 "$here/python/convert.py" "$library/lib/libmarkdown-proved.so"
+    check "Python: links" finds_missing python3 "$here/python/links.py" "$library/lib/libmarkdown-proved.so"
     check "Python: contents" lists_contents python3 "$here/python/contents.py" "$library/lib/libmarkdown-proved.so"
 fi
 echo "$passed passed, $failed failed"

@@ -177,7 +177,7 @@ typedef struct markdown_options {
 
 /* The status that a call returns. */
 enum {
-    /* The HTML is in the buffer, or the events are in the array. */
+    /* The HTML is in the buffer, or the events or links are in the array. */
     MARKDOWN_OK = 0,
     /* The buffer or the array is too small. *length or *count is what is needed. */
     MARKDOWN_ROOM = 1,
@@ -189,7 +189,7 @@ enum {
     MARKDOWN_SIZE = 4,
     /* Out of memory. */
     MARKDOWN_MEMORY = 5,
-    /* The callback of markdown_events returned another number than 0. */
+    /* The callback of markdown_events or markdown_links returned another number than 0. */
     MARKDOWN_STOPPED = 6
 };
 
@@ -371,6 +371,104 @@ static inline uint32_t markdown_events(const unsigned char *text, size_t text_le
 {
     markdown_options options = markdown_options_of(flags);
     return markdown_events_with(text, text_length, &options, callback, context);
+}
+
+/* A link, an image, or a definition of where a label leads. */
+typedef struct markdown_link {
+    /* Where it begins: how many bytes of the input are before, and the line and the column from 1, as in markdown_event. */
+    size_t offset;
+    size_t line;
+    size_t column;
+    /* Where it ends. */
+    size_t end_offset;
+    size_t end_line;
+    size_t end_column;
+    /* The index of its enter among the events of markdown_list_events. */
+    size_t event;
+    /* Where its destination begins in the buffer, and how many bytes it has. */
+    size_t destination;
+    size_t destination_length;
+    /* For a link or an image by reference: the index in the array of the definition that its label leads to. Otherwise
+     * MARKDOWN_NO_DEFINITION. */
+    size_t definition;
+    /* MARKDOWN_LINK, .. */
+    uint8_t kind;
+} markdown_link;
+
+/* Kinds of links: [a](b), ![a](b), <https://a.b>, www.a.b, and [a]: b. A later version may have more. */
+enum { MARKDOWN_LINK = 0, MARKDOWN_IMAGE = 1, MARKDOWN_AUTOLINK = 2, MARKDOWN_LITERAL = 3, MARKDOWN_DEFINITION = 4 };
+
+/* The definition of a link that has none. */
+#define MARKDOWN_NO_DEFINITION SIZE_MAX
+
+/* Finds the links of the text_length bytes at text by options, writes them into the array of room links and their destinations
+ * into the buffer_room bytes at buffer, and returns a status. Only the constructs and the switches for one tilde and one dollar
+ * make a difference.
+ *
+ * *count becomes the number of links and *length that of the bytes of all destinations if the status is MARKDOWN_OK or
+ * MARKDOWN_ROOM, otherwise both become 0. MARKDOWN_ROOM means that the array or the buffer is too small. Only with MARKDOWN_OK
+ * are they written, from their starts.
+ *
+ * A destination is what it stands for: escapes and character references are replaced, "mailto:" is before an email address, and
+ * "http://" before "www.". It isn't percent-encoded. A reference has the destination of its definition.
+ *
+ * No pointer may be NULL, even if it points to nothing. What they point to must not overlap, except text and options. */
+uint32_t markdown_list_links_with(const unsigned char *text, size_t text_length, const markdown_options *options,
+                                  markdown_link *links, size_t room, size_t *count, unsigned char *buffer, size_t buffer_room,
+                                  size_t *length);
+
+/* Finds links by flags in place of options, otherwise as markdown_list_links_with does. */
+static inline uint32_t markdown_list_links(const unsigned char *text, size_t text_length, uint32_t flags, markdown_link *links,
+                                           size_t room, size_t *count, unsigned char *buffer, size_t buffer_room, size_t *length)
+{
+    markdown_options options = markdown_options_of(flags);
+    return markdown_list_links_with(text, text_length, &options, links, room, count, buffer, buffer_room, length);
+}
+
+/* Finds the links of the text_length bytes at text, calls back for each of them in order with its destination, and returns a
+ * status, never MARKDOWN_ROOM. The destination isn't ended by NUL; link->destination_length is its length.
+ *
+ * If the callback returns another number than 0, it isn't called again, and the status is MARKDOWN_STOPPED. With any other status
+ * than MARKDOWN_OK and MARKDOWN_STOPPED it wasn't called. text may be NULL if text_length is 0. Links and destinations are in
+ * memory from malloc until the call returns. */
+static inline uint32_t markdown_links_with(const unsigned char *text, size_t text_length, const markdown_options *options,
+                                           int (*callback)(const markdown_link *link, const char *destination, void *context),
+                                           void *context)
+{
+    static const unsigned char none[1] = {0};
+    markdown_link *links = NULL;
+    unsigned char *buffer = NULL;
+    size_t room = text_length / 64 + 16, count = 0, buffer_room = text_length / 2 + 64, length = 0, i;
+    uint32_t status = MARKDOWN_ROOM;
+    while (status == MARKDOWN_ROOM) {
+        free(links);
+        free(buffer);
+        links = room <= SIZE_MAX / sizeof *links ? (markdown_link *)malloc(room * sizeof *links) : NULL;
+        buffer = (unsigned char *)malloc(buffer_room);
+        status = MARKDOWN_MEMORY;
+        if (links != NULL && buffer != NULL)
+            status = markdown_list_links_with(text == NULL ? none : text, text_length, options, links, room, &count, buffer,
+                                              buffer_room, &length);
+        if (count > room)
+            room = count;
+        if (length > buffer_room)
+            buffer_room = length;
+    }
+    for (i = 0; i < count && status == MARKDOWN_OK; i++)
+        if (callback(&links[i], (const char *)buffer + links[i].destination, context) != 0)
+            status = MARKDOWN_STOPPED;
+    free(links);
+    free(buffer);
+    return status;
+}
+
+/* Finds links by flags in place of options, otherwise as markdown_links_with does. */
+static inline uint32_t markdown_links(const unsigned char *text, size_t text_length, uint32_t flags,
+                                      int (*callback)(const markdown_link *link, const char *destination, void *context),
+                                      void *context)
+{
+    markdown_options options = markdown_options_of(flags);
+    return markdown_links_with(text, text_length, &options, callback, context);
 }
 
 /* Writes what the text_length bytes at text stand for as a destination, a title or an info into the room bytes at buffer, and

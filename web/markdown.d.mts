@@ -116,6 +116,30 @@ export interface Event<Text extends string | Uint8Array = string> {
     readonly text: Text;
 }
 
+/** A link, an image, or a definition of where a label leads. */
+export interface Link<Text extends string | Uint8Array = string> {
+    /** `[a](b)`, `![a](b)`, `<https://a.b>`, `www.a.b`, or `[a]: b`. */
+    readonly kind: "link" | "image" | "autolink" | "literal" | "definition";
+    /** Where it leads, not percent-encoded; `mailto:` is before an email address, and `http://` before `www.`. */
+    readonly destination: string;
+    /** For a link or an image by reference: the definition that its label leads to. Otherwise null. */
+    readonly definition: Link<Text> | null;
+    /** How many bytes of the text in UTF-8 are before. */
+    readonly offset: number;
+    /** The line of its start, from 1. */
+    readonly line: number;
+    /** The column of its start, from 1. */
+    readonly column: number;
+    /** How many bytes of the text in UTF-8 are before its end. */
+    readonly endOffset: number;
+    /** The line of its end, from 1. */
+    readonly endLine: number;
+    /** The column of its end, from 1. */
+    readonly endColumn: number;
+    /** The link as it is written. */
+    readonly text: Text;
+}
+
 /**
  * An instance of the library. It keeps nothing between calls. Texts are strings, or bytes in UTF-8; a lone surrogate in a string is
  * converted to U+FFFD. Options are an object, or a sum of flags. Without options the HTML is safe to show.
@@ -137,6 +161,11 @@ export interface Markdown {
     isSafePage(page: string | Uint8Array): boolean;
     /** Returns the events of `text`, in order: what begins and ends where. */
     events<Text extends string | Uint8Array>(text: Text, options?: ReadOptions | number): Event<Text>[];
+    /**
+     * Returns the links, images, autolinks, literals and definitions of `text`, in the order in which they start: where each is, and
+     * where it leads. A link by reference has the destination of its definition.
+     */
+    links<Text extends string | Uint8Array>(text: Text, options?: ReadOptions | number): Link<Text>[];
     /**
      * Returns what `text` stands for as a destination, a title or an info: escapes and character references are replaced, and
      * spaces and tabs around line endings are dropped.

@@ -1,4 +1,4 @@
-// Markdown to HTML and to events: the library as a WebAssembly module, for browsers and Node.
+// Markdown to HTML, to events and to links: the library as a WebAssembly module, for browsers and Node.
 //
 //     import { load } from "./markdown.mjs";
 //     const markdown = await load();
@@ -36,7 +36,10 @@ const SWITCHES = {
 const LINE_ENDINGS = ["\n", "\r", "\r\n"];
 const NAMES = new Set(["lineEnding", ...Object.keys(FLAGS), ...Object.keys(CONSTRUCTS), ...Object.keys(SWITCHES)]);
 // The sizes of structs.
-const OPTIONS_SIZE = 104, EVENT_SIZE = 32;
+const OPTIONS_SIZE = 104, EVENT_SIZE = 32, LINK_SIZE = 88;
+
+const LINK_KINDS = ["link", "image", "autolink", "literal", "definition"];
+const NO_DEFINITION = 2n ** 64n - 1n;
 
 // A page of WebAssembly's memory.
 const PAGE = 65536;
@@ -139,6 +142,29 @@ class Event {
     get text() {
         const other = this.#list[others(this.#list)[this.#index]].offset;
         return sourceOf.get(this.#list).part(Math.min(this.offset, other), Math.max(this.offset, other));
+    }
+}
+
+// What leads somewhere, or defines where a label leads.
+class Link {
+    #source;
+
+    constructor(source, destinations, view) {
+        this.#source = source;
+        const start = integer(view, 56);
+        this.kind = LINK_KINDS[view.getUint8(80)];
+        this.destination = decoder.decode(destinations.subarray(start, start + integer(view, 64)));
+        this.definition = null;
+        this.offset = integer(view, 0);
+        this.line = integer(view, 8);
+        this.column = integer(view, 16);
+        this.endOffset = integer(view, 24);
+        this.endLine = integer(view, 32);
+        this.endColumn = integer(view, 40);
+    }
+
+    get text() {
+        return this.#source.part(this.offset, this.endOffset);
     }
 }
 
@@ -252,6 +278,21 @@ class Markdown {
         const list = [];
         for (let at = 0; at < array.length; at += EVENT_SIZE) list.push(new Event(list, list.length, new DataView(array.buffer, at)));
         sourceOf.set(list, source);
+        return list;
+    }
+
+    links(text, options) {
+        const source = new Source(text);
+        const size = source.bytes.length;
+        const arrays = [{ size: LINK_SIZE, room: (size >> 6) + 16 }, { size: 1, room: (size >> 1) + 64 }];
+        const [array, destinations] = this.#call("markdown_list_links_with", source.bytes, read(options), arrays);
+        const views = [];
+        for (let at = 0; at < array.length; at += LINK_SIZE) views.push(new DataView(array.buffer, at));
+        const list = views.map(view => new Link(source, destinations, view));
+        views.forEach((view, index) => {
+            const definition = view.getBigUint64(72, true);
+            if (definition !== NO_DEFINITION) list[index].definition = list[Number(definition)];
+        });
         return list;
     }
 

@@ -169,11 +169,44 @@ static int check_callback(void)
     return 0;
 }
 
+static int count_links(const markdown_link *link, const char *destination, void *context)
+{
+    size_t *count = context;
+    if (link->destination_length != 2 - *count || memcmp(destination, "/g" + *count, 2 - *count) != 0)
+        return 1;
+    return ++*count == 2;
+}
+
+static int check_links(void)
+{
+    static const unsigned char LINKS[] = "[f] [a](g)\n\n[f]: /g";
+    static markdown_link links[3];
+    size_t count = 0, length = 7;
+    uint32_t status = MARKDOWN_MEMORY;
+    CHECK(markdown_list_links(LINKS, sizeof LINKS - 1, 0, links, 3, &count, buffer, 3, &length) == MARKDOWN_OK);
+    CHECK(count == 3 && length == 3 && links[0].definition == 2 && links[1].definition == MARKDOWN_NO_DEFINITION);
+    CHECK(links[0].kind == MARKDOWN_LINK && links[2].kind == MARKDOWN_DEFINITION && links[2].offset == 12);
+    CHECK(markdown_list_links(LINKS, sizeof LINKS - 1, 0, links, 2, &count, buffer, 3, &length) == MARKDOWN_ROOM && count == 3);
+    CHECK(markdown_list_links(LINKS, sizeof LINKS - 1, 0, links, 3, &count, buffer, 2, &length) == MARKDOWN_ROOM && length == 3);
+    CHECK(markdown_list_links(LINKS, 2, 2048, links, 3, &count, buffer, 3, &length) == MARKDOWN_FLAGS && count == 0 && length == 0);
+    count = 0;
+    CHECK(markdown_links(NULL, 0, 0, count_links, &count) == MARKDOWN_OK && count == 0);
+    CHECK(markdown_links(LINKS, sizeof LINKS - 1, 0, count_links, &count) == MARKDOWN_STOPPED && count == 2);
+    for (long granted = 0; status == MARKDOWN_MEMORY; granted++) {
+        left = granted;
+        count = 0;
+        status = markdown_links(LINKS, sizeof LINKS - 1, 0, count_links, &count);
+        left = -1;
+        CHECK(status == MARKDOWN_MEMORY ? count == 0 : status == MARKDOWN_STOPPED && count == 2);
+    }
+    return 0;
+}
+
 /* Whether a sum of flags gives the same page by flags and by the options of these. */
 static int check_options(void)
 {
     static unsigned char other[sizeof buffer];
-    CHECK(sizeof(markdown_options) == 104 && sizeof(markdown_event) == 32);
+    CHECK(sizeof(markdown_options) == 104 && sizeof(markdown_event) == 32 && sizeof(markdown_link) == 88);
     for (uint32_t flags = 0; flags < 2048; flags++) {
         markdown_options options = markdown_options_of(flags);
         size_t length = 7, other_length = 8;
@@ -252,6 +285,6 @@ static int check_safe_pages(void)
 
 int main(void)
 {
-    return check_room() || check_refusals() || check_memory() || check_growing() || check_events() || check_callback()
+    return check_room() || check_refusals() || check_memory() || check_growing() || check_events() || check_callback() || check_links()
         || check_options() || check_options_refused() || check_options_memory() || check_safe_pages();
 }

@@ -3,7 +3,7 @@
 use std::fmt;
 
 /// What `include/markdown.h` declares.
-mod calls {
+pub(crate) mod calls {
     pub const OK: u32 = 0;
     pub const ROOM: u32 = 1;
     pub const UTF8: u32 = 2;
@@ -348,7 +348,7 @@ impl<'a> Options<'a> {
         self
     }
 
-    fn for_c(&self) -> calls::Options {
+    pub(crate) fn for_c(&self) -> calls::Options {
         calls::Options {
             size: std::mem::size_of::<calls::Options>(),
             constructs: self.constructs,

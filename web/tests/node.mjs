@@ -73,6 +73,19 @@ same("events", events.map(({ kind, offset, line, column, columns, text }) => [ki
     ["enter", 7, 1, 8, 0, "*b*"], ["exit", 10, 1, 11, 0, "*b*"],
 ]);
 same("texts of bytes", [...markdown.events(new TextEncoder().encode("é *b*")).find(event => event.name === "Emphasis").text], [42, 98, 42]);
+const listed = markdown.links("> [a *b*][C] ![d](e\\*&amp;f)\n> <g@h.i>\twww.é.j\n\n[c]: <k l>\n[C]: m", { gfm: true });
+same("links", listed.map(({ kind, destination, line, column, endLine, endColumn }) => [kind, destination, line, column, endLine, endColumn]), [
+    ["link", "k l", 1, 3, 1, 13], ["image", "e*&f", 1, 14, 1, 29], ["autolink", "mailto:g@h.i", 2, 3, 2, 10],
+    ["literal", "http://www.é.j", 2, 13, 2, 21], ["definition", "k l", 4, 1, 4, 11], ["definition", "m", 5, 1, 5, 7],
+]);
+same("texts of links", listed.slice(0, 2).map(link => link.text), ["[a *b*][C]", "![d](e\\*&amp;f)"]);
+check("definitions of links", listed[0].definition === listed[4] && listed.slice(1).every(link => link.definition === null));
+same("links of bytes", markdown.links(new TextEncoder().encode("é [a](b)")).map(({ offset, endOffset, text }) => [offset, endOffset, [...text]]), [
+    [3, 9, [91, 97, 93, 40, 98, 41]],
+]);
+same("no links", markdown.links(""), []);
+check("many links", markdown.links("[a](b)".repeat(20000)).length === 20000);
+same("a long destination", markdown.links(`[a](b${"&ngE;".repeat(10000)})`).map(link => link.destination.length), [20001]);
 same("decoded", markdown.decode("a&amp;\\*&copy;"), "a&*©");
 same("a label", markdown.normalizeLabel(" Á\n b "), "á b");
 check("many events", markdown.events("*a* ".repeat(20000)).length > 200000);

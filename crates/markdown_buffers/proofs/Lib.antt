@@ -1,4 +1,5 @@
 mod Listed
+mod ListedLinks
 mod Pages
 mod Statuses
 mod Written

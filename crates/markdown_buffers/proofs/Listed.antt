@@ -62,15 +62,17 @@ events_in_array options text events old new count status are ok holds has le = r
 }
 
 -- the options are what was meant
+pub of_meant : (Meant : ParseOptions → Type 0) (options : ParseOptions) (text : List ℕ) (P : List Event → Type 0) → Meant options
+    → OfEvents (λ it. it ≡ options) text P → OfEvents Meant text P
+of_meant Meant options text P meant p =
+    record { options = p.options; meant = subst Meant (sym p.meant) meant; events = p.events; are = p.are; holds = p.holds }
+
 pub events_meant : (Meant : ParseOptions → Type 0) (options : ParseOptions) (text : List ℕ) (old new : List FlatEvent) (count status : ℕ)
     → Meant options → StoresEvents (λ it. it ≡ options) text old new count status → StoresEvents Meant text old new count status
 events_meant Meant options text old new count status meant h = record {
-  ok = λ e. mean (h.ok e);
+  ok = λ e. of_meant Meant options text _ meant (h.ok e);
   unchanged = h.unchanged;
-  stored = λ e. mean (h.stored e);
+  stored = λ e. of_meant Meant options text _ meant (h.stored e);
   room = h.room;
   none = h.none;
 }
-  where
-    mean : {P : List Event → Type 0} → OfEvents (λ it. it ≡ options) text P → OfEvents Meant text P
-    mean p = record { options = p.options; meant = subst Meant (sym p.meant) meant; events = p.events; are = p.are; holds = p.holds }

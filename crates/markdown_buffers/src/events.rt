@@ -97,7 +97,7 @@ fn list_by<A: Allocator + Clone>(
 
 /// The events of a text.
 #[tactic(auto, using(crate::proofs::Listed::are_events))]
-fn events_of<A: Allocator + Clone>(
+pub(crate) fn events_of<A: Allocator + Clone>(
     alloc: A,
     text: &str,
     options: &ParseOptions,

@@ -1,10 +1,12 @@
-//! Markdown to HTML and to its events, written into buffers of the caller's. Each call returns a
+//! Markdown to HTML, to its events and its links, written into buffers of the caller's. Each call returns a
 //! status.
 #![tactic(auto)]
 
 pub mod convert;
 pub mod events;
 pub mod flat_event;
+pub mod flat_link;
+pub mod links;
 pub mod safe_page;
 pub mod status;
 pub mod texts;

@@ -1,6 +1,6 @@
 //! What a call returns.
 
-/// The buffer begins with the page, or the array with the events.
+/// The buffer begins with the page, or the array with the events or the links.
 pub const OK: u32 = 0;
 
 /// The buffer or the array is too small.

@@ -63,7 +63,7 @@ fn decoded<A: Allocator>(alloc: A, text: &str) -> Result<String<A>, AllocError>
 }
 
 /// Writes a text at the front of a buffer, if it fits.
-fn write_text(text: &str, buffer: &mut [u8], size: &mut usize) -> u32
+pub(crate) fn write_text(text: &str, buffer: &mut [u8], size: &mut usize) -> u32
     ensures ok { result ≡ OK → HoldsPage text.now buffer.old buffer.new }
     ensures unchanged { ¬ (result ≡ OK) → buffer.new ≡ buffer.old }
     ensures stored { size.new ≡ length text.now }

@@ -10,6 +10,8 @@ mod flags;
 #[cfg(test)]
 mod given;
 #[cfg(test)]
+mod links;
+#[cfg(test)]
 mod memory;
 #[cfg(test)]
 mod options;

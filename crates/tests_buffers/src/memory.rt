@@ -4,6 +4,8 @@ use crate::given::numbers;
 use markdown_buffers::convert::{convert, convert_with};
 use markdown_buffers::events::list_events;
 use markdown_buffers::flat_event::FlatEvent;
+use markdown_buffers::flat_link::FlatLink;
+use markdown_buffers::links::list_links_with;
 use markdown_buffers::safe_page::check_page;
 use markdown_buffers::status::{MEMORY, OK};
 use std::alloc::{AllocError, Global};
@@ -53,6 +55,34 @@ fn called(alloc: Global, heap: &Refusing<Global>, call: usize) -> Outcome {
             let mut array = [none; 512];
             outcome(list_events(heap, TEXT, 2044, &mut array, &mut size), size)
         }
+        3 => {
+            let none = FlatLink {
+                offset: 0,
+                line: 0,
+                column: 0,
+                end_offset: 0,
+                end_line: 0,
+                end_column: 0,
+                event: 0,
+                destination: 0,
+                destination_size: 0,
+                definition: 0,
+                kind: 0,
+            };
+            let mut array = [none; 4];
+            let mut count = 1;
+            let options = numbers(1_073_741_823, 96);
+            let status = list_links_with(
+                heap,
+                TEXT,
+                &options,
+                &mut array,
+                &mut count,
+                &mut buffer,
+                &mut size,
+            );
+            outcome(status, size.min(count))
+        }
         _ => {
             let mut is_safe = 1;
             let status = check_page(heap, PAGE, &mut is_safe);
@@ -75,7 +105,7 @@ fn answers_refusals(alloc: Global, call: usize) -> bool {
 
 /// The first call that a refusal makes go wrong.
 fn first_wrong(alloc: Global) -> Option<&'static str> {
-    let calls = ["convert", "convert_with", "list_events", "check_page"];
+    let calls = ["convert", "convert_with", "list_events", "list_links_with", "check_page"];
     for (number, call) in calls.iter().enumerate() {
         if !answers_refusals(alloc, number) {
             return Some(call);

@@ -1,6 +1,6 @@
-"""Markdown to HTML and to events, by a proved converter.
+"""Markdown to HTML, to events and to links, by a proved converter.
 
-    >>> from markdown_proved import events, is_safe_page, to_html
+    >>> from markdown_proved import events, is_safe_page, links, to_html
     >>> to_html("# Hello, *world*")
     '<h1>Hello, <em>world</em></h1>'
     >>> to_html("~~a~~ www.example.com", gfm=True)
@@ -11,6 +11,8 @@
     False
     >>> [event.text for event in events("# a *b*") if event.enters and event.name == "Emphasis"]
     ['*b*']
+    >>> links("[a], ![b](<c d.png>)\\n\\n[a]: /e")
+    [<link '/e' 1:1>, <image 'c d.png' 1:6>, <definition '/e' 3:1>]
 
 Without options the input is CommonMark 0.31.2 and the HTML is safe to show: HTML in the input is escaped, and URLs with a protocol
 that isn't allowed become empty.
@@ -25,9 +27,9 @@ from __future__ import annotations
 
 import functools
 import os
-from typing import TYPE_CHECKING, Any, Final, Iterator, Union, overload
+from typing import TYPE_CHECKING, Any, Final, Iterator, List, Union, overload
 
-from ._library import Event, Flags, Library
+from ._library import Event, Flags, Library, Link
 from ._library import __version__ as __version__
 
 if TYPE_CHECKING:
@@ -36,7 +38,7 @@ if TYPE_CHECKING:
     from ._library import Options, ReadOptions
 
 __all__ = [
-    "to_html", "is_safe_page", "events", "decode", "normalize_label", "load", "Event", "Flags", "Library",
+    "to_html", "is_safe_page", "events", "links", "decode", "normalize_label", "load", "Event", "Link", "Flags", "Library",
     "DANGEROUS", "PLAIN", "STRIKETHROUGH", "MATH", "FRONTMATTER", "TASK_LIST_ITEMS", "TABLES", "AUTOLINK_LITERALS", "FOOTNOTES",
     "TAGFILTER", "MARK", "GFM",
 ]
@@ -108,6 +110,23 @@ def events(text: Union[str, _Bytes], flags: int = 0, **options: Unpack[ReadOptio
     Raises the errors of ``to_html``, before the first event.
     """
     return _own().events(text, flags, **options)
+
+
+@overload
+def links(text: str, flags: int = ..., **options: Unpack[ReadOptions]) -> List[Link[str]]: ...
+
+
+@overload
+def links(text: _Bytes, flags: int = ..., **options: Unpack[ReadOptions]) -> List[Link[bytes]]: ...
+
+
+def links(text: Union[str, _Bytes], flags: int = 0, **options: Unpack[ReadOptions]) -> Any:
+    """Return the links, images, autolinks, literals and definitions of ``text``, in the order in which they start: where each is,
+    and where it leads. A link by reference has the destination of its definition.
+
+    Raises the errors of ``to_html``.
+    """
+    return _own().links(text, flags, **options)
 
 
 @overload

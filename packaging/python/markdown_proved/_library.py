@@ -126,11 +126,45 @@ class Event(Generic[AnyStr]):
         return f"<{self.kind} {self.name} {self.line}:{self.column}>"
 
 
+class Link(Generic[AnyStr]):
+    """A link, an image, or a definition of where a label leads."""
+
+    __slots__ = ("kind", "destination", "definition", "offset", "line", "column", "end_offset", "end_line", "end_column", "_text")
+    kind: str  # ``link``, ``image``, ``autolink`` (``<a:b>``), ``literal`` (``www.a.b``) or ``definition`` (``[a]: b``)
+    destination: str  # where it leads, not percent-encoded; ``mailto:`` is before an email address, ``http://`` before ``www.``
+    definition: Optional[Link[AnyStr]]  # for a link or an image by reference: the definition that its label leads to
+    offset: int  # where it begins, as in ``Event``
+    line: int
+    column: int
+    end_offset: int  # where it ends
+    end_line: int
+    end_column: int
+
+    def __init__(self, text: _Given, destination: str, fields: Tuple[int, ...]) -> None:
+        self.offset, self.line, self.column, self.end_offset, self.end_line, self.end_column = fields[:6]
+        self.kind = _KINDS[fields[10]]
+        self.destination = destination
+        self.definition = None
+        self._text = text
+
+    @property
+    def text(self) -> AnyStr:
+        """The link as it is written: str of a str, otherwise bytes."""
+        return self._text.part(self.offset, self.end_offset)
+
+    def __repr__(self) -> str:
+        return f"<{self.kind} {self.destination!r} {self.line}:{self.column}>"
+
+
 _OK, _ROOM, _UTF8, _FLAGS, _SIZE, _MEMORY = range(6)
 _FAULTS: Final = {_UTF8: "input is not UTF-8", _FLAGS: "wrong flags", _SIZE: "input is too large"}
 
-# A struct markdown_event, and a byte.
+_KINDS: Final = ("link", "image", "autolink", "literal", "definition")
+_NO_DEFINITION: Final = 2**64 - 1
+
+# A struct markdown_event, a struct markdown_link, and a byte.
 _EVENT: Final = struct.Struct("=QQQHBB4x")
+_LINK: Final = struct.Struct("=10QB7x")
 _BYTE: Final = struct.Struct("=B")
 
 # (That of GitHub comes first, so that the others may turn off what it turns on.)
@@ -325,12 +359,23 @@ class _Events:
         return self._others[index]
 
 
+def _links_of(text: _Given, array: bytes, destinations: bytes) -> List[Link[Any]]:
+    """The links of a text, by the structs of all, and the bytes of their destinations."""
+    structs = list(_LINK.iter_unpack(array))
+    links: List[Link[Any]] = [Link(text, destinations[it[7]:it[7] + it[8]].decode(), it) for it in structs]
+    for link, fields in zip(links, structs):
+        if fields[9] != _NO_DEFINITION:
+            link.definition = links[fields[9]]
+    return links
+
+
 class Library:
     """A shared library with the calls of markdown.h. Its methods are described at the functions of the module."""
 
     version: str
     _convert_with: Any
     _list_events_with: Any
+    _list_links_with: Any
     _decode: Any
     _normalize_label: Any
     _check_page: Any
@@ -348,6 +393,7 @@ class Library:
         for name, arguments in (
             ("convert_with", [*text, options, *out]),
             ("list_events_with", [*text, options, *out]),
+            ("list_links_with", [*text, options, *out, *out]),
             ("decode", [*text, *out]),
             ("normalize_label", [*text, *out]),
             ("check_page", [*text, ctypes.POINTER(number)]),
@@ -376,6 +422,12 @@ class Library:
         self._call(self._list_events_with, given.data, _options_of("events", flags, options, _PRINTING), array)
         return iter(_Events(given, array.data()))
 
+    def links(self, text: _Text, flags: int = 0, **options: Any) -> Any:
+        given = _Given("text", text)
+        array, destinations = _Array(_LINK, len(given.data) // 64 + 16), _Array(_BYTE, len(given.data) // 2 + 64)
+        self._call(self._list_links_with, given.data, _options_of("links", flags, options, _PRINTING), array, destinations)
+        return _links_of(given, array.data(), destinations.data())
+
     def decode(self, text: _Text) -> Any:
         return self._changed(self._decode, _Given("text", text))
 
@@ -388,12 +440,12 @@ class Library:
         return given.returned(room.data())
 
     @staticmethod
-    def _call(call: Any, data: bytes, options: Optional[_Options], array: _Array) -> None:
-        """Calls with an array that grows until it has room."""
+    def _call(call: Any, data: bytes, options: Optional[_Options], *arrays: _Array) -> None:
+        """Calls with arrays that grow until they have room."""
         given: List[Any] = [data, len(data)] + ([] if options is None else [ctypes.byref(options)])
         status = _ROOM
         while status == _ROOM:
-            status = call(*given, *array.arguments())
+            status = call(*given, *(argument for array in arrays for argument in array.arguments()))
         if status == _MEMORY:
             raise MemoryError
         if status != _OK:

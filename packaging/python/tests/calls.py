@@ -6,7 +6,7 @@ import sys
 from typing import Any, Callable, Type
 
 import markdown_proved
-from markdown_proved import GFM, MATH, Flags, decode, events, is_safe_page, normalize_label, to_html
+from markdown_proved import GFM, MATH, Flags, decode, events, is_safe_page, links, normalize_label, to_html
 
 passed = failed = 0
 
@@ -42,7 +42,7 @@ check("dangerous", to_html("a <b>", dangerous=True), "<p>a <b></p>")
 check("plain", to_html("*a*", plain=True), "<p>*a*</p>")
 check("the sum of GitHub", int(Flags.GFM), 996)
 
-CALLS = ((to_html, "to_html"), (events, "events"))
+CALLS = ((to_html, "to_html"), (events, "events"), (links, "links"))
 for call, name in CALLS:
     check(f"{name}: a wrong type", fault(call, 3), (TypeError, "text must be str, bytes, bytearray or memoryview, not int"))
     check(f"{name}: a wrong keyword", fault(call, "", gmf=True), (TypeError, f"{name}() got an unexpected keyword argument 'gmf'"))
@@ -87,6 +87,19 @@ check("an event, shown", repr(emphasis[0]), "<enter Emphasis 1:8>")
 check("no events", list(events("")), [])
 voids = [enter.text for enter, leave in zip(found, found[1:]) if enter.enters and not leave.enters]
 check("the texts of void events", "".join(voids), "> # é *b*\n")
+listed = links("> [a *b*][C] ![d](e\\*&amp;f)\n> <g@h.i>\twww.é.j\n\n[c]: <k l>\n[C]: m", gfm=True)
+check("links", [(it.kind, it.destination, it.line, it.column, it.end_line, it.end_column) for it in listed], [
+    ("link", "k l", 1, 3, 1, 13), ("image", "e*&f", 1, 14, 1, 29), ("autolink", "mailto:g@h.i", 2, 3, 2, 10),
+    ("literal", "http://www.é.j", 2, 13, 2, 21), ("definition", "k l", 4, 1, 4, 11), ("definition", "m", 5, 1, 5, 7),
+])
+check("texts of links", [it.text for it in listed[:2]], ["[a *b*][C]", "![d](e\\*&amp;f)"])
+check("definitions of links", [it.definition for it in listed], [listed[4], None, None, None, None, None])
+check("a link, shown", repr(listed[0]), "<link 'k l' 1:3>")
+check("texts of bytes", [it.text for it in links("é [a](b)".encode())], [b"[a](b)"])
+check("no links", links("a"), [])
+check("many links", len(links("[a](b)" * 20000)), 20000)
+check("long destinations", [len(it.destination) for it in links("[a](b" + "&ngE;" * 10000 + ")")], [1 + 10000 * len("\u226b\u0338")])
+check("an option of the page alone", fault(links, "", prefix="a"), (TypeError, "links() got an unexpected keyword argument 'prefix'"))
 check("many events", sum(event.enters for event in events("*a* " * 20000)) > 100000, True)
 check("the version", markdown_proved.__version__.count("."), 2)
 check("a library that isn't there", fault(markdown_proved.load, "no.so")[0], OSError)

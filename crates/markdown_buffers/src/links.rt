@@ -1,0 +1,98 @@
+//! From a text to its links in the caller's array, and their destinations in a buffer.
+ghost use Rattle.std.specs.Prelude.{◌≡◌, ◌≤◌, IfOk, false, length};
+ghost use Rattle.markdown_options.specs.Mdx.{has_mdx};
+ghost use Rattle.markdown_c_options.specs.FlatOptions.{IsKnown, ReadsBy};
+ghost use Rattle.markdown_buffers.specs.Links.{AreLinksOf, StoresLinks};
+ghost use Rattle.markdown_buffers.specs.Statuses.{NamesCause};
+
+use crate::events::events_of;
+use crate::flat_link::{FlatLink, write_links};
+use crate::status::{FLAGS, MEMORY, OK, ROOM, SIZE, UTF8};
+use crate::texts::write_text;
+use markdown::{Builtin, ParseOptions, SIZE_MAX, fits};
+use markdown_c_options::flat_options::{FlatOptions, is_known};
+use markdown_c_options::switches::parse_options_of;
+use markdown_links::{Links, links};
+use std::alloc::{AllocError, Allocator};
+
+/// Finds the links of a text by options, writes them into an array and their destinations into a
+/// buffer, and returns a status. If it is `OK` or `ROOM`, `count` becomes the number of links, and
+/// `size` the number of bytes of all destinations; otherwise both become 0.
+///
+/// Array and buffer are written only with `OK`, from their starts. `ROOM` means that one of them is
+/// too small. `FLAGS` also means that a text of the options isn't UTF-8, or that the struct's size is
+/// another one.
+#[tactic(auto, using(crate::proofs::Statuses::unknown_options, crate::proofs::ListedLinks::no_links))]
+pub fn list_links_with<A: Allocator + Clone>(
+    alloc: A,
+    text: &[u8],
+    options: &FlatOptions<'_>,
+    array: &mut [FlatLink],
+    count: &mut usize,
+    buffer: &mut [u8],
+    size: &mut usize,
+) -> u32
+    ensures cause { NamesCause (IsKnown options.now) text.now result }
+    ensures links { StoresLinks (ReadsBy options.now) text.now array.old array.new count.new buffer.old buffer.new size.new result }
+{
+    *count = 0;
+    *size = 0;
+    if !is_known(options) {
+        return FLAGS;
+    }
+    let options = parse_options_of(options.constructs, options.switches);
+    list_by(alloc, text, &options, array, count, buffer, size)
+}
+
+/// Writes the links of a text into an array and a buffer by options, which have no construct of MDX.
+#[tactic(auto, using(crate::proofs::Statuses::no_utf8, crate::proofs::Statuses::too_long, crate::proofs::Statuses::passed, crate::proofs::ListedLinks::no_links, crate::proofs::ListedLinks::links_without_room, crate::proofs::ListedLinks::destinations_without_room))]
+fn list_by<A: Allocator + Clone>(
+    alloc: A,
+    text: &[u8],
+    options: &ParseOptions,
+    array: &mut [FlatLink],
+    count: &mut usize,
+    buffer: &mut [u8],
+    size: &mut usize,
+) -> u32
+    requires without_mdx { has_mdx options.now.constructs ≡ false }
+    ensures cause { NamesCause (Unit {0}) text.now result }
+    ensures links { StoresLinks (λ it. it ≡ options.now) text.now array.old array.new count.new buffer.old buffer.new size.new result }
+{
+    *count = 0;
+    *size = 0;
+    let Ok(text) = str::from_utf8(text) else {
+        return UTF8;
+    };
+    if !fits(text) {
+        return SIZE;
+    }
+    let Ok(found) = links_of(alloc, text, options) else {
+        return MEMORY;
+    };
+    *count = found.links.len();
+    *size = found.destinations.len();
+    if *count > array.len() {
+        return ROOM;
+    }
+    let status = write_text(found.destinations.as_str(), buffer, size);
+    if status != OK {
+        return status;
+    }
+    write_links(array, &found.links);
+    OK
+}
+
+/// The links of a text.
+fn links_of<A: Allocator + Clone>(
+    alloc: A,
+    text: &str,
+    options: &ParseOptions,
+) -> Result<Links<A>, AllocError>
+    requires size { length text.now ≤ SIZE_MAX }
+    requires without_mdx { has_mdx options.now.constructs ≡ false }
+    ensures { IfOk result (λ found. AreLinksOf options.now text.now found) }
+{
+    let events = events_of(alloc.clone()?, text, options)?;
+    links(alloc, &events, text.as_bytes(), &Builtin)
+}

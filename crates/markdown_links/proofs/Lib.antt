@@ -1,0 +1,4 @@
+pub mod Definitions
+pub mod ListedLinks
+pub mod Parts
+pub mod Spans
