@@ -1,12 +1,14 @@
 -- Links, one after another.
-use Rattle.std.proofs.Common.{◌≡◌, ◌<◌, ◌+◌, ℕ, zero, suc, List, [], ◌∷◌, ◌++◌, map, drop, length, get_or, Option, unwrap_or, sym, ap, ap₂, ◌∙◌, subst, append_assoc, arith}
-use Rattle.std.proofs.lemmas.List.{drop_more, map-append}
+use Rattle.std.proofs.Common.{◌≡◌, ◌<◌, ◌≤◌, ◌+◌, ℕ, zero, suc, List, [], ◌∷◌, ◌++◌, drop, length, get_or, Option, unwrap_or, sym, ap, ap₂, ◌∙◌, subst, append_assoc, arith}
+use Rattle.std.proofs.lemmas.List.{append-nil, drop_all, drop_more, map-append}
 use Rattle.std.proofs.lemmas.List.Elements.{All-append}
 use Rattle.std.proofs.Math.ListN.{get_or-map}
 use Rattle.std.specs.List.{All}
 use Rattle.engine_events.specs.declared.event.Event.{Event}
-use Rattle.markdown_links.specs.Definition.{Labelled, definition_of}
-use Rattle.markdown_links.specs.Listed.{HasLinks, HasParts, IsWithin, Listed, empty, link_at, listed, listed_at, listed_from, part}
+use Rattle.definition_inline.specs.CharacterReference.{Names}
+use Rattle.markdown_links.specs.Definition.{Labelled, definition_of, definitions_from}
+use Rattle.markdown_links.specs.Listed.{HasLinks, HasParts, IsWithin, Listed, empty, link_at, listed, links_of, listed_at, listed_from, part, targets_of}
+use Rattle.markdown_links.specs.Span.{spans_of}
 use Rattle.markdown_links.specs.declared.link.Link.{Link}
 use Rattle.markdown_links.specs.declared.link.Range.{Range}
 use Rattle.markdown_links.specs.declared.span.Span.{Span}
@@ -55,6 +57,14 @@ module _ (out : List ℕ) (ranges : List Range) (targets : List (List ℕ)) (par
 abbrev pub HasFrontLinks : List ℕ → List Link → (ℕ → List Span → List Listed) → List Span → ℕ → Type 0
 HasFrontLinks out links from spans i = (done : List Listed) × HasLinks out links done × (done ++ from i (drop i spans) ≡ from 0 spans)
 
+-- all links before the end
+pub all_links : (out : List ℕ) (links : List Link) (from : ℕ → List Span → List Listed) (spans : List Span) (i : ℕ) → from i [] ≡ []
+    → length spans ≤ i → HasFrontLinks out links from spans i → HasLinks out links (from 0 spans)
+all_links out links from spans i none end h =
+    let all : h.0 ≡ from 0 spans =
+    sym (append-nil h.0) ∙ ap (λ (ls : List Listed). h.0 ++ ls) (sym (ap (from i) (drop_all i spans end) ∙ none)) ∙ h.2 in
+    subst (HasLinks out links) all h.1
+
 -- the link of a span after those before it
 pub front_link : (out : List ℕ) (ranges : List Range) (targets : List (List ℕ)) (bytes : List ℕ) (events : List Event) (ds : List Labelled)
     (spans : List Span) (i : ℕ) (d : Span) (links all : List Link) (definition : Option ℕ) (place : ℕ) (range : Range) (link : Link)
@@ -74,3 +84,17 @@ front_link out ranges targets bytes events ds spans i d links all definition pla
           ∙ ap (λ (ls : List Listed). h.0 ++ ls) (sym (ap (listed_from bytes events targets ds i) (drop_more spans i d before)))
           ∙ h.2,
     )
+
+-- the links of a list of events, where its spans were found once and read three times
+pub links_are : (names : Names) (bytes : List ℕ) (events : List Event) (out : List ℕ) (links : List Link) (one two three : List Span)
+    → one ≡ spans_of events → two ≡ spans_of events → three ≡ spans_of events
+    → HasLinks out links (listed_from bytes events (targets_of names bytes events two) (definitions_from bytes events 0 one) 0 three)
+    → HasLinks out links (links_of names bytes events)
+links_are names bytes events out links one two three a b c h =
+    let spans = spans_of events in
+    let first = subst (λ (it : List Span). HasLinks out links
+    (listed_from bytes events (targets_of names bytes events two) (definitions_from bytes events 0 it) 0 three)) a h in
+    let second = subst (λ (it : List Span). HasLinks out links
+    (listed_from bytes events (targets_of names bytes events it) (definitions_from bytes events 0 spans) 0 three)) b first in
+    subst (λ (it : List Span). HasLinks out links
+    (listed_from bytes events (targets_of names bytes events spans) (definitions_from bytes events 0 spans) 0 it)) c second

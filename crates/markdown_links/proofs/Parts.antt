@@ -1,7 +1,7 @@
 -- Parts of a text that grows.
-use Rattle.std.proofs.Common.{◌≡◌, ◌≤◌, ◌<◌, ◌+◌, ◌-◌, ℕ, get_or, zero, suc, List, [], ◌∷◌, ◌++◌, length, map, take, drop, refl, sym, ap, ap₂, ◌∙◌, subst, arith}
-use Rattle.std.proofs.Common.{length-append, length-drop}
-use Rattle.std.proofs.lemmas.List.{append-nil, drop-append-le, map-append, map_more, take-append-le}
+use Rattle.std.proofs.Common.{◌≡◌, ◌<◌, ◌+◌, ◌-◌, ℕ, get_or, zero, suc, List, [], ◌∷◌, ◌++◌, length, map, take, drop, refl, sym, ap, ap₂, ◌∙◌, subst, arith}
+use Rattle.std.proofs.Common.{length-append}
+use Rattle.std.proofs.lemmas.List.{append-nil, drop-append-le, length-drop, map-append, map_more, take-append-le}
 use Rattle.std.proofs.lemmas.List.Elements.{All-append}
 use Rattle.std.specs.List.{All}
 use Rattle.std.proofs.Math.Seq.{drop-append_seam, take-append_seam}
@@ -18,7 +18,7 @@ all_one P x p (suc k) d l = absurd (omega (arith, l))
 
 part_kept : (old more : List ℕ) (r : Range) → IsWithin (length old) r → part (old ++ more) r ≡ part old r
 part_kept old more r h =
-    let size : length (drop r.start old) ≡ length old - r.start = length-drop old r.start in
+    let size : length (drop r.start old) ≡ length old - r.start = length-drop r.start old in
     ap (take (r.end - r.start)) (drop-append-le r.start old more (omega (arith, h.ordered, h.fits)))
     ∙ take-append-le (r.end - r.start) (drop r.start old) more (omega (arith, h.ordered, h.fits, size))
 

@@ -1,5 +1,5 @@
 -- Where links are, and the events in them that say where they lead: from the last event to the first.
-use Rattle.std.specs.Prelude.{ℕ, ◌+◌, Bool, ◌||◌, if◌then◌else◌, true, false, List, [], ◌∷◌, drop, reverse, Option, None, Some}
+use Rattle.std.specs.Prelude.{ℕ, ◌+◌, Bool, ◌||◌, if◌then◌else◌, false, List, [], ◌∷◌, drop, reverse, Option, None, Some}
 use Rattle.std.specs.Option.{option_or}
 use Rattle.engine_events.specs.Events.{point_of}
 use Rattle.engine_events.specs.Names.{same_name}

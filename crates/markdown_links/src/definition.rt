@@ -1,7 +1,6 @@
 //! Link reference definitions (CommonMark 4.7).
 ghost use Rattle.std.specs.Prelude.{◌≡◌, ◌++◌, ◌∷◌, [], List, IfOk, OnOk};
-ghost use Rattle.markdown_links.specs.Definition.{HasDefinitions, Labelled, definition_of, definitions_from, labelled, place_at, place_by};
-ghost use Rattle.markdown_links.specs.Target.{label_at};
+ghost use Rattle.markdown_links.specs.Definition.{HasDefinitions, Labelled, definition_of, definitions_from, labelled, place_at};
 
 use crate::kind::is_definition;
 use crate::span::Span;

@@ -68,7 +68,7 @@ fn part(bytes: &[u8], range: Range) -> &[u8]
 }
 
 /// Bytes as a text, or no text if they aren't UTF-8.
-fn text_of(bytes: &[u8]) -> &str
+pub(crate) fn text_of(bytes: &[u8]) -> &str
     ensures { result.now ≡ valid bytes.now }
 {
     match std::str::from_utf8(bytes) {

@@ -1,9 +1,9 @@
 //! What events spell: where links lead, and labels.
 ghost use Rattle.std.specs.Prelude.{◌≡◌, ◌++◌, OnOk, string_bytes};
-ghost use Rattle.compile_written.specs.Strings.{valid};
 ghost use Rattle.markdown_links.specs.Target.{is_address, label_at, protocol_of, target_at, target_text};
 
 use crate::kind::is_literal;
+use crate::link::text_of;
 use compile_written::child::text_first;
 use compile_written::string::push_string;
 use engine_events::event::{Event, Name};
@@ -44,7 +44,7 @@ fn push_first<T: Tables, A: Allocator>(
         return push_string(out, bytes, tables, inside);
     }
     out.push_str(protocol_of(enter.name))?;
-    push_bytes(out, text_first(bytes, events))
+    out.push_str(text_of(text_first(bytes, events)))
 }
 
 /// Whether an event of this name is an address: a URL, or that of an email without its protocol
@@ -65,16 +65,6 @@ fn protocol_of(name: Name) -> &'static str
         "http://"
     } else {
         ""
-    }
-}
-
-/// Appends bytes, if they are UTF-8.
-fn push_bytes<A: Allocator>(out: &mut String<A>, bytes: &[u8]) -> Result<(), AllocError>
-    ensures { OnOk result (string_bytes out.new ≡ string_bytes out.old ++ valid bytes.now) }
-{
-    match std::str::from_utf8(bytes) {
-        Ok(text) => out.push_str(text),
-        Err(_) => Ok(()),
     }
 }
 
