@@ -64,8 +64,8 @@ module _ {A : Type 0} (options : ParseOptions) (text : List ℕ) (found : Links 
       → StoresLinks (λ it. it ≡ options) text old new count before after size status
   links_in_array ok holds fits written short = record {
     ok = λ _. of_links options text found
-    (λ links destinations. (count ≡ length links) × HoldsLinks links old new × (size ≡ length destinations) × HoldsPage destinations before after) are
-    (has, holds, long, written);
+        (λ links destinations. (count ≡ length links) × HoldsLinks links old new × (size ≡ length destinations) × HoldsPage destinations before after) are
+        (has, holds, long, written);
     unchanged = λ h. absurd (h ok);
     stored = λ _. stored;
     room = λ _. ((λ _. (fits, short)), (λ _. ok));

@@ -21,14 +21,26 @@ const LINKS: [Row; 28] = [
     Row("[a](b)", "link 1:1@0 1:7@6 b\n"),
     Row("[a]() [b](<>)", "link 1:1@0 1:6@5 \nlink 1:7@6 1:14@13 \n"),
     Row("a [b *c*](<d e> 'f') g", "link 1:3@2 1:21@20 d e\n"),
-    Row("[a](b&amp;c\\)d&copy;&#x41;\\e)", "link 1:1@0 1:30@29 b&c)d\u{A9}A\\e\n"),
-    Row("[a](\u{E9}%20\u{FC})", "link 1:1@0 1:13@12 \u{E9}%20\u{FC}\n"),
-    Row("[](a) ![](b)", "link 1:1@0 1:6@5 a\nimage 1:7@6 1:13@12 b\n"),
+    Row(
+        "[a](b&amp;c\\)d&copy;&#x41;\\e)",
+        "link 1:1@0 1:30@29 b&c)d\u{A9}A\\e\n",
+    ),
+    Row(
+        "[a](\u{E9}%20\u{FC})",
+        "link 1:1@0 1:13@12 \u{E9}%20\u{FC}\n",
+    ),
+    Row(
+        "[](a) ![](b)",
+        "link 1:1@0 1:6@5 a\nimage 1:7@6 1:13@12 b\n",
+    ),
     Row(
         "![a](b) ![c [d](e) f](g)",
         "image 1:1@0 1:8@7 b\nimage 1:9@8 1:25@24 g\nlink 1:13@12 1:19@18 e\n",
     ),
-    Row("[![a](b)](c)", "link 1:1@0 1:13@12 c\nimage 1:2@1 1:9@8 b\n"),
+    Row(
+        "[![a](b)](c)",
+        "link 1:1@0 1:13@12 c\nimage 1:2@1 1:9@8 b\n",
+    ),
     Row("[a [b](c)](d)", "link 1:4@3 1:10@9 c\n"),
     Row("[[a [b]](c)", "link 1:2@1 1:12@11 c\n"),
     Row(
@@ -48,7 +60,10 @@ const LINKS: [Row; 28] = [
         "literal 1:1@0 1:8@7 http://www.a.b\nliteral 1:9@8 1:20@19 https://c.d\nliteral 1:21@20 1:26@25 mailto:e@f.g\nliteral 1:27@26 1:39@38 mailto:h@i.j\nliteral 1:40@39 1:52@51 xmpp:k@l.m/n\n",
     ),
     Row("[www.a.b](c)", "link 1:1@0 1:13@12 c\n"),
-    Row("![www.a.b](c)", "image 1:1@0 1:14@13 c\nliteral 1:3@2 1:10@9 http://www.a.b\n"),
+    Row(
+        "![www.a.b](c)",
+        "image 1:1@0 1:14@13 c\nliteral 1:3@2 1:10@9 http://www.a.b\n",
+    ),
     Row(
         "[a][B] [b][] [ b ] ![x][b]\n\n[b]: c 'd'",
         "link 1:1@0 1:7@6 c #4\nlink 1:8@7 1:13@12 c #4\nlink 1:14@13 1:19@18 c #4\nimage 1:20@19 1:27@26 c #4\ndefinition 3:1@28 3:11@38 c\n",
@@ -77,7 +92,10 @@ const LINKS: [Row; 28] = [
         "![[^a]](b) ![x [^a]][c] [d](e)\n\n[^a]: f [g](h)\n\n[c]: i",
         "image 1:1@0 1:11@10 b\nimage 1:12@11 1:24@23 i #4\nlink 1:25@24 1:31@30 e\nlink 3:9@40 3:15@46 h\ndefinition 5:1@48 5:7@54 i\n",
     ),
-    Row("a\r\n\tb\r<cd:e>\n\n\t[f](g)", "autolink 3:1@6 3:7@12 cd:e\n"),
+    Row(
+        "a\r\n\tb\r<cd:e>\n\n\t[f](g)",
+        "autolink 3:1@6 3:7@12 cd:e\n",
+    ),
     Row("- a\n\t[b](c)", "link 2:5@5 2:11@11 c\n"),
     Row("\u{FEFF}[a](b)", "link 1:1@3 1:7@9 b\n"),
 ];
@@ -134,8 +152,17 @@ fn lines(alloc: Global, text: &str) -> Result<String<Global>, AllocError> {
     let mut size = 0;
     let mut out = String::new(alloc);
     let options = numbers(GFM, 96);
-    let status = list_links_with(alloc, text.as_bytes(), &options, &mut array, &mut count, &mut buffer, &mut size);
-    let is_kept = buffer.iter().skip(size).all(|byte| *byte == 255) && array.iter().skip(count).all(|link| link.kind == 9);
+    let status = list_links_with(
+        alloc,
+        text.as_bytes(),
+        &options,
+        &mut array,
+        &mut count,
+        &mut buffer,
+        &mut size,
+    );
+    let is_kept = buffer.iter().skip(size).all(|byte| *byte == 255)
+        && array.iter().skip(count).all(|link| link.kind == 9);
     if status != OK || !is_kept {
         out.push_str("not written")?;
     }

@@ -105,7 +105,13 @@ fn answers_refusals(alloc: Global, call: usize) -> bool {
 
 /// The first call that a refusal makes go wrong.
 fn first_wrong(alloc: Global) -> Option<&'static str> {
-    let calls = ["convert", "convert_with", "list_events", "list_links_with", "check_page"];
+    let calls = [
+        "convert",
+        "convert_with",
+        "list_events",
+        "list_links_with",
+        "check_page",
+    ];
     for (number, call) in calls.iter().enumerate() {
         if !answers_refusals(alloc, number) {
             return Some(call);
