@@ -23,7 +23,11 @@ fn main() -> Result<(), Box<dyn Error>> {
             Kind::Literal => "literal",
             Kind::Definition => "definition",
         };
-        writeln!(out, "{}:{} {kind} {}", link.line, link.column, link.destination)?;
+        writeln!(
+            out,
+            "{}:{} {kind} {}",
+            link.line, link.column, link.destination
+        )?;
     }
     out.flush()?;
     Ok(())
