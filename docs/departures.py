@@ -3,7 +3,7 @@
 
 usage: docs/departures.py [--check] MARKDOWN [CMARK [CMARK_GFM]]     MARKDOWN is the program of this repository
 
-A row is `| INPUT | HERE | CMARK |`; the marks for line endings, tabs and characters that don't show are those of the page.
+A row is `| INPUT | HERE | CMARK |`; the marks for line endings, tabs, bars and characters that don't show are those of the page.
 In a table whose head names `--dangerous` the programs print HTML as it stands; in one whose head names `--gfm` the other
 program is cmark-gfm with all of its extensions. With --check nothing is written, and the status is 1 where the page would
 change.
@@ -14,7 +14,7 @@ import subprocess
 import sys
 
 PAGE = os.path.join(os.path.dirname(os.path.realpath(__file__)), "DEPARTURES.md")
-MARKS = {"\n": "⏎", "\r": "␍", "\t": "→"}
+MARKS = {"\n": "⏎", "\r": "␍", "\t": "→", "|": "¦"}
 HIDDEN = re.compile("[\x00-\x08\x0b\x0c\x0e-\x1f\x7f-\xa0\u2028\ufeff]")
 
 
@@ -22,7 +22,7 @@ def shown(text):
     """A text as code in a table."""
     for byte, mark in MARKS.items():
         text = text.replace(byte, mark)
-    text = HIDDEN.sub(lambda found: f"⟨U+{ord(found[0]):04X}⟩", text).replace("|", "\\|")
+    text = HIDDEN.sub(lambda found: f"⟨U+{ord(found[0]):04X}⟩", text)
     if "`" in text or text != text.strip(" "):
         fence = "`" * (1 + max(map(len, re.findall("`+", text)), default=1))
         return f"{fence} {text} {fence}"
@@ -41,7 +41,7 @@ def meant(cell):
         text = text[1:-1]
     for byte, mark in MARKS.items():
         text = text.replace(mark, byte)
-    return re.sub("⟨U\\+([0-9A-F]+)⟩", lambda found: chr(int(found[1], 16)), text).replace("\\|", "|")
+    return re.sub("⟨U\\+([0-9A-F]+)⟩", lambda found: chr(int(found[1], 16)), text)
 
 
 def printed(words, text):
@@ -68,7 +68,7 @@ def run(page, *programs):
     """The page with what the programs print."""
     lines, words = [], commands("", *programs)
     for line in page.split("\n"):
-        cells = re.split(r"(?<!\\)\|", line)[1:-1] if line.startswith("|") else []
+        cells = line.split("|")[1:-1] if line.startswith("|") else []
         if len(cells) == 3 and cells[0].strip().startswith("Input"):
             words = commands(cells[0], *programs)
         elif len(cells) == 3 and not cells[0].startswith("---"):
