@@ -1,11 +1,13 @@
 #!/usr/bin/env python3
 """Compares what markdown-lint finds with what mdl finds (Debian package ruby-mdl), by file, line and rule.
 
-    lint.py MARKDOWN-LINT [COUNT] [FOLDER..]
+    lint.py MARKDOWN-LINT [--list RULE] [COUNT] [FOLDER..]
 
 It draws COUNT files, 150 if none is given, from the Markdown files of the folders, /usr if none is given, of 400 bytes to
 40,000. It prints a table: for each rule that both have the lines that both find, that mdl finds alone, and that
-markdown-lint finds alone, and the first of each. mdl's findings on the line before or after count as the same.
+markdown-lint finds alone, and the first of each. Findings one line apart count as the same, and those of MD022 two: after
+a heading mdl reports the heading, and markdown-lint what follows. mdl's rules are set as markdown-lint's are (STYLE).
+With `--list MD022` it prints each place that only one of them finds by that rule, with its line, and no table.
 """
 import json
 import os
@@ -17,6 +19,15 @@ import sys
 import tempfile
 import time
 from collections import defaultdict
+
+# All rules of mdl, with the choices of markdown-lint.
+STYLE = """all
+rule 'MD007', :indent => 2
+rule 'MD009', :br_spaces => 2
+rule 'MD010', :ignore_code_blocks => true
+rule 'MD026', :punctuation => '.,;:!'
+rule 'MD029', :style => :ordered
+"""
 
 
 def names(folders):
@@ -47,8 +58,11 @@ def found_here(program, files):
 
 
 def found_by_mdl(files):
+    with open("style.rb", "w", encoding="utf-8") as file:
+        file.write(STYLE)
     start = time.monotonic()
-    run = subprocess.run(["mdl", "--style", "all", *files], stdout=subprocess.PIPE, stderr=subprocess.DEVNULL, check=False)
+    words = ["mdl", "--style", "style.rb", *files]
+    run = subprocess.run(words, stdout=subprocess.PIPE, stderr=subprocess.DEVNULL, check=False)
     seconds = time.monotonic() - start
     found = set()
     for line in run.stdout.decode(errors="replace").splitlines():
@@ -60,7 +74,11 @@ def found_by_mdl(files):
 def compare(here, mdl):
     """For each rule: the findings of both, of mdl alone, and of markdown-lint alone."""
     rows = defaultdict(lambda: ([], [], []))
-    near = lambda it, found: any((it[0], it[1] + by, it[2]) in found for by in (0, -1, 1))
+
+    def near(it, found):
+        reach = 2 if it[2] == "MD022" else 1
+        return any((it[0], it[1] + by, it[2]) in found for by in range(-reach, reach + 1))
+
     for it in sorted(mdl):
         rows[it[2]][0 if near(it, here) else 1].append(it)
     for it in sorted(here):
@@ -69,20 +87,42 @@ def compare(here, mdl):
     return rows
 
 
+def line_of(path, number):
+    with open(path, encoding="utf-8") as file:
+        return next((line.rstrip("\n") for at, line in enumerate(file, 1) if at == number), "")
+
+
+def print_list(rows):
+    both, theirs, ours = rows
+    for who, found in (("mdl", theirs), ("here", ours)):
+        for path, line, _ in found:
+            print(f"{who:4} {path}:{line}: {line_of(path, line)!r}")
+    print(f"both {len(both)}, mdl alone {len(theirs)}, markdown-lint alone {len(ours)}")
+
+
 def main():
-    if len(sys.argv) < 2:
+    words = sys.argv[1:]
+    rule = None
+    if "--list" in words[:-1]:
+        at = words.index("--list")
+        rule = words[at + 1]
+        del words[at:at + 2]
+    if not words:
         sys.exit(__doc__)
-    program = os.path.realpath(sys.argv[1])
-    count = int(sys.argv[2]) if len(sys.argv) > 2 else 150
+    program = os.path.realpath(words[0])
+    count = int(words[1]) if len(words) > 1 else 150
     if not shutil.which("mdl"):
         sys.exit("mdl isn't installed: apt-get install ruby-mdl")
-    every = sorted(it for it in names(sys.argv[3:] or ["/usr"]) if is_utf8(it))
+    every = sorted(it for it in names(words[2:] or ["/usr"]) if is_utf8(it))
     files = random.Random(1).sample(every, min(count, len(every)))
     with tempfile.TemporaryDirectory() as folder:
         # Elsewhere no file of settings is found.
         os.chdir(folder)
         here, seconds = found_here(program, files)
         mdl, mdl_seconds = found_by_mdl(files)
+    if rule:
+        print_list(compare(here, mdl)[rule])
+        return
     numbers = {it[2] for it in here}
     print(f"{len(files)} of {len(every)} files; markdown-lint {seconds:.2f} s, mdl {mdl_seconds:.2f} s")
     print(f"{'rule':17} {'both':>6} {'mdl':>6} {'here':>6}  the first of mdl alone, and of markdown-lint alone")
