@@ -6,33 +6,36 @@
 //! Example: two empty lines between `a` and `b`.
 use engine_events::event::Name;
 use lint_document::document::{Step, is_blank};
-use lint_document::{Document, Report, Span};
+use lint_document::{Document, Report, Rule, Span};
 use std::alloc::AllocError;
 
-/// Reports the second blank line of each run.
-pub fn check(document: &Document<'_>, report: &mut Report) -> Result<(), AllocError> {
-    let mut start = 0;
-    let mut count: usize = 0;
-    for step in document.steps() {
-        if step.ends_line() {
-            let line = Span {
-                start,
-                end: step.index,
-            };
-            count = if is_blank_line(document, &step, line) {
-                count.saturating_add(1)
-            } else {
-                0
-            };
-            if count == 2 {
-                report.add(line, "more than one blank line")?;
-            }
+/// Reads the ends of lines.
+#[derive(Clone, Copy, Default)]
+pub(crate) struct BlankLines {
+    /// How many blank lines came last.
+    count: usize,
+}
+
+impl BlankLines {
+    /// Reports a line that ends here if it is the second blank line of a run.
+    pub(crate) fn check(
+        &mut self,
+        document: &Document<'_>,
+        step: &Step<'_>,
+        line: Span,
+        report: &mut Report,
+    ) -> Result<(), AllocError> {
+        if !is_blank_line(document, step, line) {
+            self.count = 0;
+            return Ok(());
         }
-        if step.starts_line() {
-            start = step.index;
+        self.count = self.count.saturating_add(1);
+        if self.count == 2 {
+            report.add(Rule::BlankLines, line, "more than one blank line")
+        } else {
+            Ok(())
         }
     }
-    Ok(())
 }
 
 /// Whether a line that ends here has white space alone, and is no code.

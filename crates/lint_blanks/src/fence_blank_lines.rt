@@ -4,17 +4,13 @@
 //! and so do the start and the end of a container.
 //!
 //! Example: a fence on the line after `a`.
-use crate::gap::{Block, report_gaps};
-use lint_document::{Document, Report};
-use std::alloc::AllocError;
+use crate::gap::{Around, Block};
+use lint_document::Rule;
 
-/// Reports fenced code with no blank line before or after it.
-pub fn check(document: &Document<'_>, report: &mut Report) -> Result<(), AllocError> {
-    report_gaps(
-        document,
-        Block::Fence,
-        "no blank line before the code",
-        "no blank line after the code",
-        report,
-    )
-}
+/// The blank lines around fenced code.
+pub(crate) const FENCE_BLANK_LINES: Around = Around {
+    rule: Rule::FenceBlankLines,
+    block: Block::Fence,
+    before: "no blank line before the code",
+    after: "no blank line after the code",
+};

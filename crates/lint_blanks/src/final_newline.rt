@@ -5,12 +5,13 @@
 //!
 //! Example: `a` with no line feed, or with two.
 use lint_document::document::is_white;
-use lint_document::{Document, Report, Span};
+use lint_document::{Document, Report, Rule, Span};
 use std::alloc::AllocError;
 
 /// Reports that a text ends within a line, or with blank lines. A text of blank lines alone isn't looked
 /// at.
-pub fn check(document: &Document<'_>, report: &mut Report) -> Result<(), AllocError> {
+pub(crate) fn check(document: &Document<'_>, report: &mut Report) -> Result<(), AllocError> {
+    let rule = Rule::FinalNewline;
     let end = document.bytes.len();
     let Some(last) = document.bytes.iter().rposition(|byte| !is_white(*byte)) else {
         return Ok(());
@@ -19,12 +20,20 @@ pub fn check(document: &Document<'_>, report: &mut Report) -> Result<(), AllocEr
     let start = document.to_line_end(last).end;
     let ending = document.bytes_of(Span { start, end });
     match ending {
-        [] => report.add(Span { start, end }, "no line ending at the end of the text"),
+        [] => report.add(
+            rule,
+            Span { start, end },
+            "no line ending at the end of the text",
+        ),
         [b'\n'] | [b'\r'] | [b'\r', b'\n'] => Ok(()),
         _ => {
             let size = if ending.starts_with(b"\r\n") { 2 } else { 1 };
             let start = start.saturating_add(size);
-            report.add(Span { start, end }, "blank line at the end of the text")
+            report.add(
+                rule,
+                Span { start, end },
+                "blank line at the end of the text",
+            )
         }
     }
 }

@@ -1,11 +1,11 @@
 //! Blocks side by side with no blank line between them.
 use engine_events::event::{Kind, Name};
 use lint_document::document::{Depth, Step};
-use lint_document::{Document, Report, Span};
-use std::alloc::{AllocError, Global};
+use lint_document::{Document, Report, Rule, Span};
+use std::alloc::AllocError;
 
 /// What a block is, as far as the rules on blank lines ask.
-#[derive(Clone, Copy, Debug, PartialEq, Eq)]
+#[derive(Clone, Copy, PartialEq, Eq)]
 pub(crate) enum Block {
     Heading,
     Fence,
@@ -16,51 +16,40 @@ pub(crate) enum Block {
 
 /// A place where a block begins right after another, with no blank line between.
 #[derive(Clone, Copy)]
-struct Gap {
+pub(crate) struct Gap {
     before: Block,
     after: Block,
     /// The first line of the second block, from where that begins.
     span: Span,
 }
 
-/// Reports the places with no blank line before, or after, such a block, in these words.
-pub(crate) fn report_gaps(
-    document: &Document<'_>,
-    block: Block,
-    before: &str,
-    after: &str,
-    report: &mut Report,
-) -> Result<(), AllocError> {
-    for gap in &gaps(report.alloc(), document)? {
-        if gap.after == block {
-            report.add(gap.span, before)?;
-        } else if gap.before == block {
-            report.add(gap.span, after)?;
-        }
-    }
-    Ok(())
-}
-
-/// The places where a block begins right after another, with no blank line between.
-fn gaps(alloc: Global, document: &Document<'_>) -> Result<Vec<Gap>, AllocError> {
-    let mut gaps = Vec::new(alloc);
-    let mut walk = Walk::new();
-    for step in document.steps() {
-        if let Some((before, after)) = walk.read(document, &step) {
-            let span = document.to_line_end(step.index);
-            gaps.push(Gap {
-                before,
-                after,
-                span,
-            })?;
-        }
-    }
-    Ok(gaps)
-}
-
-/// What is known while the events are read.
+/// A rule on the blank lines around blocks of a kind.
 #[derive(Clone, Copy)]
-struct Walk {
+pub(crate) struct Around {
+    pub(crate) rule: Rule,
+    pub(crate) block: Block,
+    /// What it says where no blank line is before the block.
+    pub(crate) before: &'static str,
+    /// What it says where no blank line is after the block.
+    pub(crate) after: &'static str,
+}
+
+impl Around {
+    /// Reports a gap if one of its blocks is of this kind.
+    pub(crate) fn check(&self, gap: &Gap, report: &mut Report) -> Result<(), AllocError> {
+        if gap.after == self.block {
+            report.add(self.rule, gap.span, self.before)
+        } else if gap.before == self.block {
+            report.add(self.rule, gap.span, self.after)
+        } else {
+            Ok(())
+        }
+    }
+}
+
+/// Reads the events of a text, and finds its gaps.
+#[derive(Clone, Copy, Default)]
+pub(crate) struct Gaps {
     /// The block that ended last, unless a block or an item began or ended since.
     last: Option<Block>,
     /// Whether there was a blank line since then.
@@ -71,19 +60,9 @@ struct Walk {
     items: Depth,
 }
 
-impl Walk {
-    fn new() -> Walk {
-        Walk {
-            last: None,
-            is_blank: false,
-            is_comment: false,
-            items: Depth::default(),
-        }
-    }
-
-    /// Reads an event. Returns the blocks before and after it, if it begins a block with no blank line
-    /// before.
-    fn read(&mut self, document: &Document<'_>, step: &Step<'_>) -> Option<(Block, Block)> {
+impl Gaps {
+    /// Reads the next event. Returns the gap before it, if it begins a block with no blank line before.
+    pub(crate) fn read(&mut self, document: &Document<'_>, step: &Step<'_>) -> Option<Gap> {
         if step.name == Name::BlankLineEnding {
             self.is_blank = true;
         } else if step.name == Name::ListItem {
@@ -98,16 +77,19 @@ impl Walk {
         None
     }
 
-    fn enter(&mut self, document: &Document<'_>, step: &Step<'_>) -> Option<(Block, Block)> {
+    fn enter(&mut self, document: &Document<'_>, step: &Step<'_>) -> Option<Gap> {
         self.is_comment = step.name == Name::HtmlFlow && starts_comment(document, step.index);
         let is_apart = self.is_blank || self.is_comment;
         self.is_blank = false;
         let before = self.last.take()?;
         if is_apart {
-            None
-        } else {
-            Some((before, self.block(step.name)))
+            return None;
         }
+        Some(Gap {
+            before,
+            after: self.block(step.name),
+            span: document.to_line_end(step.index),
+        })
     }
 
     fn exit(&mut self, name: Name) {

@@ -4,17 +4,13 @@
 //! see it. A comment counts as a blank line, and so do the start and the end of a container.
 //!
 //! Example: `# A` and on the next line `b`.
-use crate::gap::{Block, report_gaps};
-use lint_document::{Document, Report};
-use std::alloc::AllocError;
+use crate::gap::{Around, Block};
+use lint_document::Rule;
 
-/// Reports headings with no blank line before or after them.
-pub fn check(document: &Document<'_>, report: &mut Report) -> Result<(), AllocError> {
-    report_gaps(
-        document,
-        Block::Heading,
-        "no blank line before the heading",
-        "no blank line after the heading",
-        report,
-    )
-}
+/// The blank lines around headings.
+pub(crate) const HEADING_BLANK_LINES: Around = Around {
+    rule: Rule::HeadingBlankLines,
+    block: Block::Heading,
+    before: "no blank line before the heading",
+    after: "no blank line after the heading",
+};

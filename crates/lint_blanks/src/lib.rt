@@ -1,11 +1,14 @@
 //! The rules of the linter on white space between and in lines, one file each.
 #![tactic(auto)]
 
-pub mod blank_lines;
-pub mod fence_blank_lines;
-pub mod final_newline;
+mod blank_lines;
+mod fence_blank_lines;
+mod final_newline;
 mod gap;
-pub mod heading_blank_lines;
-pub mod list_blank_lines;
-pub mod tab_indent;
-pub mod trailing_spaces;
+mod heading_blank_lines;
+mod list_blank_lines;
+mod rules;
+mod tab_indent;
+mod trailing_spaces;
+
+pub use rules::BlankRules;

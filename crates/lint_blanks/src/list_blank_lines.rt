@@ -5,17 +5,13 @@
 //! lists aren't looked at. A comment counts as a blank line.
 //!
 //! Example: `- b` on the line after `a`.
-use crate::gap::{Block, report_gaps};
-use lint_document::{Document, Report};
-use std::alloc::AllocError;
+use crate::gap::{Around, Block};
+use lint_document::Rule;
 
-/// Reports lists with no blank line before or after them.
-pub fn check(document: &Document<'_>, report: &mut Report) -> Result<(), AllocError> {
-    report_gaps(
-        document,
-        Block::List,
-        "no blank line before the list",
-        "no blank line after the list",
-        report,
-    )
-}
+/// The blank lines around lists.
+pub(crate) const LIST_BLANK_LINES: Around = Around {
+    rule: Rule::ListBlankLines,
+    block: Block::List,
+    before: "no blank line before the list",
+    after: "no blank line after the list",
+};

@@ -6,32 +6,61 @@
 //!
 //! Example: `b` after a tab, on the line after `- a`.
 use engine_events::event::Name;
-use lint_document::document::Depth;
-use lint_document::{Document, Report, Span};
+use lint_document::document::{Depth, Step, is_space, is_white};
+use lint_document::{Document, Report, Rule, Span};
 use std::alloc::AllocError;
 
-/// Reports tabs in indents.
-pub fn check(document: &Document<'_>, report: &mut Report) -> Result<(), AllocError> {
-    let mut code = Depth::default();
-    let mut indent = indent_at(document, 0);
-    for step in document.steps() {
-        // What follows the indent says whether the line is code.
-        if step.name != Name::SpaceOrTab {
-            if let Some(found) = indent.filter(|indent| indent.end <= step.index) {
-                indent = None;
-                if !code.is_inside() && step.name != Name::CodeIndented {
-                    report.add(found, "tab in the indent of a line")?;
-                }
-            }
-        }
-        if is_code(step.name) {
-            code.count(step.kind);
-        }
-        if step.starts_line() {
-            indent = indent_at(document, step.index);
+/// Reads the indents of lines.
+#[derive(Clone, Copy)]
+pub(crate) struct TabIndent {
+    /// The code and math that are open.
+    code: Depth,
+    /// The tabs in the indent of this line, while it isn't known whether the line is code.
+    indent: Option<Span>,
+}
+
+impl TabIndent {
+    /// At the start of a text.
+    pub(crate) fn new(document: &Document<'_>) -> TabIndent {
+        TabIndent {
+            code: Depth::default(),
+            indent: indent_at(document, 0),
         }
     }
-    Ok(())
+
+    /// Reads the next event, and reports the indent of its line if that has a tab and the line is no code.
+    pub(crate) fn read(
+        &mut self,
+        document: &Document<'_>,
+        step: &Step<'_>,
+        report: &mut Report,
+    ) -> Result<(), AllocError> {
+        let found = self.found(step);
+        if is_code(step.name) {
+            self.code.count(step.kind);
+        }
+        if step.starts_line() {
+            self.indent = indent_at(document, step.index);
+        }
+        match found {
+            Some(indent) => report.add(Rule::TabIndent, indent, "tab in the indent of a line"),
+            None => Ok(()),
+        }
+    }
+
+    /// The tabs before this event, if it is the first after the indent and the line is no code.
+    fn found(&mut self, step: &Step<'_>) -> Option<Span> {
+        let indent = self.indent?;
+        if step.name == Name::SpaceOrTab || step.index < indent.end {
+            return None;
+        }
+        self.indent = None;
+        if self.code.is_inside() || step.name == Name::CodeIndented {
+            None
+        } else {
+            Some(indent)
+        }
+    }
 }
 
 /// Whether an event is code or math.
@@ -45,9 +74,11 @@ fn is_code(name: Name) -> bool {
 /// The indent of the line that starts at an index, from its first tab on, if it has one and the line
 /// isn't blank.
 fn indent_at(document: &Document<'_>, start: usize) -> Option<Span> {
-    let line = document.to_line_end(start);
-    let bytes = document.bytes_of(line);
-    let size = bytes.iter().position(|byte| !matches!(byte, b' ' | b'\t'))?;
+    let bytes = document.bytes.get(start..)?;
+    let size = bytes.iter().position(|byte| !is_space(*byte))?;
+    if is_white(*bytes.get(size)?) {
+        return None;
+    }
     let indent = bytes.get(..size)?;
     let tab = indent.iter().position(|byte| *byte == b'\t')?;
     Some(Span {

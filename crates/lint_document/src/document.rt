@@ -75,7 +75,12 @@ pub fn is_blank(bytes: &[u8]) -> bool {
 
 /// Whether a byte is a space, a tab, or of a line ending (CommonMark 2.1).
 pub fn is_white(byte: u8) -> bool {
-    matches!(byte, b' ' | b'\t') || is_ending(byte)
+    is_space(byte) || is_ending(byte)
+}
+
+/// Whether a byte is a space or a tab (CommonMark 2.1).
+pub fn is_space(byte: u8) -> bool {
+    matches!(byte, b' ' | b'\t')
 }
 
 /// Whether a byte is of a line ending (CommonMark 2.1).

@@ -1,8 +1,7 @@
 //! The headings of a text (CommonMark 4.2 and 4.3).
-use crate::document::{Document, Step};
+use crate::document::Step;
 use crate::span::Span;
 use engine_events::event::{Kind, Name};
-use std::alloc::{AllocError, Global};
 
 /// A heading.
 #[derive(Clone, Copy)]
@@ -26,17 +25,39 @@ pub struct HeadingText {
     pub number: usize,
 }
 
-/// The headings of a text, in its order.
-pub fn headings(alloc: Global, document: &Document<'_>) -> Result<Vec<Heading>, AllocError> {
-    let mut headings: Vec<Heading> = Vec::new(alloc);
-    for (number, step) in document.steps().enumerate() {
-        if step.kind == Kind::Enter && is_heading(step.name) {
-            headings.push(Heading::starting(&step))?;
-        } else if let Some(heading) = headings.last_mut() {
-            heading.read(&step, number);
+/// Reads the events of a text, and finds its headings.
+#[derive(Clone, Copy, Default)]
+pub struct Headings {
+    /// The heading that is open.
+    open: Option<Heading>,
+}
+
+impl Headings {
+    /// Reads an event, before which there are so many. Returns the heading that ends there.
+    pub fn read(&mut self, step: &Step<'_>, number: usize) -> Option<Heading> {
+        if is_heading(step.name) {
+            return self.read_heading(step);
+        }
+        if let Some(heading) = &mut self.open {
+            heading.read(step, number);
+        }
+        None
+    }
+
+    /// Reads the enter or the exit of a heading.
+    fn read_heading(&mut self, step: &Step<'_>) -> Option<Heading> {
+        match step.kind {
+            Kind::Enter => {
+                self.open = Some(Heading::starting(step));
+                None
+            }
+            Kind::Exit => {
+                let mut heading = self.open.take()?;
+                heading.span.end = step.index;
+                Some(heading)
+            }
         }
     }
-    Ok(headings)
 }
 
 impl Heading {
@@ -53,7 +74,7 @@ impl Heading {
         }
     }
 
-    /// Reads an event in the heading, or after it.
+    /// Reads an event in the heading.
     fn read(&mut self, step: &Step<'_>, number: usize) {
         match step.kind {
             Kind::Enter if is_heading_text(step.name) => self.text = Some(HeadingText::starting(
@@ -65,9 +86,7 @@ impl Heading {
     }
 
     fn read_exit(&mut self, step: &Step<'_>) {
-        if is_heading(step.name) {
-            self.span.end = step.index;
-        } else if is_heading_text(step.name) {
+        if is_heading_text(step.name) {
             if let Some(text) = &mut self.text {
                 text.span.end = step.index;
             }

@@ -13,7 +13,7 @@ pub mod span;
 
 pub use document::Document;
 pub use finding::Finding;
-pub use heading::{Heading, headings};
+pub use heading::{Heading, Headings};
 pub use place::{Columns, Place, Places};
 pub use report::Report;
 pub use rule::Rule;

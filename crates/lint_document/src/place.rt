@@ -4,7 +4,7 @@ ghost use Rattle.std.specs.Prelude.{◌≡◌, ◌≤◌};
 use engine_events::place::tab_size;
 
 /// What a column counts. A byte order mark takes none.
-#[derive(Clone, Copy, Debug, PartialEq, Eq)]
+#[derive(Clone, Copy)]
 pub enum Columns {
     /// Bytes, and of a tab the columns up to the next tab stop (5, 9, 13, ..).
     Bytes,
@@ -13,7 +13,7 @@ pub enum Columns {
 }
 
 /// A line and a column of a text.
-#[derive(Clone, Copy, Debug, PartialEq, Eq)]
+#[derive(Clone, Copy)]
 pub struct Place {
     /// The line, from 1.
     pub line: usize,

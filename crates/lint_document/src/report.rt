@@ -1,8 +1,9 @@
 //! The findings of a text, as the rules add them.
-ghost use Rattle.std.specs.Prelude.{◌≡◌, ◌+◌, [], IfOk, IsPermutation, OnOk, vec_len};
+ghost use Rattle.std.specs.Prelude.{◌≡◌, ◌+◌, ◌≤◌, [], IfOk, IsPermutation, OnOk, vec_len};
 
 use crate::finding::Finding;
 use crate::rule::Rule;
+use crate::rule_set::RuleSet;
 use crate::span::Span;
 use std::alloc::{AllocError, Global};
 
@@ -10,28 +11,21 @@ use std::alloc::{AllocError, Global};
 #[derive(Drop)]
 pub struct Report {
     findings: Vec<Finding>,
-    /// The rule that is checked.
-    rule: Rule,
+    /// The rules that are on.
+    rules: RuleSet,
     alloc: Global,
 }
 
 impl Report {
-    /// No findings.
-    pub fn new(alloc: Global) -> Report
+    /// No findings, to which these rules may add.
+    pub fn new(alloc: Global, rules: RuleSet) -> Report
         ensures { result.findings.items ≡ [] }
     {
         Report {
             findings: Vec::new(alloc),
-            rule: Rule::HeadingIncrement,
+            rules,
             alloc,
         }
-    }
-
-    /// From here on this rule is checked.
-    pub fn begin(&mut self, rule: Rule)
-        ensures { self.new.findings ≡ self.old.findings }
-    {
-        self.rule = rule;
     }
 
     /// The allocator.
@@ -39,29 +33,87 @@ impl Report {
         self.alloc
     }
 
-    /// Adds what the rule finds at a place, in these words.
-    pub fn add(&mut self, span: Span, what: &str) -> Result<(), AllocError>
-        ensures { OnOk result (vec_len self.new.findings ≡ vec_len self.old.findings + 1) }
-    {
-        let what = String::from_str(self.alloc, what)?;
-        self.add_made(span, what)
+    /// Whether a rule is on.
+    pub fn has(&self, rule: Rule) -> bool {
+        self.rules.has(rule)
     }
 
-    /// Adds what the rule finds at a place, in words that were made for it.
-    pub fn add_made(&mut self, span: Span, what: String) -> Result<(), AllocError>
+    /// Adds what a rule finds at a place, in these words, if the rule is on.
+    pub fn add(&mut self, rule: Rule, span: Span, words: &str) -> Result<(), AllocError>
+        ensures kept { OnOk result (vec_len self.old.findings ≤ vec_len self.new.findings) }
+        ensures one { OnOk result (vec_len self.new.findings ≤ vec_len self.old.findings + 1) }
+    {
+        if !self.has(rule) {
+            return Ok(());
+        }
+        let what = String::from_str(self.alloc, words)?;
+        self.push(rule, span, what)
+    }
+
+    /// Adds what a rule finds at a place, in these words and a name in quotes, if the rule is on.
+    pub fn add_named(
+        &mut self,
+        rule: Rule,
+        span: Span,
+        words: &str,
+        name: &str,
+    ) -> Result<(), AllocError>
+        ensures kept { OnOk result (vec_len self.old.findings ≤ vec_len self.new.findings) }
+        ensures one { OnOk result (vec_len self.new.findings ≤ vec_len self.old.findings + 1) }
+    {
+        if !self.has(rule) {
+            return Ok(());
+        }
+        let what = format!(in self.alloc; "{words} {name:?}")?;
+        self.push(rule, span, what)
+    }
+
+    /// Adds what a rule finds at a place, in words with a number after each, if the rule is on.
+    pub fn add_numbers(
+        &mut self,
+        rule: Rule,
+        span: Span,
+        words: [&str; 2],
+        numbers: [usize; 2],
+    ) -> Result<(), AllocError>
+        ensures kept { OnOk result (vec_len self.old.findings ≤ vec_len self.new.findings) }
+        ensures one { OnOk result (vec_len self.new.findings ≤ vec_len self.old.findings + 1) }
+    {
+        if !self.has(rule) {
+            return Ok(());
+        }
+        let [before, between] = words;
+        let [first, second] = numbers;
+        let what = format!(in self.alloc; "{before} {first}{between} {second}")?;
+        self.push(rule, span, what)
+    }
+
+    /// Adds a finding, in words that were made for it, if its rule is on.
+    pub fn add_made(&mut self, rule: Rule, span: Span, what: String) -> Result<(), AllocError>
+        ensures kept { OnOk result (vec_len self.old.findings ≤ vec_len self.new.findings) }
+        ensures one { OnOk result (vec_len self.new.findings ≤ vec_len self.old.findings + 1) }
+    {
+        if self.has(rule) {
+            self.push(rule, span, what)
+        } else {
+            Ok(())
+        }
+    }
+
+    /// Adds a finding.
+    fn push(&mut self, rule: Rule, span: Span, what: String) -> Result<(), AllocError>
         ensures { OnOk result (vec_len self.new.findings ≡ vec_len self.old.findings + 1) }
     {
-        let rule = self.rule;
         self.findings.push(Finding { span, rule, what })?;
         Ok(())
     }
 
-    /// The findings by their starts; at one place they stay in the order of the rules.
+    /// The findings by their starts; at one place they are in the order of the rules.
     pub fn into_findings(self) -> Result<Vec<Finding>, AllocError>
         ensures { IfOk result (λ findings. IsPermutation self.findings.items findings.items) }
     {
         let Report { mut findings, .. } = self;
-        findings.sort_by_key(|finding| finding.span.start)?;
+        findings.sort_by_key(|finding| (finding.span.start, finding.rule as usize))?;
         Ok(findings)
     }
 }

@@ -1,7 +1,7 @@
 //! The rules, by name.
 
 /// A rule.
-#[derive(Clone, Copy, Debug, PartialEq, Eq)]
+#[derive(Clone, Copy, PartialEq, Eq)]
 pub enum Rule {
     /// A heading whose rank is more than one above that of the heading before.
     HeadingIncrement,
@@ -103,12 +103,20 @@ impl Rule {
 
     /// The rule with this name or number. Letters of a number may be small.
     pub fn of_word(word: &str) -> Option<Rule> {
-        Rule::ALL.iter().copied().find(|rule| rule.is_called(word))
+        for rule in Rule::ALL {
+            if rule.is_called(word) {
+                return Some(rule);
+            }
+        }
+        None
     }
 
     fn is_called(self, word: &str) -> bool {
         let Names { name, number } = self.names();
-        name == word || number.is_some_and(|number| number.eq_ignore_ascii_case(word))
+        match number {
+            Some(number) => name == word || number.eq_ignore_ascii_case(word),
+            None => name == word,
+        }
     }
 
     fn names(self) -> Names {

@@ -8,29 +8,50 @@
 use event_references::label::push_text_at;
 use inline_labels::LabelTable;
 use lint_document::heading::{Heading, HeadingText};
-use lint_document::{Document, Report, headings};
+use lint_document::{Document, Report, Rule};
 use std::alloc::{AllocError, Global};
 
-/// Reports the headings with the text of an earlier one. If `siblings`, headings of different sections
-/// are not compared.
-pub fn check(
-    document: &Document<'_>,
+/// Reads the texts of headings.
+#[derive(Drop)]
+pub(crate) struct DuplicateHeading {
+    /// Whether only headings of one section are compared.
     siblings: bool,
-    report: &mut Report,
-) -> Result<(), AllocError> {
-    let headings = headings(report.alloc(), document)?;
-    let mut sections = Sections::new(report.alloc());
-    let mut earlier = Earlier::new(report.alloc())?;
-    for heading in &headings {
-        if siblings {
-            sections.enter(heading)?;
+    sections: Sections,
+    earlier: Earlier,
+}
+
+impl DuplicateHeading {
+    /// No heading was read. If `siblings`, headings of different sections aren't compared.
+    pub(crate) fn new(alloc: Global, siblings: bool) -> Result<DuplicateHeading, AllocError> {
+        Ok(DuplicateHeading {
+            siblings,
+            sections: Sections::new(alloc),
+            earlier: Earlier::new(alloc)?,
+        })
+    }
+
+    /// Reports the next heading if it has the text of an earlier one.
+    pub(crate) fn check(
+        &mut self,
+        document: &Document<'_>,
+        heading: &Heading,
+        report: &mut Report,
+    ) -> Result<(), AllocError> {
+        if !report.has(Rule::DuplicateHeading) {
+            return Ok(());
         }
-        if let Some(line) = earlier.add(document, sections.section(), heading)? {
-            let what = format!(in report.alloc(); "same heading as on line {line}")?;
-            report.add_made(heading.span, what)?;
+        if self.siblings {
+            self.sections.enter(heading)?;
+        }
+        let section = self.sections.section();
+        match self.earlier.add(document, section, heading)? {
+            Some(line) => {
+                let what = format!(in report.alloc(); "same heading as on line {line}")?;
+                report.add_made(Rule::DuplicateHeading, heading.span, what)
+            }
+            None => Ok(()),
         }
     }
-    Ok(())
 }
 
 /// A section: what is below a heading.
@@ -88,7 +109,6 @@ struct Earlier {
     lines: Vec<usize>,
     /// The section and the text of the last heading.
     last: Vec<u8>,
-    alloc: Global,
 }
 
 impl Earlier {
@@ -97,7 +117,6 @@ impl Earlier {
             headings: LabelTable::new(alloc)?,
             lines: Vec::new(alloc),
             last: Vec::new(alloc),
-            alloc,
         })
     }
 
@@ -129,9 +148,21 @@ impl Earlier {
         section: usize,
         text: HeadingText,
     ) -> Result<(), AllocError> {
-        let number = format!(in self.alloc; "{section} ")?;
         self.last.clear();
-        self.last.extend_from_slice(number.as_bytes())?;
+        self.push_number(section)?;
         push_text_at(&mut self.last, document.bytes, document.events, text.number)
     }
+
+    /// Appends the digits of a number, the last one first.
+    fn push_number(&mut self, number: usize) -> Result<(), AllocError> {
+        let mut left = number;
+        for _ in 0..NUMBER_SIZE {
+            self.last.push(b'0' + (left % 10) as u8)?;
+            left /= 10;
+        }
+        Ok(())
+    }
 }
+
+/// No number has more digits.
+const NUMBER_SIZE: usize = 20;

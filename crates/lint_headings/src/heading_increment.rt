@@ -4,19 +4,34 @@
 //! there. The first heading may have any rank.
 //!
 //! Example: `### B` right after `# A`.
-use lint_document::{Document, Report, headings};
+use lint_document::{Heading, Report, Rule};
 use std::alloc::AllocError;
 
-/// Reports the headings that skip a rank.
-pub fn check(document: &Document<'_>, report: &mut Report) -> Result<(), AllocError> {
-    let mut last: usize = 6;
-    for heading in &headings(report.alloc(), document)? {
-        let rank = heading.rank;
-        if rank > last.saturating_add(1) {
-            let what = format!(in report.alloc(); "rank {rank} after rank {last}")?;
-            report.add_made(heading.span, what)?;
-        }
-        last = rank;
+/// Reads the ranks of headings.
+#[derive(Clone, Copy)]
+pub(crate) struct HeadingIncrement {
+    /// The rank of the last heading.
+    last: usize,
+}
+
+impl HeadingIncrement {
+    pub(crate) fn new() -> HeadingIncrement {
+        HeadingIncrement { last: 6 }
     }
-    Ok(())
+
+    /// Reports the next heading if it skips a rank.
+    pub(crate) fn check(
+        &mut self,
+        heading: &Heading,
+        report: &mut Report,
+    ) -> Result<(), AllocError> {
+        let last = self.last;
+        let rank = heading.rank;
+        self.last = rank;
+        if rank <= last.saturating_add(1) {
+            return Ok(());
+        }
+        let words = ["rank", " after rank"];
+        report.add_numbers(Rule::HeadingIncrement, heading.span, words, [rank, last])
+    }
 }

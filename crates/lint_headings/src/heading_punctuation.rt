@@ -4,25 +4,30 @@
 //! found, nor is a semicolon that ends a character reference, nor the colon after the name of an emoji.
 //!
 //! Example: `## Usage:`.
-use lint_document::{Document, Report, headings};
+use lint_document::{Document, Heading, Report, Rule};
 use std::alloc::AllocError;
 
 /// What a heading should not end in.
 const PUNCTUATION: [&str; 10] = [".", ",", ";", ":", "!", "。", "，", "；", "：", "！"];
 
-/// Reports the headings that end in punctuation.
-pub fn check(document: &Document<'_>, report: &mut Report) -> Result<(), AllocError> {
-    for heading in &headings(report.alloc(), document)? {
-        let Some(text) = heading.text else {
-            continue;
-        };
-        let bytes = document.bytes_of(text.span);
-        if let Some(mark) = mark_at_end(bytes) {
-            let what = format!(in report.alloc(); "heading ends in {mark:?}")?;
-            report.add_made(heading.span, what)?;
-        }
+/// Reports a heading if it ends in punctuation.
+pub(crate) fn check(
+    document: &Document<'_>,
+    heading: &Heading,
+    report: &mut Report,
+) -> Result<(), AllocError> {
+    let Some(text) = heading.text else {
+        return Ok(());
+    };
+    match mark_at_end(document.bytes_of(text.span)) {
+        Some(mark) => report.add_named(
+            Rule::HeadingPunctuation,
+            heading.span,
+            "heading ends in",
+            mark,
+        ),
+        None => Ok(()),
     }
-    Ok(())
 }
 
 /// The mark that a heading should not end in, if it does.

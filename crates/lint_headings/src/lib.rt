@@ -1,7 +1,10 @@
 //! The rules of the linter on headings, one file each.
 #![tactic(auto)]
 
-pub mod duplicate_heading;
-pub mod heading_increment;
-pub mod heading_punctuation;
-pub mod second_title;
+mod duplicate_heading;
+mod heading_increment;
+mod heading_punctuation;
+mod rules;
+mod second_title;
+
+pub use rules::HeadingRules;

@@ -4,22 +4,32 @@
 //! its parts should have rank 2.
 //!
 //! Example: `# B` after `# A`.
-use lint_document::{Document, Report, headings};
+use lint_document::{Heading, Report, Rule};
 use std::alloc::AllocError;
 
-/// Reports the headings of rank 1 after a first one.
-pub fn check(document: &Document<'_>, report: &mut Report) -> Result<(), AllocError> {
-    let headings = headings(report.alloc(), document)?;
-    let Some((first, others)) = headings.split_first() else {
-        return Ok(());
-    };
-    if first.rank != 1 {
-        return Ok(());
-    }
-    for heading in others {
-        if heading.rank == 1 {
-            report.add(heading.span, "second heading of rank 1")?;
+/// Reads the ranks of headings.
+#[derive(Clone, Copy, Default)]
+pub(crate) struct SecondTitle {
+    /// The rank of the first heading.
+    first: Option<usize>,
+}
+
+impl SecondTitle {
+    /// Reports the next heading if it has rank 1 after a first one that has.
+    pub(crate) fn check(
+        &mut self,
+        heading: &Heading,
+        report: &mut Report,
+    ) -> Result<(), AllocError> {
+        match self.first {
+            None => {
+                self.first = Some(heading.rank);
+                Ok(())
+            }
+            Some(1) if heading.rank == 1 => {
+                report.add(Rule::SecondTitle, heading.span, "second heading of rank 1")
+            }
+            Some(_) => Ok(()),
         }
     }
-    Ok(())
 }

@@ -3,27 +3,35 @@
 //! Without GFM a bare URL can't be clicked; with GFM it is a link only where the rules for literals find its
 //! end. `<http://a.b>` and `[text](http://a.b)` are links everywhere.
 //!
-//! Without `--gfm` it finds `http://` and `https://` in text outside of links, autolinks, code and
-//! definitions. With `--gfm` it finds literals of any kind (GFM 6.9).
+//! It finds `http://` and `https://` in text outside of links, autolinks, code and definitions. With `--gfm`
+//! it also finds literals of any kind (GFM 6.9). A URL after a bracket that is open, as in `[http://a.b]`, is
+//! no literal.
 //!
 //! Example: `see http://a.b`.
 use engine_events::event::{Kind, Name};
 use lint_document::document::{Depth, Step, is_white};
-use lint_document::{Document, Report, Span};
+use lint_document::{Report, Rule, Span};
 use std::alloc::AllocError;
 
-/// Reports bare URLs.
-pub fn check(document: &Document<'_>, report: &mut Report) -> Result<(), AllocError> {
-    let mut linked = Depth::default();
-    for step in document.steps() {
+/// Reads the texts outside of links.
+#[derive(Clone, Copy, Default)]
+pub(crate) struct BareUrl {
+    /// What is open that may hold URLs.
+    linked: Depth,
+}
+
+impl BareUrl {
+    /// Reads the next event. Reports the bare URLs in the void event that ends there.
+    pub(crate) fn read(&mut self, step: &Step<'_>, report: &mut Report) -> Result<(), AllocError> {
         if may_hold_url(step.name) {
-            linked.count(step.kind);
+            self.linked.count(step.kind);
         }
-        if step.kind == Kind::Exit && !linked.is_inside() {
-            check_void(document.gfm, &step, report)?;
+        if step.kind == Kind::Enter || self.linked.is_inside() {
+            Ok(())
+        } else {
+            check_void(step, report)
         }
     }
-    Ok(())
 }
 
 /// Whether a URL may be in an event of this name.
@@ -40,15 +48,15 @@ fn may_hold_url(name: Name) -> bool {
 }
 
 /// Reports the bare URLs of the void event that ends here.
-fn check_void(gfm: bool, step: &Step<'_>, report: &mut Report) -> Result<(), AllocError> {
+fn check_void(step: &Step<'_>, report: &mut Report) -> Result<(), AllocError> {
     match step.name {
-        Name::Data if !gfm => check_data(step, report),
+        Name::Data => check_data(step, report),
         Name::GfmAutolinkLiteralProtocol | Name::GfmAutolinkLiteralWww => {
-            report.add(step.span(), "bare URL")
+            report.add(Rule::BareUrl, step.span(), "bare URL")
         }
         Name::GfmAutolinkLiteralEmail
         | Name::GfmAutolinkLiteralMailto
-        | Name::GfmAutolinkLiteralXmpp => report.add(step.span(), "bare address"),
+        | Name::GfmAutolinkLiteralXmpp => report.add(Rule::BareUrl, step.span(), "bare address"),
         _ => Ok(()),
     }
 }
@@ -60,7 +68,7 @@ fn check_data(step: &Step<'_>, report: &mut Report) -> Result<(), AllocError> {
         let index = step.start.saturating_add(offset);
         if is_white(*byte) {
             report_url(url.take(), index, report)?;
-        } else if url.is_none() && starts_url(&step.bytes[offset..]) {
+        } else if *byte == b'h' && url.is_none() && starts_url(&step.bytes[offset..]) {
             url = Some(index);
         }
     }
@@ -70,11 +78,23 @@ fn check_data(step: &Step<'_>, report: &mut Report) -> Result<(), AllocError> {
 /// Reports the URL that ends at an index, if one starts.
 fn report_url(start: Option<usize>, end: usize, report: &mut Report) -> Result<(), AllocError> {
     match start {
-        Some(start) => report.add(Span { start, end }, "bare URL"),
+        Some(start) => report.add(Rule::BareUrl, Span { start, end }, "bare URL"),
         None => Ok(()),
     }
 }
 
+/// Whether bytes start with a protocol, and a byte of a URL after it.
 fn starts_url(bytes: &[u8]) -> bool {
-    bytes.starts_with(b"http://") || bytes.starts_with(b"https://")
+    match after_protocol(bytes) {
+        Some([first, ..]) => !is_white(*first),
+        _ => false,
+    }
+}
+
+/// What follows the protocol that bytes start with.
+fn after_protocol(bytes: &[u8]) -> Option<&[u8]> {
+    match bytes.strip_prefix(b"http://") {
+        Some(after) => Some(after),
+        None => bytes.strip_prefix(b"https://"),
+    }
 }

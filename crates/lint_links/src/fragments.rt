@@ -3,9 +3,9 @@ use crate::decoded::{Decoder, text_of};
 use crate::html_id::id_at;
 use crate::slug::Slugs;
 use engine_events::event::{Kind, Name};
-use lint_document::document::Depth;
+use lint_document::document::{Depth, Step};
 use lint_document::heading::HeadingText;
-use lint_document::{Document, headings};
+use lint_document::{Document, Heading, Headings};
 use std::alloc::{AllocError, Global};
 use std::collections::BTreeSet;
 
@@ -25,8 +25,7 @@ impl Fragments {
             tags: BTreeSet::new(alloc),
             alloc,
         };
-        fragments.add_headings(document)?;
-        fragments.add_tags(document)?;
+        fragments.read(document)?;
         Ok(fragments)
     }
 
@@ -35,26 +34,29 @@ impl Fragments {
         fragment == "top" || self.headings.has(fragment) || self.tags.contains(fragment)
     }
 
-    fn add_headings(&mut self, document: &Document<'_>) -> Result<(), AllocError> {
-        for heading in &headings(self.alloc, document)? {
-            let mut said = String::new(self.alloc);
-            if let Some(text) = heading.text {
-                push_said(document, text, &mut said)?;
+    fn read(&mut self, document: &Document<'_>) -> Result<(), AllocError> {
+        let mut headings = Headings::default();
+        for (number, step) in document.steps().enumerate() {
+            if let Some(heading) = headings.read(&step, number) {
+                self.add_heading(document, &heading)?;
             }
-            self.headings.add(said.as_str())?;
-        }
-        Ok(())
-    }
-
-    fn add_tags(&mut self, document: &Document<'_>) -> Result<(), AllocError> {
-        for step in document.steps() {
-            if step.kind == Kind::Exit
-                && matches!(step.name, Name::HtmlFlowData | Name::HtmlTextData)
-            {
+            if is_html(&step) {
                 self.add_ids(step.bytes)?;
             }
         }
         Ok(())
+    }
+
+    fn add_heading(
+        &mut self,
+        document: &Document<'_>,
+        heading: &Heading,
+    ) -> Result<(), AllocError> {
+        let mut said = String::new(self.alloc);
+        if let Some(text) = heading.text {
+            push_said(document, text, &mut said)?;
+        }
+        self.headings.add(said.as_str())
     }
 
     /// Adds the values of the attributes `id` and `name` in a line of raw HTML.
@@ -79,6 +81,11 @@ impl Fragments {
         }
         Ok(())
     }
+}
+
+/// Whether a line of raw HTML ends here.
+fn is_html(step: &Step<'_>) -> bool {
+    step.kind == Kind::Exit && matches!(step.name, Name::HtmlFlowData | Name::HtmlTextData)
 }
 
 /// Appends what the text of a heading says: its letters, without tags, destinations and images.

@@ -1,15 +1,17 @@
 //! The rules of the linter on links and images, one file each.
 #![tactic(auto)]
 
-pub mod bare_url;
+mod bare_url;
 mod decoded;
-pub mod empty_link;
+mod empty_link;
 mod fragments;
 mod html_id;
 pub mod missing_file;
-pub mod missing_fragment;
-pub mod no_alt_text;
+mod missing_fragment;
+mod no_alt_text;
+mod rules;
 mod slug;
 mod target;
 
 pub use missing_file::Folder;
+pub use rules::LinkRules;

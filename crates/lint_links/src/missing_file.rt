@@ -4,8 +4,8 @@
 //! those with a protocol, those that begin with `/`, and those without a path.
 //!
 //! Example: `[a](b.md)` in a folder without `b.md`.
-use crate::target::{targets, unescaped};
-use lint_document::{Document, Report};
+use crate::target::unescaped;
+use lint_document::{Report, Rule, Span};
 use std::alloc::{AllocError, Global};
 use std::str::from_utf8;
 
@@ -15,22 +15,23 @@ pub trait Folder {
     fn has(&self, path: &str) -> Result<bool, AllocError>;
 }
 
-/// Reports the links to files that aren't in the folder.
-pub fn check<F: Folder>(
-    document: &Document<'_>,
+/// Reports a URL, which is at this place, if it leads to a file that isn't in the folder.
+pub(crate) fn check<F: Folder>(
     folder: &F,
+    span: Span,
+    url: &str,
     report: &mut Report,
 ) -> Result<(), AllocError> {
-    for target in &targets(report.alloc(), document)? {
-        let Some(path) = path_of(target.url.as_str()) else {
-            continue;
-        };
-        if !is_there(report.alloc(), folder, path)? {
-            let what = format!(in report.alloc(); "no file {path:?}")?;
-            report.add_made(target.span, what)?;
-        }
+    if !report.has(Rule::MissingFile) {
+        return Ok(());
     }
-    Ok(())
+    let Some(path) = path_of(url) else {
+        return Ok(());
+    };
+    if is_there(report.alloc(), folder, path)? {
+        return Ok(());
+    }
+    report.add_named(Rule::MissingFile, span, "no file", path)
 }
 
 /// The path of a URL that leads to a file beside the text (RFC 3986, 4.2).

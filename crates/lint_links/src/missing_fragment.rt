@@ -6,24 +6,74 @@
 //!
 //! Example: `[a](#Usage)` in a text whose only heading is `# Usage`: the fragment is `usage`.
 use crate::fragments::Fragments;
-use crate::target::{targets, unescaped};
-use lint_document::{Document, Report};
+use crate::target::unescaped;
+use lint_document::{Document, Report, Rule, Span};
 use std::alloc::{AllocError, Global};
 use std::str::from_utf8;
 
-/// Reports the links to fragments that aren't in the text.
-pub fn check(document: &Document<'_>, report: &mut Report) -> Result<(), AllocError> {
-    let fragments = Fragments::of(report.alloc(), document)?;
-    for target in &targets(report.alloc(), document)? {
-        let Some(fragment) = target.url.as_str().strip_prefix('#') else {
-            continue;
-        };
-        if !is_there(report.alloc(), &fragments, fragment)? {
-            let what = format!(in report.alloc(); "nothing has the fragment {fragment:?}")?;
-            report.add_made(target.span, what)?;
+/// A link to a fragment of the same text.
+#[derive(Drop)]
+struct FragmentLink {
+    span: Span,
+    /// What follows the `#`.
+    fragment: String,
+}
+
+/// The links of a text to its own fragments.
+#[derive(Drop)]
+pub(crate) struct MissingFragment {
+    links: Vec<FragmentLink>,
+}
+
+impl MissingFragment {
+    /// No link was read.
+    pub(crate) fn new(alloc: Global) -> MissingFragment {
+        MissingFragment {
+            links: Vec::new(alloc),
         }
     }
-    Ok(())
+
+    /// Reads a URL, which is at this place.
+    pub(crate) fn read(
+        &mut self,
+        span: Span,
+        url: &str,
+        report: &Report,
+    ) -> Result<(), AllocError> {
+        let Some(fragment) = url.strip_prefix('#') else {
+            return Ok(());
+        };
+        if report.has(Rule::MissingFragment) {
+            let fragment = String::from_str(report.alloc(), fragment)?;
+            self.links.push(FragmentLink { span, fragment })?;
+        }
+        Ok(())
+    }
+
+    /// Reports the links to fragments that aren't in the text.
+    pub(crate) fn finish(
+        &self,
+        document: &Document<'_>,
+        report: &mut Report,
+    ) -> Result<(), AllocError> {
+        if self.links.is_empty() {
+            return Ok(());
+        }
+        let fragments = Fragments::of(report.alloc(), document)?;
+        self.check(&fragments, report)
+    }
+
+    /// Reports the links to other fragments than these.
+    fn check(&self, fragments: &Fragments, report: &mut Report) -> Result<(), AllocError> {
+        for link in &self.links {
+            let fragment = link.fragment.as_str();
+            if !is_there(report.alloc(), fragments, fragment)? {
+                let words = "nothing has the fragment";
+                report.add_named(Rule::MissingFragment, link.span, words, fragment)?;
+            }
+        }
+        Ok(())
+    }
 }
 
 /// Whether a link to a fragment leads somewhere.

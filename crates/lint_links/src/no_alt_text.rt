@@ -5,8 +5,8 @@
 //! Example: `![](a.png)`, also with spaces between the brackets.
 use engine_events::event::{Kind, Name};
 use lint_document::document::{Depth, Step, is_blank};
-use lint_document::{Document, Report, Span};
-use std::alloc::AllocError;
+use lint_document::{Report, Rule, Span};
+use std::alloc::{AllocError, Global};
 
 /// An image that is open.
 #[derive(Clone, Copy)]
@@ -29,29 +29,44 @@ impl Image {
     }
 }
 
-/// Reports images without a description.
-pub fn check(document: &Document<'_>, report: &mut Report) -> Result<(), AllocError> {
-    let mut images: Vec<Image> = Vec::new(report.alloc());
-    let mut targets = Depth::default();
-    for step in document.steps() {
-        if matches!(step.name, Name::Resource | Name::Reference) {
-            targets.count(step.kind);
-        }
-        match (step.kind, step.name) {
-            (Kind::Enter, Name::Image) => images.push(Image::starting(step.index))?,
-            (Kind::Exit, Name::Image) => leave(&mut images, report)?,
-            _ if !targets.is_inside() && is_text(&step) => describe(&mut images),
-            _ => {}
+/// Reads the descriptions of images.
+#[derive(Drop)]
+pub(crate) struct NoAltText {
+    /// The images that are open, the innermost last.
+    images: Vec<Image>,
+    /// The resources and references that are open.
+    targets: Depth,
+}
+
+impl NoAltText {
+    /// No event was read.
+    pub(crate) fn new(alloc: Global) -> NoAltText {
+        NoAltText {
+            images: Vec::new(alloc),
+            targets: Depth::default(),
         }
     }
-    Ok(())
+
+    /// Reads the next event. Reports the image that ends there, if it has no description.
+    pub(crate) fn read(&mut self, step: &Step<'_>, report: &mut Report) -> Result<(), AllocError> {
+        if matches!(step.name, Name::Resource | Name::Reference) {
+            self.targets.count(step.kind);
+        }
+        match (step.kind, step.name) {
+            (Kind::Enter, Name::Image) => self.images.push(Image::starting(step.index))?,
+            (Kind::Exit, Name::Image) => return leave(&mut self.images, report),
+            _ if !self.targets.is_inside() && is_text(step) => describe(&mut self.images),
+            _ => {}
+        }
+        Ok(())
+    }
 }
 
 /// Reports the innermost image if it isn't described. If it is, so is the image around it.
 fn leave(images: &mut Vec<Image>, report: &mut Report) -> Result<(), AllocError> {
     match images.pop() {
         Some(image) if !image.is_described => {
-            report.add(image.span, "image without a description")
+            report.add(Rule::NoAltText, image.span, "image without a description")
         }
         _ => {
             describe(images);

@@ -6,53 +6,62 @@ use lint_document::{Document, Span};
 use percent_encoding::percent_decode;
 use std::alloc::{AllocError, Global};
 
-/// The destination of a link, an image or a definition.
+/// Reads the destinations of links, images and definitions.
 #[derive(Drop)]
-pub(crate) struct Target {
-    /// Where it is.
-    pub(crate) span: Span,
-    /// The URL, with escapes and character references decoded (CommonMark 2.4 and 2.5).
-    pub(crate) url: String,
+pub(crate) struct Targets {
+    decoder: Decoder,
+    /// Where the destination starts that is open.
+    start: Option<usize>,
+    /// The URL of the last destination, with escapes and character references decoded (CommonMark 2.4 and 2.5).
+    url: String,
 }
 
-/// The destinations of a text, in its order.
-pub(crate) fn targets(alloc: Global, document: &Document<'_>) -> Result<Vec<Target>, AllocError> {
-    let mut targets: Vec<Target> = Vec::new(alloc);
-    let mut decoder = Decoder::default();
-    let mut is_inside = false;
-    for step in document.steps() {
-        if is_destination(step.name) {
-            is_inside = step.kind == Kind::Enter;
-            if is_inside {
-                targets.push(Target::starting(alloc, step.index))?;
-            }
-        }
-        if is_inside {
-            if let Some(target) = targets.last_mut() {
-                target.read(document, &step, &mut decoder)?;
-            }
-        }
-    }
-    Ok(targets)
-}
-
-impl Target {
-    fn starting(alloc: Global, start: usize) -> Target {
-        Target {
-            span: Span { start, end: start },
+impl Targets {
+    /// No event was read.
+    pub(crate) fn new(alloc: Global) -> Targets {
+        Targets {
+            decoder: Decoder::default(),
+            start: None,
             url: String::new(alloc),
         }
     }
 
-    /// Reads an event in the destination.
-    fn read(
+    /// Reads the next event. Returns where the destination is that ends there. Its URL is `url`.
+    pub(crate) fn read(
         &mut self,
         document: &Document<'_>,
         step: &Step<'_>,
-        decoder: &mut Decoder,
-    ) -> Result<(), AllocError> {
-        self.span.end = step.index;
-        decoder.read(document, step, &mut self.url)
+    ) -> Result<Option<Span>, AllocError> {
+        if is_destination(step.name) {
+            return Ok(self.read_destination(step));
+        }
+        if self.start.is_some() {
+            self.decoder.read(document, step, &mut self.url)?;
+        }
+        Ok(None)
+    }
+
+    /// Reads the enter or the exit of a destination.
+    fn read_destination(&mut self, step: &Step<'_>) -> Option<Span> {
+        match step.kind {
+            Kind::Enter => {
+                self.start = Some(step.index);
+                self.url.clear();
+                None
+            }
+            Kind::Exit => {
+                let start = self.start.take()?;
+                Some(Span {
+                    start,
+                    end: step.index,
+                })
+            }
+        }
+    }
+
+    /// The URL of the last destination.
+    pub(crate) fn url(&self) -> &str {
+        self.url.as_str()
     }
 }
 

@@ -1,7 +1,7 @@
 //! The items of a text, with what is known of their lists.
 use engine_events::event::{Kind, Name};
+use lint_document::Span;
 use lint_document::document::Step;
-use lint_document::{Document, Span};
 use std::alloc::{AllocError, Global};
 
 /// The marker of an item, with its number.
@@ -24,29 +24,12 @@ pub(crate) struct Item {
     pub(crate) level: Option<usize>,
     /// The first item of its list, if that is another.
     pub(crate) first: Option<Marker>,
-    /// The second item of its list, if that is before.
-    pub(crate) second: Option<Marker>,
-    /// The item before it in its list.
-    pub(crate) last: Option<Marker>,
+    /// Whether the second item of its list has the number of the first, if both are before.
+    pub(crate) is_same: Option<bool>,
+    /// The number of the item before it in its list.
+    pub(crate) last: Option<usize>,
     /// How many items of its list are before it.
     pub(crate) position: usize,
-}
-
-/// The items of a text, in its order.
-pub(crate) fn items(alloc: Global, document: &Document<'_>) -> Result<Vec<Item>, AllocError> {
-    let mut items = Vec::new(alloc);
-    let mut open = Open::new(alloc);
-    for step in document.steps() {
-        match step.kind {
-            Kind::Enter => open.enter(&step)?,
-            Kind::Exit => {
-                if let Some(item) = open.exit(&step) {
-                    items.push(item)?;
-                }
-            }
-        }
-    }
-    Ok(items)
 }
 
 /// A list, a quote or a footnote that is open.
@@ -56,17 +39,20 @@ struct Container {
     level: Option<usize>,
     /// The level of a list in it.
     inside: Option<usize>,
-    /// Its first, second and last item so far.
+    /// Its first item.
     first: Option<Marker>,
-    second: Option<Marker>,
-    last: Option<Marker>,
+    /// Whether its second item has the number of the first.
+    is_same: Option<bool>,
+    /// The number of its last item so far.
+    last: Option<usize>,
     /// How many items it has so far.
     count: usize,
 }
 
-/// What is open while the events are read.
+/// Reads the events of a text, and finds its items.
 #[derive(Drop)]
-struct Open {
+pub(crate) struct Items {
+    /// The containers that are open.
     containers: Vec<Container>,
     /// The columns of quotes at the start of this line.
     quotes: usize,
@@ -77,14 +63,26 @@ struct Open {
     number: Option<usize>,
 }
 
-impl Open {
-    fn new(alloc: Global) -> Open {
-        Open {
+impl Items {
+    /// No event was read.
+    pub(crate) fn new(alloc: Global) -> Items {
+        Items {
             containers: Vec::new(alloc),
             quotes: 0,
             start: 0,
             indent: 0,
             number: None,
+        }
+    }
+
+    /// Reads the next event. Returns the item whose marker ends there.
+    pub(crate) fn read(&mut self, step: &Step<'_>) -> Result<Option<Item>, AllocError> {
+        match step.kind {
+            Kind::Enter => {
+                self.enter(step)?;
+                Ok(None)
+            }
+            Kind::Exit => Ok(self.exit(step)),
         }
     }
 
@@ -163,7 +161,7 @@ impl Container {
             level,
             inside,
             first: None,
-            second: None,
+            is_same: None,
             last: None,
             count: 0,
         }
@@ -175,16 +173,18 @@ impl Container {
             marker,
             level: self.level,
             first: self.first,
-            second: self.second,
+            is_same: self.is_same,
             last: self.last,
             position: self.count,
         };
-        if self.first.is_none() {
-            self.first = Some(marker);
-        } else if self.second.is_none() {
-            self.second = Some(marker);
+        match self.first {
+            None => self.first = Some(marker),
+            Some(first) if self.is_same.is_none() => {
+                self.is_same = Some(marker.number == first.number);
+            }
+            Some(_) => {}
         }
-        self.last = Some(marker);
+        self.last = marker.number;
         self.count = self.count.saturating_add(1);
         item
     }

@@ -2,7 +2,10 @@
 #![tactic(auto)]
 
 mod item;
-pub mod list_indent;
-pub mod list_marker;
+mod list_indent;
+mod list_marker;
 pub mod list_numbers;
-pub mod nested_list_indent;
+mod nested_list_indent;
+mod rules;
+
+pub use rules::ListRules;

@@ -3,22 +3,18 @@
 //! It looks like an item of another list. Numbers may be aligned at their ends.
 //!
 //! Example: ` - b` on the line after `- a`.
-use crate::item::{Item, items};
-use lint_document::{Document, Report};
+use crate::item::Item;
+use lint_document::{Report, Rule};
 use std::alloc::AllocError;
 
-/// Reports items that are indented otherwise than the first of their list.
-pub fn check(document: &Document<'_>, report: &mut Report) -> Result<(), AllocError> {
-    for item in &items(report.alloc(), document)? {
-        if let Some(wanted) = wanted_indent(item) {
-            let indent = item.marker.indent;
-            let what = format!(in report.alloc();
-                "item indented by {indent}, the first by {wanted}"
-            )?;
-            report.add_made(item.marker.span, what)?;
-        }
-    }
-    Ok(())
+/// Reports an item if it is indented otherwise than the first of its list.
+pub(crate) fn check(item: &Item, report: &mut Report) -> Result<(), AllocError> {
+    let Some(wanted) = wanted_indent(item) else {
+        return Ok(());
+    };
+    let words = ["item indented by", ", the first by"];
+    let numbers = [item.marker.indent, wanted];
+    report.add_numbers(Rule::ListIndent, item.marker.span, words, numbers)
 }
 
 /// The indent of the first item of the list, if the item has another.

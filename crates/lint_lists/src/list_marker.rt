@@ -6,8 +6,8 @@
 //! Example: `- a` and on the next line `* b`.
 use engine_events::event::{Kind, Name};
 use lint_document::document::Step;
-use lint_document::{Document, Report, Span};
-use std::alloc::AllocError;
+use lint_document::{Report, Rule, Span};
+use std::alloc::{AllocError, Global};
 
 /// A list that is open.
 #[derive(Clone, Copy)]
@@ -19,27 +19,44 @@ struct List {
     marker: Option<u8>,
 }
 
-/// Reports lists that come right after a list with another marker.
-pub fn check(document: &Document<'_>, report: &mut Report) -> Result<(), AllocError> {
-    let mut open: Vec<List> = Vec::new(report.alloc());
-    // The marker of the list that was the last thing to end.
-    let mut last: Option<u8> = None;
-    for step in document.steps() {
+/// Reads the events of a text, and compares the markers of its lists.
+#[derive(Drop)]
+pub(crate) struct ListMarkers {
+    /// The lists that are open.
+    open: Vec<List>,
+    /// The marker of the list that was the last thing to end.
+    last: Option<u8>,
+}
+
+impl ListMarkers {
+    /// No event was read.
+    pub(crate) fn new(alloc: Global) -> ListMarkers {
+        ListMarkers {
+            open: Vec::new(alloc),
+            last: None,
+        }
+    }
+
+    /// Reads the next event. Reports the list whose first marker ends there, if it comes right after a list
+    /// with another marker.
+    pub(crate) fn read(&mut self, step: &Step<'_>, report: &mut Report) -> Result<(), AllocError> {
         match (step.kind, step.name) {
-            (Kind::Enter, Name::ListOrdered | Name::ListUnordered) => open.push(List {
+            (Kind::Enter, Name::ListOrdered | Name::ListUnordered) => self.open.push(List {
                 start: step.index,
-                before: last.take(),
+                before: self.last.take(),
                 marker: None,
             })?,
             (Kind::Exit, Name::ListOrdered | Name::ListUnordered) => {
-                last = marker_of(open.pop());
+                self.last = marker_of(self.open.pop());
             }
-            (Kind::Exit, Name::ListItemMarker) => check_marker(open.last_mut(), &step, report)?,
+            (Kind::Exit, Name::ListItemMarker) => {
+                return check_marker(self.open.last_mut(), step, report);
+            }
             _ if is_between(step.name) => {}
-            _ => last = None,
+            _ => self.last = None,
         }
+        Ok(())
     }
-    Ok(())
 }
 
 fn marker_of(list: Option<List>) -> Option<u8> {
@@ -68,7 +85,7 @@ fn check_marker(
                 end: step.index,
             };
             let what = format!(in report.alloc(); "list with {marker} after a list with {before}")?;
-            report.add_made(span, what)
+            report.add_made(Rule::ListMarker, span, what)
         }
         _ => Ok(()),
     }

@@ -4,23 +4,21 @@
 //! numbers aren't looked at, and of a list only its first item.
 //!
 //! Example: four spaces and `- b` on the line after `- a`.
-use crate::item::{Item, items};
-use lint_document::{Document, Report};
+use crate::item::Item;
+use lint_document::{Report, Rule};
 use std::alloc::AllocError;
 
 /// The columns of a level.
 const LEVEL_INDENT: usize = 2;
 
-/// Reports lists of bullets that aren't indented by two columns a level.
-pub fn check(document: &Document<'_>, report: &mut Report) -> Result<(), AllocError> {
-    for item in &items(report.alloc(), document)? {
-        if let Some(wanted) = wanted_indent(item) {
-            let indent = item.marker.indent;
-            let what = format!(in report.alloc(); "list indented by {indent}, wanted {wanted}")?;
-            report.add_made(item.marker.span, what)?;
-        }
-    }
-    Ok(())
+/// Reports the first item of a list of bullets if it isn't indented by two columns a level.
+pub(crate) fn check(item: &Item, report: &mut Report) -> Result<(), AllocError> {
+    let Some(wanted) = wanted_indent(item) else {
+        return Ok(());
+    };
+    let words = ["list indented by", ", wanted"];
+    let numbers = [item.marker.indent, wanted];
+    report.add_numbers(Rule::NestedListIndent, item.marker.span, words, numbers)
 }
 
 /// The indent that a list should have, if it has another and this is its first item.

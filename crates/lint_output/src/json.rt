@@ -4,7 +4,7 @@ use serde::Serialize;
 use std::alloc::Global;
 
 /// A finding, as it is printed. Lines and columns count from 1.
-#[derive(Debug, Drop, Serialize)]
+#[derive(Drop, Serialize)]
 pub(crate) struct JsonFinding<'a> {
     /// The name of the file.
     file: &'a str,

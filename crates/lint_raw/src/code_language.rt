@@ -4,32 +4,42 @@
 //!
 //! Example: a fence of three backticks and nothing after them.
 use engine_events::event::{Kind, Name};
-use lint_document::{Document, Report, Span};
+use lint_document::document::Step;
+use lint_document::{Report, Rule, Span};
 use std::alloc::AllocError;
 
-/// Reports fenced code without a language.
-pub fn check(document: &Document<'_>, report: &mut Report) -> Result<(), AllocError> {
-    let mut fence: Option<Span> = None;
-    let mut is_first = false;
-    for step in document.steps() {
+/// Reads the fences of code.
+#[derive(Clone, Copy, Default)]
+pub(crate) struct CodeLanguage {
+    /// The sequence of the opening fence, while no language was read.
+    fence: Option<Span>,
+    /// Whether the next fence is an opening one.
+    is_first: bool,
+}
+
+impl CodeLanguage {
+    /// Reads the next event. Reports the opening fence that ends there, if it has no language.
+    pub(crate) fn read(&mut self, step: &Step<'_>, report: &mut Report) -> Result<(), AllocError> {
+        match self.fence_without(step) {
+            Some(fence) => report.add(Rule::CodeLanguage, fence, "code without a language"),
+            None => Ok(()),
+        }
+    }
+
+    /// The sequence of the opening fence that ends here, if it has no language.
+    fn fence_without(&mut self, step: &Step<'_>) -> Option<Span> {
         match (step.kind, step.name) {
-            (Kind::Enter, Name::CodeFenced) => is_first = true,
-            (Kind::Exit, Name::CodeFencedFenceSequence) if is_first => fence = Some(step.span()),
-            (Kind::Enter, Name::CodeFencedFenceInfo) => fence = None,
+            (Kind::Enter, Name::CodeFenced) => self.is_first = true,
+            (Kind::Exit, Name::CodeFencedFenceSequence) if self.is_first => {
+                self.fence = Some(step.span());
+            }
+            (Kind::Enter, Name::CodeFencedFenceInfo) => self.fence = None,
             (Kind::Exit, Name::CodeFencedFence) => {
-                is_first = false;
-                report_fence(fence.take(), report)?;
+                self.is_first = false;
+                return self.fence.take();
             }
             _ => {}
         }
-    }
-    Ok(())
-}
-
-/// Reports a fence without a language, if there is one.
-fn report_fence(fence: Option<Span>, report: &mut Report) -> Result<(), AllocError> {
-    match fence {
-        Some(span) => report.add(span, "code without a language"),
-        None => Ok(()),
+        None
     }
 }

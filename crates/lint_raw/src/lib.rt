@@ -1,8 +1,10 @@
 //! The rules of the linter on raw HTML and code, one file each, and the comments that turn rules off.
 #![tactic(auto)]
 
-pub mod code_language;
-pub mod raw_html;
+mod code_language;
+mod raw_html;
+mod rules;
 pub mod switch;
 
+pub use rules::RawRules;
 pub use switch::{Switch, switches};

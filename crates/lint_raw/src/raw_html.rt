@@ -6,25 +6,36 @@
 //! Example: `a<br>b`.
 use engine_events::event::{Kind, Name};
 use lint_document::document::Step;
-use lint_document::{Document, Report, Span};
+use lint_document::{Document, Report, Rule, Span};
 use std::alloc::AllocError;
 use std::str::from_utf8;
 
-/// Reports the tags of raw HTML.
-pub fn check(document: &Document<'_>, report: &mut Report) -> Result<(), AllocError> {
-    let mut is_comment = false;
-    for step in document.steps() {
+/// Reads raw HTML.
+#[derive(Clone, Copy, Default)]
+pub(crate) struct RawHtml {
+    /// Whether the raw HTML that began last is no tag.
+    is_other: bool,
+}
+
+impl RawHtml {
+    /// Reads the next event. Reports the tags in the line of raw HTML that ends there.
+    pub(crate) fn read(
+        &mut self,
+        document: &Document<'_>,
+        step: &Step<'_>,
+        report: &mut Report,
+    ) -> Result<(), AllocError> {
         match (step.kind, step.name) {
-            (Kind::Enter, Name::HtmlFlow | Name::HtmlText) => is_comment = starts_other(
-                document, step.index,
-            ),
-            (Kind::Exit, Name::HtmlFlowData | Name::HtmlTextData) if !is_comment => {
-                check_line(&step, report)?;
+            (Kind::Enter, Name::HtmlFlow | Name::HtmlText) => {
+                self.is_other = starts_other(document, step.index);
+                Ok(())
             }
-            _ => {}
+            (Kind::Exit, Name::HtmlFlowData | Name::HtmlTextData) if !self.is_other => {
+                check_line(step, report)
+            }
+            _ => Ok(()),
         }
     }
-    Ok(())
 }
 
 /// Whether what starts at an index is a comment, an instruction, a declaration or CDATA (CommonMark 6.6).
@@ -64,7 +75,7 @@ fn is_of_name(byte: u8) -> bool {
 
 /// Reports a tag that starts at an index, unless its name is empty.
 fn report_tag(start: usize, name: &[u8], report: &mut Report) -> Result<(), AllocError> {
-    if name.is_empty() {
+    if name.is_empty() || !report.has(Rule::RawHtml) {
         return Ok(());
     }
     let Ok(name) = from_utf8(name) else {
@@ -75,5 +86,5 @@ fn report_tag(start: usize, name: &[u8], report: &mut Report) -> Result<(), Allo
         end: start.saturating_add(1).saturating_add(name.len()),
     };
     let what = format!(in report.alloc(); "raw HTML <{name}>")?;
-    report.add_made(span, what)
+    report.add_made(Rule::RawHtml, span, what)
 }

@@ -25,15 +25,18 @@ pub struct Switch {
 pub fn switches(alloc: Global, document: &Document<'_>) -> Result<Vec<Switch>, AllocError> {
     let mut switches = Vec::new(alloc);
     for step in document.steps() {
-        if step.kind == Kind::Exit && matches!(step.name, Name::HtmlFlowData | Name::HtmlTextData) {
-            push_switches(&mut switches, &step)?;
-        }
+        push_switches(&mut switches, &step)?;
     }
     Ok(switches)
 }
 
-/// Adds the comments of a line of raw HTML.
-fn push_switches(switches: &mut Vec<Switch>, step: &Step<'_>) -> Result<(), AllocError> {
+/// Reads the next event. Adds the comments of the line of raw HTML that ends there.
+pub(crate) fn push_switches(switches: &mut Vec<Switch>, step: &Step<'_>) -> Result<(), AllocError> {
+    let is_html = step.kind == Kind::Exit
+        && matches!(step.name, Name::HtmlFlowData | Name::HtmlTextData);
+    if !is_html {
+        return Ok(());
+    }
     let Ok(html) = from_utf8(step.bytes) else {
         return Ok(());
     };
@@ -65,15 +68,7 @@ fn switch_in(end: usize, part: &str) -> Option<Switch> {
 /// What a comment turns off or on.
 fn switch_of(index: usize, comment: &str) -> Option<Switch> {
     let mut words = comment.split_ascii_whitespace();
-    let command = words.next()?;
-    let verb = command
-        .strip_prefix("markdown-lint-")
-        .or(command.strip_prefix("markdownlint-"))?;
-    let is_off = match verb {
-        "disable" => true,
-        "enable" => false,
-        _ => return None,
-    };
+    let is_off = turns_off(words.next()?)?;
     let mut rules = RuleSet::NONE;
     let mut is_all = true;
     for word in words {
@@ -87,4 +82,17 @@ fn switch_of(index: usize, comment: &str) -> Option<Switch> {
         is_off,
         rules: if is_all { RuleSet::ALL } else { rules },
     })
+}
+
+/// Whether a command turns rules off, or on, if it is one of the two.
+fn turns_off(command: &str) -> Option<bool> {
+    let verb = match command.strip_prefix("markdown-lint-") {
+        Some(verb) => verb,
+        None => command.strip_prefix("markdownlint-")?,
+    };
+    match verb {
+        "disable" => Some(true),
+        "enable" => Some(false),
+        _ => None,
+    }
 }

@@ -1,6 +1,10 @@
 //! The rules of the linter on references and definitions, one file each.
 #![tactic(auto)]
 
+mod definitions;
 mod label;
-pub mod undefined_reference;
-pub mod unused_definition;
+mod rules;
+mod undefined_reference;
+mod unused_definition;
+
+pub use rules::ReferenceRules;

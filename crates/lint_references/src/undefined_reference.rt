@@ -7,22 +7,12 @@
 //! alone isn't looked at, since brackets are common in text.
 //!
 //! Example: `see [a][b]` in a text that doesn't define `b`.
+use crate::definitions::Defined;
 use crate::label::normal_label;
 use engine_events::event::{Kind, Name};
-use event_references::labels::label_table;
-use inline_labels::LabelTable;
 use lint_document::document::{Depth, Step, is_blank, is_white};
-use lint_document::{Document, Report, Span};
+use lint_document::{Report, Rule, Span};
 use std::alloc::{AllocError, Global};
-
-/// Reports references and calls without a definition.
-pub fn check(document: &Document<'_>, report: &mut Report) -> Result<(), AllocError> {
-    let mut texts = Texts::new(document, report.alloc())?;
-    for step in document.steps() {
-        texts.step(&step, report)?;
-    }
-    Ok(())
-}
 
 /// A bracket of a text that is open. Indices are in the text without quote prefixes.
 #[derive(Clone, Copy)]
@@ -57,15 +47,13 @@ impl Pair {
 
 /// The text that is read, and its brackets.
 #[derive(Drop)]
-struct Texts {
+pub(crate) struct Texts {
     gfm: bool,
-    definitions: LabelTable<Global>,
-    footnotes: LabelTable<Global>,
-    /// The text so far, without quote prefixes.
+    /// The text so far, without quote prefixes and what is outside of brackets.
     text: Vec<u8>,
     /// The brackets that are open, the innermost last.
     open: Vec<Open>,
-    /// The last brackets that closed, unless they are part of what was reported.
+    /// The last brackets that closed, unless they are part of what was reported, or text came after them.
     last: Option<Pair>,
     /// Quote prefixes.
     prefixes: Depth,
@@ -74,31 +62,33 @@ struct Texts {
 }
 
 impl Texts {
-    fn new(document: &Document<'_>, alloc: Global) -> Result<Texts, AllocError> {
-        let Document { bytes, events, gfm } = *document;
-        let labels = Name::DefinitionLabelString;
-        let footnote_labels = Name::GfmFootnoteDefinitionLabelString;
-        Ok(Texts {
+    /// No event was read.
+    pub(crate) fn new(alloc: Global, gfm: bool) -> Texts {
+        Texts {
             gfm,
-            definitions: label_table(alloc, events, bytes, labels)?,
-            footnotes: label_table(alloc, events, bytes, footnote_labels)?,
             text: Vec::new(alloc),
             open: Vec::new(alloc),
             last: None,
             prefixes: Depth::default(),
             strings: Depth::default(),
-        })
+        }
     }
 
-    /// Reads an event.
-    fn step(&mut self, step: &Step<'_>, report: &mut Report) -> Result<(), AllocError> {
+    /// Reads the next event. Reports the references and calls in the data that end there, if they have no
+    /// definition.
+    pub(crate) fn read(
+        &mut self,
+        step: &Step<'_>,
+        defined: &Defined,
+        report: &mut Report,
+    ) -> Result<(), AllocError> {
         if step.kind == Kind::Enter && starts_text(step.name) {
             self.start();
         }
         if step.kind == Kind::Exit && step.name == Name::Data && !self.strings.is_inside() {
-            self.data(step, report)?;
+            self.data(step, defined, report)?;
         } else if !self.prefixes.is_inside() {
-            self.text.extend_from_slice(step.bytes)?;
+            self.push(step.bytes)?;
         }
         if step.name == Name::BlockQuotePrefix {
             self.prefixes.count(step.kind);
@@ -116,15 +106,41 @@ impl Texts {
         self.last = None;
     }
 
+    /// Reads bytes that are no brackets.
+    fn push(&mut self, bytes: &[u8]) -> Result<(), AllocError> {
+        if bytes.is_empty() {
+            return Ok(());
+        }
+        if self.open.is_empty() {
+            self.last = None;
+            return Ok(());
+        }
+        self.text.extend_from_slice(bytes)
+    }
+
     /// Reads the data that end here.
-    fn data(&mut self, step: &Step<'_>, report: &mut Report) -> Result<(), AllocError> {
-        for (offset, byte) in step.bytes.iter().enumerate() {
-            let start = step.start.saturating_add(offset);
-            match byte {
-                b'[' => self.opens(start)?,
-                b']' => self.closes(start, report)?,
-                _ => self.text.push(*byte)?,
+    fn data(
+        &mut self,
+        step: &Step<'_>,
+        defined: &Defined,
+        report: &mut Report,
+    ) -> Result<(), AllocError> {
+        let mut left = step.bytes;
+        // Each turn reads a bracket, or what is left.
+        for _ in 0..=step.bytes.len() {
+            let size = left.iter().take_while(|byte| !is_bracket(**byte)).count();
+            let (before, others) = left.split_at(size.min(left.len()));
+            self.push(before)?;
+            let Some((bracket, after)) = others.split_first() else {
+                break;
+            };
+            let past = step.index.saturating_sub(after.len());
+            if *bracket == b'[' {
+                self.opens(past.saturating_sub(1))?;
+            } else {
+                self.closes(past, defined, report)?;
             }
+            left = after;
         }
         Ok(())
     }
@@ -140,33 +156,42 @@ impl Texts {
         Ok(())
     }
 
-    /// Reads a `]`, which starts at an index of the document.
-    fn closes(&mut self, start: usize, report: &mut Report) -> Result<(), AllocError> {
-        self.text.push(b']')?;
+    /// Reads a `]`, which ends at an index of the document.
+    fn closes(
+        &mut self,
+        past: usize,
+        defined: &Defined,
+        report: &mut Report,
+    ) -> Result<(), AllocError> {
         let Some(open) = self.open.pop() else {
+            self.last = None;
             return Ok(());
         };
+        self.text.push(b']')?;
         if let Some(outer) = self.open.last_mut() {
             outer.nested = true;
         }
         let pair = Pair {
             open,
             end: self.text.len(),
-            past: start.saturating_add(1),
+            past,
         };
-        self.last = if self.reports(pair, report)? {
-            None
-        } else {
-            Some(pair)
-        };
+        let is_reported = self.reports(pair, defined, report)?;
+        self.last = if is_reported { None } else { Some(pair) };
         Ok(())
     }
 
     /// Reports the reference or call that these brackets end, if it has no definition.
-    fn reports(&self, pair: Pair, report: &mut Report) -> Result<bool, AllocError> {
+    fn reports(
+        &self,
+        pair: Pair,
+        defined: &Defined,
+        report: &mut Report,
+    ) -> Result<bool, AllocError> {
         if let Some(label) = self.call_label(pair) {
-            if self.footnotes.find(label)?.is_none() {
-                add(pair.span(), "footnote ", label, report)?;
+            if !defined.footnotes.has(label)? {
+                let words = "no definition of footnote";
+                add(pair.span(), words, label, report)?;
                 return Ok(true);
             }
         }
@@ -174,10 +199,12 @@ impl Texts {
             return Ok(false);
         };
         match self.reference_label(before, pair) {
-            Some(label) if self.definitions.find(label)?.is_none() => {
-                let start = before.open.start;
-                let end = pair.past;
-                add(Span { start, end }, "", label, report)?;
+            Some(label) if !defined.links.has(label)? => {
+                let span = Span {
+                    start: before.open.start,
+                    end: pair.past,
+                };
+                add(span, "no definition of", label, report)?;
                 Ok(true)
             }
             _ => Ok(false),
@@ -214,10 +241,13 @@ impl Texts {
 }
 
 /// Reports that a label has no definition.
-fn add(span: Span, kind: &str, label: &[u8], report: &mut Report) -> Result<(), AllocError> {
+fn add(span: Span, words: &str, label: &[u8], report: &mut Report) -> Result<(), AllocError> {
     let label = normal_label(report.alloc(), label)?;
-    let what = format!(in report.alloc(); "no definition of {kind}{label:?}")?;
-    report.add_made(span, what)
+    report.add_named(Rule::UndefinedReference, span, words, label.as_str())
+}
+
+fn is_bracket(byte: u8) -> bool {
+    matches!(byte, b'[' | b']')
 }
 
 /// Whether a text begins with an event of this name.

@@ -4,6 +4,7 @@
 
 pub mod rules;
 mod silence;
+mod walk;
 
 pub use lint_document::{Columns, Document, Finding, Place, Places, Rule, RuleSet, Span};
 pub use lint_links::Folder;

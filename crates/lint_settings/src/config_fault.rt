@@ -2,7 +2,7 @@
 use std::alloc::AllocError;
 
 /// Why a file of settings can't be used.
-#[derive(Debug, Drop)]
+#[derive(Drop)]
 pub enum ConfigFault {
     /// What is wrong on a line, which counts from 1.
     Line(usize, String),

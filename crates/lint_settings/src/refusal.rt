@@ -2,7 +2,7 @@
 use std::alloc::AllocError;
 
 /// Why words ask for no findings.
-#[derive(Debug, Drop)]
+#[derive(Drop)]
 pub enum Refusal {
     /// They ask for this text: the help or the version.
     Answer(&'static str),

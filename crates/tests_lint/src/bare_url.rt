@@ -1,9 +1,7 @@
 //! bare-url: bare URLs.
-use crate::table::assert_found;
-use lint_rules::Rule;
 
 /// Texts, and what is found in each.
-const FOUND: &[(&str, &str)] = &[
+pub(crate) const FOUND: &[(&str, &str)] = &[
     (
         "see http://a.b, https://c.d\n",
         "1:5: bare URL\n1:17: bare URL",
@@ -13,9 +11,5 @@ const FOUND: &[(&str, &str)] = &[
         "",
     ),
     ("[http://a.b](c)\n", ""),
+    ("[http://a.b] http:// https://\n", "1:2: bare URL"),
 ];
-
-#[test]
-fn bare_url(rt: HostRuntime) {
-    assert_found(&rt, Rule::BareUrl, FOUND);
-}

@@ -1,9 +1,7 @@
 //! blank-lines: more than one blank line.
-use crate::table::assert_found;
-use lint_rules::Rule;
 
 /// Texts, and what is found in each.
-const FOUND: &[(&str, &str)] = &[
+pub(crate) const FOUND: &[(&str, &str)] = &[
     ("a\n\n\n\nb\n", "3:1: more than one blank line"),
     ("a\n \n\t\nb\n", "3:1: more than one blank line"),
     (
@@ -15,8 +13,3 @@ const FOUND: &[(&str, &str)] = &[
     ("> a\n>\n>\n> b\n", ""),
     ("- a\r\n\r\n\r\n- b\r\n", "3:1: more than one blank line"),
 ];
-
-#[test]
-fn blank_lines(rt: HostRuntime) {
-    assert_found(&rt, Rule::BlankLines, FOUND);
-}

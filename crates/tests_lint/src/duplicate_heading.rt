@@ -1,9 +1,7 @@
 //! duplicate-heading: headings with the text of an earlier one.
-use crate::table::{assert_found, assert_rows, settings_of};
-use lint_rules::{Rule, Settings};
 
 /// Texts, and what is found in each.
-const FOUND: &[(&str, &str)] = &[
+pub(crate) const FOUND: &[(&str, &str)] = &[
     ("# A\n\n## a\n", "3:1: same heading as on line 1"),
     (
         "> A\n> *b*\n> ===\n\n# A *b*\n",
@@ -13,7 +11,7 @@ const FOUND: &[(&str, &str)] = &[
 ];
 
 /// Texts, and what is found in each among the headings of a section.
-const SIBLINGS: &[(&str, &str)] = &[
+pub(crate) const SIBLINGS: &[(&str, &str)] = &[
     ("# A\n## B\n### C\n## D\n### C\n", ""),
     (
         "# A\n## B\n### C\n### c\n## B\n",
@@ -21,13 +19,3 @@ const SIBLINGS: &[(&str, &str)] = &[
     ),
     ("## B\n# A\n## B\n# a\n", "4:1: same heading as on line 2"),
 ];
-
-#[test]
-fn duplicate_heading(rt: HostRuntime) {
-    assert_found(&rt, Rule::DuplicateHeading, FOUND);
-    let settings = Settings {
-        siblings: true,
-        ..settings_of(Rule::DuplicateHeading)
-    };
-    assert_rows(&rt, "siblings", &settings, SIBLINGS);
-}

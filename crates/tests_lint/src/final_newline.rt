@@ -1,9 +1,7 @@
 //! final-newline: texts that don't end with one line ending.
-use crate::table::assert_found;
-use lint_rules::Rule;
 
 /// Texts, and what is found in each.
-const FOUND: &[(&str, &str)] = &[
+pub(crate) const FOUND: &[(&str, &str)] = &[
     ("a", "1:2: no line ending at the end of the text"),
     ("a\nb  ", "2:4: no line ending at the end of the text"),
     ("a\n\n", "2:1: blank line at the end of the text"),
@@ -13,8 +11,3 @@ const FOUND: &[(&str, &str)] = &[
     ("\n", ""),
     ("```\na", "2:2: no line ending at the end of the text"),
 ];
-
-#[test]
-fn final_newline(rt: HostRuntime) {
-    assert_found(&rt, Rule::FinalNewline, FOUND);
-}

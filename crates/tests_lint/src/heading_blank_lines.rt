@@ -1,9 +1,7 @@
 //! heading-blank-lines: headings with no blank line around them.
-use crate::table::assert_found;
-use lint_rules::Rule;
 
 /// Texts, and what is found in each.
-const FOUND: &[(&str, &str)] = &[
+pub(crate) const FOUND: &[(&str, &str)] = &[
     ("# A\nb\n", "2:1: no blank line after the heading"),
     ("a\n# B\n\nc\n", "2:1: no blank line before the heading"),
     ("# A\n## B\n", "2:1: no blank line before the heading"),
@@ -16,8 +14,3 @@ const FOUND: &[(&str, &str)] = &[
     ("> a\n>\n> # B\n\n- c\n  \n  # D\n", ""),
     ("A\n=\n- b\n", "3:1: no blank line after the heading"),
 ];
-
-#[test]
-fn heading_blank_lines(rt: HostRuntime) {
-    assert_found(&rt, Rule::HeadingBlankLines, FOUND);
-}

@@ -1,9 +1,7 @@
 //! heading-punctuation: headings that end in punctuation.
-use crate::table::assert_found;
-use lint_rules::Rule;
 
 /// Texts, and what is found in each.
-const FOUND: &[(&str, &str)] = &[
+pub(crate) const FOUND: &[(&str, &str)] = &[
     (
         "# A.\n\n## B: ##\n",
         "1:1: heading ends in \".\"\n3:1: heading ends in \":\"",
@@ -18,8 +16,3 @@ const FOUND: &[(&str, &str)] = &[
         "1:1: heading ends in \";\"\n2:1: heading ends in \";\"",
     ),
 ];
-
-#[test]
-fn heading_punctuation(rt: HostRuntime) {
-    assert_found(&rt, Rule::HeadingPunctuation, FOUND);
-}

@@ -40,6 +40,8 @@ mod no_alt_text;
 #[cfg(test)]
 mod raw_html;
 #[cfg(test)]
+mod rules;
+#[cfg(test)]
 mod second_title;
 #[cfg(test)]
 mod switches;

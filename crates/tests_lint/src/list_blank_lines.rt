@@ -1,9 +1,7 @@
 //! list-blank-lines: lists with no blank line around them.
-use crate::table::assert_found;
-use lint_rules::Rule;
 
 /// Texts, and what is found in each.
-const FOUND: &[(&str, &str)] = &[
+pub(crate) const FOUND: &[(&str, &str)] = &[
     ("a\n- b\n", "2:1: no blank line before the list"),
     ("- a\n# b\n", "2:1: no blank line after the list"),
     ("- a\n* b\n", "2:1: no blank line before the list"),
@@ -12,8 +10,3 @@ const FOUND: &[(&str, &str)] = &[
     ("a\n\n- b\n\n- c\n\nd\n", ""),
     ("- a\nb\n", ""),
 ];
-
-#[test]
-fn list_blank_lines(rt: HostRuntime) {
-    assert_found(&rt, Rule::ListBlankLines, FOUND);
-}

@@ -1,9 +1,7 @@
 //! list-indent: items indented otherwise than the first.
-use crate::table::assert_found;
-use lint_rules::Rule;
 
 /// Texts, and what is found in each.
-const FOUND: &[(&str, &str)] = &[
+pub(crate) const FOUND: &[(&str, &str)] = &[
     ("- a\n - b\n", "2:2: item indented by 1, the first by 0"),
     (" 9. a\n10. b\n", ""),
     (" 1. a\n2. b\n", "2:1: item indented by 0, the first by 1"),
@@ -14,8 +12,3 @@ const FOUND: &[(&str, &str)] = &[
     ("> - a\n>  - b\n", "2:4: item indented by 1, the first by 0"),
     ("- a\n- b\n", ""),
 ];
-
-#[test]
-fn list_indent(rt: HostRuntime) {
-    assert_found(&rt, Rule::ListIndent, FOUND);
-}

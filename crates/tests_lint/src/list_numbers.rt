@@ -1,9 +1,7 @@
 //! list-numbers: numbers that don't go on.
-use crate::table::assert_found;
-use lint_rules::Rule;
 
 /// Texts, and what is found in each.
-const FOUND: &[(&str, &str)] = &[
+pub(crate) const FOUND: &[(&str, &str)] = &[
     ("1. a\n3. b\n", "2:1: item 3, wanted 2"),
     ("1. a\n1. b\n1. c\n", ""),
     ("3. a\n4. b\n5. c\n", ""),
@@ -14,8 +12,3 @@ const FOUND: &[(&str, &str)] = &[
         "4:1: item 1, wanted 0\n6:4: item 3, wanted 2",
     ),
 ];
-
-#[test]
-fn list_numbers(rt: HostRuntime) {
-    assert_found(&rt, Rule::ListNumbers, FOUND);
-}

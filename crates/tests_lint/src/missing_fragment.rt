@@ -1,9 +1,7 @@
 //! missing-fragment: links to fragments that nothing has.
-use crate::table::assert_found;
-use lint_rules::Rule;
 
 /// Texts, and what is found in each.
-const FOUND: &[(&str, &str)] = &[
+pub(crate) const FOUND: &[(&str, &str)] = &[
     (
         "# Usage\n\n[a](#usage) [b](#Usage)\n",
         "3:17: nothing has the fragment \"Usage\"",
@@ -25,8 +23,3 @@ const FOUND: &[(&str, &str)] = &[
     ("[a](#top) [b](#) [c](d#e) [f](#user-content-g)\n", ""),
     ("[a]: #b\n\n[a]\n", "1:6: nothing has the fragment \"b\""),
 ];
-
-#[test]
-fn missing_fragment(rt: HostRuntime) {
-    assert_found(&rt, Rule::MissingFragment, FOUND);
-}

@@ -1,9 +1,7 @@
 //! nested-list-indent: lists that aren't indented by two columns a level.
-use crate::table::assert_found;
-use lint_rules::Rule;
 
 /// Texts, and what is found in each.
-const FOUND: &[(&str, &str)] = &[
+pub(crate) const FOUND: &[(&str, &str)] = &[
     ("- a\n    - b\n", "2:5: list indented by 4, wanted 2"),
     (" - a\n", "1:2: list indented by 1, wanted 0"),
     ("1. a\n   - b\n", ""),
@@ -12,8 +10,3 @@ const FOUND: &[(&str, &str)] = &[
     ("- > - a\n", ""),
     ("- - a\n", ""),
 ];
-
-#[test]
-fn nested_list_indent(rt: HostRuntime) {
-    assert_found(&rt, Rule::NestedListIndent, FOUND);
-}

@@ -1,9 +1,7 @@
 //! raw-html: tags of raw HTML.
-use crate::table::assert_found;
-use lint_rules::Rule;
 
 /// Texts, and what is found in each.
-const FOUND: &[(&str, &str)] = &[
+pub(crate) const FOUND: &[(&str, &str)] = &[
     ("a<br>b <i>c</i>\n", "1:2: raw HTML <br>\n1:8: raw HTML <i>"),
     (
         "<div>\n<my-tag a=b>\n</div>\n",
@@ -14,8 +12,3 @@ const FOUND: &[(&str, &str)] = &[
         "",
     ),
 ];
-
-#[test]
-fn raw_html(rt: HostRuntime) {
-    assert_found(&rt, Rule::RawHtml, FOUND);
-}

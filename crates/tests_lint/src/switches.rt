@@ -1,9 +1,7 @@
 //! Comments that turn rules off and on.
-use crate::table::assert_found;
-use lint_rules::Rule;
 
 /// Texts with tabs in indents, and those that are found.
-const FOUND: &[(&str, &str)] = &[
+pub(crate) const FOUND: &[(&str, &str)] = &[
     ("<!-- markdown-lint-disable tab-indent -->\n- a\n\tb\n", ""),
     (
         "- a\n\tb\n\n<!-- markdown-lint-disable -->\n- c\n\td\n",
@@ -26,8 +24,3 @@ const FOUND: &[(&str, &str)] = &[
         "4:1: tab in the indent of a line",
     ),
 ];
-
-#[test]
-fn switches(rt: HostRuntime) {
-    assert_found(&rt, Rule::TabIndent, FOUND);
-}

@@ -1,9 +1,7 @@
 //! trailing-spaces: white space at the ends of lines.
-use crate::table::assert_found;
-use lint_rules::Rule;
 
 /// Texts, and what is found in each.
-const FOUND: &[(&str, &str)] = &[
+pub(crate) const FOUND: &[(&str, &str)] = &[
     (
         "a \nb\t\n  \n",
         "1:2: white space at the end of a line\n2:2: white space at the end of a line\n3:1: white space at the end of a line",
@@ -12,8 +10,3 @@ const FOUND: &[(&str, &str)] = &[
     ("```\na  \n```\n", "2:2: white space at the end of a line"),
     ("> a\n>  \n", "2:2: white space at the end of a line"),
 ];
-
-#[test]
-fn trailing_spaces(rt: HostRuntime) {
-    assert_found(&rt, Rule::TrailingSpaces, FOUND);
-}
