@@ -4,8 +4,9 @@
 usage: bench/fix.py MARKDOWN-LINT MARKDOWN < NAMES
 
 MARKDOWN is the program that makes HTML: its pages of each text before and after are compared. NAMES has the name of a file in each line.
-Equal files count once, and files that aren't UTF-8 don't count.
+A file whose name ends in .gz is unpacked. Equal files count once, and files that aren't UTF-8 don't count.
 """
+import gzip
 import os
 import re
 import resource
@@ -20,7 +21,7 @@ def texts(names):
     found = {}
     for name in names:
         try:
-            with open(name, "rb") as file:
+            with (gzip.open if name.endswith(".gz") else open)(name, "rb") as file:
                 text = file.read()
             text.decode()
         except (OSError, UnicodeDecodeError):
@@ -29,20 +30,20 @@ def texts(names):
     return list(found)
 
 
-def read_all(count):
+def read_all(folder, count):
     """The texts of the copies."""
     found = []
     for number in range(count):
-        with open(f"{number}.md", "rb") as file:
+        with open(f"{folder}/{number}.md", "rb") as file:
             found.append(file.read())
     return found
 
 
-def lint(program, count, *words):
+def lint(program, folder, count, *words):
     """How many findings of each rule are printed, and the seconds of the processor."""
     before = resource.getrusage(resource.RUSAGE_CHILDREN)
     names = [f"{number}.md" for number in range(count)]
-    run = subprocess.run([program, "--gfm", "--disable", "missing-file", *words, *names], stdout=subprocess.PIPE, check=False)
+    run = subprocess.run([program, "--gfm", "--disable", "missing-file", *words, *names], cwd=folder, stdout=subprocess.PIPE, check=False)
     if run.returncode not in (0, 1):
         sys.exit(f"markdown-lint ended with status {run.returncode}")
     after = resource.getrusage(resource.RUSAGE_CHILDREN)
@@ -60,16 +61,15 @@ def main():
     program, reader = map(os.path.abspath, sys.argv[1:])
     before = texts(sys.stdin.read().splitlines())
     with tempfile.TemporaryDirectory() as folder:
-        os.chdir(folder)
         for number, text in enumerate(before):
-            with open(f"{number}.md", "wb") as file:
+            with open(f"{folder}/{number}.md", "wb") as file:
                 file.write(text)
-        found, lint_seconds = lint(program, len(before))
-        left, seconds = lint(program, len(before), "--fix")
+        found, lint_seconds = lint(program, folder, len(before))
+        left, seconds = lint(program, folder, len(before), "--fix")
         memory = resource.getrusage(resource.RUSAGE_CHILDREN).ru_maxrss * 1024
-        once = read_all(len(before))
-        lint(program, len(before), "--fix")
-        twice = read_all(len(before))
+        once = read_all(folder, len(before))
+        lint(program, folder, len(before), "--fix")
+        twice = read_all(folder, len(before))
     size = sum(map(len, before))
     print(f"files: {len(before)}, bytes: {size}, largest: {max(map(len, before))}")
     print(f"changed: {sum(a != b for a, b in zip(before, once))}, by a second run: {sum(a != b for a, b in zip(once, twice))}")
