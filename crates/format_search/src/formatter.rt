@@ -8,17 +8,42 @@ use std::alloc::{AllocError, Global};
 /// The most passes over the rules. A pass may keep edits that the one before had to leave out.
 const PASSES_MAX: usize = 5;
 
+/// A text after the rules, in passes over them until one changes nothing.
+///
+/// Edits are made only if the reader finds the page of the text unchanged. A text that can't be read
+/// stays as it is. If the rules have no edits, no page is made.
+pub fn formatted<R: Reader>(
+    alloc: Global,
+    reader: &R,
+    text: &str,
+    style: &Style,
+) -> Result<String, AllocError> {
+    let formatter = Formatter {
+        alloc,
+        reader,
+        style,
+    };
+    let edits = formatter.edits(text)?;
+    if edits.is_empty() {
+        return String::from_str(alloc, text);
+    }
+    match reader.page(text)? {
+        Some(page) => formatter.after_passes(text, &page, edits),
+        None => String::from_str(alloc, text),
+    }
+}
+
 /// What texts are formatted by.
 #[derive(Drop)]
-pub struct Formatter<'a, R> {
-    pub alloc: Global,
-    pub reader: &'a R,
-    pub style: &'a Style,
+struct Formatter<'a, R> {
+    alloc: Global,
+    reader: &'a R,
+    style: &'a Style,
 }
 
 impl<'a, R: Reader> Formatter<'a, R> {
     /// The edits that all rules make of a text at once. There are none if the text can't be read.
-    pub fn edits(&self, text: &str) -> Result<Edits, AllocError> {
+    fn edits(&self, text: &str) -> Result<Edits, AllocError> {
         match self.document(text)? {
             Some(document) => all_edits(self.alloc, &document, self.style),
             None => Ok(Edits::new(self.alloc)),
@@ -38,9 +63,7 @@ impl<'a, R: Reader> Formatter<'a, R> {
 
     /// A text after passes over the rules until one changes nothing. `page` is its page, and `edits` are
     /// those that all rules make of it at once.
-    ///
-    /// Edits are made only if the reader finds the page unchanged.
-    pub fn formatted(&self, text: &str, page: &str, edits: Edits) -> Result<String, AllocError> {
+    fn after_passes(&self, text: &str, page: &str, edits: Edits) -> Result<String, AllocError> {
         let mut value = String::from_str(self.alloc, text)?;
         let mut edits = edits;
         for _ in 0..PASSES_MAX {

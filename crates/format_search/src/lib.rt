@@ -5,5 +5,5 @@ mod formatter;
 mod reader;
 mod search;
 
-pub use formatter::Formatter;
+pub use formatter::formatted;
 pub use reader::Reader;

@@ -1,8 +1,7 @@
 //! How texts are read.
-use crate::entry::page_of;
 use engine_events::Event;
 use format_search::Reader;
-use markdown::fits;
+use markdown::{fits, to_html_with_options};
 use markdown_options::Options;
 use markdown_tables::Builtin;
 use parse_events::parse;
@@ -30,7 +29,7 @@ impl<'o> Reader for ByOptions<'o> {
         if !fits(text) || self.options.has_mdx() {
             return Ok(None);
         }
-        match page_of(self.alloc, text, self.options) {
+        match to_html_with_options(self.alloc, text, self.options) {
             Ok(page) => Ok(Some(page)),
             Err(_) => Err(AllocError),
         }
