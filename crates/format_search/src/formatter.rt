@@ -89,11 +89,21 @@ impl<'a, R: Reader> Formatter<'a, R> {
         page: &str,
         edits: Edits,
     ) -> Result<Option<String>, AllocError> {
-        let at_once = self.search(text, page, &edits).with_all()?;
+        let at_once = self.after_all(text, page, &edits)?;
         if at_once.is_some() {
             return Ok(at_once);
         }
         self.after_rules(text, page)
+    }
+
+    /// A text after all edits at once, or none if they change the page.
+    fn after_all(
+        &self,
+        text: &str,
+        page: &str,
+        edits: &Edits,
+    ) -> Result<Option<String>, AllocError> {
+        self.search(text, page, edits).with_all()
     }
 
     /// A text after the rules one after the other. Returns none if nothing changes.
