@@ -34,15 +34,33 @@ pub fn fix<F: Finder>(
     ensures memory { IfErr result IsOutOfMemory }
 {
     let fixed = mended(alloc, &ByOptions { alloc, options }, finder, value, rules)?;
-    if has_page_of(alloc, &fixed, value, options)? {
-        Ok(fixed)
+    with_page_of(alloc, fixed, value, options)
+}
+
+/// Returns a text if it has the page of another, and otherwise the other one. The only error is `out of
+/// memory`.
+fn with_page_of(
+    alloc: Global,
+    text: String,
+    other: &str,
+    options: &Options,
+) -> Result<String, Message>
+    requires size { length other.now ≤ SIZE_MAX }
+    requires without_mdx { HasNoMdx options.now }
+    ensures page { IfOk result (λ fixed.
+        html builtin_tables (string_bytes fixed) options.now ≡ html builtin_tables other.now options.now) }
+    ensures size { IfOk result (λ fixed. length (string_bytes fixed) ≤ SIZE_MAX) }
+    ensures memory { IfErr result IsOutOfMemory }
+{
+    if has_page_of(alloc, &text, other, options)? {
+        Ok(text)
     } else {
-        Ok(String::from_str(alloc, value)?)
+        Ok(String::from_str(alloc, other)?)
     }
 }
 
-/// Returns whether a text is short enough to be converted, and has the page of another. Pages of equal texts
-/// aren't made. The only error is `out of memory`.
+/// Returns whether a text is short enough to be converted, and has the page of another. The only error is
+/// `out of memory`.
 fn has_page_of(alloc: Global, text: &str, other: &str, options: &Options) -> Result<bool, Message>
     requires size { length other.now ≤ SIZE_MAX }
     requires without_mdx { HasNoMdx options.now }
@@ -51,9 +69,6 @@ fn has_page_of(alloc: Global, text: &str, other: &str, options: &Options) -> Res
     ensures size { IfOk result (λ same. same ≡ true → length text.now ≤ SIZE_MAX) }
     ensures memory { IfErr result IsOutOfMemory }
 {
-    if text == other {
-        return Ok(true);
-    }
     if !fits(text) {
         return Ok(false);
     }
