@@ -11,6 +11,7 @@ const LABELS: &[(&str, &str, &str)] = &[
     ("", "", ""),
     ("[a] [^b]", "", ""),
     ("[a]: b\n[A]: c\n\n[a]: d", "a\na\na\n", ""),
+    ("> [a\n> b]: x", "a b\n", ""),
     ("> [C\n>  D]: e\n\n- [ẞ]: f\n  [b]: g", "c d\nss\nb\n", ""),
     ("[a\\]]: b\n[&amp;]: c\n[ É\t ]: d", "a\\]\n&amp;\né\n", ""),
     ("[^A]: b\n\n    [^c]: [d]: e\n\n[^a]: f", "d\n", "a\nc\na\n"),

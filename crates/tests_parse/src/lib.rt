@@ -38,4 +38,8 @@ mod tabs;
 #[cfg(test)]
 mod texts;
 #[cfg(test)]
+mod tokens;
+#[cfg(test)]
 mod wrong;
+#[cfg(test)]
+mod wrong_lists;

@@ -2,6 +2,7 @@
 ghost use Rattle.std.specs.Prelude.{◌≤◌, length};
 ghost use Rattle.markdown_options.specs.Mdx.{HasNoMdx};
 
+use crate::tokens::wrong_token;
 use engine_events::event::{Event, Kind, Name};
 use engine_events::place::START;
 use event_grammar::void::is_void;
@@ -21,6 +22,8 @@ pub(crate) enum Wrong {
     Page,
     /// Their places don't tile the text.
     Places,
+    /// An event that holds no other is at no bytes, or at others than its name may have.
+    Token(Name),
     /// The state has another text, or more or fewer labels than there are definitions.
     State,
 }
@@ -42,6 +45,9 @@ pub(crate) fn wrong_of(
     }
     if !tile(&events, text.len()) {
         return Ok(Some(Wrong::Places));
+    }
+    if let Some(name) = wrong_token(text.as_bytes(), &events) {
+        return Ok(Some(Wrong::Token(name)));
     }
     if !is_state_of(&state, &events, text) {
         return Ok(Some(Wrong::State));
