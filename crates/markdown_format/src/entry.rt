@@ -48,9 +48,6 @@ fn has_page_of(alloc: Global, text: &str, other: &str, options: &Options) -> Res
     ensures size { IfOk result (λ same. same ≡ true → length text.now ≤ SIZE_MAX) }
     ensures memory { IfErr result IsOutOfMemory }
 {
-    if text == other {
-        return Ok(true);
-    }
     if !fits(text) {
         return Ok(false);
     }
