@@ -149,11 +149,10 @@ class Event {
 class Link {
     #source;
 
-    constructor(source, destinations, view) {
+    constructor(source, view) {
         this.#source = source;
-        const start = integer(view, 56);
         this.kind = LINK_KINDS[view.getUint8(80)];
-        this.destination = decoder.decode(destinations.subarray(start, start + integer(view, 64)));
+        this.destination = "";
         this.definition = null;
         this.offset = integer(view, 0);
         this.line = integer(view, 8);
@@ -288,10 +287,16 @@ class Markdown {
         const [array, destinations] = this.#call("markdown_list_links_with", source.bytes, read(options), arrays);
         const views = [];
         for (let at = 0; at < array.length; at += LINK_SIZE) views.push(new DataView(array.buffer, at));
-        const list = views.map(view => new Link(source, destinations, view));
+        const list = views.map(view => new Link(source, view));
+        const isReference = view => view.getBigUint64(72, true) !== NO_DEFINITION;
         views.forEach((view, index) => {
-            const definition = view.getBigUint64(72, true);
-            if (definition !== NO_DEFINITION) list[index].definition = list[Number(definition)];
+            const start = integer(view, 56);
+            if (!isReference(view)) list[index].destination = decoder.decode(destinations.subarray(start, start + integer(view, 64)));
+        });
+        // A reference shares the destination of its definition.
+        views.forEach((view, index) => {
+            if (isReference(view)) list[index].definition = list[integer(view, 72)];
+            if (isReference(view)) list[index].destination = list[index].definition.destination;
         });
         return list;
     }

@@ -1,6 +1,7 @@
 //! The links of Markdown, over the static library of C calls.
 
 use crate::markdown::{fault_of, Fault, Flags, Options};
+use std::ops::Range;
 
 /// What `include/markdown.h` declares.
 mod calls {
@@ -70,8 +71,6 @@ const KINDS: [Kind; 5] = [
 #[derive(Clone, Debug, PartialEq, Eq)]
 pub struct Link {
     pub kind: Kind,
-    /// Where it leads, not percent-encoded; `mailto:` is before an email address, and `http://` before `www.`.
-    pub destination: String,
     /// For a link or an image by reference: the index in the list of the definition that its label leads to.
     pub definition: Option<usize>,
     /// How many bytes of the text are before.
@@ -86,16 +85,14 @@ pub struct Link {
     pub end_line: usize,
     /// The column of its end, from 1.
     pub end_column: usize,
+    /// Where its destination is among those of the list.
+    destination: Range<usize>,
 }
 
-impl Link {
-    fn new(link: &calls::Link, destinations: &[u8]) -> Link {
-        let destination = &destinations[link.destination..][..link.destination_length];
+impl From<&calls::Link> for Link {
+    fn from(link: &calls::Link) -> Link {
         Link {
             kind: KINDS[usize::from(link.kind)],
-            destination: std::str::from_utf8(destination)
-                .expect("what the library writes is UTF-8")
-                .to_owned(),
             definition: (link.definition != calls::NO_DEFINITION).then_some(link.definition),
             offset: link.offset,
             line: link.line,
@@ -103,12 +100,26 @@ impl Link {
             end_offset: link.end_offset,
             end_line: link.end_line,
             end_column: link.end_column,
+            destination: link.destination..link.destination + link.destination_length,
         }
     }
 }
 
 /// The links, images, autolinks, literals and definitions of a text, in the order in which they start.
-pub fn links(text: &str, flags: Flags) -> Result<Vec<Link>, Fault> {
+pub struct Links {
+    pub links: Vec<Link>,
+    destinations: String,
+}
+
+impl Links {
+    /// Where a link of the list leads, not percent-encoded; `mailto:` is before an email address, and `http://` before `www.`.
+    pub fn destination(&self, link: &Link) -> &str {
+        &self.destinations[link.destination.clone()]
+    }
+}
+
+/// The links of a text.
+pub fn links(text: &str, flags: Flags) -> Result<Links, Fault> {
     let options = Options::from(flags).for_c();
     let mut array = vec![calls::Link::default(); text.len() / 64 + 16];
     let mut buffer = vec![0; text.len() / 2 + 64];
@@ -130,10 +141,12 @@ pub fn links(text: &str, flags: Flags) -> Result<Vec<Link>, Fault> {
         };
         match status {
             calls::OK => {
-                return Ok(array[..count]
-                    .iter()
-                    .map(|link| Link::new(link, &buffer[..length]))
-                    .collect())
+                buffer.truncate(length);
+                return Ok(Links {
+                    links: array[..count].iter().map(Link::from).collect(),
+                    destinations: String::from_utf8(buffer)
+                        .expect("what the library writes is UTF-8"),
+                });
             }
             calls::ROOM => {
                 array.resize(count.max(array.len()), calls::Link::default());

@@ -15,7 +15,8 @@ fn main() -> Result<(), Box<dyn Error>> {
     let mut text = String::new();
     io::stdin().read_to_string(&mut text)?;
     let mut out = io::BufWriter::new(io::stdout());
-    for link in links(&text, Flags::default().with_gfm())? {
+    let found = links(&text, Flags::default().with_gfm())?;
+    for link in &found.links {
         let kind = match link.kind {
             Kind::Link => "link",
             Kind::Image => "image",
@@ -26,7 +27,9 @@ fn main() -> Result<(), Box<dyn Error>> {
         writeln!(
             out,
             "{}:{} {kind} {}",
-            link.line, link.column, link.destination
+            link.line,
+            link.column,
+            found.destination(link)
         )?;
     }
     out.flush()?;

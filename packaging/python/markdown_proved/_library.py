@@ -360,12 +360,19 @@ class _Events:
 
 
 def _links_of(text: _Given, array: bytes, destinations: bytes) -> List[Link[Any]]:
-    """The links of a text, by the structs of all, and the bytes of their destinations."""
-    structs = list(_LINK.iter_unpack(array))
-    links: List[Link[Any]] = [Link(text, destinations[it[7]:it[7] + it[8]].decode(), it) for it in structs]
-    for link, fields in zip(links, structs):
-        if fields[9] != _NO_DEFINITION:
-            link.definition = links[fields[9]]
+    """The links of a text, by the structs of all, and the bytes of their destinations. A reference shares that of its definition."""
+    links: List[Link[Any]] = []
+    references: List[Tuple[Link[Any], int]] = []
+    for fields in _LINK.iter_unpack(array):
+        start, size, definition = fields[7:10]
+        is_reference = definition != _NO_DEFINITION
+        link: Link[Any] = Link(text, "" if is_reference else destinations[start:start + size].decode(), fields)
+        links.append(link)
+        if is_reference:
+            references.append((link, definition))
+    for link, definition in references:
+        link.definition = links[definition]
+        link.destination = links[definition].destination
     return links
 
 
