@@ -48,7 +48,7 @@ pub fn compile<T: Tables, A: Allocator + Clone>(
     ensures safe { AreSafe options.now → IfOk result (λ html. HasOneReading (string_bytes html)) }
 {
     let checked = check_events(alloc.clone()?, events, bytes, tables)?;
-    let html = compile_checked(alloc, checked, options, tables)?;
+    let html = compile_checked(alloc, checked, options)?;
     Ok(html)
 }
 
@@ -58,18 +58,18 @@ pub fn compile<T: Tables, A: Allocator + Clone>(
 /// [`check_events`] and this.
 pub fn compile_checked<T: Tables, A: Allocator + Clone>(
     alloc: A,
-    checked: Checked<'_>,
+    checked: Checked<'_, T>,
     options: &CompileOptions,
-    tables: &T,
 ) -> Result<String<A>, AllocError>
-    ensures page { let names = T.reference_of tables.now in
+    ensures page { let names = T.reference_of checked.entry.tables.now in
         MatchesGrammar names checked.entry.bytes.now checked.entry.events.now →
         IfOk result (λ html. string_bytes html ≡ html_of_events names options.now checked.entry.bytes.now checked.entry.events.now) }
-    ensures safe { MatchesGrammar (T.reference_of tables.now) checked.entry.bytes.now checked.entry.events.now → AreSafe options.now →
+    ensures safe { MatchesGrammar (T.reference_of checked.entry.tables.now) checked.entry.bytes.now checked.entry.events.now → AreSafe options.now →
         IfOk result (λ html. HasOneReading (string_bytes html)) }
 {
     let events = checked.events();
     let bytes = checked.bytes();
+    let tables = checked.tables();
     let defined = read_definitions(alloc.clone()?, bytes, tables, events)?;
     let links = defined.links()?;
     let footnotes = footnote_labels(alloc.clone()?, bytes, events)?;

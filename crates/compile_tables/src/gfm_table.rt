@@ -28,7 +28,7 @@ use compile_raw::push_endings;
 use compile_rows::Columns;
 use compile_texts::{Source, TextPrinter, text_within};
 use engine_events::event::{Event, Name};
-use event_check::gfm_table_align;
+use event_check::align::table_aligns;
 use html_leaves::Page;
 use html_leaves::gfm_table::{CellKind, cell_end, cell_tag};
 use markdown_options::{AlignKind, Tables};
@@ -76,8 +76,9 @@ fn aligns_of<A: Allocator + Clone, T: Tables>(
     match head {
         None => Ok(Vec::new(alloc.clone()?)),
         Some(head) => {
-            let at = index_within(source.checked.events(), index, head.index);
-            gfm_table_align(alloc.clone()?, &source.checked, at)
+            let events = source.checked.events();
+            let at = index_within(events, index, head.index);
+            table_aligns(alloc.clone()?, events, at)
         }
     }
 }

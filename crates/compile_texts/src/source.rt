@@ -13,7 +13,7 @@ use std::alloc::Allocator;
 #[derive(Drop)]
 pub struct Source<'a, T, A: Allocator + Clone> {
     /// The list.
-    pub checked: Checked<'a>,
+    pub checked: Checked<'a, T>,
     pub options: &'a CompileOptions,
     pub tables: &'a T,
     /// By which constructs strings are read that are on the page.

@@ -1,5 +1,6 @@
 //! Alignments of the columns of a table (GFM 4.10).
-ghost use Rattle.std.specs.Prelude.{◌≡◌, false, IfOk};
+ghost use Rattle.std.specs.Prelude.{◌≡◌, false, IfErr, IfOk};
+ghost use Rattle.markdown_options.specs.Messages.{IsOutOfMemory};
 ghost use Rattle.event_grammar.specs.Trees.{Node};
 ghost use Rattle.event_check.specs.Align.{marks, mark, align_of, marks_after, aligns_after, table_align};
 ghost use Rattle.event_check.specs.Loose.{IsAt, kids_of};
@@ -7,20 +8,33 @@ ghost use Rattle.event_check.specs.Loose.{IsAt, kids_of};
 use crate::checked::Checked;
 use crate::loose::events_after;
 use engine_events::event::{Event, Kind, Name};
-use markdown_options::AlignKind;
+use markdown_options::{AlignKind, Message};
 use std::alloc::{AllocError, Allocator};
 
 /// Returns the alignments of a table's columns, by the markers of its delimiter row (GFM 4.10). The
 /// index is that of the table's enter. The only error is out of memory.
-pub fn gfm_table_align<A: Allocator>(
+pub fn gfm_table_align<T, A: Allocator>(
     alloc: A,
-    checked: &Checked<'_>,
+    checked: &Checked<'_, T>,
+    index: usize,
+) -> Result<Vec<AlignKind, A>, Message>
+    ensures columns { (node : Node) → IsAt checked.now.events.now index node →
+        IfOk result (λ aligns. aligns.items ≡ table_align (kids_of node)) }
+    ensures memory { IfErr result IsOutOfMemory }
+{
+    let aligns = table_aligns(alloc, checked.events(), index)?;
+    Ok(aligns)
+}
+
+/// Returns the alignments of the columns of a table, whose enter is at an index of a list.
+pub fn table_aligns<A: Allocator>(
+    alloc: A,
+    events: &[Event],
     index: usize,
 ) -> Result<Vec<AlignKind, A>, AllocError>
-    ensures { (node : Node) → IsAt checked.now.events.now index node →
-        IfOk result (λ aligns. aligns.items ≡ table_align (kids_of node)) }
+    ensures { (node : Node) → IsAt events.now index node → IfOk result (λ aligns. aligns.items ≡ table_align (kids_of node)) }
 {
-    let aligns = aligns_in(alloc, events_after(checked.events(), index))?;
+    let aligns = aligns_in(alloc, events_after(events, index))?;
     Ok(aligns)
 }
 

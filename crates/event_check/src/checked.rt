@@ -11,16 +11,41 @@ use event_grammar::check::first_fault;
 use event_grammar::{EventFault, FaultKind};
 use event_references::first_lost;
 use markdown_options::Tables;
-use std::alloc::Allocator;
+use std::alloc::{AllocError, Allocator};
 
-/// A list of events in the grammar, with its text.
-#[derive(Clone, Copy)]
-pub struct Checked<'a> {
+/// A list of events in the grammar, with its text and the tables that it was checked with.
+pub struct Checked<'a, T> {
     events: &'a [Event],
     bytes: &'a [u8],
+    tables: &'a T,
 }
 
-impl<'a> Checked<'a> {
+/// The same list, by the same tables.
+impl<'a, T> Clone for Checked<'a, T> {
+    fn clone(&self) -> Result<Self, AllocError> {
+        Ok(*self)
+    }
+}
+
+impl<'a, T> Copy for Checked<'a, T> {}
+
+impl<'a, T: Tables> Checked<'a, T> {
+    /// Returns a list that is known to be in the grammar, like that of `parse`. It isn't checked again.
+    pub fn new(events: &'a [Event], bytes: &'a [u8], tables: &'a T) -> Checked<'a, T>
+        requires matches { MatchesGrammar (T.reference_of tables.now) bytes.now events.now }
+        ensures events { result.events.now ≡ events.now }
+        ensures bytes { result.bytes.now ≡ bytes.now }
+        ensures tables { result.tables.now ≡ tables.now }
+    {
+        Checked {
+            events,
+            bytes,
+            tables,
+        }
+    }
+}
+
+impl<'a, T> Checked<'a, T> {
     /// Returns the events.
     pub fn events(&self) -> &'a [Event]
         ensures { result.now ≡ self.now.events.now }
@@ -34,6 +59,13 @@ impl<'a> Checked<'a> {
     {
         self.bytes
     }
+
+    /// Returns the tables.
+    pub fn tables(&self) -> &'a T
+        ensures { result.now ≡ self.now.tables.now }
+    {
+        self.tables
+    }
 }
 
 /// Checks a list of events of a text against the grammar (docs/EVENTS.md). Fails with the first
@@ -44,13 +76,14 @@ pub fn check_events<'a, T: Tables, A: Allocator + Clone>(
     alloc: A,
     events: &'a [Event],
     bytes: &'a [u8],
-    tables: &T,
-) -> Result<Checked<'a>, CompileError>
+    tables: &'a T,
+) -> Result<Checked<'a, T>, CompileError>
     ensures right { OnOk result (MatchesGrammar (T.reference_of tables.now) bytes.now events.now) }
     ensures passes { MatchesGrammar (T.reference_of tables.now) bytes.now events.now → IfErr result (λ error. error ≡ Memory) }
     ensures fault { IfErr result (λ error. Refuses error (fault (T.reference_of tables.now) bytes.now events.now)) }
     ensures events { IfOk result (λ checked. checked.events.now ≡ events.now) }
     ensures bytes { IfOk result (λ checked. checked.bytes.now ≡ bytes.now) }
+    ensures tables { IfOk result (λ checked. checked.tables.now ≡ tables.now) }
 {
     let mut marked = Vec::new(alloc.clone()?);
     if let Some(found) = first_fault(alloc.clone()?, events, bytes, tables, &mut marked)? {
@@ -62,5 +95,10 @@ pub fn check_events<'a, T: Tables, A: Allocator + Clone>(
             index,
         }));
     }
-    Ok(Checked { events, bytes })
+    let checked = Checked {
+        events,
+        bytes,
+        tables,
+    };
+    Ok(checked)
 }

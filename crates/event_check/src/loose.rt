@@ -14,7 +14,7 @@ use event_grammar::spot::{Spot, spot_of};
 
 /// Returns whether a list is loose (CommonMark 5.3): some two neighbouring items are more than a
 /// line apart or, with `include_items`, some item is loose. The index is that of the list's enter.
-pub fn list_loose(checked: &Checked<'_>, index: usize, include_items: bool) -> bool
+pub fn list_loose<T>(checked: &Checked<'_, T>, index: usize, include_items: bool) -> bool
     ensures { (node : Node) → IsAt checked.now.events.now index node →
         result ≡ is_loose_list checked.now.bytes.now include_items (kids_of node) }
 {
@@ -26,7 +26,7 @@ pub fn list_loose(checked: &Checked<'_>, index: usize, include_items: bool) -> b
 
 /// Returns whether an item is loose: some two neighbouring blocks of it are more than a line apart.
 /// The index is that of the item's enter.
-pub fn list_item_loose(checked: &Checked<'_>, index: usize) -> bool
+pub fn list_item_loose<T>(checked: &Checked<'_, T>, index: usize) -> bool
     ensures { (node : Node) → IsAt checked.now.events.now index node → result ≡ is_loose_item checked.now.bytes.now (kids_of node) }
 {
     are_apart(

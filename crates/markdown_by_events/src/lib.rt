@@ -4,3 +4,4 @@
 pub mod page;
 
 pub use page::to_html_by_events;
+pub use parse_events::SIZE_MAX;

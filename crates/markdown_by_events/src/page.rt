@@ -7,17 +7,17 @@ ghost use Rattle.event_check.specs.declared.error.CompileError.TheVariants.{Memo
 ghost use Rattle.markdown_by_events.specs.Page.{IsPageOfEvents};
 ghost use Rattle.laws_safe_page.specs.SafeHtml.{AreSafe, HasOneReading};
 
-use compile_html::compile;
-use event_check::CompileError;
+use compile_html::compile_checked;
+use event_check::{Checked, CompileError};
 use markdown_options::{Options, Tables};
 use parse_events::{SIZE_MAX, parse};
 use std::alloc::Allocator;
 
-/// Returns the HTML of a text by way of its events: `parse`, and then `compile`. It is the page of the
-/// text by all options.
+/// Returns the HTML of a text by way of its events: `parse`, and then `compile_checked`. It is the page
+/// of the text by all options.
 ///
 /// The text must have at most `SIZE_MAX` bytes, and no construct of MDX may be on. The only error is
-/// out of memory: `compile` accepts every list that `parse` returns.
+/// out of memory. The list isn't checked after `parse`, which returns only lists in the grammar.
 pub fn to_html_by_events<T: Tables, A: Allocator + Clone>(
     alloc: A,
     value: &str,
@@ -35,5 +35,7 @@ pub fn to_html_by_events<T: Tables, A: Allocator + Clone>(
     let Ok((events, _)) = parse(alloc.clone()?, value, &options.parse, tables) else {
         return Err(CompileError::Memory);
     };
-    compile(alloc, &events, value.as_bytes(), &options.compile, tables)
+    let checked = Checked::new(&events, value.as_bytes(), tables);
+    let page = compile_checked(alloc, checked, &options.compile)?;
+    Ok(page)
 }

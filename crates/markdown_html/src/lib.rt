@@ -1,4 +1,5 @@
-//! Events to HTML: [`compile`] and [`compile_checked`], and the tools for a page of one's own.
+//! Events to HTML: [`compile`] and [`compile_checked`], a text to HTML by way of its events
+//! ([`to_html_by_events`]), and the tools for a page of one's own.
 //!
 //!     let (events, _) = parse(rt.alloc(), text, &ParseOptions::default(), &Builtin)?;
 //!     let html = compile(rt.alloc(), &events, text.as_bytes(), &CompileOptions::default(), &Builtin)?;
@@ -14,7 +15,8 @@ pub use event_check::{
 pub use event_grammar::{EventFault, FaultKind};
 pub use html_escape::encode::encode;
 pub use html_escape::{gfm_tagfilter, sanitize, sanitize_with_protocols};
-pub use markdown_options::{AlignKind, CompileOptions, LineEnding, Tables};
+pub use markdown_by_events::{SIZE_MAX, to_html_by_events};
+pub use markdown_options::{AlignKind, CompileOptions, LineEnding, Message, Options, Tables};
 pub use markdown_tables::Builtin;
 
 /// A list of events to HTML, and lists that are refused.

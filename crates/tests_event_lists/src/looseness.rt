@@ -60,8 +60,11 @@ fn is_loose_inside(alloc: Global) -> io::Result<bool> {
 /// Whether the columns of the table are aligned as they should be.
 fn is_aligned(alloc: Global) -> io::Result<bool> {
     let events = list_of(alloc, TABLE)?;
-    match check_events(alloc, &events, TABLE_TEXT.as_bytes(), &Builtin) {
-        Ok(checked) => Ok(gfm_table_align(alloc, &checked, 0)?.as_slice() == ALIGNED),
+    let Ok(checked) = check_events(alloc, &events, TABLE_TEXT.as_bytes(), &Builtin) else {
+        return Ok(false);
+    };
+    match gfm_table_align(alloc, &checked, 0) {
+        Ok(found) => Ok(found.as_slice() == ALIGNED),
         Err(_) => Ok(false),
     }
 }

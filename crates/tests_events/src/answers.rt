@@ -70,8 +70,11 @@ impl Answers {
             let is_loose_inside = list_loose(&checked, index, true);
             return println!(rt; "{is_loose} {is_loose_inside}");
         }
+        let Ok(aligns) = gfm_table_align(alloc, &checked, index) else {
+            return Err(ErrorKind::OutOfMemory.into());
+        };
         let mut line = String::new(alloc);
-        for align in &gfm_table_align(alloc, &checked, index)? {
+        for align in &aligns {
             if !line.is_empty() {
                 line.push(' ')?;
             }

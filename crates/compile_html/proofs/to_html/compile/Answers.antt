@@ -1,21 +1,23 @@
-use Rattle.std.proofs.Common.{◌≡◌, ℕ, List, string_bytes, sym, ap, ◌∙◌, subst}
-use Rattle.compile_html.proofs.Prelude.{Event, HasOneReading, MatchesGrammar, safe_events_law}
-use Rattle.event_meaning.specs.Spelled.{html_of_events}
+use Rattle.std.proofs.Common.{ap, string_bytes}
+use Rattle.compile_html.proofs.Prelude.{MatchesGrammar}
+use Rattle.compile_html.proofs.SameList.{same_html, same_list}
 use Rattle.compile_html.proofs.to_html.compile.Goals as goal
 
 pub returns-clause-page : goal.returns-clause-page
 returns-clause-page g c =
-    let names = g.T.Tables.reference_of c.args.tables.now in
+    let checked = c.in_ok-checked.checked in
     let k = c.in_ok-checked.ensures in
-    let M : List Event → Type 0 = λ es. MatchesGrammar names c.args.bytes.now es in
-    let N : List ℕ → Type 0 = λ bs. MatchesGrammar names bs c.in_ok-checked.checked.events.now in
-    c.in_ok-html.ensures.page (subst N (sym k.bytes) (subst M (sym k.events) k.right))
-    ∙ ap (λ (bs : List ℕ). html_of_events names c.args.options.now bs c.in_ok-checked.checked.events.now) k.bytes
-    ∙ ap (λ (es : List Event). html_of_events names c.args.options.now c.args.bytes.now es) k.events
+    let names = g.T.Tables.reference_of c.args.tables.now in
+    let ns = g.T.Tables.reference_of checked.tables.now in
+    let names_are = ap (λ t. g.T.Tables.reference_of t) k.tables in
+    same_html c.args.options.now (string_bytes c.in_ok-html.html) names ns c.args.bytes.now checked.bytes.now c.args.events.now checked.events.now
+    names_are k.bytes k.events
+    (c.in_ok-html.ensures.page (same_list names ns c.args.bytes.now checked.bytes.now c.args.events.now checked.events.now names_are k.bytes k.events k.right))
 
 pub returns-clause-safe : goal.returns-clause-safe
-returns-clause-safe g c = λ safe.
-    let names = g.T.Tables.reference_of c.args.tables.now in
-    let R : List ℕ → Type 0 = λ html. HasOneReading html in
-    subst R (sym (returns-clause-page g c))
-    (safe_events_law names c.args.options.now c.args.bytes.now c.args.events.now safe c.in_ok-checked.ensures.right)
+returns-clause-safe g c =
+    let checked = c.in_ok-checked.checked in
+    let k = c.in_ok-checked.ensures in
+    c.in_ok-html.ensures.safe
+    (same_list (g.T.Tables.reference_of c.args.tables.now) (g.T.Tables.reference_of checked.tables.now) c.args.bytes.now checked.bytes.now
+    c.args.events.now checked.events.now (ap (λ t. g.T.Tables.reference_of t) k.tables) k.bytes k.events k.right)

@@ -18,8 +18,9 @@ returns-in_ok-clone-in-Some g c = λ enter exit kids stands k found.
     let f = some_found n.GfmTableHead kids c.args.head c.in-Some.head c.in-Some.is found in
     let at = child_at n.GfmTableHead events index enter exit kids c.in-Some.head f k stands in
     let place = index + 1 + c.in-Some.head.index in
-    let within : place < length c.events.result.now = (let P : List Event → Type 0 = λ es. place < length es in subst P (sym c.events.ensures) at.within) in
+    let within : place < length c.events-events.result.now = (let P : List Event → Type 0 = λ es. place < length es in subst P (sym c.events-events.ensures) at.within) in
     let stands_at = (let P : ℕ → Type 0 = λ i. IsAt events i f.node in subst P (sym (c.index_within-at.ensures within)) at.stands) in
-    subst (λ x. IfOk c.gfm_table_align.result (λ columns. columns.items ≡ x))
+    let E : List Event → Type 0 = λ es. IsAt es c.index_within-at.result f.node in
+    subst (λ x. IfOk c.table_aligns.result (λ columns. columns.items ≡ x))
     (ap table_align (same_kids f.node ∙ sym (ap inside_of f.named)))
-    (c.gfm_table_align.ensures f.node stands_at)
+    (c.table_aligns.ensures f.node (subst E (sym c.events-events.ensures) stands_at))

@@ -1,10 +1,9 @@
-use Rattle.std.proofs.Common.{◌∙◌, ◌+◌, ap, drop}
-use Rattle.event_check.proofs.Prelude.{aligns_after, IsAt, Node}
-use Rattle.event_check.proofs.AlignLaw.{aligns_are}
+use Rattle.std.proofs.Common.{◌≡◌, List, sym, subst}
+use Rattle.event_check.proofs.Prelude.{IsAt, Node}
+use Rattle.engine_events.specs.declared.event.Event.{Event}
 use Rattle.event_check.proofs.align.gfm_table_align.Goals as goal
 
-pub returns : goal.returns
-returns g c = λ (node : Node) (h : IsAt c.args.checked.now.events.now c.args.index node).
-    c.in_ok-aligns.ensures
-    ∙ ap (aligns_after 0) (c.events_after.ensures ∙ ap (drop (c.args.index + 1)) c.events.ensures)
-    ∙ aligns_are c.args.checked.now.events.now c.args.index node h
+pub returns-clause-columns : goal.returns-clause-columns
+returns-clause-columns g c = λ (node : Node) (h : IsAt c.args.checked.now.events.now c.args.index node).
+    let P : List Event → Type 0 = λ es. IsAt es c.args.index node in
+    c.in_ok-aligns.ensures node (subst P (sym c.events.ensures) h)

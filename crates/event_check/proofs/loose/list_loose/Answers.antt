@@ -6,7 +6,7 @@ use Rattle.event_check.proofs.LooseLaw.{apart_is, items_are, by_first, by_second
 use Rattle.event_check.proofs.loose.list_loose.Goals as goal
 
 pub returns-then-are_apart : goal.returns-then-are_apart
-returns-then-are_apart c = λ (node : Node) (h : IsAt c.args.checked.now.events.now c.args.index node).
+returns-then-are_apart g c = λ (node : Node) (h : IsAt c.args.checked.now.events.now c.args.index node).
     let bytes = c.args.checked.now.bytes.now in
     let events = c.args.checked.now.events.now in
     by_first c.are_apart.result (are_apart bytes (Only names.ListItem) None (kids_of node)) (c.args.include_items && has_loose_item bytes (kids_of node))
@@ -17,7 +17,7 @@ returns-then-are_apart c = λ (node : Node) (h : IsAt c.args.checked.now.events.
     c.if-are_apart.true
 
 pub returns-then-include_items : goal.returns-then-include_items
-returns-then-include_items c = λ (node : Node) (h : IsAt c.args.checked.now.events.now c.args.index node).
+returns-then-include_items g c = λ (node : Node) (h : IsAt c.args.checked.now.events.now c.args.index node).
     let bytes = c.args.checked.now.bytes.now in
     let events = c.args.checked.now.events.now in
     by_second c.are_apart.result (are_apart bytes (Only names.ListItem) None (kids_of node)) c.args.include_items c.has_loose_item.result
@@ -33,7 +33,7 @@ returns-then-include_items c = λ (node : Node) (h : IsAt c.args.checked.now.eve
     ∙ items_are bytes events c.args.index node h)
 
 pub returns-else-include_items : goal.returns-else-include_items
-returns-else-include_items c = λ (node : Node) (h : IsAt c.args.checked.now.events.now c.args.index node).
+returns-else-include_items g c = λ (node : Node) (h : IsAt c.args.checked.now.events.now c.args.index node).
     let bytes = c.args.checked.now.bytes.now in
     let events = c.args.checked.now.events.now in
     by_neither c.are_apart.result (are_apart bytes (Only names.ListItem) None (kids_of node)) c.args.include_items (has_loose_item bytes (kids_of node))
