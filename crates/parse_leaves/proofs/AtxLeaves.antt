@@ -1,5 +1,6 @@
 -- A heading by `#`, as it is written (CommonMark 4.2).
 use Rattle.std.proofs.Common.{◌≡◌, ℕ, ◌<◌, ◌≤◌, Bool, false, List, [], ◌∷◌, ◌++◌, None, refl, sym, ap, ◌∙◌, subst, length, replicate, take, drop, arith}
+use Rattle.std.proofs.lemmas.Bool.{false≢true}
 use Rattle.parse_leaves.proofs.Prelude.{append, AreMeanings, AreNext, ArePartsAlike, around, Around, around_on, AtEnding, bare, bare_end, BlockLine, bytes_of}
 use Rattle.parse_leaves.proofs.Prelude.{Constructs, End, end_at, end_in, enter_at, EnterCall, entered_on, exit_at, ExitCall, heading_atx, indent, Inlines}
 use Rattle.parse_leaves.proofs.Prelude.{is_tab_column, IsInOrder, IsOnLine, IsWrittenToRest, length-take-le, line_left, LineRest, list_any, Meaning, named}
@@ -149,4 +150,5 @@ module _ {A : Type 0} (text : List ℕ) where
         starts = white.starts;
         begins = white.begins;
         ends = omega (arith, ap (λ (x : End). x.index) exit.1, whole.on.end);
+        filled = λ is. absurd (false≢true is);
       })

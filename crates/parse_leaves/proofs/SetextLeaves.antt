@@ -1,5 +1,6 @@
 -- A heading with an underline, as it is written (CommonMark 4.3).
 use Rattle.std.proofs.Common.{◌≡◌, ℕ, suc, ◌+◌, ◌<◌, Bool, true, false, ◌&&◌, eqb, if◌then◌else◌, leb, List, [], ◌∷◌, ◌++◌, Option, None, Some, refl, sym, ap, ◌∙◌, inl, inr, subst, length, get_or, drop, reverse, arith}
+use Rattle.std.proofs.lemmas.Bool.{false≢true}
 use Rattle.parse_leaves.proofs.Prelude.{append, AreMeanings, ArePartsAlike, ArePlain, AreQuiet, around, Around, AtEnding, bare, Between, BlockLine, bytes_of}
 use Rattle.parse_leaves.proofs.Prelude.{cases_Bool, cond-false, cond-true, Cons, Constructs, Container, content_text, cut_one, End, end_at, end_in, enter_at}
 use Rattle.parse_leaves.proofs.Prelude.{EntersAt, EntersText, eqb-true, exit_at, Exits, HasSameOpen, inline_content, Inlines, inlines_of, is_white}
@@ -221,6 +222,7 @@ module _ {A : Type 0} (text : List ℕ) where
         starts = entered.starts;
         begins = entered.begins;
         ends = index;
+        filled = λ is. absurd (false≢true is);
       }
 
   pub setext_written : (r : Reading) (top : Bool) (rank : ℕ) (here : LineRest) (left : List LineRest) (to : Place) (ls : List BlockLine)

@@ -1,5 +1,7 @@
 -- Blocks that hold a text, as they are written (CommonMark 4.8).
 use Rattle.std.proofs.Common.{◌≡◌, ℕ, Bool, false, List, [], ◌++◌, refl, sym, ap, ◌∙◌, subst, map, drop, arith}
+use Rattle.parse_raw.specs.Written.{has_row}
+use Rattle.std.proofs.lemmas.Bool.{false≢true}
 use Rattle.std.specs.Prelude.{OnOk, Result, Ok, Err}
 use Rattle.parse_leaves.proofs.Prelude.{AreDefinitionsAlike, AreMeanings, ArePartsAlike, ArePlain, around, Around, AtEnding, Between, BlockLine, Constructs}
 use Rattle.parse_leaves.proofs.Prelude.{content_done, content_text, cut_one, definition_of, End, end_at, end_in, enter_at, EntersAt, EntersText, exit_at}
@@ -62,8 +64,9 @@ module _ {A : Type 0} (text : List ℕ) where
       → ((ns : Nodes) (from to : End) → ArePlain ns
       → ((m m' : Meaning) → AreMeanings on names m m' → ArePartsAlike m m' is (inlines_of names text false ns))
       → SpellsLeaf on names text top leaf [] (Around (enter_at text name from) ns (exit_at text name to)))
+      → has_row leaf ≡ false
       → WritesLeaf on names text top leaf [] stop.place old new
-  leaf_around on names top leaf name content is stop old a b new other none entered written exits same end spells =
+  leaf_around on names top leaf name content is stop old a b new other none entered written exits same end spells untold =
       let ns = written.nodes in
       let from = end_in entered.space in
       let to = end_in b.out in
@@ -88,6 +91,7 @@ module _ {A : Type 0} (text : List ℕ) where
         starts = entered.starts;
         begins = entered.begins;
         ends = index;
+        filled = λ is. absurd (false≢true (sym untold ∙ is));
       }
 
   -- a paragraph
@@ -111,4 +115,4 @@ module _ {A : Type 0} (text : List ℕ) where
       subst (λ p. WritesLeaf on names text top (page.Paragraph is) [] p old new) to_is
       (leaf_around on names top (page.Paragraph is) n.Paragraph (content_text ls) is stop old a b new refl refl entered.2
       (writes text stop entered.2.stands entered.2.white) exits same end
-      (λ ns from end plain spells. paragraph_spells on names text top is ns from end plain spells))
+      (λ ns from end plain spells. paragraph_spells on names text top is ns from end plain spells) refl)

@@ -4,8 +4,8 @@ use Rattle.parse_lines.proofs.Prelude.{AreNext, AreTaken, around, Around, AtEndi
 use Rattle.parse_lines.proofs.Prelude.{code_byte, cond-false, cond-true, Cons, Constructs, Container, content_end_in, content_from, drop-append_seam, End}
 use Rattle.parse_lines.proofs.Prelude.{end_after, end_at, end_in, ending_bytes, ending_text, ends_line, EndsLine, enter_at, eqb-true, exit_at, flat_text}
 use Rattle.parse_lines.proofs.Prelude.{Follows, HasSameOpen, if◌then◌else◌, is_tab_column, IsApart, IsInLine, IsInOrder, IsRestLine, IsSameText, line_after}
-use Rattle.parse_lines.proofs.Prelude.{line_left, LineEnding, LineRest, lines, list_any, map, Name, nat_tests, Nil, one, Option, or_parts, Output, Place}
-use Rattle.parse_lines.proofs.Prelude.{prefix_len, prefixed, Prefixed, replicate, Rest, rest_of, rest_start, reverse, same_end, same_name, standing, Standing}
+use Rattle.parse_lines.proofs.Prelude.{line_left, LineEnding, LineRest, lines, list_any, map, Name, Nil, one, Option, or_parts, Output, Place}
+use Rattle.parse_lines.proofs.Prelude.{prefix_len, prefixed, Prefixed, replicate, Rest, rest_of, rest_start, reverse, same_name, standing, Standing}
 use Rattle.parse_lines.proofs.Prelude.{StandsAt, StandsInContent, Stop, take-append_seam, text_between, true≢false, void_nodes, Walk, whole, Within, Writes}
 use Rattle.parse_lines.proofs.Prelude.{writes_both, writes_joined, written_to, ◌==◌}
 use Rattle.std.proofs.Common.{◌≡◌, ℕ, ◌+◌, ◌-◌, ◌<◌, ◌≤◌, ◌^◌, Bool, true, false, ◌&&◌, List, [], ◌∷◌, ◌++◌, None, Some, eqb, inl, inr, refl, sym, ap, ap₂, ◌∙◌, subst}
@@ -17,6 +17,7 @@ use Rattle.parse_laid.specs.Leaves.{IsTextLine}
 use Rattle.engine_events.specs.declared.event.Name.TheVariants as n
 use Rattle.parse_lines.specs.Ends.{IsWrittenToRest, WritesEnding, WritesLine}
 use Rattle.parse_lines.specs.InContent.{BeginsContent, WritesEndingIn}
+use Rattle.parse_slots.proofs.Voids.{void_is}
 use Rattle.parse_lines.proofs.Ends.{end_to_next}
 use Rattle.parse_lines.proofs.InContent.{both_open, line_and_tail, no_more, tail_from}
 use Rattle.parse_lines.proofs.Next.{drop_over, left_bytes, left_next}
@@ -34,14 +35,6 @@ start_owed line_end rest =
       | inl t ↦ ap (λ (e : End). e.owed) (cond-true (eqb k 0) _ _ t) ∙ sym (eqb-true k 0 t)
       | inr t ↦ ap (λ (e : End). e.owed) (cond-false (eqb k 0) _ _ t)
     ]
-
--- a node that holds no other
-pub void_is : (text : List ℕ) (name : Name) (from to : End) → from.index < to.index → same_name name n.Data ≡ false
-    → void_nodes text name from to ≡ one (Around (enter_at text name from) Nil (exit_at text name to))
-void_is text name from to further other =
-    let apart : (to.index == from.index) ≡ false = grind (arith, nat_tests, further) in
-    cond-false (same_end to from) _ _ (ap (λ (b : Bool). b && (to.owed == from.owed)) apart)
-    ∙ cond-false (same_name name n.Data && true) _ _ (ap (λ (b : Bool). b && true) other)
 
 -- the bytes of a line's ending
 pub ending_between : (text : List ℕ) (s : Standing) → IsInLine text s

@@ -26,6 +26,7 @@ pub record IsMarked (start : Rest) (m : Marker) : Type 0 where
   pub is_marker : is_among (codes "-+*.)") code ≡ true
   pub few : prefix_len is_digit start ≤ 9
   pub number : (k : ℕ) → m.number ≡ Some k → (k ≡ number_of (take (prefix_len is_digit start) start)) × (0 < prefix_len is_digit start)
+  pub bullet : m.number ≡ None → prefix_len is_digit start ≡ 0
 
 bullet_marked : (start : Rest) (m : Marker) → prefix_len is_digit start ≡ 0 → bullet start ≡ Some m → IsMarked start m
 bullet_marked [] m none is = absurd (cc)
@@ -44,6 +45,7 @@ bullet_marked (code ∷ codes) m none is =
             is_marker = grind (arith, nat_tests, h);
             few = omega (arith, none);
             number = λ k e2. let no : None ≡ Some k = ap (λ (x : Marker). x.number) same ∙ e2 in absurd (cc);
+            bullet = λ e2. none;
           }
       | inr h ↦ let e : None ≡ Some m = sym (cond-false ((code == hyphen) || (code == plus) || (code == asterisk)) _ _ h) ∙ is in absurd (cc)
     ]
@@ -68,6 +70,7 @@ number_marked start (code ∷ codes) m some few at is =
             is_marker = grind (arith, nat_tests, h);
             few = few;
             number = λ k e2. let both : Some number ≡ Some k = ap (λ (x : Marker). x.number) same ∙ e2 in let is_k : k ≡ number = cc in (is_k, some);
+            bullet = λ e2. let no : Some number ≡ None = ap (λ (x : Marker). x.number) same ∙ e2 in absurd (cc);
           }
       | inr h ↦ let e : None ≡ Some m = sym (cond-false ((code == dot) || (code == right_parenthesis)) _ _ h) ∙ is in absurd (cc)
     ]

@@ -20,12 +20,19 @@ use Rattle.event_meaning.specs.Blocks.{label_of}
 use Rattle.event_meaning.specs.Children.{child, inside_of, text_in}
 use Rattle.parse_output.proofs.Forests.{append-assoc}
 use Rattle.parse_output.proofs.Joined.{flat_label}
-use Rattle.parse_lines.specs.Prefixes.{IsFootnoteLabel, IsFootnotePrefix, IsItemPrefix}
+use Rattle.event_grammar.specs.declared.slot.Between.TheVariants.{Spaces}
+use Rattle.event_grammar.specs.declared.slot.Child.TheVariants.{StringPart}
+use Rattle.event_grammar.specs.declared.slot.Form.TheVariants.{Ordered, Plain}
+use Rattle.event_grammar.specs.Grammar.{one as one_slot, row, string_row}
+use Rattle.parse_slots.specs.Left.{Fill}
+use Rattle.parse_slots.proofs.Steps.{fill_both, fill_taken, filled_by}
+use Rattle.parse_slots.proofs.Voids.{further_apart, void_between, void_data, void_is, void_taken}
+use Rattle.parse_lines.specs.Prefixes.{IsFootnoteLabel, IsFootnotePrefix, IsItemPrefix, item_form}
 use Rattle.parse_lines.proofs.Between.{rests_between}
 use Rattle.parse_lines.proofs.Columns.{bare_owes_none}
-use Rattle.parse_lines.proofs.ContentLines.{void_is}
 use Rattle.parse_lines.proofs.Dark.{IsAtColumn, IsDark, dark_bytes, further, space_step, token_step}
 use Rattle.parse_lines.proofs.Ends.{line_follows}
+use Rattle.parse_lines.proofs.Quiet.{no_void}
 use Rattle.parse_lines.proofs.Markers.{IsFootnoteStart, IsItemStart, any_white, digits_are, marked}
 
 -- ---- nodes of other names
@@ -75,6 +82,56 @@ any_take p (suc k) j (x ∷ xs) h =
     let all : suc k + j ≡ suc (k + j) = omega arith in
     let parts = or_parts (p x) (list_any p (take (k + j) xs)) (sym (ap (λ (m : ℕ). list_any p (take m (x ∷ xs))) all) ∙ h) in
     ap₂ (λ (a b : Bool). a || b) parts.0 (any_take p k j xs parts.1)
+
+-- ---- the rows of the grammar
+
+-- a number, if there is one, a marker and white space fill the row of the prefix of an item
+item_fill : (text : List ℕ) (number : Option ℕ) (e0 e1 e2 e3 : End) → ((k : ℕ) → number ≡ Some k → e0.index < e1.index) → (number ≡ None → e0 ≡ e1)
+    → e1.index < e2.index
+    → Fill Spaces (row n.ListItemPrefix (item_form number))
+    (append (append (void_nodes text n.ListItemValue e0 e1) (void_nodes text n.ListItemMarker e1 e2)) (void_nodes text n.SpaceOrTab e2 e3)) []
+item_fill text None e0 e1 e2 e3 value bullet further =
+    subst (λ (ns : Nodes). Fill Spaces (row n.ListItemPrefix Plain)
+    (append (append ns (void_nodes text n.ListItemMarker e1 e2)) (void_nodes text n.SpaceOrTab e2 e3)) [])
+    (sym (no_void text n.ListItemValue e0 e1 (bullet refl)))
+    (fill_both (void_taken Spaces (row n.ListItemPrefix Plain) n.ListItemMarker Plain [] text e1 e2 (further_apart e1 e2 further) refl refl refl)
+    (void_between Spaces [] n.SpaceOrTab text e2 e3 refl refl refl refl))
+item_fill text (Some k) e0 e1 e2 e3 value bullet further =
+    fill_both
+    (fill_both (void_taken Spaces (row n.ListItemPrefix Ordered) n.ListItemValue Plain (one_slot n.ListItemMarker ∷ []) text e0 e1 (further_apart e0 e1 (value k refl)) refl refl refl)
+    (void_taken Spaces (one_slot n.ListItemMarker ∷ []) n.ListItemMarker Plain [] text e1 e2 (further_apart e1 e2 further) refl refl refl))
+    (void_between Spaces [] n.SpaceOrTab text e2 e3 refl refl refl refl)
+
+-- two brackets, a mark and a string fill the row of a label
+label_fill : (text : List ℕ) (e0 e1 e2 e3 e4 : End) (enter exit : Event) → enter.name ≡ n.GfmFootnoteDefinitionLabelString → e0.index < e1.index
+    → e1.index < e2.index → e3.index < e4.index
+    → Fill Spaces (row n.GfmFootnoteDefinitionLabel Plain)
+    (append (append (append (void_nodes text n.GfmFootnoteDefinitionLabelMarker e0 e1) (void_nodes text n.GfmFootnoteDefinitionMarker e1 e2))
+    (one (Around enter (void_nodes text n.Data e2 e3) exit))) (void_nodes text n.GfmFootnoteDefinitionLabelMarker e3 e4)) []
+label_fill text e0 e1 e2 e3 e4 enter exit is first second last =
+    let close = one_slot n.GfmFootnoteDefinitionLabelMarker ∷ [] in
+    let string = one_slot n.GfmFootnoteDefinitionLabelString ∷ close in
+    let mark = one_slot n.GfmFootnoteDefinitionMarker ∷ string in
+    fill_both
+    (fill_both
+    (fill_both (void_taken Spaces (row n.GfmFootnoteDefinitionLabel Plain) n.GfmFootnoteDefinitionLabelMarker Plain mark text e0 e1 (further_apart e0 e1 first) refl refl refl)
+    (void_taken Spaces mark n.GfmFootnoteDefinitionMarker Plain string text e1 e2 (further_apart e1 e2 second) refl refl refl))
+    (fill_taken Spaces string n.GfmFootnoteDefinitionLabelString Plain close (Around enter (void_nodes text n.Data e2 e3) exit) is refl
+    (filled_by Spaces Plain n.GfmFootnoteDefinitionLabelString string_row (Around enter (void_nodes text n.Data e2 e3) exit) is
+    (void_data Spaces StringPart [] text e2 e3 refl) refl)))
+    (void_taken Spaces close n.GfmFootnoteDefinitionLabelMarker Plain [] text e3 e4 (further_apart e3 e4 last) refl refl refl)
+
+-- a label, a colon and white space fill the row of the prefix of a footnote definition
+footnote_fill : (text label : List ℕ) (node : Node) (e0 e1 e2 : End) → IsFootnoteLabel label text node → e0.index < e1.index
+    → Fill Spaces (row n.GfmFootnoteDefinitionPrefix Plain)
+    (append (append (one node) (void_nodes text n.DefinitionMarker e0 e1)) (void_nodes text n.SpaceOrTab e1 e2)) []
+footnote_fill text label node e0 e1 e2 is further =
+    let colon = one_slot n.DefinitionMarker ∷ [] in
+    fill_both
+    (fill_both (fill_taken Spaces (row n.GfmFootnoteDefinitionPrefix Plain) n.GfmFootnoteDefinitionLabel Plain colon node is.is_named refl
+    (filled_by Spaces Plain n.GfmFootnoteDefinitionLabel [] node is.is_named is.fill refl))
+    (void_taken Spaces colon n.DefinitionMarker Plain [] text e0 e1 (further_apart e0 e1 further) refl refl refl))
+    (void_between Spaces [] n.SpaceOrTab text e1 e2 refl refl refl refl)
 
 -- ---- items
 
@@ -188,6 +245,11 @@ module _ {A : Type 0} (text before content after : List ℕ) (line_end : ℕ) (l
               (none_both name (append values markers) spaces
               (none_both name values markers (none_void name n.ListItemValue text e0 e1 refl p2.0) (none_void name n.ListItemMarker text e1 e2 refl p3.0))
               (none_void name n.SpaceOrTab text e2 e3 refl p4.0));
+          fill =
+              item_fill text item.number e0 e1 e2 e3
+              (λ j is_j. omega (arith, ap (λ (x : End). x.index) (further text before content after line_end line end first d0 dark_digits).there, (mark.number j (sym is.number_is ∙ is_j)).1))
+              (λ none. sym (let zero_digits : first + d0 ≡ first = omega (arith, mark.bullet (sym is.number_is ∙ none)) in ap (column content line_end) zero_digits))
+              (omega (arith, ap (λ (x : End). x.index) (further text before content after line_end line end (first + d0) 1 dark_marker).there));
         },
         writes_around text a b e f n.ListItemPrefix kids entered inner (exits.0 last_step.0.order),
         exits.1 ∙ space.0,
@@ -358,6 +420,11 @@ module _ {A : Type 0} (text before content after : List ℕ) (line_end : ℕ) (l
               (none_void name n.GfmFootnoteDefinitionMarker text e1 e2 refl p4.0))
               (none_around name n.GfmFootnoteDefinitionLabelString string_enter string_exit bytes refl p5.0 (none_data name text e2 e3 p6.0)))
               (none_void name n.GfmFootnoteDefinitionLabelMarker text e3 e4 refl p3.0));
+          fill =
+              label_fill text e0 e1 e2 e3 e4 string_enter string_exit refl
+              (omega (arith, ap (λ (x : End). x.index) (further text before content after line_end line end k 1 first).there))
+              (omega (arith, ap (λ (x : End). x.index) (further text before content after line_end line end (k + 1) 1 second).there))
+              (omega (arith, ap (λ (x : End). x.index) (further text before content after line_end line end (k + 1 + 1 + size) 1 fourth).there));
         },
         writes_around text a b h i n.GfmFootnoteDefinitionLabel kids entered all (exits.0 s4.1.order),
         exits.1 ∙ s4.1.at ∙ ap (column content line_end) to,
@@ -438,6 +505,9 @@ module _ {A : Type 0} (text before content after : List ℕ) (line_end : ℕ) (l
               (none_both name (append (one lab.0) markers) spaces
               (none_both name (one lab.0) markers (lab.1.others name other) (none_void name n.DefinitionMarker text e0 e1 refl p7.0))
               (none_void name n.SpaceOrTab text e1 e2 refl p8.0));
+          fill =
+              footnote_fill text label lab.0 e0 e1 e2 lab.1
+              (omega (arith, ap (λ (x : End). x.index) (further text before content after line_end line end after_label 1 colon).there));
         },
         writes_around text a b e f n.GfmFootnoteDefinitionPrefix kids entered all (exits.0 s2.1.order),
         exits.1 ∙ space.0,

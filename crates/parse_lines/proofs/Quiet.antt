@@ -11,6 +11,16 @@ use Rattle.event_grammar.specs.InGrammar.{kids_of}
 use Rattle.event_grammar.specs.References.{media_names, own, own_in}
 use Rattle.engine_events.specs.declared.event.Name.TheVariants.{BlockQuoteMarker, BlockQuotePrefix, SpaceOrTab}
 use Rattle.std.proofs.lemmas.List.Folds.{list_all-append}
+use Rattle.std.proofs.Common.{◌<◌}
+use Rattle.event_grammar.specs.declared.slot.Between.TheVariants.{Lines, Spaces}
+use Rattle.event_grammar.specs.declared.slot.Form.TheVariants.{Plain}
+use Rattle.event_grammar.specs.declared.slot.Slot.{Slot}
+use Rattle.event_grammar.specs.Grammar.{row}
+use Rattle.event_grammar.specs.Checks.{stands_between}
+use Rattle.event_grammar.specs.Slots.{may_end, take_child}
+use Rattle.parse_slots.specs.Left.{Fill}
+use Rattle.parse_slots.proofs.Steps.{fill_between, fill_both, fill_none, filled_by, filled_void}
+use Rattle.parse_slots.proofs.Voids.{further_apart, void_between, void_taken}
 use Rattle.parse_lines.specs.Quiet.{AreOfPrefix, AreQuiet, quiet_names}
 
 quiet_append : (ns ms : Nodes) → AreQuiet ns → AreQuiet ms → AreQuiet (append ns ms)
@@ -93,11 +103,11 @@ module _ {A : Type 0} (text : List ℕ) where
   quiet_nothing a b from to follows white w = (quiet_space a b from to follows white w, no_void text SpaceOrTab from to)
 
   -- the prefix of a quote
-  pub quote_node : (a b c d e : Output A) (ns ms : Nodes) → AreOfPrefix ns → AreOfPrefix ms → Enters text BlockQuotePrefix a b → Writes text b c ns
-      → Writes text c d ms → Exits text BlockQuotePrefix d e → (first : Node) × IsQuotePrefix first × Writes text a e (one first)
-  quote_node a b c d e ns ms are more enters first second exits = (
+  pub quote_node : (a b c d e : Output A) (ns ms : Nodes) → AreOfPrefix ns → AreOfPrefix ms → Fill Spaces (row BlockQuotePrefix Plain) (append ns ms) []
+      → Enters text BlockQuotePrefix a b → Writes text b c ns → Writes text c d ms → Exits text BlockQuotePrefix d e → (first : Node) × IsQuotePrefix first × Writes text a e (one first)
+  quote_node a b c d e ns ms are more fill enters first second exits = (
     Around (enter_at text BlockQuotePrefix (end_in a)) (append ns ms) (exit_at text BlockQuotePrefix (end_in d)),
-    (refl, prefix_both ns ms are more),
+    (refl, prefix_both ns ms are more, fill),
     writes_around text a b d e BlockQuotePrefix (append ns ms) enters (writes_both text b c d ns ms first second) exits,
   )
 
@@ -108,6 +118,33 @@ module _ {A : Type 0} (text : List ℕ) where
     quiet = (inr is, tt);
     white = ap (list_all is_white) (prefix_flat text first is.0);
   }
+
+-- ---- the rows of the grammar
+
+-- quiet nodes leave the row of what holds them as it is, where lines may end
+pub quiet_fill : (slots : List Slot) (ns : Nodes) → take_child slots SpaceOrTab ≡ None → take_child slots BlockQuotePrefix ≡ None → AreQuiet ns
+    → Fill Lines slots ns slots
+quiet_fill slots Nil space quote are = fill_none Lines slots
+quiet_fill slots (Cons node ns) space quote (inl is, are) =
+    fill_both (fill_between Lines slots SpaceOrTab node is.0 space refl (filled_void Lines Plain SpaceOrTab node is.0 is.1 refl))
+    (quiet_fill slots ns space quote are)
+quiet_fill slots (Cons node ns) space quote (inr is, are) =
+    fill_both (fill_between Lines slots BlockQuotePrefix node is.0 quote refl (filled_by Lines Plain BlockQuotePrefix [] node is.0 is.2 refl))
+    (quiet_fill slots ns space quote are)
+
+-- the ending of a line, and quiet nodes on the next one
+pub ending_fill : (slots : List Slot) (name : Name) (node : Node) (quiet : Nodes) → node_name node ≡ name → kids_of node ≡ Nil → take_child slots name ≡ None
+    → stands_between Lines name ≡ true → may_end (row name Plain) ≡ true → take_child slots SpaceOrTab ≡ None → take_child slots BlockQuotePrefix ≡ None
+    → AreQuiet quiet → Fill Lines slots (Cons node quiet) slots
+ending_fill slots name node quiet is empty takes between void space quote are =
+    fill_both (fill_between Lines slots name node is takes between (filled_void Lines Plain name node is empty void)) (quiet_fill slots quiet space quote are)
+
+-- a marker and white space fill the row of a prefix
+pub prefix_fill : (text : List ℕ) (from mid to : End) → from.index < mid.index
+    → Fill Spaces (row BlockQuotePrefix Plain) (append (void_nodes text BlockQuoteMarker from mid) (void_nodes text SpaceOrTab mid to)) []
+prefix_fill text from mid to further =
+    fill_both (void_taken Spaces (row BlockQuotePrefix Plain) BlockQuoteMarker Plain [] text from mid (further_apart from mid further) refl refl refl)
+    (void_between Spaces [] SpaceOrTab text mid to refl refl refl refl)
 
 -- ---- what is looked for in links and for definitions isn't among quiet nodes
 

@@ -13,7 +13,12 @@ use Rattle.parse_lines.proofs.Steps.{line_of}
 use Rattle.parse_lines.proofs.Suffixes.{IsAfterWhite, quote_parts}
 use Rattle.parse_lines.proofs.Columns.{bare_owes_none, dark_owes_none}
 use Rattle.parse_lines.proofs.Ends.{line_follows, start_whole, start_line, start_marked, left_within}
-use Rattle.parse_lines.proofs.Quiet.{prefix_marker, prefix_space, quote_node, quiet_space}
+use Rattle.event_grammar.specs.declared.slot.Between.TheVariants.{Spaces}
+use Rattle.event_grammar.specs.declared.slot.Form.TheVariants.{Plain}
+use Rattle.event_grammar.specs.Grammar.{row}
+use Rattle.parse_slots.specs.Left.{Fill}
+use Rattle.parse_lines.proofs.Prelude.{append}
+use Rattle.parse_lines.proofs.Quiet.{prefix_fill, prefix_marker, prefix_space, quote_node, quiet_space}
 
 module _ (text before content after : List ℕ) (n line_end : ℕ) (start : Rest) where
   -- where the white space ahead begins
@@ -134,11 +139,14 @@ module _ {A : Type 0} (text before content after : List ℕ) (n line_end : ℕ) 
       let white_is : list_all is_white (text_between text (end_in d) to) ≡ true =
       ap (list_all is_white) (white_at ∙ ap (λ (r : Rest). bytes_of (take parts.end.0 r)) (sym codes_at))
       ∙ all_filter is_white is_byte (take parts.end.0 parts.codes) parts.white in
+      let filled =
+      subst (λ (x : End). Fill Spaces (row BlockQuotePrefix Plain)
+      (append (void_nodes text BlockQuoteMarker (end_in c) (end_at ((end_in c).index + 1) 0)) (void_nodes text SpaceOrTab x to)) [])
+      (sym (marker_end fits)) (prefix_fill text (end_in c) (end_at ((end_in c).index + 1) 0) to (omega arith)) in
       let second = marker fits entered.order (record { follows = follows2; bytes = ap (is_token BlockQuoteMarker) mark_is }) in
       let third = space second.order (record { follows = follows3; bytes = white_is }) in
       quote_node text b c d e f (void_nodes text BlockQuoteMarker (end_in c) (end_at ((end_in c).index + 1) 0)) (void_nodes text SpaceOrTab (end_in d) to)
-      (prefix_marker text (end_in c) (end_at ((end_in c).index + 1) 0)) (prefix_space text (end_in d) to)
-      entered second third (exits third.order)
+      (prefix_marker text (end_in c) (end_at ((end_in c).index + 1) 0)) (prefix_space text (end_in d) to) filled entered second third (exits third.order)
 
 -- a line is begun, of which nothing is read: all before it is written
 pub line_ready : (old : Standing) (text : List ℕ) (next : LineRest) (others : List LineRest) (content after : List ℕ)

@@ -1,4 +1,5 @@
 mod Prelude
+pub mod Fills
 pub mod Written
 pub mod Places
 pub mod Found

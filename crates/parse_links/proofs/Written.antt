@@ -109,6 +109,7 @@ module _ {A : Type 0} (text : List ℕ) (stop : Stop) where
             filled = filled;
             spells = w.spells;
             plain = w.plain;
+            fill = w.fill;
             words = same_text_words false string (flat_text text w.nodes) has.same ∙ ap (λ xs. words (content_codes xs)) (sym label);
           };
           writes =

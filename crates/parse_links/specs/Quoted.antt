@@ -6,6 +6,8 @@ use Rattle.engine_events.specs.declared.event.Name.TheVariants as n
 use Rattle.markdown_options.specs.declared.configuration.Constructs.{Constructs}
 use Rattle.definition_text.specs.Content.{content_codes, is_space}
 use Rattle.definition_inline.specs.CharacterReference.{Names}
+use Rattle.event_grammar.specs.declared.slot.Between.{Between}
+use Rattle.event_grammar.specs.Grammar.{string_row}
 use Rattle.event_grammar.specs.InGrammar.{kids_of, node_name}
 use Rattle.event_grammar.specs.References.{label_text}
 use Rattle.event_grammar.specs.Trees.{Node, Nodes, Nil, Cons}
@@ -13,6 +15,7 @@ use Rattle.event_tokens.specs.Tokens.{is_token}
 use Rattle.event_meaning.specs.Strings.{string_of}
 use Rattle.parse_output.specs.Forest.{append, one}
 use Rattle.parse_alike.specs.LabelMatch.{HaveSameWords}
+use Rattle.parse_slots.specs.Left.{Fill, MayEndLines}
 use Rattle.parse_lines.specs.declared.walk.Walk.{Walk}
 use Rattle.parse_lines.specs.InContent.{IsWhole, Stop, WritesInContent}
 use Rattle.parse_lines.specs.Quiet.{IsVoidOf}
@@ -38,12 +41,13 @@ pub record IsMark (b : ℕ) : Type 0 where
   pub ascii : b < 128
   pub dark : is_space b ≡ false
 
--- a node whose children spell what a string stands for; as a label it has the words of the string
+-- a node whose children spell what a string stands for, and fill the row of a string; as a label it has the words of the string
 pub record IsStringNode (on : Constructs) (names : Names) (text : List ℕ) (name : Name) (string : List ℕ) (node : Node) : Type 0 where
   pub named : node_name node ≡ name
   pub filled : 0 < length string
   pub spells : string_of names text (kids_of node) ≡ bytes_text on names string
   pub plain : ArePlain (kids_of node)
+  pub fill : (around : Between) → MayEndLines around string → Fill around string_row (kids_of node) string_row
   pub words : HaveSameWords (content_codes string) (content_codes (label_text text node))
 
 -- an empty string has no node

@@ -18,6 +18,7 @@ use Rattle.definition_block.specs.CodeFenced.{is_fence_end}
 use Rattle.parse_raw.specs.FenceParts.{WritesClosing, block_name}
 use Rattle.parse_raw.proofs.ClosingFence.{closed_alike, info_read, parts_closed}
 use Rattle.parse_raw.proofs.FencedCode.{closed_leaf, math_string}
+use Rattle.parse_raw.proofs.Prelude.{false≢true}
 use Rattle.parse_raw.proofs.LeafNodes.{leaf_written}
 use Rattle.parse_raw.proofs.NextLines.{next_written, none_unread}
 use Rattle.parse_raw.proofs.Nodes.{quiet_parts, raw_append, raw_parts_append, raw_quiet, named_append}
@@ -147,6 +148,7 @@ module _ {A : Type 0} (r : Reading) (first : Bool) (text : List ℕ) (top : Bool
       subst (StandsAt text (AtEnding end.beside.ending others)) (sym same_d) cl.stands))
       (ap (λ (s : Standing). s.on) same ∙ kept.0 ∙ on_l, ap (λ (s : Standing). s.outermost) same ∙ kept.1 ∙ open_l)
       end_d (cl.written ∙ ap (λ (s : Standing). end_at s.line_end 0) (sym same_d)) o.starts o.begins
+      (λ is. absurd (false≢true is))
 
   pub closed_written : (info : List ℕ) (ls : List BlockLine) (here : LineRest) (left : List LineRest) (to : Place) (count : ℕ) (old l x e d : Walk A) → count ≡ length ls
       → StandsAt text (Within here left) (standing old) → IsWrittenToRest old → IsInOrder text old.out

@@ -11,6 +11,7 @@ use Rattle.definition_block.specs.Tree.{IndentedCode}
 use Rattle.definition_page.specs.Page as page
 use Rattle.parse_alike.specs.BlockLines.{AreCodeLinesAlike}
 use Rattle.parse_laid.specs.Leaves.{AreCode, IsCodeLine}
+use Rattle.parse_raw.proofs.Prelude.{false≢true}
 use Rattle.parse_raw.proofs.LeafNodes.{leaf_written}
 use Rattle.parse_raw.proofs.RawBlocks.{WritesFirst, all_written, own_count, taken_as}
 use Rattle.parse_raw.proofs.RawLines.{rest_written}
@@ -107,6 +108,7 @@ module _ {A : Type 0} (text : List ℕ) where
         stands = subst (λ (l : BlockLine). StandsAt text (AtEnding l.ending left) (standing c)) first_is st_c;
         around = (ap (λ (s : Standing). s.on) same_c, ap (λ (s : Standing). s.outermost) same_c);
         written = end_c ∙ ap (λ (s : Standing). end_at s.line_end 0) (sym same_c);
+        fill = chunk.fill;
       } in
       let fits : more ≡ length others = omega (arith, fewer, size, ap length is, own_count first others) in
       let taken_code = taken_as old.on.now (around (standing old)) (IsCodeLine old.on.now) (IsCutLine (outdent 4)) others (Between code.1) after (code_line old.on.now) code.5 in
@@ -127,7 +129,7 @@ module _ {A : Type 0} (text : List ℕ) where
         ap (λ (s : Standing). s.on) same_d ∙ all.around.0 ∙ ap (λ (s : Standing). s.on) same,
         ap (λ (s : Standing). s.outermost) same_d ∙ all.around.1 ∙ ap (λ (s : Standing). s.outermost) same,
       )
-      end_d (all.written ∙ ap (λ (k : ℕ). end_at k 0) (sym line_end)) space.starts space.begins
+      end_d (all.written ∙ ap (λ (k : ℕ). end_at k 0) (sym line_end)) space.starts space.begins (λ is. absurd (false≢true is))
 
   pub code_written : (on : Constructs) (names : Names) (top : Bool) (ls : List BlockLine) (count more : ℕ) (here : LineRest) (left : List LineRest) (to : Place)
       (old a b c e d : Walk A) → count ≡ length ls → more ≡ count - 1 → StandsAt text (Within here left) (standing old)

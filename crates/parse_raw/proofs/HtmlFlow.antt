@@ -8,7 +8,13 @@ use Rattle.engine_events.specs.declared.event.Name.TheVariants as n
 use Rattle.definition_block.specs.Tree.{Html}
 use Rattle.definition_page.specs.Page as page
 use Rattle.parse_laid.specs.Leaves.{AreHtml, IsHtmlLine}
+use Rattle.event_grammar.specs.declared.slot.Between.TheVariants.{Lines}
+use Rattle.event_grammar.specs.declared.slot.Form.TheVariants.{Plain}
+use Rattle.event_grammar.specs.declared.slot.Slot.{Slot}
+use Rattle.event_grammar.specs.Grammar.{many}
 use Rattle.parse_lines.proofs.Quiet.{quiet_none}
+use Rattle.parse_slots.proofs.Steps.{filled_by}
+use Rattle.parse_raw.proofs.Prelude.{Around, end_in, enter_at, exit_at}
 use Rattle.parse_raw.proofs.LeafNodes.{leaf_written, rest_within}
 use Rattle.parse_raw.proofs.RawBlocks.{WritesFirst, all_written, html_alike, own_count, taken_as}
 use Rattle.parse_raw.proofs.RawLines.{whole_written}
@@ -17,6 +23,10 @@ use Rattle.parse_raw.proofs.RawLines.{whole_written}
 html_line : (kind : ℕ) (here : Prefixed) (line : BlockLine) → IsHtmlLine kind here line → IsCutLine (λ rest. rest) here line
 html_line kind (InAll own) line is = (own, refl, is.1)
 html_line kind (InSome own) line is = absurd is
+
+-- the row of an HTML block
+abbrev html_row : List Slot
+html_row = many n.HtmlFlowData ∷ []
 
 module _ {A : Type 0} (text : List ℕ) where
   html_by : (on : Constructs) (names : Names) (top : Bool) (ls : List BlockLine) (count more kind : ℕ) (here : LineRest) (left : List LineRest) (to after : Place)
@@ -46,6 +56,7 @@ module _ {A : Type 0} (text : List ℕ) where
         stands = subst (λ (l : BlockLine). StandsAt text (AtEnding l.ending left) (standing c)) first_is line.stands;
         around = (ap (λ (s : Standing). s.on) line.same, ap (λ (s : Standing). s.outermost) line.same);
         written = line.written;
+        fill = line.fill;
       } in
       let fits : more ≡ length others = omega (arith, fewer, size, ap length is, own_count first others) in
       let taken_html = taken_as old.on.now (around (standing old)) (IsHtmlLine kind) (IsCutLine (λ rest. rest)) others (Between html.1) after (html_line kind) html.6 in
@@ -67,6 +78,8 @@ module _ {A : Type 0} (text : List ℕ) where
         ap (λ (s : Standing). s.outermost) same_d ∙ all.around.1 ∙ ap (λ (s : Standing). s.outermost) same_b,
       )
       end_d (all.written ∙ ap (λ (k : ℕ). end_at k 0) (sym line_end)) (omega arith) (rest_within text old here left st at)
+      (λ is. filled_by Lines Plain n.HtmlFlow html_row (Around (enter_at text n.HtmlFlow (end_in old.out)) all.nodes (exit_at text n.HtmlFlow (end_in e.out))) refl
+      (all.fill html_row (record { chunk = refl; between = record { space = refl; ending = refl; blank = refl; quote = refl } })) refl)
 
   pub html_written : (on : Constructs) (names : Names) (top : Bool) (ls : List BlockLine) (count more : ℕ) (here : LineRest) (left : List LineRest) (to : Place)
       (old b c e d : Walk A) → count ≡ length ls → more ≡ count - 1 → StandsAt text (Within here left) (standing old) → IsWrittenToRest old

@@ -8,13 +8,16 @@ use Rattle.parse_raw.proofs.Prelude.{same_name, space_written, Standing, standin
 use Rattle.parse_raw.proofs.Prelude.{WritesLeaf, WritesQuiet, WritesUpTo, written_to}
 use Rattle.engine_events.specs.declared.event.Name.TheVariants as n
 use Rattle.definition_page.specs.Page as page
+use Rattle.event_grammar.specs.declared.slot.Between.TheVariants.{Lines}
+use Rattle.event_grammar.specs.declared.slot.Form.TheVariants.{Plain}
 use Rattle.event_meaning.specs.Spelled.{definition_of}
 use Rattle.parse_output.specs.Forest.{bytes_from}
 use Rattle.parse_alike.specs.Targets.{AreDefinitionsAlike}
 use Rattle.parse_raw.proofs.Prelude.{AreNext, left_bytes, left_next, replicate, space, start_whole}
 use Rattle.parse_lines.proofs.Columns.{bare_owes_none}
 use Rattle.parse_lines.proofs.Written.{bare_follows, bare_start}
-use Rattle.parse_raw.specs.Written.{SpellsLeaf}
+use Rattle.parse_slots.specs.Left.{IsFilled}
+use Rattle.parse_raw.specs.Written.{SpellsLeaf, has_row}
 
 left_of_bare : (rest : Rest) → left_bytes (bare rest) ≡ bytes_of (bare rest)
 left_of_bare rest = ap (λ (k : ℕ). replicate k space ++ bytes_of (bare rest)) (bare_owes_none rest)
@@ -111,8 +114,9 @@ module _ {A : Type 0} (text : List ℕ) where
       (blocks_of names text top (one (Around (enter_at text name (end_in a.out)) kids (exit_at text name (end_in c.out))))))
       → StandsAt text to (standing d) → HasSameOpen (standing old) (standing d) → written_to d ≡ written_to c → written_to c ≡ end_at d.line_end 0
       → (written_to old).index ≤ (written_to a).index → (written_to a).index ≤ old.line_end
+      → (has_row leaf ≡ true → IsFilled Lines Plain (Around (enter_at text name (end_in a.out)) kids (exit_at text name (end_in c.out))))
       → WritesLeaf on names text top leaf [] to old d
-  leaf_written on names top leaf to old a b c d name kids quiet enters writes exits block other no_data none alike stands kept same at starts begins =
+  leaf_written on names top leaf to old a b c d name kids quiet enters writes exits block other no_data none alike stands kept same at starts begins filled =
       let node = Around (enter_at text name (end_in a.out)) kids (exit_at text name (end_in c.out)) in
       let whole = cut_one text name (end_in a.out) (end_in c.out) kids no_data in
       let around = subst (Writes text a.out d.out) whole (writes_around text a.out b.out c.out d.out name kids enters writes exits) in
@@ -128,6 +132,7 @@ module _ {A : Type 0} (text : List ℕ) where
         starts = starts;
         begins = begins;
         ends = ap (λ (e : End). e.index) at;
+        filled = filled;
       }
 
 -- a leaf of one line leads to the ending of that line

@@ -8,6 +8,7 @@ pub mod Raw
 pub mod RawLines
 pub mod NextLines
 pub mod Tokens
+pub mod Breaks
 pub mod LeafNodes
 pub mod Blank
 pub mod RawBlocks

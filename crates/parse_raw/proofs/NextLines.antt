@@ -13,6 +13,12 @@ use Rattle.markdown_options.specs.declared.line_ending.LineEnding.TheVariants.{C
 use Rattle.std.specs.Result.{OnOk}
 use Rattle.markdown_options.specs.declared.beside.Kind.TheVariants.{Whitespace}
 use Rattle.engine_events.specs.declared.event.Name.TheVariants as n
+use Rattle.event_grammar.specs.declared.slot.Between.TheVariants.{Lines}
+use Rattle.event_grammar.specs.declared.slot.Slot.{Slot}
+use Rattle.parse_slots.specs.Left.{Fill, TakesNoBetween}
+use Rattle.parse_slots.proofs.Steps.{fill_both, fill_none}
+use Rattle.parse_slots.proofs.Voids.{void_between}
+use Rattle.parse_lines.proofs.Quiet.{quiet_fill}
 use Rattle.definition_text.specs.Lines.{after_return, first_of, in_first_line, text_line}
 use Rattle.parse_raw.specs.RawLines.{WritesCutLine}
 use Rattle.parse_raw.proofs.Bytes.{ending_token, line_ending_fits}
@@ -141,6 +147,7 @@ pub record WritesNext {A : Type 0} (text : List ℕ) (ending : Option LineEnding
   pub parts : raw_parts text nodes ≡ end_part ending
   pub stands : StandsAt text (Within here left) (standing b)
   pub written : IsWrittenToRest b
+  pub fill : (slots : List Slot) → TakesNoBetween slots → Fill Lines slots nodes slots
 
 module _ {A : Type 0} (text : List ℕ) where
   pub next_written : (a b : Walk A) (ending : Option LineEnding) (next : LineRest) (others : List LineRest)
@@ -165,6 +172,9 @@ module _ {A : Type 0} (text : List ℕ) where
             ∙ append-nil (end_part ending);
         stands = passes text ending next others st;
         written = done.4;
+        fill = λ slots no.
+            fill_both (void_between Lines slots n.LineEnding text (written_to a) to refl no.ending refl refl)
+            (quiet_fill slots done.0 no.space no.quote done.2);
       }
 
   -- no line
@@ -180,6 +190,7 @@ module _ {A : Type 0} (text : List ℕ) where
         around = (refl, refl);
         written = at;
         there = λ top. inl refl;
+        fill = λ slots takes. fill_none Lines slots;
       }
 
   -- one line more is there, or all of it is white space
@@ -251,6 +262,8 @@ module _ {A : Type 0} (text : List ℕ) where
         around = (ap (λ (s : Standing). s.on) here.same ∙ kept.0 ∙ sofar.around.0, ap (λ (s : Standing). s.outermost) here.same ∙ kept.1 ∙ sofar.around.1);
         written = here.written;
         there = there_more name cut first done line next others old a b d sofar passed here line_is;
+        fill = λ slots takes.
+            fill_both (sofar.fill slots takes) (fill_both (passed.fill slots takes.between) (here.fill slots takes));
       }
 
 -- ---- in a loop

@@ -13,6 +13,7 @@ use Rattle.parse_laid.specs.Leaves.{IsUnclosedLaid}
 use Rattle.parse_raw.proofs.ClosedCode.{block_alike, block_is, ending_some, found_of, info_found, leaf_of}
 use Rattle.parse_raw.proofs.ClosingFence.{chunk_same}
 use Rattle.parse_raw.proofs.FencedCode.{open_leaf}
+use Rattle.parse_raw.proofs.Prelude.{false≢true}
 use Rattle.parse_raw.proofs.LeafNodes.{leaf_written}
 use Rattle.parse_raw.proofs.Nodes.{named_append}
 use Rattle.parse_raw.proofs.RawBlocks.{line_parts, parts_own}
@@ -127,3 +128,4 @@ module _ {A : Type 0} (r : Reading) (first : Bool) (text : List ℕ) (fence_name
       subst (StandsAt text (AtEnding (last_ending_or here.beside.ending ls) begins.after)) (sym same_d) o.lines.stands))
       (ap (λ (s : Standing). s.on) same_d ∙ begins.kept.0, ap (λ (s : Standing). s.outermost) same_d ∙ begins.kept.1)
       end_d (o.lines.written ∙ ap (λ (s : Standing). end_at s.line_end 0) (sym same_d)) o.starts o.begins
+      (λ is. absurd (false≢true is))

@@ -7,6 +7,11 @@ use Rattle.parse_raw.proofs.Prelude.{chunk_parts, Code, Constructs, Container, e
 use Rattle.parse_raw.proofs.Prelude.{last_ending, LineEnding, LineRest, Name, Nodes, own_lines, parts_after, Place, Prefixed, raw_lines, raw_parts, RawPart}
 use Rattle.parse_raw.proofs.Prelude.{Rest, standing, StandsAt, Walk, Writes, writes_both, WritesCutLines, written_to}
 use Rattle.engine_events.specs.declared.event.Name.TheVariants as n
+use Rattle.event_grammar.specs.declared.slot.Between.TheVariants.{Lines}
+use Rattle.event_grammar.specs.declared.slot.Slot.{Slot}
+use Rattle.parse_slots.specs.Left.{Fill}
+use Rattle.parse_slots.proofs.Steps.{fill_both}
+use Rattle.parse_raw.specs.RawLines.{TakesChunks}
 use Rattle.parse_alike.specs.BlockLines.{HtmlPart, html_end, html_parts, html_text}
 use Rattle.parse_raw.proofs.Nodes.{raw_append, raw_parts_append}
 use Rattle.parse_raw.proofs.RawLines.{bytes_stay}
@@ -84,6 +89,7 @@ pub record WritesFirst {A : Type 0} (text : List ℕ) (name : Name) (first : Blo
   pub stands : StandsAt text (AtEnding first.ending left) (standing c)
   pub around : HasSameOpen (standing b) (standing c)
   pub written : written_to c ≡ end_at c.line_end 0
+  pub fill : (slots : List Slot) → TakesChunks name slots → Fill Lines slots nodes slots
 
 -- all lines are written
 pub record WritesAll {A : Type 0} (text : List ℕ) (name : Name) (first : BlockLine) (others : List BlockLine) (after : List LineRest) (b e : Walk A) : Type 0 where
@@ -94,6 +100,7 @@ pub record WritesAll {A : Type 0} (text : List ℕ) (name : Name) (first : Block
   pub stands : StandsAt text (AtEnding (last_ending (first ∷ others)) after) (standing e)
   pub around : HasSameOpen (standing b) (standing e)
   pub written : written_to e ≡ end_at e.line_end 0
+  pub fill : (slots : List Slot) → TakesChunks name slots → Fill Lines slots nodes slots
 
 module _ {A : Type 0} (text : List ℕ) where
   pub all_written : (name : Name) (cut : Rest → Rest) (first : BlockLine) (others : List BlockLine) (left after : List LineRest) (count : ℕ) (b c e : Walk A)
@@ -114,4 +121,5 @@ module _ {A : Type 0} (text : List ℕ) where
         stands = more.stands;
         around = (more.around.0 ∙ one.around.0, more.around.1 ∙ one.around.1);
         written = more.written;
+        fill = λ slots takes. fill_both (one.fill slots takes) (more.fill slots takes);
       }

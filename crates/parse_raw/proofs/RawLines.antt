@@ -10,7 +10,16 @@ use Rattle.parse_raw.proofs.Prelude.{whole, Within, Writes, writes_both, WritesC
 use Rattle.std.proofs.Common.{◌≤◌}
 use Rattle.std.proofs.lemmas.List.{length-map}
 use Rattle.engine_events.specs.declared.event.Name.TheVariants as n
+use Rattle.event_grammar.specs.declared.slot.Between.TheVariants.{Lines}
+use Rattle.event_grammar.specs.declared.slot.Form.TheVariants.{Plain}
+use Rattle.event_grammar.specs.declared.slot.Slot.{Slot}
+use Rattle.event_grammar.specs.Grammar.{row}
+use Rattle.event_grammar.specs.Slots.{may_end}
+use Rattle.parse_slots.specs.Left.{Fill}
+use Rattle.parse_slots.proofs.Steps.{fill_both}
+use Rattle.parse_slots.proofs.Voids.{void_again, void_between}
 use Rattle.text_lines.proofs.Codes.{no_bytes}
+use Rattle.parse_raw.specs.RawLines.{TakesChunks}
 use Rattle.parse_raw.proofs.Bytes.{columns_white, rest_fits}
 use Rattle.parse_raw.proofs.Nodes.{IsRawName, ends_append, raw_append, raw_parts_append, raw_void, void_cases}
 use Rattle.parse_raw.proofs.Raw.{rest_bytes, rest_size, void_node}
@@ -143,6 +152,17 @@ module _ (text before content after : List ℕ) (line_end m : ℕ) (line : IsLin
   chunk_nodes name (inr (inr (inl is))) = subst (λ (x : Name). HasParts x) (sym is) (html_by, raw_by n.HtmlFlowData (record { no_data = refl; no_definition = refl; no_code = refl; no_math = refl }))
   chunk_nodes name (inr (inr (inr is))) = subst (λ (x : Name). HasParts x) (sym is) (front_by, raw_by n.FrontmatterChunk (record { no_data = refl; no_definition = refl; no_code = refl; no_math = refl }))
 
+-- ---- in a row of the grammar
+
+abbrev IsChunk : Name → Type 0
+IsChunk name = (same_name name n.Data ≡ false) × (may_end (row name Plain) ≡ true)
+
+chunk_void : (name : Name) → IsChunkName name → IsChunk name
+chunk_void name (inl is) = subst IsChunk (sym is) (refl, refl)
+chunk_void name (inr (inl is)) = subst IsChunk (sym is) (refl, refl)
+chunk_void name (inr (inr (inl is))) = subst IsChunk (sym is) (refl, refl)
+chunk_void name (inr (inr (inr is))) = subst IsChunk (sym is) (refl, refl)
+
 -- ---- in a walk
 
 -- white space, up to a rest further on
@@ -160,6 +180,7 @@ module _ {A : Type 0} (text : List ℕ) (name : Name) where
     pub writes : Writes text b.out d.out nodes
     pub raw : AreRaw nodes
     pub parts : raw_parts text nodes ≡ chunk_parts name codes
+    pub fill : (slots : List Slot) → TakesChunks name slots → Fill Lines slots nodes slots
 
   pub rest_written : (b d : Walk A) (before content after : List ℕ) (m : ℕ) → IsLineOf text before content after → b.line_end ≡ length before + length content
       → written_to b ≡ rest_start b.line_end (drop m (whole content)) → IsInOrder text b.out → IsChunkName name
@@ -167,6 +188,7 @@ module _ {A : Type 0} (text : List ℕ) (name : Name) where
   rest_written b d before content after m line end at order is_chunk writes =
       let follows = rest_to_end text before content after b.line_end m line end in
       let nodes = chunk_nodes text before content after b.line_end m line end name is_chunk in
+      let chunk = chunk_void name is_chunk in
       let is : void_nodes text name (rest_start b.line_end (drop m (whole content))) (end_at b.line_end 0)
       ≡ void_nodes text name (written_to b) (end_at b.line_end 0) = ap (λ (e : End). void_nodes text name e (end_at b.line_end 0)) (sym at) in
       record {
@@ -179,6 +201,8 @@ module _ {A : Type 0} (text : List ℕ) (name : Name) where
             });
         raw = subst AreRaw is nodes.1;
         parts = ap (raw_parts text) (sym is) ∙ nodes.0;
+        fill = λ slots takes.
+            void_again Lines slots name Plain text (written_to b) (end_at b.line_end 0) chunk.0 takes.chunk chunk.1;
       }
 
   -- all that is left of a line
@@ -198,6 +222,7 @@ module _ {A : Type 0} (text : List ℕ) (name : Name) where
         same = same;
         written = end ∙ ap (λ (s : Standing). end_at s.line_end 0) (sym same);
         spaced = λ some none. let is = no_codes here.rest none in absurd (omega (arith, some, ap length is));
+        fill = all.fill;
       }
 
   -- what is left of a line after some columns of white space
@@ -261,4 +286,6 @@ module _ {A : Type 0} (text : List ℕ) (name : Name) where
             let is = no_codes here.rest (no_has (block_codes here.rest) (sizes ∙ left_none)) in
             absurd (omega (arith, some, ap length is)))
             (λ h. refl);
+        fill = λ slots takes.
+            fill_both (void_between Lines slots n.SpaceOrTab text (written_to b) mid refl takes.between.space refl refl) (all.fill slots takes);
       }

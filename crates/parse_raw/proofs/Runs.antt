@@ -14,6 +14,7 @@ use Rattle.definition_block.specs.ThematicBreak.{is_break, is_break_by, is_break
 use Rattle.event_tokens.specs.Tokens.{fits, is_among, Run}
 use Rattle.parse_lines.proofs.Runs.{run_fits}
 use Rattle.parse_raw.specs.Bytes.{AreBreak, AreClosing, AreMetadataFence, break_marks, fence_marks}
+use Rattle.parse_raw.specs.Tokens.{BeginsDark}
 use Rattle.parse_raw.proofs.Bytes.{all_drop}
 
 -- ---- thematic breaks
@@ -21,16 +22,20 @@ use Rattle.parse_raw.proofs.Bytes.{all_drop}
 break_among : (byte : ℕ) → is_break_marker byte ≡ true → is_among break_marks byte ≡ true
 break_among byte is = grind (arith, nat_tests, is)
 
+break_dark : (byte : ℕ) → is_break_marker byte ≡ true → is_white byte ≡ false
+break_dark byte is = grind (arith, nat_tests, is)
+
 pub record IsBreakOf (bytes : List ℕ) : Type 0 where
   pub marker : ℕ
   pub are : AreBreak marker bytes
+  pub dark : BeginsDark bytes
 
 break_bytes : (bytes : List ℕ) → is_break_text bytes ≡ true → IsBreakOf bytes
 break_bytes [] is = absurd (false≢true is)
 break_bytes (b ∷ bs) is =
     let parts = and_parts (is_break_marker b) (is_break_by b (b ∷ bs)) is in
     let more = and_parts (list_all (λ (c : ℕ). (c == b) || is_white c) (b ∷ bs)) _ parts.1 in
-    record { marker = b; are = (break_among b parts.0, more.0) }
+    record { marker = b; are = (break_among b parts.0, more.0); dark = break_dark b parts.0 }
 
 pub break_of : (on : Constructs) (rest : Rest) → is_break on rest ≡ true → IsBreakOf (bytes_of (bare rest))
 break_of on rest is =

@@ -2,8 +2,8 @@
 use Rattle.std.proofs.Common.{◌≡◌, ℕ, ◌+◌, ◌-◌, ◌^◌, ◌<◌, ◌≤◌, Bool, true, ◌&&◌, List, [], ◌∷◌, ◌++◌, eqb, inl, refl, sym, ap, subst, ◌∙◌, drop, take, length, length-drop}
 use Rattle.std.proofs.Common.{get_or, arith}
 use Rattle.parse_raw.proofs.Prelude.{append, AreLeft, Around, cond-false, cond-true, cut, End, end_at, end_in, enter_at, Enters, exit_at, Exits, Follows}
-use Rattle.parse_raw.proofs.Prelude.{is_nil, IsInOrder, LeadsOn, Name, named, Nil, Node, one, run, same_name, Standing, standing, void_nodes, Walk, Writes}
-use Rattle.parse_raw.proofs.Prelude.{writes_around, writes_both, writes_none, WritesUpTo, written_to}
+use Rattle.parse_raw.proofs.Prelude.{is_nil, IsInOrder, LeadsOn, Name, named, Node, one, run, same_name, Standing, standing, void_nodes, Walk, Writes}
+use Rattle.parse_raw.proofs.Prelude.{writes_around, writes_both, WritesUpTo, written_to}
 use Rattle.parse_raw.proofs.Prelude.{AreNext, end_after, is_token, length-take-le, next_after, take-append-drop, text_between}
 use Rattle.std.proofs.lemmas.Bool.{eq-eqb}
 use Rattle.std.proofs.lemmas.List.{drop_all}
@@ -11,36 +11,41 @@ use Rattle.std.proofs.Math.Seq.{take-length}
 use Rattle.engine_events.specs.declared.event.Name.TheVariants as n
 use Rattle.parse_lines.proofs.Bytes.{whole_between}
 use Rattle.parse_raw.proofs.LineTokens.{after_first}
-use Rattle.parse_raw.proofs.Nodes.{IsRawName, raw_append, raw_none, raw_void}
+use Rattle.parse_raw.specs.Tokens.{WritesTokens}
+use Rattle.parse_raw.proofs.Nodes.{IsRawName, raw_append, raw_void}
 
 -- an index further on
 pub index_follows : (text : List ℕ) (i j : ℕ) → i ≤ j → j ≤ length text → Follows text (end_at i 0) (end_at j 0)
 index_follows text i j forward within = record { forward = forward; within = within; columns = λ same. omega arith; whole = inl refl }
 
 module _ {A : Type 0} where
-  -- nothing
-  pub tokens_none : (bytes : List ℕ) (w : Walk A) → LeadsOn bytes bytes w w
-  tokens_none bytes w text left = record { nodes = Nil; writes = writes_none text w.out left.order; raw = raw_none; same = refl; after = left }
-
   -- some, and then others
+  abbrev pub tokens_joined : (text ys zs : List ℕ) (a b c : Walk A) → WritesTokens text ys a b → WritesTokens text zs b c → WritesTokens text zs a c
+  tokens_joined text ys zs a b c one two = record {
+    nodes = append one.nodes two.nodes;
+    writes = writes_both text a.out b.out c.out one.nodes two.nodes one.writes two.writes;
+    raw = raw_append one.nodes two.nodes one.raw two.raw;
+    same = two.same ∙ one.same;
+    after = two.after;
+  }
+
   pub tokens_both : (xs ys zs : List ℕ) (a b c : Walk A) → LeadsOn xs ys a b → LeadsOn ys zs b c → LeadsOn xs zs a c
   tokens_both xs ys zs a b c first second text left =
       let one = first text left in
       let two = second text one.after in
-      record {
-        nodes = append one.nodes two.nodes;
-        writes = writes_both text a.out b.out c.out one.nodes two.nodes one.writes two.writes;
-        raw = raw_append one.nodes two.nodes one.raw two.raw;
-        same = two.same ∙ one.same;
-        after = two.after;
-      }
+      tokens_joined text ys zs a b c one two
 
   -- an event that holds no other
-  pub token_on : (name : Name) (bytes : List ℕ) (size : ℕ) (a b : Walk A) → IsRawName name → size ≤ length bytes → is_token name (take size bytes) ≡ true
+  pub record WritesVoid (text : List ℕ) (name : Name) (bytes : List ℕ) (size : ℕ) (a b : Walk A) : Type 0 where
+    pub tokens : WritesTokens text (drop size bytes) a b
+    pub is : tokens.nodes ≡ void_nodes text name (written_to a) (end_at ((written_to a).index + size) 0)
+
+  pub token_void : (name : Name) (bytes : List ℕ) (size : ℕ) (a b : Walk A) → IsRawName name → size ≤ length bytes → is_token name (take size bytes) ≡ true
       → standing b ≡ standing a
       → ((written_to a).index + size < 2 ^ 64 → written_to b ≡ end_at ((written_to a).index + size) 0)
-      → ((written_to a).index + size < 2 ^ 64 → WritesUpTo name (end_at ((written_to a).index + size) 0) a b) → LeadsOn bytes (drop size bytes) a b
-  token_on name bytes size a b raw le may same ends writes text left =
+      → ((written_to a).index + size < 2 ^ 64 → WritesUpTo name (end_at ((written_to a).index + size) 0) a b)
+      → (text : List ℕ) → AreLeft text bytes a → WritesVoid text name bytes size a b
+  token_void name bytes size a b raw le may same ends writes text left =
       let index = ap (λ (e : End). e.index) left.at in
       let line_end = ap (λ (s : Standing). s.line_end) same in
       let fits : (written_to a).index + size < 2 ^ 64 = omega (arith, index, left.within, left.end, left.fits, le) in
@@ -62,20 +67,29 @@ module _ {A : Type 0} where
       ap (text_between text (written_to a)) (sym reached) ∙ whole_between text (written_to a) front (drop size bytes) whole next in
       let done = writes fits text left.order (record { follows = follows; bytes = ap (is_token name) between ∙ may }) in
       record {
-        nodes = void_nodes text name (written_to a) to;
-        writes = done;
-        raw = raw_void text name (written_to a) to raw;
-        same = same;
-        after = record {
-          order = done.order;
-          at = ends fits ∙ ap (λ (k : ℕ). end_at k 0) there;
-          next =
-              subst (λ (e : End). AreNext text e (drop size bytes)) (reached ∙ sym (ends fits)) (next_after text front (drop size bytes) (written_to a) next);
-          within = omega (arith, left.within, line_end, behind);
-          end = omega (arith, left.end, line_end);
-          fits = left.fits;
+        tokens = record {
+          nodes = void_nodes text name (written_to a) to;
+          writes = done;
+          raw = raw_void text name (written_to a) to raw;
+          same = same;
+          after = record {
+            order = done.order;
+            at = ends fits ∙ ap (λ (k : ℕ). end_at k 0) there;
+            next =
+                subst (λ (e : End). AreNext text e (drop size bytes)) (reached ∙ sym (ends fits)) (next_after text front (drop size bytes) (written_to a) next);
+            within = omega (arith, left.within, line_end, behind);
+            end = omega (arith, left.end, line_end);
+            fits = left.fits;
+          };
         };
+        is = refl;
       }
+
+  pub token_on : (name : Name) (bytes : List ℕ) (size : ℕ) (a b : Walk A) → IsRawName name → size ≤ length bytes → is_token name (take size bytes) ≡ true
+      → standing b ≡ standing a
+      → ((written_to a).index + size < 2 ^ 64 → written_to b ≡ end_at ((written_to a).index + size) 0)
+      → ((written_to a).index + size < 2 ^ 64 → WritesUpTo name (end_at ((written_to a).index + size) 0) a b) → LeadsOn bytes (drop size bytes) a b
+  token_on name bytes size a b raw le may same ends writes text left = (token_void name bytes size a b raw le may same ends writes text left).tokens
 
   -- all that is left
   pub token_all : (name : Name) (bytes : List ℕ) (a b : Walk A) → IsRawName name → is_token name bytes ≡ true → standing b ≡ standing a

@@ -1,5 +1,5 @@
 -- What is written of the lines of a raw block: code, math, HTML (CommonMark 4.4 to 4.6); and of frontmatter.
-use Rattle.std.specs.Prelude.{◌≡◌, ◌⊎◌, ℕ, ◌<◌, true, false, List, [], ◌∷◌, ◌++◌, Option, None, length, map}
+use Rattle.std.specs.Prelude.{◌≡◌, ◌⊎◌, ℕ, ◌<◌, true, false, List, [], ◌∷◌, ◌++◌, Option, None, Some, length, map}
 use Rattle.std.specs.List.{list_all}
 use Rattle.markdown_options.specs.declared.line_ending.LineEnding.{LineEnding}
 use Rattle.engine_events.specs.Names.{same_name}
@@ -8,6 +8,11 @@ use Rattle.engine_events.specs.declared.event.Name.TheVariants as n
 use Rattle.definition_text.specs.BlockLines.{BlockLine, last_ending_or}
 use Rattle.definition_text.specs.Columns.{Code, Rest, block_codes, bytes_of, code_byte}
 use Rattle.definition_block.specs.Tree.{rest_line}
+use Rattle.event_grammar.specs.declared.slot.Between.TheVariants.{Lines}
+use Rattle.event_grammar.specs.declared.slot.Form.TheVariants.{Plain}
+use Rattle.event_grammar.specs.declared.slot.Slot.{Slot}
+use Rattle.event_grammar.specs.Slots.{take_child}
+use Rattle.parse_slots.specs.Left.{Fill, TakesNoBetween, took}
 use Rattle.event_grammar.specs.References.{named}
 use Rattle.event_grammar.specs.Trees.{Nodes}
 use Rattle.event_meaning.specs.Children.{child, ends_in}
@@ -34,6 +39,11 @@ pub record IsRawName (name : Name) : Type 0 where
   pub no_definition : same_name name n.Definition ≡ false
   pub no_code : same_name name n.CodeFencedFence ≡ false
   pub no_math : same_name name n.MathFlowFence ≡ false
+
+-- Any number of chunks of a name may stand in what is left of a row, and lines may end between them.
+pub record TakesChunks (name : Name) (slots : List Slot) : Type 0 where
+  pub chunk : take_child slots name ≡ Some (took Plain slots)
+  pub between : TakesNoBetween slots
 
 -- ---- the parts of lines
 
@@ -75,6 +85,8 @@ pub record WritesCut {A : Type 0} (text : List ℕ) (name : Name) (cut : Rest �
   pub written : written_to new ≡ end_at new.line_end 0
   -- where all of a line is cut, white space is last
   pub spaced : 0 < length here.rest → has_codes (block_codes (cut here.rest)) ≡ false → ends_in n.SpaceOrTab false nodes ≡ true
+  -- they are chunks of a row
+  pub fill : (slots : List Slot) → TakesChunks name slots → Fill Lines slots nodes slots
 
 -- From a walk within a line, what is left of it is written so.
 abbrev pub WritesCutLine : {A : Type 0} → Name → (Rest → Rest) → Walk A → Walk A → Type 0
@@ -94,6 +106,8 @@ pub record WritesLines {A : Type 0} (text : List ℕ) (name : Name) (first : Opt
   pub written : written_to new ≡ end_at new.line_end 0
   -- outside of containers each line holds something or has an ending, unless white space is last
   pub there : (standing old).outermost ≡ [] → (list_all is_there ls ≡ true) ⊎ ((last_ending_or first ls ≡ None) × (ends_in n.SpaceOrTab false nodes ≡ true))
+  -- they are chunks of a row
+  pub fill : (slots : List Slot) → TakesChunks name slots → Fill Lines slots nodes slots
 
 -- From a walk at the ending of a line, the next lines are written so, if these are their count.
 abbrev pub WritesCutLines : {A : Type 0} → Name → (Rest → Rest) → ℕ → Walk A → Walk A → Type 0

@@ -1,8 +1,15 @@
 -- What is written of the bytes of a line, one event after another: of a thematic break, or of a fence.
-use Rattle.std.specs.Prelude.{◌≡◌, ◌-◌, ◌≤◌, ℕ, List, length}
+use Rattle.std.specs.Prelude.{◌≡◌, ◌-◌, ◌≤◌, ℕ, false, List, [], ◌∷◌, length}
+use Rattle.definition_text.specs.Columns.{is_white}
+use Rattle.engine_events.specs.declared.event.Name.TheVariants as n
+use Rattle.event_grammar.specs.declared.slot.Between.TheVariants.{Lines}
+use Rattle.event_grammar.specs.declared.slot.Form.TheVariants.{Plain}
+use Rattle.event_grammar.specs.declared.slot.Slot.{Slot}
+use Rattle.event_grammar.specs.Grammar.{many, row}
 use Rattle.event_grammar.specs.Trees.{Nodes}
 use Rattle.parse_output.specs.Ends.{end_at}
 use Rattle.parse_output.specs.Written.{IsInOrder, Writes}
+use Rattle.parse_slots.specs.Left.{Fill}
 use Rattle.parse_lines.specs.declared.walk.Walk.{Walk}
 use Rattle.parse_lines.specs.Content.{AreNext}
 use Rattle.parse_lines.specs.Ends.{written_to}
@@ -29,3 +36,24 @@ pub record WritesTokens {A : Type 0} (text left : List ℕ) (old new : Walk A) :
 -- From a walk before these bytes, nodes are written, and others are left.
 abbrev pub LeadsOn : {A : Type 0} → List ℕ → List ℕ → Walk A → Walk A → Type 0
 LeadsOn before after old new = (text : List ℕ) → AreLeft text before old → WritesTokens text after old new
+
+-- ---- breaks (CommonMark 4.1)
+
+-- what is left of the row of a break after its first sequence
+abbrev pub break_rest : List Slot
+break_rest = many n.ThematicBreakSequence ∷ []
+
+-- a byte that is no white space comes first
+abbrev pub BeginsDark : List ℕ → Type 0
+BeginsDark [] = ⊥
+BeginsDark (b ∷ bs) = is_white b ≡ false
+
+-- the nodes of a part of a break are written, which may be its first where a marker comes first
+pub record WritesBreakPart {A : Type 0} (text before after : List ℕ) (old new : Walk A) : Type 0 where
+  pub tokens : WritesTokens text after old new
+  pub more : Fill Lines break_rest tokens.nodes break_rest
+  pub first : BeginsDark before → Fill Lines (row n.ThematicBreak Plain) tokens.nodes break_rest
+
+-- From a walk before these bytes, a part of a break is written, and others are left.
+abbrev pub PassesBreakPart : {A : Type 0} → List ℕ → List ℕ → Walk A → Walk A → Type 0
+PassesBreakPart before after old new = (text : List ℕ) → AreLeft text before old → WritesBreakPart text before after old new

@@ -1,5 +1,5 @@
 -- What is written of a block that holds no other (CommonMark 4).
-use Rattle.std.specs.Prelude.{◌≡◌, ◌≤◌, ℕ, Bool, true, List, map}
+use Rattle.std.specs.Prelude.{◌≡◌, ◌≤◌, ℕ, Bool, true, false, List, map}
 use Rattle.markdown_options.specs.declared.configuration.Constructs.{Constructs}
 use Rattle.engine_events.specs.Names.{is_listed}
 use Rattle.engine_events.specs.declared.event.Name.TheVariants as n
@@ -8,6 +8,8 @@ use Rattle.definition_inline.specs.Definition.{Definition}
 use Rattle.definition_page.specs.InlinePieces.{Meaning}
 use Rattle.definition_page.specs.Page as page
 use Rattle.event_grammar.specs.Checks.{spot_of}
+use Rattle.event_grammar.specs.declared.slot.Between.TheVariants.{Lines}
+use Rattle.event_grammar.specs.declared.slot.Form.TheVariants.{Plain}
 use Rattle.event_grammar.specs.Grammar.{block_names}
 use Rattle.event_grammar.specs.InGrammar.{node_name}
 use Rattle.event_grammar.specs.References.{named}
@@ -18,6 +20,7 @@ use Rattle.event_meaning.specs.Spelled.{definition_of}
 use Rattle.parse_output.specs.Ends.{end_at}
 use Rattle.parse_output.specs.Forest.{append, one}
 use Rattle.parse_output.specs.Written.{Writes}
+use Rattle.parse_slots.specs.Left.{IsFilled}
 use Rattle.parse_alike.specs.Meanings.{AreMeanings}
 use Rattle.parse_alike.specs.Page.{AreBlocksAlike}
 use Rattle.parse_alike.specs.Targets.{AreDefinitionsAlike}
@@ -33,6 +36,12 @@ pub record SpellsLeaf (on : Constructs) (names : Names) (text : List ℕ) (top :
   pub is_block : is_listed block_names (node_name node) ≡ true
   pub blocks : (m m' : Meaning) → AreMeanings on names m m' → AreBlocksAlike m m' (one_block (page.Leaf leaf)) (blocks_of names text top (one node))
   pub definitions : (m m' : Meaning) → AreMeanings on names m m' → AreDefinitionsAlike m m' ds (map (definition_of names text) (named n.Definition (one node)))
+
+-- whether the node of a leaf is known to fill its row of the grammar
+abbrev pub has_row : page.PageLeaf → Bool
+has_row page.Break = true
+has_row (page.Html ls) = true
+has_row leaf = false
 
 -- where a node begins and ends in a text
 abbrev pub node_start : Node → Spot
@@ -56,3 +65,4 @@ pub record WritesLeaf {A : Type 0} (on : Constructs) (names : Names) (text : Lis
   pub starts : (written_to old).index ≤ (node_start node).index
   pub begins : (node_start node).index ≤ old.line_end
   pub ends : (node_end node).index ≡ new.line_end
+  pub filled : has_row leaf ≡ true → IsFilled Lines Plain node

@@ -9,7 +9,7 @@ ghost use Rattle.definition_block.specs.Tree.{Break};
 ghost use Rattle.definition_page.specs.Read.{Reading};
 ghost use Rattle.parse_raw.specs.Bytes.{AreBreak};
 ghost use Rattle.parse_raw.specs.Reads.{WritesReadLeaf};
-ghost use Rattle.parse_raw.specs.Tokens.{LeadsOn};
+ghost use Rattle.parse_raw.specs.Tokens.{PassesBreakPart};
 
 use engine_events::event::Name;
 use parse_lines::Walk;
@@ -40,7 +40,8 @@ fn push_part<A: Allocator>(walk: &mut Walk<'_, A>, bytes: &[u8]) -> Result<usize
     ensures open { OnOk result (still_open walk.new ≡ still_open walk.old) }
     ensures size { IfOk result (λ size. size ≤ length bytes.now) }
     ensures some { IfOk result (λ size. 0 < length bytes.now → 0 < size) }
-    ensures written { IfOk result (λ size. (marker : ℕ) → AreBreak marker bytes.now → LeadsOn bytes.now (drop size bytes.now) walk.old walk.new) }
+    ensures written { IfOk result (λ size. (marker : ℕ) → AreBreak marker bytes.now
+        → PassesBreakPart bytes.now (drop size bytes.now) walk.old walk.new) }
 {
     let white = white_size(bytes);
     if white > 0 {

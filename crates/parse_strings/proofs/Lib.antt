@@ -1,6 +1,7 @@
 mod Prelude
 pub mod Codes
 pub mod Spelled
+pub mod Fills
 pub mod Strings
 pub mod References
 pub mod ReferenceSteps

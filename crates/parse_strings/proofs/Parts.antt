@@ -22,6 +22,16 @@ use Rattle.parse_lines.proofs.Ahead.{owed_after}
 use Rattle.parse_lines.proofs.InContent.{IsLineAhead, contents_both, contents_none}
 use Rattle.parse_strings.specs.Strings.{WritesNodeIn, WritesStringIn}
 use Rattle.parse_strings.proofs.Codes.{begins_feed}
+use Rattle.std.proofs.Common.{Some}
+use Rattle.event_grammar.specs.declared.slot.Between.TheVariants.{Lines}
+use Rattle.event_grammar.specs.declared.slot.Child.TheVariants.{StringPart}
+use Rattle.event_grammar.specs.declared.slot.Form.TheVariants.{Plain}
+use Rattle.event_grammar.specs.Grammar.{string_row}
+use Rattle.event_grammar.specs.Slots.{take_child}
+use Rattle.parse_slots.specs.Left.{Fill, MayEndLines, took}
+use Rattle.parse_slots.proofs.Steps.{fill_both, fill_none, fill_taken, may_both, may_lines, may_space}
+use Rattle.parse_slots.proofs.Voids.{data_fill, void_between}
+use Rattle.parse_lines.proofs.Quiet.{ending_fill}
 use Rattle.parse_strings.proofs.PlainNodes.{plain_both, plain_none, plain_one, plain_quiet, plain_void, sought_names}
 use Rattle.parse_strings.proofs.Spelled.{data_string, still_whole, string_append}
 use Rattle.parse_strings.proofs.Texts.{DataStep, EndingStep, WhiteStep, white_dark}
@@ -163,7 +173,7 @@ module _ {A : Type 0} (text : List ℕ) (stop : Stop) where
         → standing new ≡ standing old → WritesNode names text name front string ahead.line old new
         → WritesNodeIn names text name front string content stop old new
     node_in old new name front string content ahead same w =
-        record { node = w.node; named = w.named; writes = ahead.lifts (one w.node) new same w.writes; whole = w.whole; spells = w.spells; plain = w.plain }
+        record { node = w.node; named = w.named; writes = ahead.lifts (one w.node) new same w.writes; whole = w.whole; spells = w.spells; plain = w.plain; filled = w.filled }
 
   module _ (on : Constructs) (names : Names) where
     -- data
@@ -197,14 +207,16 @@ module _ {A : Type 0} (text : List ℕ) (stop : Stop) where
           whole = ap (λ (x : End). x.owed) w.end ∙ still_whole (end_in a.out) (length front) whole;
           spells = step.text ∙ ap (λ ys. ys ++ bytes_text on names after) (sym spelled);
           plain = plain_data text (end_in a.out) (end_after (end_in a.out) size);
+          fill = λ around may. data_fill around StringPart [] text (end_in a.out) (end_after (end_in a.out) size) refl;
         }
 
     -- a node that spells what its bytes stand for
     pub node_part : (a b : Walk A) (name : Name) (front string xs after content : List ℕ) (size : ℕ)
         → WritesNodeIn names text name front string (after ++ content) stop a b
         → xs ≡ front ++ after → size ≡ length front → 0 < size → (IsUtf8 xs → IsCharBoundary xs size)
-        → bytes_text on names xs ≡ string ++ bytes_text on names after → WritesStringPart on names text xs content size stop a b
-    node_part a b name front string xs after content size w parts is some cut spells = record {
+        → bytes_text on names xs ≡ string ++ bytes_text on names after → take_child string_row name ≡ Some (took Plain string_row)
+        → WritesStringPart on names text xs content size stop a b
+    node_part a b name front string xs after content size w parts is some cut spells takes = record {
       front = front;
       after = after;
       parts = parts;
@@ -216,6 +228,7 @@ module _ {A : Type 0} (text : List ℕ) (stop : Stop) where
       whole = w.whole;
       spells = spells ∙ ap (λ ys. ys ++ bytes_text on names after) (sym w.spells);
       plain = w.plain;
+      fill = λ around may. fill_taken around string_row name Plain string_row w.node w.named takes (w.filled around);
     }
 
     -- white space before a line ending
@@ -240,6 +253,8 @@ module _ {A : Type 0} (text : List ℕ) (stop : Stop) where
               step.text
               ∙ ap (λ ys. ys ++ bytes_text on names (drop size xs)) (sym (space_string names text (end_in a.out) (end_after (end_in a.out) size)));
           plain = plain_void text n.SpaceOrTab (end_in a.out) (end_after (end_in a.out) size) refl refl;
+          fill = λ around may.
+              void_between around string_row n.SpaceOrTab text (end_in a.out) (end_after (end_in a.out) size) refl refl (may_space around (take size xs) may) refl;
         }
 
     -- a line ending, and the white space on the next line
@@ -288,6 +303,10 @@ module _ {A : Type 0} (text : List ℕ) (stop : Stop) where
               plain_both (Cons ends.node ends.quiet) voids
               (plain_both (one ends.node) ends.quiet (void_node ends.node ends.named ends.empty) (plain_quiet ends.quiet ends.are_quiet))
               (plain_void text n.SpaceOrTab from (end_after from white) refl refl);
+          fill = λ around may.
+              subst (λ b. Fill b string_row (append (Cons ends.node ends.quiet) voids) string_row) (sym (may_lines around _ (ending_any e front) may))
+              (fill_both (ending_fill string_row n.LineEnding ends.node ends.quiet ends.named ends.empty refl refl refl refl refl ends.are_quiet)
+              (void_between Lines string_row n.SpaceOrTab text from (end_after from white) refl refl refl refl));
         }
 
     -- ---- all of a string
@@ -302,6 +321,7 @@ module _ {A : Type 0} (text : List ℕ) (stop : Stop) where
       whole = whole;
       spells = refl;
       plain = plain_none;
+      fill = λ around may. fill_none around string_row;
     }
 
     pub front_more : (a b c : Walk A) (string rest left content : List ℕ) (size : ℕ) → AreCutApart string content
@@ -327,6 +347,8 @@ module _ {A : Type 0} (text : List ℕ) (stop : Stop) where
               ∙ sym (append_assoc (string_of names text one.nodes) (string_of names text two.nodes) (bytes_text on names two.after))
               ∙ ap (λ zs. zs ++ bytes_text on names two.after) (sym (string_append text names one.nodes two.nodes));
           plain = plain_both one.nodes two.nodes one.plain two.plain;
+          fill = λ around may.
+              let both = may_both around one.front two.front may in fill_both (one.fill around both.0) (two.fill around both.1);
         })
 
     pub front_all : (a b : Walk A) (string rest content : List ℕ) → rest ≡ [] → WritesStringFront on names text string rest content stop a b
@@ -342,4 +364,5 @@ module _ {A : Type 0} (text : List ℕ) (stop : Stop) where
           spells =
               sym (one.spells ∙ ap (λ zs. string_of names text one.nodes ++ bytes_text on names zs) none ∙ append-nil (string_of names text one.nodes));
           plain = one.plain;
+          fill = λ around may. one.fill around (subst (MayEndLines around) (sym whole) may);
         }

@@ -4,6 +4,9 @@ use Rattle.parse_strings.proofs.Prelude.{append, append-nil, AreMarks, AreNext, 
 use Rattle.parse_strings.proofs.Prelude.{exit_at, ExitsInLine, is_listed, lines_around, lines_both, mark_nodes, marked_text, Name, Names, Nodes, one}
 use Rattle.parse_strings.proofs.Prelude.{StandsInLine, string_of, token, void_nodes, Walk, WritesInLine, WritesMarks, WritesNode}
 use Rattle.engine_events.specs.declared.event.Name.TheVariants as n
+use Rattle.event_grammar.specs.declared.slot.Form.TheVariants.{Plain}
+use Rattle.parse_slots.proofs.Steps.{filled_in_line}
+use Rattle.parse_strings.proofs.Fills.{reference_fill}
 use Rattle.parse_strings.proofs.PlainNodes.{plain_both, plain_none, plain_one, sought_names}
 use Rattle.parse_strings.proofs.Spelled.{still_whole, token_text, void_one}
 use Rattle.parse_strings.proofs.Strings.{next_here}
@@ -89,4 +92,8 @@ module _ {A : Type 0} (names : Names) (text : List ℕ) where
             (next_here names text (value ++ 59 ∷ line) d
             (subst (λ xs. StandsInLine text xs d) (append_assoc value (59 ∷ []) line) marked.writes.stands) marked.whole);
         plain = plain_one _ refl (plain_kids text (end_in b.out).index (end_in c.out).index (end_in d.out).index (end_in e.out).index marks size);
+        filled = λ around.
+            filled_in_line around Plain n.CharacterReference []
+            (Around (enter_at text n.CharacterReference (end_in a.out)) kids (exit_at text n.CharacterReference (end_in f.out))) refl refl refl
+            (reference_fill text (end_in b.out).index (end_in c.out).index (end_in d.out).index (end_in e.out).index size marks first are) refl;
       }

@@ -4,6 +4,12 @@ use Rattle.engine_events.specs.declared.event.Name.TheVariants as n
 use Rattle.parse_strings.proofs.Prelude.{append, AreNext, Around, cut, End, end_after, end_at, end_in, enter_at, EntersInLine, exit_at, ExitsInLine}
 use Rattle.parse_strings.proofs.Prelude.{lines_around, lines_both, Names, Nodes, one, StandsInLine, string_of, token, void_nodes, Walk, WritesInLine}
 use Rattle.parse_strings.proofs.Prelude.{WritesNode}
+use Rattle.event_grammar.specs.declared.slot.Between.TheVariants.{Spaces}
+use Rattle.event_grammar.specs.declared.slot.Form.TheVariants.{Plain}
+use Rattle.event_grammar.specs.Grammar.{row}
+use Rattle.parse_slots.specs.Left.{Fill}
+use Rattle.parse_slots.proofs.Steps.{filled_in_line}
+use Rattle.parse_strings.proofs.Fills.{escape_fill}
 use Rattle.parse_strings.proofs.PlainNodes.{plain_both, plain_one, plain_void}
 use Rattle.parse_strings.proofs.Spelled.{still_whole, token_text, void_one, whole_end}
 
@@ -48,4 +54,11 @@ module _ {A : Type 0} (names : Names) (text : List ℕ) where
             plain_one _ refl
             (plain_both markers values (plain_void text n.CharacterEscapeMarker (end_in b.out) (end_after (end_in b.out) 1) refl refl)
             (plain_void text n.CharacterEscapeValue (end_in c.out) (end_after (end_in c.out) 1) refl refl));
+        filled = λ around.
+            filled_in_line around Plain n.CharacterEscape []
+            (Around (enter_at text n.CharacterEscape (end_in a.out)) (append markers values) (exit_at text n.CharacterEscape (end_in d.out))) refl refl refl
+            (subst (λ ns. Fill Spaces (row n.CharacterEscape Plain) ns [])
+            (sym (ap₂ append (void_one text n.CharacterEscapeMarker (end_in b.out) 1 whole_b (omega arith) refl)
+            (void_one text n.CharacterEscapeValue (end_in c.out) 1 whole_c (omega arith) refl)))
+            (escape_fill text (end_in b.out).index (end_in c.out).index)) refl;
       }

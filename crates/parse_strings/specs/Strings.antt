@@ -10,6 +10,9 @@ use Rattle.definition_inline.specs.CharacterEscape.{escape_at}
 use Rattle.definition_inline.specs.CharacterReference.{Names, reference_at}
 use Rattle.definition_inline.specs.Strings.{begins_with_eol, string_text}
 use Rattle.engine_events.specs.declared.event.Name.{Name}
+use Rattle.event_grammar.specs.declared.slot.Between.{Between}
+use Rattle.event_grammar.specs.declared.slot.Form.TheVariants.{Plain}
+use Rattle.event_grammar.specs.Grammar.{string_row}
 use Rattle.event_grammar.specs.InGrammar.{node_name}
 use Rattle.event_grammar.specs.Trees.{Node, Nodes}
 use Rattle.event_meaning.specs.Strings.{is_told, string_of}
@@ -17,6 +20,7 @@ use Rattle.parse_output.specs.Forest.{one}
 use Rattle.parse_lines.specs.declared.walk.Walk.{Walk}
 use Rattle.parse_lines.specs.Content.{StandsInLine, WritesInLine}
 use Rattle.parse_lines.specs.InContent.{IsWhole, Stop, WritesInContent}
+use Rattle.parse_slots.specs.Left.{Fill, IsFilled, MayEndLines}
 use Rattle.parse_strings.specs.Plain.{ArePlain}
 
 -- the text that the bytes of a string stand for (CommonMark 2.4 and 2.5)
@@ -36,6 +40,7 @@ pub record WritesNode {A : Type 0} (names : Names) (text : List ℕ) (name : Nam
   pub whole : IsWhole new
   pub spells : string_of names text (one node) ≡ string
   pub plain : ArePlain (one node)
+  pub filled : (around : Between) → IsFilled around Plain node
 
 -- the same in a content
 pub record WritesNodeIn {A : Type 0} (names : Names) (text : List ℕ) (name : Name) (front string content : List ℕ) (stop : Stop) (old new : Walk A)
@@ -46,6 +51,7 @@ pub record WritesNodeIn {A : Type 0} (names : Names) (text : List ℕ) (name : N
   pub whole : IsWhole new
   pub spells : string_of names text (one node) ≡ string
   pub plain : ArePlain (one node)
+  pub filled : (around : Between) → IsFilled around Plain node
 
 -- A string has one line, or no white space and no line ending comes after it: so neither a line ending nor a tab is cut where it ends.
 abbrev pub AreCutApart : List ℕ → List ℕ → Type 0
@@ -76,6 +82,7 @@ pub record WritesStringPart {A : Type 0} (on : Constructs) (names : Names) (text
   pub whole : IsWhole new
   pub spells : bytes_text on names string ≡ string_of names text nodes ++ bytes_text on names after
   pub plain : ArePlain nodes
+  pub fill : (around : Between) → MayEndLines around front → Fill around string_row nodes string_row
 
 -- nodes are written for all of a string but its rest
 pub record WritesStringFront {A : Type 0} (on : Constructs) (names : Names) (text string rest content : List ℕ) (stop : Stop) (old new : Walk A)
@@ -87,6 +94,7 @@ pub record WritesStringFront {A : Type 0} (on : Constructs) (names : Names) (tex
   pub whole : IsWhole new
   pub spells : bytes_text on names string ≡ string_of names text nodes ++ bytes_text on names rest
   pub plain : ArePlain nodes
+  pub fill : (around : Between) → MayEndLines around front → Fill around string_row nodes string_row
 
 -- nodes are written for a string in a content, which spell the text that the string stands for, and the bytes after it are ahead
 pub record WritesStringIn {A : Type 0} (names : Names) (on : Constructs) (text string content : List ℕ) (stop : Stop) (old new : Walk A) : Type 0 where
@@ -95,3 +103,4 @@ pub record WritesStringIn {A : Type 0} (names : Names) (on : Constructs) (text s
   pub whole : IsWhole new
   pub spells : string_of names text nodes ≡ bytes_text on names string
   pub plain : ArePlain nodes
+  pub fill : (around : Between) → MayEndLines around string → Fill around string_row nodes string_row

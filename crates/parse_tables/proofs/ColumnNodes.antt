@@ -9,7 +9,7 @@ use Rattle.engine_events.specs.declared.event.Event.{Event}
 use Rattle.engine_events.specs.declared.event.Name.TheVariants as n
 use Rattle.event_check.specs.Align.{align_of, mark, marks, marks_in}
 use Rattle.event_check.specs.declared.align.Marks.{Marks}
-use Rattle.parse_lines.proofs.ContentLines.{void_is}
+use Rattle.parse_slots.proofs.Voids.{void_is}
 use Rattle.parse_lines.proofs.Quiet.{no_void}
 
 -- ---- runs

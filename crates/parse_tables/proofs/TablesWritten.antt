@@ -1,5 +1,6 @@
 -- A table is written (GFM 4.10).
 use Rattle.std.proofs.Common.{◌≡◌, ℕ, zero, suc, ◌-◌, ◌<◌, ◌≤◌, Bool, List, [], ◌∷◌, Option, None, Some, drop, get_or, length, take, refl, sym, ap, ap₂, subst, ◌∙◌, arith}
+use Rattle.std.proofs.lemmas.Bool.{false≢true}
 use Rattle.parse_tables.proofs.Prelude.{AlignKind, append, AreBody, AreTablesAlike, AreTaken, around, Around, AtEnding, bare, Between, block_codes, block_line}
 use Rattle.parse_tables.proofs.Prelude.{BlockLine, bytes_of, delimiters, End, end_at, end_in, enter_at, exit_at, HoldSame, HoldsSame, InAll, IsHeadNode}
 use Rattle.parse_tables.proofs.Prelude.{IsInOrder, IsOn, IsRowLine, IsWrittenToRest, last_ending_or, line_left, LineEnding, LineRest, named, Nil, Node, one}
@@ -142,6 +143,7 @@ module _ {A : Type 0} (r : Reading) (head row : BlockLine) (rows : List BlockLin
           starts = omega arith;
           begins = rest_within text old here left at to_rest;
           ends = ap (λ (e : End). e.index) (sym exits.end ∙ place);
+          filled = λ is. absurd (false≢true is);
         }
 
     by_place : (h d : BlockLine) (others : List BlockLine) (next_lines : List LineRest) (below : LineRest) (after behind : List LineRest)

@@ -1,7 +1,7 @@
-use Rattle.std.proofs.Common.{arith, refl}
+use Rattle.std.proofs.Common.{arith}
 use Rattle.parse_raw.proofs.Prelude.{all_prefix, is_white}
-use Rattle.engine_events.specs.declared.event.Name.TheVariants as n
-use Rattle.parse_raw.proofs.Tokens.{run_some, token_on}
+use Rattle.parse_raw.proofs.Breaks.{dark_some, sequence_part, space_part}
+use Rattle.parse_raw.proofs.Tokens.{run_some}
 use Rattle.parse_raw.proofs.Runs.{part_fits}
 use Rattle.parse_raw.proofs.thematic_break.push_part.Goals as goal
 
@@ -11,8 +11,7 @@ returns-then-white-gt0-clause-size g c = c.white_size-white.ensures.within
 pub returns-then-white-gt0-clause-written : goal.returns-then-white-gt0-clause-written
 returns-then-white-gt0-clause-written g c = λ marker are.
     let token = c.in_ok-token.ensures in
-    token_on n.SpaceOrTab c.args.bytes.now c.white_size-white.result c.args.walk.now c.token.new.self
-    (record { no_data = refl; no_definition = refl; no_code = refl; no_math = refl }) c.white_size-white.ensures.within
+    space_part c.args.bytes.now c.white_size-white.result c.args.walk.now c.token.new.self (omega (arith, c.if-white-gt0.true)) c.white_size-white.ensures.within
     (all_prefix is_white c.white_size-white.result c.args.bytes.now (omega (arith, c.white_size-white.ensures.size))) token.stays token.end token.written
 
 pub returns-clause-some : goal.returns-clause-some
@@ -23,7 +22,9 @@ returns-clause-some g c some =
 pub returns-clause-written : goal.returns-clause-written
 returns-clause-written g c = λ marker are.
     let token = c.in_ok-token-2.ensures in
-    token_on n.ThematicBreakSequence c.args.bytes.now c.run-size.result c.args.walk.now c.token-2.new.self
-    (record { no_data = refl; no_definition = refl; no_code = refl; no_math = refl }) c.run-size.ensures.within
+    sequence_part c.args.bytes.now c.run-size.result c.args.walk.now c.token-2.new.self
+    (λ dark.
+    let run = run_some c.args.bytes.now c.first.result (dark_some c.args.bytes.now dark) c.first.ensures in omega (arith, run, c.run-size.ensures.size))
+    c.run-size.ensures.within
     (part_fits marker c.first.result c.run-size.result c.args.bytes.now are (omega (arith, c.white_size-white.ensures.size, c.if-white-gt0.false)) c.first.ensures
     c.run-size.ensures.size) token.stays token.end token.written

@@ -1,16 +1,22 @@
 use Rattle.std.proofs.Common.{◌≡◌, ℕ, List, refl, sym, ap, subst, ◌∙◌, arith, drop}
 use Rattle.engine_events.specs.declared.event.Name.TheVariants as n
 use Rattle.definition_page.specs.Page as page
-use Rattle.parse_raw.proofs.Prelude.{AreLeft, bare, bytes_of, end_at, line_left, Prefixed, Rest, rest_of, LeadsOn, standing, Standing}
+use Rattle.parse_raw.proofs.Prelude.{AreLeft, bare, bytes_of, end_at, line_left, Prefixed, Rest, rest_of, standing, Standing}
 use Rattle.parse_raw.specs.Bytes.{AreBreak}
+use Rattle.event_grammar.specs.declared.slot.Between.TheVariants.{Lines}
+use Rattle.event_grammar.specs.declared.slot.Form.TheVariants.{Plain}
+use Rattle.parse_slots.proofs.Steps.{filled_by}
+use Rattle.parse_raw.proofs.Prelude.{Around, end_in, enter_at, exit_at}
+use Rattle.parse_raw.specs.Tokens.{BeginsDark, break_rest, PassesBreakPart}
+use Rattle.parse_raw.proofs.Breaks.{parts_filled, parts_more, parts_none}
 use Rattle.parse_raw.proofs.LeafNodes.{leaf_written, stands_here, white_written}
 use Rattle.parse_raw.proofs.NextLines.{all_ok, no_bytes_left, some_length}
 use Rattle.parse_raw.proofs.Runs.{break_drop, break_of}
-use Rattle.parse_raw.proofs.Tokens.{left_none, left_same, tokens_both, tokens_none}
+use Rattle.parse_raw.proofs.Tokens.{left_none, left_same}
 use Rattle.parse_raw.proofs.thematic_break.push_thematic_break.Goals as goal
 
 pub loop-rest-init : goal.loop-rest-init
-loop-rest-init g c = record { «open» = refl; on = λ marker are. (are, tokens_none c.as_bytes-rest.result.now c.enter.new.self) }
+loop-rest-init g c = record { «open» = refl; on = λ marker are. (are, parts_none c.as_bytes-rest.result.now c.enter.new.self) }
 
 pub loop-rest-preserved : goal.loop-rest-preserved
 loop-rest-preserved g c =
@@ -26,8 +32,8 @@ loop-rest-preserved g c =
       on = λ marker are.
           let before = c.loop-rest.invariant.on marker are in (
             subst (AreBreak marker) left (break_drop marker c.in_ok-size.size rest before.0),
-            tokens_both c.as_bytes-rest.result.now rest c.bytes_from-rest.result.now c.enter.new.self c.loop-rest.walk c.push_part.new.walk before.1
-                (subst (λ (bs : List ℕ). LeadsOn rest bs c.loop-rest.walk c.push_part.new.walk) left (part.written marker before.0)),
+            parts_more c.as_bytes-rest.result.now rest c.bytes_from-rest.result.now c.enter.new.self c.loop-rest.walk c.push_part.new.walk before.1
+                (subst (λ (bs : List ℕ). PassesBreakPart rest bs c.loop-rest.walk c.push_part.new.walk) left (part.written marker before.0)),
           );
     }
 
@@ -47,8 +53,10 @@ returns-clause-written g c =
     let left_b = left_same text _ a b space.after entered.order enter.stays enter.end in
     let rest_is : rest_of old.rest ≡ laid.0.rest = st.rest ∙ ap (λ (p : Prefixed). (line_left p).rest) laid.2.0 in
     let is = break_of old.on.now laid.0.rest laid.3 in
-    let are = subst (AreBreak is.marker) (sym (bytes ∙ ap (λ (r : Rest). bytes_of (bare r)) rest_is)) is.are in
-    let kids = (c.loop-rest.invariant.on is.marker are).1 text (subst (λ (bs : List ℕ). AreLeft text bs b) (sym bytes) left_b) in
+    let same_bytes = sym (bytes ∙ ap (λ (r : Rest). bytes_of (bare r)) rest_is) in
+    let are = subst (AreBreak is.marker) same_bytes is.are in
+    let parts = (c.loop-rest.invariant.on is.marker are).1 text (subst (λ (bs : List ℕ). AreLeft text bs b) (sym bytes) left_b) in
+    let kids = parts.tokens in
     let same = stays ∙ kids.same ∙ enter.stays ∙ white.stays in
     let line_end = ap (λ (s : Standing). s.line_end) stays in
     let none = no_bytes_left c.loop-rest.rest.now c.loop-rest-test.ensures in
@@ -56,5 +64,9 @@ returns-clause-written g c =
     (exits text kids.writes.order) refl refl refl kids.raw.definitions (λ m m'. (tt, tt))
     (stands_here text here laid.0 left laid.1 to (standing old) (standing d) st laid.2.0 laid.2.1 laid.4 same)
     (ap (λ (s : Standing). s.on) same, ap (λ (s : Standing). s.outermost) same) end
-    (left_none text _ c.loop-rest.walk none kids.after ∙ ap (λ (k : ℕ). end_at k 0) (sym line_end)) space.starts space.begins)
+    (left_none text _ c.loop-rest.walk none kids.after ∙ ap (λ (k : ℕ). end_at k 0) (sym line_end)) space.starts space.begins
+    (λ row_is.
+    filled_by Lines Plain n.ThematicBreak break_rest
+    (Around (enter_at text n.ThematicBreak (end_in a.out)) kids.nodes (exit_at text n.ThematicBreak (end_in c.loop-rest.walk.out))) refl
+    (parts_filled text c.as_bytes-rest.result.now c.loop-rest.rest.now b c.loop-rest.walk parts (subst BeginsDark same_bytes is.dark) none) refl))
     c.exit.ensures.exits c.exit.ensures.end c.exit.ensures.stays

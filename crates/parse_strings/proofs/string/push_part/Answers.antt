@@ -17,7 +17,7 @@ returns-then-is_some-clause-written g c = λ text content stop some apart st who
     c.in_ok-push_escape.ensures.written names text (step.after ++ content) step.byte stop step.mark
     (subst (λ ys. StandsInContent text ys stop c.args.walk.now) (ap (λ ys. ys ++ content) step.whole) st) whole in
     node_part text stop on names _ _ CharacterEscape (92 ∷ step.byte ∷ []) (step.byte ∷ []) xs step.after content 2 w step.whole refl (omega arith) step.cut
-    step.text
+    step.text refl
 
 pub returns-in-Some-clause-written : goal.returns-in-Some-clause-written
 returns-in-Some-clause-written g c = λ text content stop some apart st whole.
@@ -43,7 +43,7 @@ returns-in-Some-clause-written g c = λ text content stop some apart st whole.
     (subst (λ ys. StandsInContent text ys stop c.args.walk.now) (ap (λ ys. ys ++ content) step.whole ∙ append_assoc front rest content) st) whole in
     node_part text stop on names _ _ CharacterReference front
     (marked_text names step.marks value) xs rest content c.saturating_sub-size.result w step.whole size
-    (omega (arith, size, parts)) (step.cut c.saturating_sub-size.result size) step.text
+    (omega (arith, size, parts)) (step.cut c.saturating_sub-size.result size) step.text refl
 
 pub returns-clause-written : goal.returns-clause-written
 returns-clause-written g c =
