@@ -1,9 +1,9 @@
 #!/bin/sh
-# Tries the wrong bodies that are too dear for the gate, and writes what refused each into the table of docs/GATE.md.
+# Tries the wrong bodies that the gate doesn't try, and writes what refused each into the table of docs/GATE.md.
 #
 #     bench/wrong.sh [CRATE..]
 #
-# A file of crates/CRATE/wrong is a must-fail edit of a crate whose proof takes more than a minute. Without a CRATE all of them
+# A file of crates/CRATE/wrong is a must-fail edit, too dear for the gate or of no grave fault. Without a CRATE all of them
 # are tried. Rows of crates that are not tried keep their day. It fails if an edit is not refused, or can't be applied or read,
 # or is refused only because a proof file names what the edit took away.
 #
