@@ -1,8 +1,8 @@
 -- Events that hold no text with rows of its own: their rows by events and by their nodes.
 use Rattle.std.proofs.Common.{◌≡◌, ℕ, ◌+◌, ◌-◌, Bool, true, false, not, if◌then◌else◌, List, [], ◌∷◌, ◌++◌, map}
 use Rattle.std.proofs.Common.{Option, None, Some, refl, sym, ap, ◌∙◌, append_assoc}
-use Rattle.compile_rows.proofs.Prelude.{AreNodes, AreTexts, Around, Autolink, autolink_by, Cons, content_codes, Data, ending_rows, Event, events_of, has}
-use Rattle.compile_rows.proofs.Prelude.{HasEndings, HaveEndings, Html, html_after, html_next, html_part_rows, inline_rows, InlineRow, IsNode, IsTextNode, Kind}
+use Rattle.compile_rows.proofs.Prelude.{AreNodes, AreTexts, Around, Autolink, autolink_by, Cons, Data, ending_rows, Event, events_of, has}
+use Rattle.compile_rows.proofs.Prelude.{HasEndings, HaveEndings, html_after, html_next, html_part_rows, inline_rows, InlineRow, IsNode, IsTextNode, Kind}
 use Rattle.compile_rows.proofs.Prelude.{less, LinkTexts, literal_rows, Name, Names, Nil, Nodes, nonzero, number_of, numbered_text, Part, passes, PassesOver}
 use Rattle.compile_rows.proofs.Prelude.{raw_after, reference_by, same_name, split, Target, text_first, text_in, text_is, text_of, unwrap_or, valid, value_of}
 use Rattle.std.specs.Prelude.{is_some}
@@ -17,7 +17,7 @@ use Rattle.event_grammar.specs.InGrammar.{node_name}
 use Rattle.event_grammar.specs.Trees.{Node}
 use Rattle.event_meaning.specs.Children.{child, text_or_none, spaced_text_of, before_child, after_child}
 use Rattle.event_meaning.specs.Strings.{reference_text_of}
-use Rattle.event_meaning.specs.Texts.{code_part, code_parts, html_part, html_parts, autolink_of, literal_of}
+use Rattle.event_meaning.specs.Texts.{code_part, code_parts, html_data, html_part, html_parts, autolink_of, literal_of}
 use Rattle.compile_written.specs.Child.{from_child}
 use Rattle.compile_written.specs.Strings.{is_some_event}
 use Rattle.compile_written.specs.Within.{AreWithin, StandsFirst}
@@ -113,7 +113,8 @@ module _ (names : Names) (bytes : List ℕ) (leads : Target → LinkTexts) where
 
   html_part_is : (name : Name) (node : Node) (es : List Event) → node_name node ≡ name → StandsFirst (Some node) es → IsTextNode bytes node
       → HasEndings bytes node → html_part_rows name (text_first bytes es) ≡ inline_rows leads (html_part names bytes name (text_of bytes node))
-  html_part_is n.HtmlTextData node es e s t h = ap (λ (z : List ℕ). Part (Html (content_codes z)) ∷ []) (own_text bytes node es s t)
+  html_part_is n.HtmlTextData node es e s t h =
+      ap (λ (z : List ℕ). map Part (html_data z)) (own_text bytes node es s t) ∙ sym (leaves_rows leads (html_data (text_of bytes node)))
   html_part_is n.LineEnding (Around enter kids exit) es e s t h =
       ap ending_rows (text_is bytes (Some (Around enter kids exit)) es s)
       ∙ sym (endings_rows leads (text_of bytes (Around enter kids exit)) (h.0 (ap (λ (z : Name). same_name z n.LineEnding) e)))

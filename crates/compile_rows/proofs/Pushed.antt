@@ -1,10 +1,16 @@
 -- Rows and texts that are pushed.
-use Rattle.std.proofs.Common.{◌≡◌, ℕ, Bool, true, false, if◌then◌else◌, List, [], ◌∷◌, ◌++◌, Option, Some, sym, ap, ◌∙◌, subst}
-use Rattle.compile_rows.proofs.Prelude.{Autolink, autolink_by, Character, content_codes, ending_rows, Event, has, Html, html_part_rows, InlineRow}
+use Rattle.std.proofs.Common.{◌≡◌, ℕ, Bool, true, false, if◌then◌else◌, List, [], ◌∷◌, ◌++◌, Option, Some, sym, ap, ◌∙◌, append_assoc, subst}
+use Rattle.compile_rows.proofs.Prelude.{Autolink, autolink_by, Character, ending_rows, Event, has, html_part_rows, InlineRow, LineEnd}
 use Rattle.compile_rows.proofs.Prelude.{literal_kind, literal_rows, Name, Names, number_of, numbered_text, OnOk, option_map, Part, reference_by, same_name}
 use Rattle.compile_rows.proofs.Prelude.{unwrap_or, valid, value_of}
-use Rattle.std.specs.Prelude.{Result}
+use Rattle.std.specs.List.{flat_map}
+use Rattle.std.specs.Prelude.{Result, map}
+use Rattle.std.proofs.lemmas.List.{map-append}
+use Rattle.markdown_options.specs.declared.line_ending.LineEnding.{LineEnding}
+use Rattle.definition_text.specs.Content.{ending_code}
+use Rattle.definition_text.specs.Lines.{TextLine, lines, text_line}
 use Rattle.engine_events.specs.declared.event.Name.TheVariants as n
+use Rattle.event_meaning.specs.Texts.{html_data, html_line, html_piece}
 use Rattle.definition_inline.specs.Inline.{Literal}
 use Rattle.definition_inline.specs.Inline as inline
 use Rattle.inline_leaves.specs.Leaves.{kind_view}
@@ -71,14 +77,31 @@ literal_row linked name found kind text piece e f t l =
     ∙ ap (λ (z : Bool). literal_rows z (Some (kind_view kind)) (valid piece)) (sym l)
     ∙ ap (λ (z : Option inline.LiteralKind). literal_rows linked z (valid piece)) (sym (ap (option_map kind_view) f) ∙ e)
 
-pub html_data : (name : Name) (text piece : List ℕ) → text ≡ valid piece → same_name name n.HtmlTextData ≡ true
-    → Part (Html (content_codes text)) ∷ [] ≡ html_part_rows name piece
-html_data name text piece t h =
-    ap (λ (z : List ℕ). Part (Html (content_codes z)) ∷ []) t
-    ∙ ap (λ (z : Bool). if z then Part (Html (content_codes (valid piece))) ∷ [] else (if same_name name n.LineEnding then ending_rows piece else [])) (sym h)
+pub data_lines : (name : Name) (text piece : List ℕ) → text ≡ valid piece → same_name name n.HtmlTextData ≡ true
+    → map Part (html_data text) ≡ html_part_rows name piece
+data_lines name text piece t h =
+    ap (λ (z : List ℕ). map Part (html_data z)) t
+    ∙ ap (λ (z : Bool). if z then map Part (html_data (valid piece)) else (if same_name name n.LineEnding then ending_rows piece else [])) (sym h)
 
 pub html_ending : (name : Name) (piece : List ℕ) → same_name name n.HtmlTextData ≡ false → same_name name n.LineEnding ≡ true
     → ending_rows piece ≡ html_part_rows name piece
 html_ending name piece h k =
     ap (λ (z : Bool). if z then ending_rows piece else []) (sym k)
-    ∙ ap (λ (z : Bool). if z then Part (Html (content_codes (valid piece))) ∷ [] else (if same_name name n.LineEnding then ending_rows piece else [])) (sym h)
+    ∙ ap (λ (z : Bool). if z then map Part (html_data (valid piece)) else (if same_name name n.LineEnding then ending_rows piece else [])) (sym h)
+
+-- a line of data is pushed, and its ending
+pub line_pushed : (old with_line new : List InlineRow) (line after rest : List ℕ) (ending : Option LineEnding)
+    → lines rest ≡ text_line line ending ∷ lines after → with_line ≡ old ++ map Part (html_piece line)
+    → new ≡ with_line ++ map Part (map LineEnd (ending_code ending)) → new ++ map Part (html_data after) ≡ old ++ map Part (html_data rest)
+line_pushed old with_line new line after rest ending is with ended =
+    let piece = map Part (html_piece line) in
+    let end = map Part (map LineEnd (ending_code ending)) in
+    let others = map Part (html_data after) in
+    ap (λ (z : List InlineRow). z ++ others) (ended ∙ ap (λ (z : List InlineRow). z ++ end) with)
+    ∙ append_assoc (old ++ piece) end others
+    ∙ append_assoc old piece (end ++ others)
+    ∙ ap (λ (z : List InlineRow). old ++ z) (sym
+    (ap (λ (ls : List TextLine). map Part (flat_map html_line ls)) is
+    ∙ map-append Part (html_piece line ++ map LineEnd (ending_code ending)) (html_data after)
+    ∙ ap (λ (z : List InlineRow). z ++ others) (map-append Part (html_piece line) (map LineEnd (ending_code ending)))
+    ∙ append_assoc piece end others))

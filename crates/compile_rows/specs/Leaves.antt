@@ -6,11 +6,12 @@ use Rattle.engine_events.specs.declared.event.Kind.{Kind}
 use Rattle.engine_events.specs.declared.event.Kind.TheVariants.{Enter, Exit}
 use Rattle.engine_events.specs.declared.event.Name.{Name}
 use Rattle.engine_events.specs.declared.event.Name.TheVariants as n
-use Rattle.definition_text.specs.Content.{content_codes, line_ending_code}
+use Rattle.definition_text.specs.Content.{line_ending_code}
 use Rattle.definition_inline.specs.CharacterReference.{Names, number_of, numbered_text}
-use Rattle.definition_inline.specs.Inline.{LiteralKind, Www, Protocol, Email, InlineLeaf, Escape, Character, Autolink, Literal, Html, EscapedBreak}
+use Rattle.definition_inline.specs.Inline.{LiteralKind, Www, Protocol, Email, InlineLeaf, Escape, Character, Autolink, Literal, EscapedBreak}
 use Rattle.definition_inline.specs.Inline.{TrailingBreak, LineEnd}
 use Rattle.event_meaning.specs.Raw.{ending_of}
+use Rattle.event_meaning.specs.Texts.{html_data}
 use Rattle.compile_written.specs.Child.{from_child, text_first}
 use Rattle.compile_written.specs.Strings.{valid, is_some_event}
 use Rattle.inline_rows.specs.InlineRows.{InlineRow, Part}
@@ -51,7 +52,7 @@ literal_rows linked (Some kind) text = if linked then data_rows text else Part (
 -- a part of raw HTML
 abbrev pub html_part_rows : Name → List ℕ → List InlineRow
 html_part_rows name piece =
-    if same_name name n.HtmlTextData then Part (Html (content_codes (valid piece))) ∷ []
+    if same_name name n.HtmlTextData then map Part (html_data (valid piece))
     else (if same_name name n.LineEnding then ending_rows piece
     else [])
 

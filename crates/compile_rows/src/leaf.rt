@@ -1,9 +1,11 @@
 //! Events that hold no text that has rows of its own (CommonMark 2.4, 2.5, 6.1 and 6.5 to 6.8).
 ghost use Rattle.std.specs.Prelude.{◌≡◌, ◌++◌, ◌∷◌, [], ℕ, OnOk, map, unwrap_or};
 ghost use Rattle.std.specs.Option.{option_map};
+ghost use Rattle.definition_text.specs.Content.{ending_code};
 ghost use Rattle.definition_inline.specs.CharacterReference.{number_of, numbered_text};
-ghost use Rattle.definition_inline.specs.Inline.{LinkTexts, Character, Escape};
+ghost use Rattle.definition_inline.specs.Inline.{LinkTexts, Character, Escape, LineEnd};
 ghost use Rattle.event_meaning.specs.Raw.{ending_of};
+ghost use Rattle.event_meaning.specs.Texts.{html_data, html_piece};
 ghost use Rattle.compile_written.specs.Strings.{valid};
 ghost use Rattle.inline_leaves.specs.Leaves.{kind_view, parts_of};
 ghost use Rattle.inline_rows.specs.InlineRows.{Part};
@@ -20,6 +22,7 @@ use inline_leaves::{LeafPart, LiteralKind};
 use inline_rows::InlineRow;
 use markdown_options::{LineEnding, Tables};
 use std::alloc::{AllocError, Allocator};
+use text_lines::next_line;
 
 /// How an event has rows that holds no text with rows of its own.
 #[derive(Clone, Copy)]
@@ -269,7 +272,7 @@ fn literal_kind(name: Name) -> Option<LiteralKind>
     }
 }
 
-/// Adds raw HTML, data and line endings each by itself (CommonMark 6.6). The events are those after
+/// Adds raw HTML, lines and line endings each by itself (CommonMark 6.6). The events are those after
 /// its enter.
 fn push_html<'a, A: Allocator>(
     rows: &mut Vec<InlineRow<'a>, A>,
@@ -307,10 +310,54 @@ fn push_html_part<'a, A: Allocator>(
     ensures { (at : ℕ → LinkTexts) → OnOk result (rows_view at rows.new.items ≡ rows_view at rows.old.items ++ html_part_rows name piece.now) }
 {
     if name == Name::HtmlTextData {
-        push_part(rows, LeafPart::Html(text_of(piece)))
+        push_html_data(rows, text_of(piece))
     } else if name == Name::LineEnding {
         push_ending(rows, piece)
     } else {
         Ok(())
+    }
+}
+
+/// Adds data of raw HTML, each line with all its bytes (CommonMark 6.6).
+fn push_html_data<'a, A: Allocator>(
+    rows: &mut Vec<InlineRow<'a>, A>,
+    html: &'a str,
+) -> Result<(), AllocError>
+    ensures { (at : ℕ → LinkTexts) → OnOk result (rows_view at rows.new.items ≡ rows_view at rows.old.items ++ map Part (html_data html.now)) }
+{
+    let mut rest = html;
+    while !rest.is_empty() {
+        let (line, ending, after) = next_line(rest);
+        push_html_piece(rows, line)?;
+        push_if_ending(rows, ending)?;
+        rest = after;
+    }
+    Ok(())
+}
+
+/// Adds a piece of raw HTML, if it isn't empty.
+fn push_html_piece<'a, A: Allocator>(
+    rows: &mut Vec<InlineRow<'a>, A>,
+    piece: &'a str,
+) -> Result<(), AllocError>
+    ensures { (at : ℕ → LinkTexts) → OnOk result (rows_view at rows.new.items ≡ rows_view at rows.old.items ++ map Part (html_piece piece.now)) }
+{
+    if piece.is_empty() {
+        return Ok(());
+    }
+    push_part(rows, LeafPart::Html(piece))
+}
+
+/// Adds a line ending, if there is one.
+fn push_if_ending<A: Allocator>(
+    rows: &mut Vec<InlineRow<'_>, A>,
+    ending: Option<LineEnding>,
+) -> Result<(), AllocError>
+    ensures { (at : ℕ → LinkTexts) → OnOk result (rows_view at rows.new.items
+        ≡ rows_view at rows.old.items ++ map Part (map LineEnd (ending_code ending))) }
+{
+    match ending {
+        Some(ending) => push_part(rows, LeafPart::LineEnd(ending)),
+        None => Ok(()),
     }
 }

@@ -1,21 +1,25 @@
 -- In the text of every event the codes of line endings are those of endings.
-use Rattle.std.proofs.Common.{◌≡◌, ℕ, Bool, true, ◌||◌, List, [], ◌∷◌, is_some, refl, sym, subst, map, inl, inr}
+use Rattle.std.proofs.Common.{◌≡◌, ℕ, Bool, true, ◌||◌, List, [], ◌∷◌, Option, None, Some, is_some, refl, sym, subst, map, inl, inr}
 use Rattle.std.specs.Str.{bytes_eq}
 use Rattle.std.proofs.lemmas.Bool.{cond_both, or_cases}
 use Rattle.std.proofs.lemmas.Slice.Eq.{bytes_eq-Decides}
+use Rattle.markdown_options.specs.declared.line_ending.LineEnding.{LineEnding}
+use Rattle.markdown_options.specs.declared.line_ending.LineEnding.TheVariants.{CarriageReturnLineFeed, CarriageReturn, LineFeed}
 use Rattle.engine_events.specs.Names.{same_name, is_listed}
 use Rattle.engine_events.specs.declared.event.Name.{Name}
 use Rattle.engine_events.specs.declared.event.Name.TheVariants as n
 use Rattle.definition_text.specs.Columns.{Code as ContentCode}
-use Rattle.definition_text.specs.Content.{content_codes, is_eol}
-use Rattle.definition_text.proofs.Each.{Each}
+use Rattle.definition_text.specs.Content.{content_codes, ending_code, is_eol}
+use Rattle.definition_text.specs.Lines.{TextLine, lines}
+use Rattle.definition_text.proofs.Each.{Each, each-append, each_flat_map}
 use Rattle.definition_inline.specs.CharacterReference.{Names}
-use Rattle.definition_inline.specs.Inline.{LiteralKind, Data, Escape, LineEnd, Leaf, Inline, Inlines}
+use Rattle.definition_inline.specs.Inline.{LiteralKind, InlineLeaf, Data, Escape, LineEnd, Leaf, Inline, Inlines}
 use Rattle.definition_inline.specs.Inline as inline
 use Rattle.event_grammar.specs.Facts.{is_ending}
 use Rattle.event_grammar.specs.Trees.{Nodes, Around, Nil, Cons}
 use Rattle.event_meaning.specs.Children.{child, text_of, text_in}
-use Rattle.event_meaning.specs.Texts.{append, leaves, text_names, html_part, html_parts, autolink_of, literal_of, text_part, inlines_of, text_within}
+use Rattle.event_meaning.specs.Texts.{append, leaves, text_names, html_piece, html_line, html_data, html_part, html_parts, autolink_of, literal_of}
+use Rattle.event_meaning.specs.Texts.{text_part, inlines_of, text_within}
 use Rattle.laws_safe_page.proofs.InlineAdds.{LeafEndsLine, AllEndLines}
 use Rattle.compile_safe_page.proofs.Facts.{EndingFact, AreSound}
 
@@ -50,6 +54,27 @@ line_ends : (codes : List ContentCode) → Each IsEnd codes → AllEndLines (lea
 line_ends [] p = tt
 line_ends (c ∷ cs) p = (p.0, line_ends cs p.1)
 
+leaves_end : (ls : List InlineLeaf) → Each LeafEndsLine ls → AllEndLines (leaves ls)
+leaves_end [] p = tt
+leaves_end (l ∷ ls) p = (p.0, leaves_end ls p.1)
+
+piece_ends : (piece : List ℕ) → Each LeafEndsLine (html_piece piece)
+piece_ends [] = tt
+piece_ends (b ∷ bs) = (tt, tt)
+
+ending_ends : (ending : Option LineEnding) → Each LeafEndsLine (map LineEnd (ending_code ending))
+ending_ends None = tt
+ending_ends (Some CarriageReturnLineFeed) = (refl, tt)
+ending_ends (Some CarriageReturn) = (refl, tt)
+ending_ends (Some LineFeed) = (refl, tt)
+
+html_line_ends : (line : TextLine) → Each LeafEndsLine (html_line line)
+html_line_ends line =
+    each-append LeafEndsLine (html_piece line.content) (map LineEnd (ending_code line.ending)) (piece_ends line.content) (ending_ends line.ending)
+
+html_data_ends : (text : List ℕ) → AllEndLines (leaves (html_data text))
+html_data_ends text = leaves_end (html_data text) (each_flat_map LeafEndsLine html_line (lines text) html_line_ends)
+
 datas : (text : List ℕ) → AllEndLines (leaves (map Data text))
 datas [] = tt
 datas (b ∷ bs) = (tt, datas bs)
@@ -60,7 +85,7 @@ escapes (b ∷ bs) = (tt, escapes bs)
 
 module _ (names : Names) (bytes : List ℕ) where
   html_end : (name : Name) (text : List ℕ) → EndingFact name text → AllEndLines (html_part names bytes name text)
-  html_end n.HtmlTextData text h = (tt, tt)
+  html_end n.HtmlTextData text h = html_data_ends text
   html_end n.LineEnding text h = line_ends (content_codes text) (are_ends text h)
   html_end name text h = tt
 

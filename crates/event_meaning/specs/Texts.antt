@@ -1,11 +1,13 @@
 -- Texts: the inline structure that events spell (CommonMark 6).
 use Rattle.std.specs.Prelude.{ℕ, Bool, true, false, ◌||◌, if◌then◌else◌, List, [], ◌∷◌, ◌++◌, Option, None, Some, is_some, map}
+use Rattle.std.specs.List.{flat_map}
 use Rattle.engine_events.specs.Names.{same_name, is_listed}
 use Rattle.engine_events.specs.declared.event.Name.{Name}
 use Rattle.engine_events.specs.declared.event.Name.TheVariants as n
 use Rattle.definition_text.specs.Ascii.{space}
 use Rattle.definition_text.specs.Columns.{Code as ContentCode}
-use Rattle.definition_text.specs.Content.{content_codes}
+use Rattle.definition_text.specs.Content.{content_codes, ending_code}
+use Rattle.definition_text.specs.Lines.{TextLine, lines}
 use Rattle.definition_inline.specs.CharacterReference.{Names}
 use Rattle.definition_inline.specs.CodeText.{without_padding}
 use Rattle.definition_inline.specs.Inline.{Target, Resource, Reference, LiteralKind, Www, Protocol, Email, InlineLeaf, Data, Escape, Character, Code, Math}
@@ -39,6 +41,19 @@ text_names =
 abbrev pub endings : List ℕ → Inlines
 endings text = leaves (map LineEnd (content_codes text))
 
+-- a piece of raw HTML that isn't empty
+abbrev pub html_piece : List ℕ → List InlineLeaf
+html_piece [] = []
+html_piece (b ∷ bs) = Html (content_codes (b ∷ bs)) ∷ []
+
+-- a line of raw HTML with all its bytes, and its ending
+abbrev pub html_line : TextLine → List InlineLeaf
+html_line line = html_piece line.content ++ map LineEnd (ending_code line.ending)
+
+-- data of raw HTML is read line by line (CommonMark 2.1 and 6.6)
+abbrev pub html_data : List ℕ → List InlineLeaf
+html_data text = flat_map html_line (lines text)
+
 module _ (names : Names) (bytes : List ℕ) where
   -- ---- code and math
 
@@ -57,10 +72,10 @@ module _ (names : Names) (bytes : List ℕ) where
   abbrev pub code_of : Name → Nodes → List ℕ
   code_of sequence kids = without_padding (code_parts (before_child sequence (after_child sequence kids)))
 
-  -- ---- raw HTML: data and endings, each by itself
+  -- ---- raw HTML: lines and endings, each by itself
 
   abbrev pub html_part : Name → List ℕ → Inlines
-  html_part n.HtmlTextData text = part (Leaf (Html (content_codes text)))
+  html_part n.HtmlTextData text = leaves (html_data text)
   html_part n.LineEnding text = endings text
   html_part name text = inline.Nil
 

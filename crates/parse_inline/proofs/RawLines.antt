@@ -1,7 +1,7 @@
 -- What is written of a part of a line of raw text, or of a line ending in it (CommonMark 6.1 and 6.6).
 use Rattle.std.proofs.Common.{inl, inr, ◌≡◌, ℕ, zero, suc, ◌+◌, ◌≤◌, ◌<◌, Bool, true, false, not, cond, ◌||◌, List, [], ◌∷◌, ◌++◌, refl, sym, ap, ap₂}
-use Rattle.std.proofs.Common.{subst, ◌∙◌, append_assoc, take, drop, length, map, arith}
-use Rattle.std.specs.List.{list_all}
+use Rattle.std.proofs.Common.{None, subst, ◌∙◌, append_assoc, take, drop, length, map, arith}
+use Rattle.std.specs.List.{flat_map, list_all}
 use Rattle.event_tokens.specs.Tokens.{is_token}
 use Rattle.parse_output.specs.Joined.{text_between}
 use Rattle.parse_lines.specs.Content.{HasBytes}
@@ -20,8 +20,10 @@ use Rattle.std.proofs.Math.Seq.{drop-append-add, take-append-add}
 use denote.Enum.Bare.{true_same}
 use Rattle.markdown_options.specs.declared.line_ending.LineEnding.TheVariants as endings
 use Rattle.engine_events.specs.declared.event.Name.TheVariants as n
+use Rattle.definition_text.specs.Lines.{in_first_line, lines, text_line}
 use Rattle.definition_text.proofs.ContentBytes.{codes_in_line}
 use Rattle.definition_inline.specs.Inline as inline
+use Rattle.event_meaning.specs.Texts.{html_data, html_line}
 use Rattle.event_meaning.specs.Texts as texts
 use Rattle.parse_inline.proofs.Fronts.{WritesNext, next_here}
 use Rattle.parse_inline.proofs.HtmlLines.{BeginsBare, BeginsEnding, EndsNoLine, IsWhite, html_chunk, html_ending}
@@ -270,6 +272,20 @@ chunk_leaves : (front others : List ℕ) → 0 < length front → Each EndsNoLin
 chunk_leaves [] others some inline ends = absurd (omega (arith, some))
 chunk_leaves (c ∷ line) others some inline ends = html_chunk c line others inline ends
 
+in_line : (b : ℕ) (bs : List ℕ) → ends_line b ≡ false → lines (b ∷ bs) ≡ in_first_line b (lines bs)
+in_line b bs inline =
+    let parts = or_parts (b == 10) (b == 13) inline in
+    cond-false (b == 10) _ _ parts.0 ∙ cond-false (b == 13) _ _ parts.1
+
+one_line : (b : ℕ) (bs : List ℕ) → IsInLine (b ∷ bs) → lines (b ∷ bs) ≡ text_line (b ∷ bs) None ∷ []
+one_line b [] inline = in_line b [] inline.0
+one_line b (c ∷ cs) inline = in_line b (c ∷ cs) inline.0 ∙ ap (in_first_line b) (one_line c cs inline.1)
+
+-- data without a line ending is one piece
+data_leaves : (front : List ℕ) → 0 < length front → IsInLine front → html_data front ≡ Html (content_codes front) ∷ []
+data_leaves [] some inline = absurd (omega (arith, some))
+data_leaves (b ∷ bs) some inline = ap (flat_map html_line) (one_line b bs inline)
+
 -- ---- a line ending
 
 ending_space : (e : LineEnding) → code_space (line_ending_code e) ≡ 32
@@ -349,7 +365,8 @@ module _ {A : Type 0} (names : Names) (text : List ℕ) (stop : Stop) where
             ∙ ap (λ y. text_of text (Around (enter_at text name (end_at e.index 0)) Nil (exit_at text name y))) (after_bytes e.index (length front))
             ∙ token_text text name e.index front ahead.line (next_here text (front ++ ahead.line) a ahead.stands whole) in
             ap (λ x. texts.append (texts.append (html_part names text x (text_of text node)) inline.Nil) (leaves inner)) html_is
-            ∙ ap (λ t. leaves (Html (content_codes t) ∷ inner)) read
+            ∙ ap (λ t. texts.append (texts.append (leaves (html_data t)) inline.Nil) (leaves inner)) read
+            ∙ ap (λ ls. texts.append (texts.append (leaves ls) inline.Nil) (leaves inner)) (data_leaves front (omega (arith, some, length_is)) inline_front)
             ∙ ap (λ cs. leaves (Html cs ∷ inner)) (codes_alone front inline_front)
             ∙ sym (ap (λ cs. leaves (html_leaves cs)) codes
             ∙ ap leaves (chunk_leaves front (content_codes rest) (omega (arith, some, length_is)) (each_no_eol front small inline_front)
