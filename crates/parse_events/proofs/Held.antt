@@ -3,6 +3,7 @@ use Rattle.std.proofs.Common.{◌≡◌, arith, ℕ, zero, suc, ◌+◌, List, [
 use Rattle.parse_events.proofs.Prelude.{block_names, close_all, closed, ends_in_list, Entered, Err, is_last_list, is_list, is_listed, IsNew, Keeps, Mark}
 use Rattle.parse_events.proofs.Prelude.{more_if, Name, Ok, OnOk, opened_name, OpensIf, Parser, Result, Row, still_open, true≢false, Walk}
 use Rattle.engine_events.specs.declared.event.Name.TheVariants as n
+use Rattle.event_grammar.specs.Void.{is_void}
 use Rattle.parse_output.specs.Children.{between_names, holds_blocks, holds_lines, may_enter, may_hold}
 use Rattle.parse_output.proofs.Classes.{blocks_lines, blocks_may, lines_may}
 use Rattle.parse_lines.specs.Open.{with_entered}
@@ -213,6 +214,17 @@ list_listed held.Item is = absurd (true≢false (sym is))
 list_listed held.Footnote is = refl
 list_listed held.OrderedList is = refl
 list_listed held.UnorderedList is = refl
+
+-- what a parser opens has a row
+row_of_opened : (o : Opened) → is_void (opened_name o) ≡ false
+row_of_opened held.Quote = refl
+row_of_opened held.Item = refl
+row_of_opened held.Footnote = refl
+row_of_opened held.OrderedList = refl
+row_of_opened held.UnorderedList = refl
+
+pub opened_row : (o : Opened) (name : Name) → name ≡ opened_name o → is_void name ≡ false
+opened_row o name is = ap (λ (x : Name). is_void x) is ∙ row_of_opened o
 
 pub list_child : (o : Opened) (marks : List Mark) → is_list o ≡ true → holds_blocks marks ≡ true → may_enter marks (opened_name o) ≡ true
 list_child o marks is holds = blocks_may marks (opened_name o) holds (list_listed o is)

@@ -50,7 +50,7 @@ pub const SIZE_MAX: usize = usize::MAX / 8;
 ///
 /// Each event that holds no other has bytes that its name may have: a marker is its byte, white space
 /// is spaces and tabs, data ends no line, the value of an escape is punctuation. The table is in
-/// `event_tokens`.
+/// `event_tokens`. If its name can hold no other, it has at least a byte, or a column of a tab.
 ///
 /// The list is checked against the grammar of events before it is returned. If it had a fault, the call
 /// would fail with `out of memory`; no text is known where it has.

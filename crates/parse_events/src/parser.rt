@@ -217,7 +217,7 @@ impl<'a, A: Allocator + Clone> Parser<'a, A> {
     }
 
     /// Begins a list after the spaces and tabs ahead, unless one is open in which no item is.
-    #[tactic(auto, using(parse_output::proofs::Classes::blocks_may, crate::proofs::Held::held_blocks, crate::proofs::Held::list_child))]
+    #[tactic(auto, using(parse_output::proofs::Classes::blocks_may, crate::proofs::Held::held_blocks, crate::proofs::Held::list_child, crate::proofs::Held::opened_row))]
     fn in_list(&mut self, list: Opened) -> Result<(), AllocError>
         requires list { is_list list ≡ true }
         requires held { HasOpen self.old }

@@ -1,10 +1,13 @@
 -- What is open in a text, one more of it or one less.
-use Rattle.std.proofs.Common.{◌≡◌, ℕ, List, [], ◌∷◌, ◌++◌, true, refl, sym, ap, subst, ◌∙◌}
+use Rattle.std.proofs.Common.{◌≡◌, ℕ, List, [], ◌∷◌, ◌++◌, true, false, refl, sym, ap, subst, ◌∙◌}
 use Rattle.std.proofs.lemmas.Bool.{or_right}
 use Rattle.parse_inline.proofs.Prelude.{AreHeld, Entered, is_listed, leave_all, leave_open, Mark, Name, Open, same_name, sequence_name, Span, span_name}
-use Rattle.parse_inline.proofs.Prelude.{text_name}
+use Rattle.parse_inline.proofs.Prelude.{SpanNames, text_name}
 use Rattle.engine_events.specs.declared.event.Name.TheVariants as n
 use Rattle.event_grammar.specs.Grammar.{text_names}
+use Rattle.event_grammar.specs.Spans.{span_names}
+use Rattle.event_grammar.specs.Void.{is_void}
+use Rattle.inline_runs.specs.View.{span_view}
 use Rattle.inline_runs.specs.declared.pair.Span.TheVariants as span
 use Rattle.parse_output.specs.Children.{has_text, holds_text, may_enter, may_hold}
 use Rattle.parse_output.proofs.Classes.{text_in, text_may}
@@ -21,6 +24,21 @@ pub span_holds_text : (s : Span) → may_hold (span_name s) (text_name s) ≡ tr
 unfolding may_hold
 span_holds_text span.Emphasis = refl
 span_holds_text other = refl
+
+-- the events of a span, and of its text, have rows
+row_of_span : (s : Span) → is_void (span_name s) ≡ false
+row_of_span span.Emphasis = refl
+row_of_span other = refl
+
+row_of_text : (s : Span) → is_void (text_name s) ≡ false
+row_of_text span.Emphasis = refl
+row_of_text other = refl
+
+pub span_row : (s : Span) (names : SpanNames) → names ≡ span_names (span_view s) → is_void names.event ≡ false
+span_row s names are = ap (λ (x : SpanNames). is_void x.event) are ∙ row_of_span s
+
+pub span_text_row : (s : Span) (names : SpanNames) → names ≡ span_names (span_view s) → is_void names.text ≡ false
+span_text_row s names are = ap (λ (x : SpanNames). is_void x.text) are ∙ row_of_text s
 
 -- the start of something, and its end
 leave_entered_span : (s : Span) (size : ℕ) (marks : List Mark) → leave_open (held.Span s size) (entered_open (held.Span s size) marks) ≡ marks

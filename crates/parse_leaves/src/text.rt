@@ -3,6 +3,7 @@ ghost use Rattle.std.specs.Prelude.{◌≡◌, ◌<◌, ◌∷◌, OnOk, false, 
 ghost use Rattle.std.specs.List.{prefix_len};
 ghost use Rattle.engine_events.specs.Names.{same_name};
 ghost use Rattle.engine_events.specs.declared.event.Name.TheVariants.{Data, SpaceOrTab};
+ghost use Rattle.event_grammar.specs.Void.{is_void};
 ghost use Rattle.block_starts.specs.View.{rest_of};
 ghost use Rattle.definition_inline.specs.Targets.{Targets};
 ghost use Rattle.definition_text.specs.BlockLines.{own_lines};
@@ -38,6 +39,7 @@ use text_pieces::Piece;
 pub(crate) fn enter_text<A: Allocator>(walk: &mut Walk<'_, A>, name: Name) -> Result<(), AllocError>
     requires space { may_enter (still_open walk.old) SpaceOrTab ≡ true }
     requires child { may_enter (still_open walk.old) name ≡ true }
+    requires row { is_void name ≡ false }
     ensures open { OnOk result (still_open walk.new ≡ Entered name ∷ still_open walk.old) }
     ensures written { OnOk result (EntersText name walk.old walk.new) }
 {
@@ -91,7 +93,7 @@ pub fn push_text<'a, T: Tables, A: Allocator + Clone>(
 }
 
 /// An event by a name that holds the text of some lines, before a character of a kind.
-#[tactic(auto, using(parse_output::proofs::Classes::text_in, parse_output::proofs::Marks::same_self))]
+#[tactic(auto, using(parse_output::proofs::Classes::text_in, parse_output::proofs::Marks::same_self, parse_output::proofs::Rows::text_row))]
 pub fn push_text_in<'a, T: Tables, A: Allocator + Clone>(
     walk: &mut Walk<'_, A>,
     texts: &Texts<'a, '_, T, A>,

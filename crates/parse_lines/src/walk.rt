@@ -7,6 +7,7 @@ ghost use Rattle.engine_events.specs.declared.event.Name.TheVariants.{SpaceOrTab
 ghost use Rattle.parse_output.specs.Open.{Entered, closed};
 ghost use Rattle.parse_output.specs.Ends.{end_at, first_end};
 ghost use Rattle.event_grammar.specs.Trees.{Nil, growth};
+ghost use Rattle.event_grammar.specs.Void.{is_void};
 ghost use Rattle.parse_output.specs.Written.{Enters, Exits, IsInOrder, forest_in};
 ghost use Rattle.parse_output.specs.Children.{holds_lines, may_enter};
 ghost use Rattle.parse_lines.specs.Ends.{EndsInLine, WritesEnding, WritesLine, WritesNextLine, WritesUpTo, line_after, rest_start, written_to};
@@ -176,9 +177,10 @@ impl<'a, A: Allocator> Walk<'a, A> {
         self.out.token(name, end)
     }
 
-    /// Something begins here.
+    /// Something begins here that may hold others.
     pub fn enter(&mut self, name: Name) -> Result<(), AllocError>
         requires child { may_enter (still_open self.old) name ≡ true }
+        requires row { is_void name ≡ false }
         ensures open { OnOk result (still_open self.new ≡ Entered name ∷ still_open self.old) }
         ensures written { OnOk result ((text line : List ℕ) → StandsInLine text line self.old → EntersInLine text name line self.old self.new) }
         ensures stays { OnOk result (standing self.new ≡ standing self.old) }

@@ -29,7 +29,7 @@ pub struct Quoted {
 }
 
 /// A string with a marker of one byte before it and one after it.
-#[tactic(auto, using(parse_output::proofs::Marks::same_self, parse_output::proofs::Classes::enters_in, parse_output::proofs::Classes::string_in))]
+#[tactic(auto, using(parse_output::proofs::Marks::same_self, parse_output::proofs::Classes::enters_in, parse_output::proofs::Classes::string_in, parse_output::proofs::Rows::held_row))]
 pub fn push_quoted<T: Tables, A: Allocator>(
     walk: &mut Walk<'_, A>,
     on: &Constructs,
@@ -53,7 +53,7 @@ pub fn push_quoted<T: Tables, A: Allocator>(
 }
 
 /// The string, if it isn't empty.
-#[tactic(auto, using(parse_output::proofs::Marks::same_self, parse_output::proofs::Classes::enters_in, parse_output::proofs::Classes::string_in))]
+#[tactic(auto, using(parse_output::proofs::Marks::same_self, parse_output::proofs::Classes::enters_in, parse_output::proofs::Classes::string_in, parse_output::proofs::Rows::string_row))]
 fn push_held<T: Tables, A: Allocator>(
     walk: &mut Walk<'_, A>,
     on: &Constructs,

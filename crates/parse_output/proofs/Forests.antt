@@ -2,7 +2,7 @@
 use Rattle.parse_output.proofs.Prelude.{and_parts, append, append-nil-list, AreInOrder, Around, byte_nodes, Cons, cut, data_nodes, Draft, draft_events}
 use Rattle.parse_output.proofs.Prelude.{drafted, drafted_all, drafts_end, edge, End, end_at, end_columns, end_place, enter_at, Event, exit_at, exited}
 use Rattle.parse_output.proofs.Prelude.{exited_from, first_end, fold, fold-append, Follows, forest, GoesOnward, growth, Growth, if◌then◌else◌, IsData, Name}
-use Rattle.parse_output.proofs.Prelude.{nat_tests, Nil, Nodes, Part, Place, same_end, sub_self, take_more, void_nodes, with_nodes, ◌==◌}
+use Rattle.parse_output.proofs.Prelude.{Nil, Nodes, Part, Place, same_end, sub_self, take_more, void_nodes, with_nodes, ◌==◌}
 use Rattle.std.proofs.Common.{◌≡◌, ◌≤◌, ◌<◌, ◌+◌, ◌-◌, ℕ, zero, suc, List, [], ◌∷◌, ◌++◌, refl, sym, ap, subst, ◌∙◌, get_or, set, take, length, map, arith, ap₂, append_assoc, Bool, true, false}
 use Rattle.engine_events.specs.declared.event.Name.TheVariants as n
 use Rattle.event_grammar.specs.Points.{spot}
@@ -14,7 +14,8 @@ use Rattle.std.proofs.lemmas.List.Folds.{list_all-append}
 use Rattle.definition_text.specs.Lines.{ends_line}
 use Rattle.event_tokens.specs.Tokens.{is_token}
 use Rattle.parse_output.specs.Joined.{text_between}
-use Rattle.parse_output.specs.Voids.{IsToken}
+use Rattle.parse_output.specs.Voids.{IsSizedToken, IsToken}
+use Rattle.parse_output.proofs.Apart.{apart_longer, sized, test_eq}
 use Rattle.parse_output.proofs.Between.{edges, text_on}
 use Rattle.parse_output.proofs.Ends.{follows_both, spot_index}
 use Rattle.parse_output.specs.Forest.{byte_node, node_bytewise, bytewise, draft_end, drafts_events}
@@ -87,14 +88,16 @@ forest_more text ds d = forest_more_at text first_end (growth Nil []) ds d
 -- ---- data in the place of the data that ends here
 
 -- data, and more of it
-data_longer : (text : List ℕ) {name : Name} (a b c : End) → name ≡ n.Data → IsToken text name a b → IsToken text n.Data b c → IsToken text n.Data a c
+data_longer : (text : List ℕ) {name : Name} (a b c : End) → name ≡ n.Data → IsSizedToken text name a b → IsToken text n.Data b c
+    → IsSizedToken text n.Data a c
 data_longer text a b c is first second =
-    let held = subst (λ x. IsToken text x a b) is first in
+    let held = subst (λ x. IsSizedToken text x a b) is first in
     record {
       follows = follows_both text a b c held.follows second.follows;
       bytes =
           ap (is_token n.Data) (sym (text_on text a b c held.follows second.follows))
           ∙ data_tokens (text_between text a b) (text_between text b c) held.bytes second.bytes;
+      apart = apart_longer text a b c held.follows second.follows held.apart;
     }
 
 data_grown : (text : List ℕ) (from : End) (g : Growth) (name : Name) (owed index : ℕ) (end : End) → name ≡ n.Data → Follows text from (end_at index owed)
@@ -241,10 +244,10 @@ void_forest text ds name from to at other =
     ∙ ap (λ at. with_nodes (forest text ds) (cut (Around (enter_at text name at) Nil (exit_at text name to)))) at
     ∙ ap (λ same. with_nodes (forest text ds) (if same then Nil else cut (Around (enter_at text name from) Nil (exit_at text name to)))) (sym other)
 
-pub void_order : (text : List ℕ) (ds : List Draft) (name : Name) (from to : End) → drafts_end first_end ds ≡ from → AreInOrder text first_end ds
-    → IsToken text name from to → AreInOrder text first_end (ds ++ draft.Void name to.owed to.index ∷ [])
-void_order text ds name from to at are token =
-    order_more text ds (draft.Void name to.owed to.index) are (subst (λ x. IsToken text name x to) (sym at) token)
+pub void_order : (text : List ℕ) (ds : List Draft) (name : Name) (from to : End) → drafts_end first_end ds ≡ from → same_end to from ≡ false
+    → AreInOrder text first_end ds → IsToken text name from to → AreInOrder text first_end (ds ++ draft.Void name to.owed to.index ∷ [])
+void_order text ds name from to at other are token =
+    order_more text ds (draft.Void name to.owed to.index) are (subst (λ x. IsSizedToken text name x to) (sym at) (sized text ds from to at other are token))
 
 -- nothing is written
 pub same_forest : (text : List ℕ) (ds : List Draft) (name : Name) (from to : End) → same_end to from ≡ true
@@ -255,9 +258,6 @@ same_forest text ds name from to same =
     ∙ ap (λ same. with_nodes g (if same then Nil else cut (Around (enter_at text name from) Nil (exit_at text name to)))) (sym same)
 
 -- data that is one token
-pub test_eq : (a b : ℕ) → (a == b) ≡ true → a ≡ b
-test_eq a b same = grind (arith, nat_tests)
-
 no_data : (text : List ℕ) (a b : End) → a.index ≡ b.index → a.owed ≡ b.owed → Nil ≡ data_nodes text a b
 no_data text a b index owed =
     let at : ℕ = edge (spot a.index (end_columns text a)) in

@@ -17,7 +17,7 @@ use Rattle.parse_output.specs.declared.draft.Draft.TheVariants as draft
 use Rattle.parse_output.specs.Forest.{bytes_from, is_nil, one}
 use Rattle.parse_output.specs.Joined.{AreJoined, end_edge, end_spot, flat_text, text_between}
 use Rattle.parse_output.proofs.Between.{between_both, edges, edges_follow}
-use Rattle.parse_output.proofs.Forests.{test_eq}
+use Rattle.parse_output.proofs.Apart.{test_eq}
 
 -- ---- joined nodes
 

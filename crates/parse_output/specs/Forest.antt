@@ -10,11 +10,12 @@ use Rattle.engine_events.specs.declared.place.Point.{Point}
 use Rattle.event_grammar.specs.Checks.{spot_of}
 use Rattle.event_grammar.specs.Points.{edge}
 use Rattle.event_grammar.specs.Trees.{Node, Nodes, Around, Nil, Cons, Part, Growth, growth}
+use Rattle.event_grammar.specs.Void.{is_void}
 use Rattle.parse_output.specs.declared.draft.Draft.{Draft}
 use Rattle.parse_output.specs.declared.draft.Draft.TheVariants as draft
 use Rattle.parse_output.specs.declared.end.End.{End}
 use Rattle.parse_output.specs.Ends.{end_at, enter_at, exit_at, first_end, same_end}
-use Rattle.parse_output.specs.Voids.{IsToken}
+use Rattle.parse_output.specs.Voids.{IsSizedToken}
 
 abbrev pub append : Nodes → Nodes → Nodes
 append Nil others = others
@@ -86,11 +87,11 @@ abbrev pub drafts_events : List ℕ → End → List Draft → List Event
 drafts_events text from [] = []
 drafts_events text from (d ∷ ds) = draft_events text from d ++ drafts_events text (draft_end from d) ds
 
--- a draft goes onward in a text
+-- a draft goes onward in a text: what is entered may hold others, and what holds no other has a size
 abbrev pub GoesOnward : List ℕ → End → Draft → Type 0
-GoesOnward text from (draft.Enter name) = Unit {0}
+GoesOnward text from (draft.Enter name) = is_void name ≡ false
 GoesOnward text from (draft.Exit name) = Unit {0}
-GoesOnward text from (draft.Void name owed index) = IsToken text name from (end_at index owed)
+GoesOnward text from (draft.Void name owed index) = IsSizedToken text name from (end_at index owed)
 
 abbrev pub AreInOrder : List ℕ → End → List Draft → Type 0
 AreInOrder text from [] = Unit {0}

@@ -1,8 +1,9 @@
 //! Events, written one after another.
-ghost use Rattle.std.specs.Prelude.{◌≡◌, ◌<◌, ◌^◌, ◌∷◌, [], IfOk, IsTrue, List, OnOk, length, true, ℕ};
+ghost use Rattle.std.specs.Prelude.{◌≡◌, ◌<◌, ◌^◌, ◌∷◌, [], IfOk, IsTrue, List, OnOk, false, length, true, ℕ};
 ghost use Rattle.parse_output.specs.Placed.{ArePlaced};
 ghost use Rattle.engine_events.specs.declared.event.Name.TheVariants.{Data, Paragraph};
 ghost use Rattle.event_grammar.specs.Trees.{Nil, growth, tree};
+ghost use Rattle.event_grammar.specs.Void.{is_void};
 ghost use Rattle.event_tokens.specs.Bytes.{HaveTheirBytes};
 ghost use Rattle.parse_output.specs.declared.draft.Draft.TheVariants as draft;
 ghost use Rattle.parse_output.specs.Drafts.{AreChildren, draft_marks};
@@ -66,10 +67,11 @@ impl<A: Allocator> Output<A> {
         self.end
     }
 
-    /// Something begins here.
+    /// Something begins here that may hold others.
     #[tactic(auto, using(crate::proofs::Drafted::entered_one, crate::proofs::Drafted::entered_child, crate::proofs::Forests::entered_end))]
     pub fn enter(&mut self, name: Name) -> Result<(), AllocError>
         requires child { may_enter (open_in self.old) name ≡ true }
+        requires row { is_void name ≡ false }
         ensures open { OnOk result (open_in self.new ≡ Entered name ∷ open_in self.old) }
         ensures end { OnOk result (end_in self.new ≡ end_in self.old) }
         ensures written { OnOk result ((text : List ℕ) → IsInOrder text self.old → Enters text name self.old self.new) }

@@ -104,7 +104,7 @@ pub fn push_unclosed_code<T: Tables, A: Allocator + Clone>(
 }
 
 /// The start of fenced code or math: its fence, and so many lines. Returns the names.
-#[tactic(auto, using(crate::proofs::Fences::block_child, parse_output::proofs::Classes::blocks_may, parse_output::proofs::Classes::enters_in, parse_output::proofs::Classes::lines_in, parse_output::proofs::Classes::lines_may))]
+#[tactic(auto, using(crate::proofs::Fences::block_child, parse_output::proofs::Classes::blocks_may, parse_output::proofs::Classes::enters_in, parse_output::proofs::Classes::lines_in, parse_output::proofs::Classes::lines_may, parse_output::proofs::Rows::held_row))]
 fn push_open<T: Tables, A: Allocator + Clone>(
     walk: &mut Walk<'_, A>,
     texts: &Texts<'_, '_, T, A>,
@@ -125,7 +125,7 @@ fn push_open<T: Tables, A: Allocator + Clone>(
 }
 
 /// The opening fence, which this end of the line is.
-#[tactic(auto, using(parse_output::proofs::Marks::same_self, parse_output::proofs::Classes::enters_in, crate::proofs::Fences::any_in))]
+#[tactic(auto, using(parse_output::proofs::Marks::same_self, parse_output::proofs::Classes::enters_in, crate::proofs::Fences::any_in, parse_output::proofs::Rows::held_row))]
 fn push_opening_fence<T: Tables, A: Allocator + Clone>(
     walk: &mut Walk<'_, A>,
     texts: &Texts<'_, '_, T, A>,
@@ -193,7 +193,7 @@ fn push_info<T: Tables, A: Allocator + Clone>(
 }
 
 /// A string that comes next on the line, by a name. Nothing of no size.
-#[tactic(auto, using(parse_output::proofs::Marks::same_self, parse_output::proofs::Classes::string_in))]
+#[tactic(auto, using(parse_output::proofs::Marks::same_self, parse_output::proofs::Classes::string_in, parse_output::proofs::Rows::string_row))]
 fn push_part<T: Tables, A: Allocator + Clone>(
     walk: &mut Walk<'_, A>,
     texts: &Texts<'_, '_, T, A>,
@@ -217,7 +217,7 @@ fn push_part<T: Tables, A: Allocator + Clone>(
 }
 
 /// The closing fence: the rest of the line.
-#[tactic(auto, using(parse_output::proofs::Marks::same_self, parse_output::proofs::Classes::enters_in))]
+#[tactic(auto, using(parse_output::proofs::Marks::same_self, parse_output::proofs::Classes::enters_in, parse_output::proofs::Rows::held_row))]
 fn push_closing_fence<A: Allocator>(
     walk: &mut Walk<'_, A>,
     names: &FenceNames,

@@ -54,6 +54,16 @@ const LISTS: &[(&str, &str)] = &[
         -Data:5 -ResourceDestinationString:5 -ResourceDestinationRaw:5 -ResourceDestination:5 +ResourceMarker:5 -ResourceMarker:6 \
         -Resource:6 -Link:6 -Paragraph:6",
     ),
+    // a destination in two angle brackets of no bytes
+    (
+        "[a](b)",
+        "+Paragraph:0 +Link:0 +Label:0 +LabelLink:0 +LabelMarker:0 -LabelMarker:1 -LabelLink:1 +LabelText:1 +Data:1 -Data:2 \
+        -LabelText:2 +LabelEnd:2 +LabelMarker:2 -LabelMarker:3 -LabelEnd:3 -Label:3 +Resource:3 +ResourceMarker:3 -ResourceMarker:4 \
+        +ResourceDestination:4 +ResourceDestinationLiteral:4 +ResourceDestinationLiteralMarker:4 \
+        -ResourceDestinationLiteralMarker:4 +ResourceDestinationString:4 +Data:4 -Data:5 -ResourceDestinationString:5 \
+        +ResourceDestinationLiteralMarker:5 -ResourceDestinationLiteralMarker:5 -ResourceDestinationLiteral:5 \
+        -ResourceDestination:5 +ResourceMarker:5 -ResourceMarker:6 -Resource:6 -Link:6 -Paragraph:6",
+    ),
     // a full reference as a shortcut reference
     (
         "[a][A]\n\n[a]: x",
