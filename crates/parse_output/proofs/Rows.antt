@@ -28,10 +28,7 @@ none_between (slot ∷ slots) own name none = absurd (true≢false (sym none))
 
 in_no_form : (test : Form → Bool) → test Plain ≡ false → test Ordered ≡ false → test OfImage ≡ false → test OfCall ≡ false → list_any test forms ≡ false
 in_no_form test plain ordered image call =
-    ap₂ (λ (s t : Bool). s || t) plain (
-    ap₂ (λ (s t : Bool). s || t) ordered (
-    ap₂ (λ (s t : Bool). s || t) image (ap₂ (λ (s t : Bool). s || t) call refl)
-    ))
+    ap₂ (λ (s t : Bool). s || t) plain (ap₂ (λ (s t : Bool). s || t) ordered (ap₂ (λ (s t : Bool). s || t) image (ap (λ (s : Bool). s || false) call)))
 
 -- it may hold nothing
 void_holds : (own name : Name) → is_void own ≡ true → may_hold own name ≡ false
