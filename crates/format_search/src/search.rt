@@ -17,13 +17,17 @@ const PAGE_COST: usize = 64;
 
 /// Edits of a text, of which some keep its page.
 #[derive(Drop)]
-pub(crate) struct Search<'a, R> {
-    pub(crate) alloc: Global,
-    pub(crate) reader: &'a R,
-    pub(crate) text: &'a str,
+pub struct Search<'a, R> {
+    /// The allocator.
+    pub alloc: Global,
+    /// What makes the pages.
+    pub reader: &'a R,
+    /// The text.
+    pub text: &'a str,
     /// The page of the text.
-    pub(crate) page: &'a str,
-    pub(crate) edits: &'a Edits,
+    pub page: &'a str,
+    /// The edits of the text, finished.
+    pub edits: &'a Edits,
 }
 
 /// Groups of edits: from one, up to but without another.
@@ -44,7 +48,7 @@ enum Scope {
 
 impl<'a, R: Reader> Search<'a, R> {
     /// The text after those edits that keep its page, or none if no edit does.
-    pub(crate) fn edited(&self) -> Result<Option<String>, AllocError> {
+    pub fn edited(&self) -> Result<Option<String>, AllocError> {
         let all = self.with_all()?;
         if all.is_some() || self.edits.groups() < 2 {
             return Ok(all);
@@ -57,7 +61,7 @@ impl<'a, R: Reader> Search<'a, R> {
     }
 
     /// The text after all edits, if its page stays.
-    pub(crate) fn with_all(&self) -> Result<Option<String>, AllocError> {
+    pub fn with_all(&self) -> Result<Option<String>, AllocError> {
         let kept = vec![in self.alloc; true; self.edits.groups()]?;
         self.with(&kept)
     }

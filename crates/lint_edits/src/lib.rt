@@ -3,10 +3,9 @@
 
 mod blocks;
 mod edits;
+mod finder;
 mod lines;
 mod mend;
-mod reader;
-mod search;
 
+pub use finder::Finder;
 pub use mend::mended;
-pub use reader::{Finder, Reader};

@@ -1,8 +1,8 @@
 //! A text, mended rule by rule.
 use crate::edits::edits_of;
-use crate::reader::{Finder, Reader};
-use crate::search::Search;
+use crate::finder::Finder;
 use format_edits::Edits;
+use format_search::{Reader, Search};
 use lint_document::{Document, Rule, RuleSet};
 use std::alloc::{AllocError, Global};
 

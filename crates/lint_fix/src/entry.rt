@@ -1,14 +1,14 @@
 //! From a text to the same text, mended.
-ghost use Rattle.std.specs.Prelude.{◌≡◌, ◌≤◌, IfOk, IfErr, length, string_bytes, true};
+ghost use Rattle.std.specs.Prelude.{◌≡◌, ◌≤◌, IfOk, IfErr, length, string_bytes};
 ghost use Rattle.markdown_options.specs.Mdx.{HasNoMdx};
 ghost use Rattle.markdown_options.specs.Messages.{IsOutOfMemory};
 ghost use Rattle.markdown_definition.specs.Html.{html};
 ghost use Rattle.markdown_tables.specs.Builtin.{builtin_tables};
 
-use crate::reader::ByOptions;
+use format_pages::{ByOptions, with_page_of};
 use lint_document::RuleSet;
 use lint_edits::{Finder, mended};
-use markdown::{SIZE_MAX, fits, to_html_with_options};
+use markdown::SIZE_MAX;
 use markdown_options::{Message, Options};
 use std::alloc::Global;
 
@@ -35,44 +35,4 @@ pub fn fix<F: Finder>(
 {
     let fixed = mended(alloc, &ByOptions { alloc, options }, finder, value, rules)?;
     with_page_of(alloc, fixed, value, options)
-}
-
-/// Returns a text if it has the page of another, and otherwise the other one. The only error is `out of
-/// memory`.
-fn with_page_of(
-    alloc: Global,
-    text: String,
-    other: &str,
-    options: &Options,
-) -> Result<String, Message>
-    requires size { length other.now ≤ SIZE_MAX }
-    requires without_mdx { HasNoMdx options.now }
-    ensures page { IfOk result (λ fixed.
-        html builtin_tables (string_bytes fixed) options.now ≡ html builtin_tables other.now options.now) }
-    ensures size { IfOk result (λ fixed. length (string_bytes fixed) ≤ SIZE_MAX) }
-    ensures memory { IfErr result IsOutOfMemory }
-{
-    if has_page_of(alloc, &text, other, options)? {
-        Ok(text)
-    } else {
-        Ok(String::from_str(alloc, other)?)
-    }
-}
-
-/// Returns whether a text is short enough to be converted, and has the page of another. The only error is
-/// `out of memory`.
-fn has_page_of(alloc: Global, text: &str, other: &str, options: &Options) -> Result<bool, Message>
-    requires size { length other.now ≤ SIZE_MAX }
-    requires without_mdx { HasNoMdx options.now }
-    ensures page { IfOk result (λ same. same ≡ true →
-        html builtin_tables text.now options.now ≡ html builtin_tables other.now options.now) }
-    ensures size { IfOk result (λ same. same ≡ true → length text.now ≤ SIZE_MAX) }
-    ensures memory { IfErr result IsOutOfMemory }
-{
-    if !fits(text) {
-        return Ok(false);
-    }
-    let page = to_html_with_options(alloc, text, options)?;
-    let wanted = to_html_with_options(alloc, other, options)?;
-    Ok(page == wanted)
 }

@@ -2,7 +2,6 @@
 #![tactic(auto)]
 
 mod entry;
-mod reader;
 
 pub use entry::fix;
 pub use lint_edits::Finder;

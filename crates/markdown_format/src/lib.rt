@@ -2,7 +2,6 @@
 #![tactic(auto)]
 
 mod entry;
-mod reader;
 
 pub use entry::format;
 pub use format_rules::{BreakStyle, Style, TableStyle};

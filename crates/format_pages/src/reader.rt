@@ -1,4 +1,4 @@
-//! How texts are read.
+//! How texts are read and printed.
 use engine_events::Event;
 use format_search::Reader;
 use markdown::{fits, to_html_with_options};
@@ -7,11 +7,13 @@ use markdown_tables::Builtin;
 use parse_events::parse;
 use std::alloc::{AllocError, Global};
 
-/// Reads texts by options, with the built-in tables.
+/// Reads and prints texts by options, with the built-in tables.
 #[derive(Drop)]
-pub(crate) struct ByOptions<'o> {
-    pub(crate) alloc: Global,
-    pub(crate) options: &'o Options,
+pub struct ByOptions<'o> {
+    /// The allocator.
+    pub alloc: Global,
+    /// The options. With a construct of MDX no text can be read.
+    pub options: &'o Options,
 }
 
 impl<'o> Reader for ByOptions<'o> {

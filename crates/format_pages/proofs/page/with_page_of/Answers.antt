@@ -1,7 +1,7 @@
 use Rattle.std.proofs.Common.{◌∙◌, ap, sym, List, ℕ}
 use Rattle.markdown_definition.specs.Html.{html}
 use Rattle.markdown_tables.specs.Builtin.{builtin_tables}
-use Rattle.markdown_format.proofs.entry.format.Goals as goal
+use Rattle.format_pages.proofs.page.with_page_of.Goals as goal
 
 pub returns-then-branch-clause-page : goal.returns-then-branch-clause-page
 returns-then-branch-clause-page c =

@@ -1,8 +1,7 @@
 //! Passes over the rules.
-use crate::reader::Reader;
-use crate::search::Search;
 use format_edits::Edits;
 use format_rules::{Document, RULES, Style, all_edits};
+use format_search::{Reader, Search};
 use std::alloc::{AllocError, Global};
 
 /// The most passes over the rules. A pass may keep edits that the one before had to leave out.
