@@ -76,3 +76,6 @@ events_meant Meant options text old new count status meant h = record {
   room = h.room;
   none = h.none;
 }
+
+-- the array, for each status that a text leads to
+pub ruleset stored_events = (no_events, events_without_room, events_in_array)

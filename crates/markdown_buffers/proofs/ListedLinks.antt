@@ -83,3 +83,6 @@ links_meant Meant options text old new count before after size status meant h = 
   room = h.room;
   none = h.none;
 }
+
+-- array and buffer, for each status that a text leads to, but for 0
+pub ruleset stored_links = (no_links, links_without_room, destinations_without_room)

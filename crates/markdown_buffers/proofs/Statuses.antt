@@ -46,3 +46,9 @@ passed text status utf8 short a b c below = record {
   size = ((λ e. absurd (c e)), (λ p. absurd (omega (arith, short, p.1.1))));
   statuses = below;
 }
+
+-- what a call returns for its options
+pub ruleset option_statuses = (unknown_options, known_options)
+
+-- what a call returns for its text, once its options are known
+pub ruleset text_statuses = (no_utf8, too_long, passed)

@@ -21,7 +21,7 @@ use std::mem::ManuallyDrop;
 /// in bytes if the status is `OK` or `ROOM`, and otherwise 0.
 ///
 /// The buffer is written only with `OK`, from its start to the end of the page.
-#[tactic(auto, using(crate::proofs::Statuses::unknown_options, crate::proofs::Statuses::known_options, crate::proofs::Pages::no_page))]
+#[tactic(auto, using(crate::proofs::Statuses::option_statuses, crate::proofs::Pages::no_page))]
 pub fn convert<A: Allocator + Clone>(
     alloc: A,
     text: &[u8],
@@ -47,7 +47,7 @@ pub fn convert<A: Allocator + Clone>(
 /// another one.
 ///
 /// The texts of the options that aren't the default ones are copied to `heap`.
-#[tactic(auto, using(crate::proofs::Statuses::unknown_options, crate::proofs::Statuses::known_options, crate::proofs::Pages::no_page))]
+#[tactic(auto, using(crate::proofs::Statuses::option_statuses, crate::proofs::Pages::no_page))]
 pub fn convert_with<A: Allocator + Clone>(
     alloc: A,
     heap: Global,
@@ -94,7 +94,7 @@ pub fn convert_by_numbers<A: Allocator + Clone>(
 }
 
 /// The status of a call that has no memory: another cause comes first.
-#[tactic(auto, using(crate::proofs::Statuses::no_utf8, crate::proofs::Statuses::too_long, crate::proofs::Statuses::passed))]
+#[tactic(auto, using(crate::proofs::Statuses::text_statuses))]
 fn cause(text: &[u8]) -> u32
     ensures cause { NamesCause (Unit {0}) text.now result }
     ensures fault { ROOM < result }
@@ -106,7 +106,7 @@ fn cause(text: &[u8]) -> u32
 }
 
 /// Converts a text to HTML in a buffer by options, which have no construct of MDX.
-#[tactic(auto, using(crate::proofs::Statuses::no_utf8, crate::proofs::Statuses::too_long, crate::proofs::Statuses::passed, crate::proofs::Pages::no_page))]
+#[tactic(auto, using(crate::proofs::Statuses::text_statuses, crate::proofs::Pages::no_page))]
 fn convert_by<A: Allocator + Clone>(
     alloc: A,
     text: &[u8],

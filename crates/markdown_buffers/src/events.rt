@@ -65,7 +65,7 @@ pub fn list_events_with<A: Allocator + Clone>(
 }
 
 /// Writes the events of a text into an array by options, which have no construct of MDX.
-#[tactic(auto, using(crate::proofs::Statuses::no_utf8, crate::proofs::Statuses::too_long, crate::proofs::Statuses::passed, crate::proofs::Listed::no_events, crate::proofs::Listed::events_without_room, crate::proofs::Listed::events_in_array))]
+#[tactic(auto, using(crate::proofs::Statuses::text_statuses, crate::proofs::Listed::stored_events))]
 fn list_by<A: Allocator + Clone>(
     alloc: A,
     text: &[u8],

@@ -45,7 +45,7 @@ pub fn list_links_with<A: Allocator + Clone>(
 }
 
 /// Writes the links of a text into an array and a buffer by options, which have no construct of MDX.
-#[tactic(auto, using(crate::proofs::Statuses::no_utf8, crate::proofs::Statuses::too_long, crate::proofs::Statuses::passed, crate::proofs::ListedLinks::no_links, crate::proofs::ListedLinks::links_without_room, crate::proofs::ListedLinks::destinations_without_room))]
+#[tactic(auto, using(crate::proofs::Statuses::text_statuses, crate::proofs::ListedLinks::stored_links))]
 fn list_by<A: Allocator + Clone>(
     alloc: A,
     text: &[u8],
