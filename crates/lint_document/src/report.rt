@@ -1,5 +1,6 @@
 //! The findings of a text, as the rules add them.
-ghost use Rattle.std.specs.Prelude.{◌≡◌, ◌+◌, ◌≤◌, [], IfOk, IsPermutation, OnOk, vec_len};
+ghost use Rattle.std.specs.Prelude.{◌≡◌, ◌↔◌, ◌+◌, [], IfOk, IsPermutation, IsTrue, OnOk, vec_len};
+ghost use Rattle.lint_document.specs.RuleSet.{IsMember};
 
 use crate::finding::Finding;
 use crate::rule::Rule;
@@ -34,14 +35,16 @@ impl Report {
     }
 
     /// Whether a rule is on.
-    pub fn has(&self, rule: Rule) -> bool {
+    pub fn has(&self, rule: Rule) -> bool
+        ensures { IsTrue result ↔ IsMember self.now.rules rule }
+    {
         self.rules.has(rule)
     }
 
     /// Adds what a rule finds at a place, in these words, if the rule is on.
     pub fn add(&mut self, rule: Rule, span: Span, words: &str) -> Result<(), AllocError>
-        ensures kept { OnOk result (vec_len self.old.findings ≤ vec_len self.new.findings) }
-        ensures one { OnOk result (vec_len self.new.findings ≤ vec_len self.old.findings + 1) }
+        ensures on { OnOk result (IsMember self.old.rules rule → vec_len self.new.findings ≡ vec_len self.old.findings + 1) }
+        ensures off { OnOk result (¬ IsMember self.old.rules rule → self.new.findings.items ≡ self.old.findings.items) }
     {
         if !self.has(rule) {
             return Ok(());
@@ -58,8 +61,8 @@ impl Report {
         words: &str,
         name: &str,
     ) -> Result<(), AllocError>
-        ensures kept { OnOk result (vec_len self.old.findings ≤ vec_len self.new.findings) }
-        ensures one { OnOk result (vec_len self.new.findings ≤ vec_len self.old.findings + 1) }
+        ensures on { OnOk result (IsMember self.old.rules rule → vec_len self.new.findings ≡ vec_len self.old.findings + 1) }
+        ensures off { OnOk result (¬ IsMember self.old.rules rule → self.new.findings.items ≡ self.old.findings.items) }
     {
         if !self.has(rule) {
             return Ok(());
@@ -76,8 +79,8 @@ impl Report {
         words: [&str; 2],
         numbers: [usize; 2],
     ) -> Result<(), AllocError>
-        ensures kept { OnOk result (vec_len self.old.findings ≤ vec_len self.new.findings) }
-        ensures one { OnOk result (vec_len self.new.findings ≤ vec_len self.old.findings + 1) }
+        ensures on { OnOk result (IsMember self.old.rules rule → vec_len self.new.findings ≡ vec_len self.old.findings + 1) }
+        ensures off { OnOk result (¬ IsMember self.old.rules rule → self.new.findings.items ≡ self.old.findings.items) }
     {
         if !self.has(rule) {
             return Ok(());
@@ -90,8 +93,8 @@ impl Report {
 
     /// Adds a finding, in words that were made for it, if its rule is on.
     pub fn add_made(&mut self, rule: Rule, span: Span, what: String) -> Result<(), AllocError>
-        ensures kept { OnOk result (vec_len self.old.findings ≤ vec_len self.new.findings) }
-        ensures one { OnOk result (vec_len self.new.findings ≤ vec_len self.old.findings + 1) }
+        ensures on { OnOk result (IsMember self.old.rules rule → vec_len self.new.findings ≡ vec_len self.old.findings + 1) }
+        ensures off { OnOk result (¬ IsMember self.old.rules rule → self.new.findings.items ≡ self.old.findings.items) }
     {
         if self.has(rule) {
             self.push(rule, span, what)

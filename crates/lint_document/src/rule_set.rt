@@ -1,4 +1,7 @@
 //! Sets of rules.
+ghost use Rattle.std.specs.Prelude.{◌↔◌, IsTrue};
+ghost use Rattle.lint_document.specs.RuleSet.{IsMember};
+
 use crate::rule::Rule;
 
 /// A set of rules.
@@ -20,7 +23,9 @@ impl RuleSet {
     };
 
     /// Whether a rule is in it.
-    pub fn has(&self, rule: Rule) -> bool {
+    pub fn has(&self, rule: Rule) -> bool
+        ensures { IsTrue result ↔ IsMember self.now rule }
+    {
         match self.members.get(rule as usize) {
             Some(is_member) => *is_member,
             None => false,
