@@ -10,6 +10,10 @@ use Rattle.definition_inline.specs.Destination.{destination_at}
 use Rattle.definition_inline.specs.Space.{after_spaces, after_white}
 use Rattle.definition_inline.specs.Strings.{string_text}
 use Rattle.definition_inline.specs.Title.{title_at}
+use Rattle.event_grammar.specs.declared.slot.Between.{Between}
+use Rattle.event_grammar.specs.declared.slot.Form.TheVariants.{Plain}
+use Rattle.event_grammar.specs.declared.slot.Slot.{Slot}
+use Rattle.event_grammar.specs.Grammar.{one as one_slot, opt, row}
 use Rattle.event_grammar.specs.References.{label_text, named}
 use Rattle.event_grammar.specs.Trees.{Node, Nodes}
 use Rattle.event_meaning.specs.Children.{child, kids_in}
@@ -18,7 +22,8 @@ use Rattle.parse_alike.specs.LabelMatch.{HaveSameWords}
 use Rattle.parse_alike.specs.Strings.{HaveTextsOfBytes, IsOfBytes}
 use Rattle.parse_lines.specs.declared.walk.Walk.{Walk}
 use Rattle.parse_lines.specs.InContent.{IsWhole, Stop, WritesInContent}
-use Rattle.parse_links.specs.Tails.{title_string}
+use Rattle.parse_slots.specs.Left.{MayEndLines}
+use Rattle.parse_links.specs.Tails.{FillsTo, MayEnd, title_string}
 
 -- codes that begin with a label are a definition, and no line follows it
 pub record IsDefinition (cs : List Code) (d : Definition) : Type 0 where
@@ -38,8 +43,25 @@ pub record IsTarget (cs destination : List Code) (title : Option (List Code)) : 
   pub destination_is : destination ≡ place.text
   pub ends : EndsWithTitle title place.rest
 
--- nodes are written up to white space at the end of a definition
-pub record WritesParts {A : Type 0} (text content : List ℕ) (Spells : Nodes → Type 0) (stop : Stop) (old new : Walk A) : Type 0 where
+-- what a definition holds after its label and colon, and after its destination
+abbrev pub end_slots : List Slot
+end_slots = opt n.DefinitionTitle ∷ []
+
+abbrev pub place_slots : List Slot
+place_slots = one_slot n.DefinitionDestination ∷ end_slots
+
+abbrev pub FillsEnd : Between → Nodes → Type 0
+FillsEnd = FillsTo end_slots MayEnd
+
+abbrev pub FillsPlace : Between → Nodes → Type 0
+FillsPlace = FillsTo place_slots MayEnd
+
+abbrev pub FillsDefinition : Between → Nodes → Type 0
+FillsDefinition = FillsTo (row n.Definition Plain) MayEnd
+
+-- nodes are written that spell something and fill slots, up to white space at the end of a definition
+pub record WritesParts {A : Type 0} (text content : List ℕ) (Spells : Nodes → Type 0) (Fills : Between → Nodes → Type 0) (stop : Stop) (old new : Walk A)
+    : Type 0 where
   pub front : List ℕ
   pub after : List ℕ
   pub parts : content ≡ front ++ after
@@ -48,6 +70,7 @@ pub record WritesParts {A : Type 0} (text content : List ℕ) (Spells : Nodes �
   pub writes : WritesInContent text front nodes after stop old new
   pub whole : IsWhole new
   pub spells : Spells nodes
+  pub fill : (around : Between) → MayEndLines around front → Fills around nodes
 
 module _ (on : Constructs) (names : Names) (text : List ℕ) where
   -- what the nodes in a destination spell, with brackets or without

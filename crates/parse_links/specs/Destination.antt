@@ -39,5 +39,6 @@ pub record WritesDestination {A : Type 0} (on : Constructs) (known : references.
   pub named : node_name node ≡ names.destination
   pub kids : kids_of node ≡ one inner
   pub is : IsInner on known text names string inner
+  pub dark : list_any ends_line string ≡ false
   pub writes : WritesInContent text front (one node) content stop old new
   pub whole : IsWhole new

@@ -83,6 +83,7 @@ pub record WritesQuoted {A : Type 0} (on : Constructs) (names : Names) (text : L
     (old new : Walk A) : Type 0 where
   pub node : Node
   pub is : IsQuoted on names text outer marker name string node
+  pub lines : (around : Between) → MayEndLines around front → MayEndLines around string
   pub writes : WritesInContent text front (one node) content stop old new
   pub whole : IsWhole new
 

@@ -12,7 +12,14 @@ use Rattle.definition_inline.specs.Label.{label_at}
 use Rattle.definition_inline.specs.Resource.{LinkResource}
 use Rattle.definition_inline.specs.Space.{after_white}
 use Rattle.definition_inline.specs.Strings.{string_text}
+use Rattle.event_grammar.specs.declared.slot.Between.{Between}
+use Rattle.event_grammar.specs.declared.slot.Child.TheVariants.{Either}
+use Rattle.event_grammar.specs.declared.slot.Form.TheVariants.{Plain}
+use Rattle.event_grammar.specs.declared.slot.Slot.{Slot}
+use Rattle.event_grammar.specs.declared.slot.Slot.TheVariants.{Opt}
+use Rattle.event_grammar.specs.Grammar.{one as one_slot, opt}
 use Rattle.event_grammar.specs.References.{label_text, named, own}
+use Rattle.event_grammar.specs.Slots.{may_end, take_child}
 use Rattle.event_grammar.specs.Trees.{Node, Nodes}
 use Rattle.event_meaning.specs.Children.{inside_of}
 use Rattle.event_meaning.specs.Strings.{string_of}
@@ -20,6 +27,7 @@ use Rattle.parse_alike.specs.LabelMatch.{HaveSameWords}
 use Rattle.parse_alike.specs.Strings.{HaveTextsOfBytes, IsOfBytes}
 use Rattle.parse_lines.specs.declared.walk.Walk.{Walk}
 use Rattle.parse_lines.specs.InContent.{IsWhole, Stop, WritesInContent}
+use Rattle.parse_slots.specs.Left.{Fill, MayEndLines, took}
 
 -- the text of a title; no title has an empty one
 abbrev pub title_string : Constructs → Names → Option (List Code) → List ℕ
@@ -70,8 +78,46 @@ abbrev pub after_reference : Option Part → List Code → List Code
 after_reference None content = if begins_with (codes "[]") content then drop 2 content else content
 after_reference (Some label) content = label.rest
 
--- nodes are written that spell something, up to what has these codes
-pub record WritesTail {A : Type 0} (text content : List ℕ) (Spells : Nodes → Type 0) (left : List Code) (stop : Stop) (old new : Walk A) : Type 0 where
+-- ---- the rows of the grammar
+
+-- nodes lead a row from these slots to some at which it may go on, or end
+pub record FillsTo (slots : List Slot) (Ends : List Slot → Type 0) (around : Between) (ns : Nodes) : Type 0 where
+  pub rest : List Slot
+  pub fill : Fill around slots ns rest
+  pub ends : Ends rest
+
+abbrev pub MayEnd : List Slot → Type 0
+MayEnd rest = may_end rest ≡ true
+
+-- what may follow the label of a link or an image
+abbrev pub tail_slots : List Slot
+tail_slots = Opt (Either n.Reference n.Resource) ∷ []
+
+abbrev pub FillsTail : Between → Nodes → Type 0
+FillsTail = FillsTo tail_slots MayEnd
+
+-- what a resource holds after its first marker, and after its destination
+abbrev pub title_slots : List Slot
+title_slots = opt n.ResourceTitle ∷ one_slot n.ResourceMarker ∷ []
+
+abbrev pub target_slots : List Slot
+target_slots = opt n.ResourceDestination ∷ title_slots
+
+-- the last marker may follow, and then nothing
+abbrev pub MayClose : List Slot → Type 0
+MayClose rest = take_child rest n.ResourceMarker ≡ Some (took Plain [])
+
+abbrev pub FillsTarget : Between → Nodes → Type 0
+FillsTarget = FillsTo target_slots MayClose
+
+abbrev pub FillsTitle : Between → Nodes → Type 0
+FillsTitle = FillsTo title_slots MayClose
+
+-- ---- what is written
+
+-- nodes are written that spell something and fill slots, up to what has these codes
+pub record WritesTail {A : Type 0} (text content : List ℕ) (Spells : Nodes → Type 0) (Fills : Between → Nodes → Type 0) (left : List Code) (stop : Stop)
+    (old new : Walk A) : Type 0 where
   pub front : List ℕ
   pub after : List ℕ
   pub parts : content ≡ front ++ after
@@ -80,6 +126,7 @@ pub record WritesTail {A : Type 0} (text content : List ℕ) (Spells : Nodes →
   pub writes : WritesInContent text front nodes after stop old new
   pub whole : IsWhole new
   pub spells : Spells nodes
+  pub fill : (around : Between) → MayEndLines around front → Fills around nodes
 
 -- two brackets come first
 abbrev pub is_collapsed : List ℕ → Bool
@@ -118,3 +165,4 @@ pub record WritesPlace {A : Type 0} (on : Constructs) (names : Names) (text : Li
   pub no_title : own n.ResourceTitleString nodes ≡ None
   pub definitions : named n.Definition nodes ≡ []
   pub columns : named n.GfmTableDelimiterCellValue nodes ≡ []
+  pub fill : (around : Between) → MayEndLines around front → Fill around target_slots nodes title_slots

@@ -8,7 +8,8 @@ ghost use Rattle.engine_events.specs.declared.event.Name.TheVariants.{Definition
 ghost use Rattle.parse_output.specs.Children.{holds_lines, may_enter};
 ghost use Rattle.parse_lines.specs.InContent.{IsWhole, StandsInContent, Stop};
 ghost use Rattle.parse_lines.specs.Open.{still_open};
-ghost use Rattle.parse_links.specs.Definition.{EndsWithTitle, IsDefinition, IsTarget, SpellsDefinition, SpellsEnd, SpellsPlace, WritesParts};
+ghost use Rattle.parse_links.specs.Definition.{EndsWithTitle, FillsDefinition, FillsEnd, FillsPlace, IsDefinition, IsTarget};
+ghost use Rattle.parse_links.specs.Definition.{SpellsDefinition, SpellsEnd, SpellsPlace, WritesParts};
 
 use crate::destination::push_destination;
 use crate::names::{DEFINITION, LABEL};
@@ -41,7 +42,7 @@ pub fn push_definition<T: Tables, A: Allocator>(
     ensures open { OnOk result (still_open walk.new ≡ still_open walk.old) }
     ensures written { OnOk result ((bytes : List ℕ) (d : LinkDefinition) (stop : Stop) → IsDefinition (content_codes text.now) d
         → StandsInContent bytes text.now stop walk.old → IsWhole walk.old
-        → WritesParts bytes text.now (SpellsDefinition on.now (T.reference_of tables.now) bytes d) stop walk.old walk.new) }
+        → WritesParts bytes text.now (SpellsDefinition on.now (T.reference_of tables.now) bytes d) FillsDefinition stop walk.old walk.new) }
 {
     let Some(found) = label(text.as_bytes()) else {
         return Ok(());
@@ -72,7 +73,7 @@ fn push_target<T: Tables, A: Allocator>(
     ensures open { OnOk result (still_open walk.new ≡ still_open walk.old) }
     ensures written { OnOk result ((bytes place : List ℕ) (title : Option (List ℕ)) (stop : Stop) → IsTarget (content_codes text.now) place title
         → StandsInContent bytes text.now stop walk.old → IsWhole walk.old
-        → WritesParts bytes text.now (SpellsPlace on.now (T.reference_of tables.now) bytes place title) stop walk.old walk.new) }
+        → WritesParts bytes text.now (SpellsPlace on.now (T.reference_of tables.now) bytes place title) FillsPlace stop walk.old walk.new) }
 {
     let Some(place) = destination(text.as_bytes(), None) else {
         return Ok(());
@@ -100,7 +101,7 @@ fn push_title<T: Tables, A: Allocator>(
     ensures open { OnOk result (still_open walk.new ≡ still_open walk.old) }
     ensures written { OnOk result ((bytes : List ℕ) (title : Option (List ℕ)) (stop : Stop) → EndsWithTitle title (content_codes text.now)
         → StandsInContent bytes text.now stop walk.old → IsWhole walk.old
-        → WritesParts bytes text.now (SpellsEnd on.now (T.reference_of tables.now) bytes title) stop walk.old walk.new) }
+        → WritesParts bytes text.now (SpellsEnd on.now (T.reference_of tables.now) bytes title) FillsEnd stop walk.old walk.new) }
 {
     let Some(found) = title_at(white(text.as_bytes())) else {
         return Ok(());

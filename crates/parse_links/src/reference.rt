@@ -8,7 +8,7 @@ ghost use Rattle.engine_events.specs.declared.event.Name.TheVariants.{Reference}
 ghost use Rattle.parse_output.specs.Children.{may_enter};
 ghost use Rattle.parse_lines.specs.InContent.{IsWhole, StandsInContent, Stop};
 ghost use Rattle.parse_lines.specs.Open.{still_open};
-ghost use Rattle.parse_links.specs.Tails.{FrontsReference, IsShortcut, SpellsReference, WritesTail, after_reference, is_collapsed};
+ghost use Rattle.parse_links.specs.Tails.{FillsTail, FrontsReference, IsShortcut, SpellsReference, WritesTail, after_reference, is_collapsed};
 
 use crate::names::REFERENCE;
 use crate::quoted::push_quoted;
@@ -30,7 +30,7 @@ pub fn push_link_reference<T: Tables, A: Allocator>(
     ensures open { OnOk result (still_open walk.new ≡ still_open walk.old) }
     ensures written { OnOk result ((bytes : List ℕ) (stop : Stop) → StandsInContent bytes text.now stop walk.old → IsWhole walk.old
         → let content = content_codes text.now in let label = label_at content in
-        WritesTail bytes text.now (SpellsReference bytes label) (after_reference label content) stop walk.old walk.new) }
+        WritesTail bytes text.now (SpellsReference bytes label) FillsTail (after_reference label content) stop walk.old walk.new) }
 {
     let Some(reference) = reference_front(text) else {
         return Ok(());

@@ -14,7 +14,7 @@ ghost use Rattle.parse_output.specs.Children.{holds_lines, may_enter};
 ghost use Rattle.parse_lines.specs.InContent.{IsWhole, StandsInContent, Stop};
 ghost use Rattle.parse_lines.specs.Open.{still_open};
 ghost use Rattle.inline_links.specs.View.{resource_of};
-ghost use Rattle.parse_links.specs.Tails.{SpellsResource, SpellsTarget, SpellsTitle, WritesPlace, WritesTail};
+ghost use Rattle.parse_links.specs.Tails.{FillsTail, FillsTarget, FillsTitle, SpellsResource, SpellsTarget, SpellsTitle, WritesPlace, WritesTail};
 
 use crate::destination::push_destination;
 use crate::names::RESOURCE;
@@ -41,7 +41,7 @@ pub fn push_resource<T: Tables, A: Allocator>(
     ensures written { OnOk result ((bytes : List ℕ) (stop : Stop) → Some (resource_of found.now) ≡ resource_at (content_codes text.now)
         → StandsInContent bytes text.now stop walk.old → IsWhole walk.old
         → let Spells = SpellsResource on.now (T.reference_of tables.now) bytes (resource_of found.now) in
-        WritesTail bytes text.now Spells (content_codes found.now.rest.now) stop walk.old walk.new) }
+        WritesTail bytes text.now Spells FillsTail (content_codes found.now.rest.now) stop walk.old walk.new) }
 {
     walk.enter(Name::Resource)?;
     walk.text(Name::ResourceMarker, 1)?;
@@ -67,7 +67,7 @@ fn push_inside<T: Tables, A: Allocator>(
     ensures written { OnOk result ((bytes : List ℕ) (stop : Stop) → Some (resource_of found.now) ≡ resource_inside (content_codes text.now)
         → StandsInContent bytes text.now stop walk.old → IsWhole walk.old
         → let Spells = SpellsTarget on.now (T.reference_of tables.now) bytes (resource_of found.now) in
-        WritesTail bytes text.now Spells (right_parenthesis ∷ content_codes found.now.rest.now) stop walk.old walk.new) }
+        WritesTail bytes text.now Spells FillsTarget (right_parenthesis ∷ content_codes found.now.rest.now) stop walk.old walk.new) }
 {
     if first(text.as_bytes()) == b')' {
         return Ok(());
@@ -91,7 +91,7 @@ fn push_target<T: Tables, A: Allocator>(
     ensures written { OnOk result ((bytes : List ℕ) (place : Part) (stop : Stop) → destination_at (Some 32) (content_codes text.now) ≡ Some place
         → Some (resource_of found.now) ≡ after_destination place → StandsInContent bytes text.now stop walk.old → IsWhole walk.old
         → let Spells = SpellsTarget on.now (T.reference_of tables.now) bytes (resource_of found.now) in
-        WritesTail bytes text.now Spells (right_parenthesis ∷ content_codes found.now.rest.now) stop walk.old walk.new) }
+        WritesTail bytes text.now Spells FillsTarget (right_parenthesis ∷ content_codes found.now.rest.now) stop walk.old walk.new) }
 {
     let rest = push_place(walk, on, tables, text, found.destination)?;
     match found.title {
@@ -135,7 +135,7 @@ fn push_title<T: Tables, A: Allocator>(
     ensures written { OnOk result ((bytes : List ℕ) (read : Part) (stop : Stop) → title_at (content_codes text.now) ≡ Some read
         → content_codes title.now ≡ read.text → StandsInContent bytes text.now stop walk.old → IsWhole walk.old
         → let Spells = SpellsTitle on.now (T.reference_of tables.now) bytes read.text in
-        WritesTail bytes text.now Spells (after_white read.rest) stop walk.old walk.new) }
+        WritesTail bytes text.now Spells FillsTitle (after_white read.rest) stop walk.old walk.new) }
 {
     let size = title.len().saturating_add(2);
     push_quoted(walk, on, tables, &RESOURCE.title, up_to(text, size))?;
