@@ -12,11 +12,17 @@ use Rattle.std.proofs.Common.{append_assoc, arith, length}
 use Rattle.definition_inline.specs.Definition.{Definition, definition, definition_with_title, definition_without_title, next_line_after}
 use Rattle.definition_inline.specs.Parts.{after_code}
 use Rattle.engine_events.specs.declared.event.Name.TheVariants as n
+use Rattle.event_grammar.specs.declared.slot.Form.TheVariants.{Plain}
+use Rattle.event_grammar.specs.declared.slot.Slot.{Slot}
+use Rattle.event_grammar.specs.Grammar.{one as one_slot, opt, row}
 use Rattle.event_grammar.specs.References.{label_text}
 use Rattle.parse_alike.specs.LabelMatch.{HaveSameWords}
-use Rattle.parse_links.specs.Definition.{IsDefinition, SpellsDefinition, place_of, place_within}
+use Rattle.parse_slots.proofs.Steps.{fill_both, fill_none, fill_taken, filled_void, may_both}
+use Rattle.parse_links.specs.Definition.{end_slots, FillsDefinition, FillsEnd, FillsPlace, IsDefinition, place_of, place_slots, place_within}
+use Rattle.parse_links.specs.Definition.{SpellsDefinition}
 use Rattle.parse_links.proofs.Children.{child_after, child_here, child_next, none_named, quoted_child, quoted_definitions, quoted_string, raw_definitions, raw_string}
 use Rattle.parse_links.proofs.Children.{token_definitions}
+use Rattle.parse_links.proofs.Fills.{definition_label, definition_place, definition_title, marked_filled, place_filled, place_renamed}
 use Rattle.parse_links.proofs.Found.{named_around}
 use Rattle.parse_links.proofs.Written.{WritesToken}
 
@@ -198,6 +204,10 @@ pub record AreOfDefinition (q : PlaceNames) : Type 0 where
   pub raw : q.raw ≡ n.DefinitionDestinationRaw
   pub string : q.literal.string ≡ n.DefinitionDestinationString
 
+-- what a definition holds after its label
+abbrev colon_slots : List Slot
+colon_slots = one_slot n.DefinitionMarker ∷ place_slots
+
 -- a label has a string
 record HasString (text string : List ℕ) (held : Option Node) : Type 0 where
   node : Node
@@ -212,7 +222,7 @@ has_string on names text string (Some node) some holds = record { node = node; i
 module _ {A : Type 0} (text : List ℕ) (stop : Stop) (on : Constructs) (names : Names) where
   -- no title
   pub no_title : (a : Walk A) (content : List ℕ) (title : Option (List Code)) → title ≡ None → next_line (content_codes content) ≡ Some []
-      → StandsInContent text content stop a → IsWhole a → WritesParts text content (SpellsEnd on names text title) stop a a
+      → StandsInContent text content stop a → IsWhole a → WritesParts text content (SpellsEnd on names text title) FillsEnd stop a a
   no_title a content title none ends st whole = record {
     front = [];
     after = content;
@@ -226,6 +236,7 @@ module _ {A : Type 0} (text : List ℕ) (stop : Stop) (on : Constructs) (names :
       title_bytes = λ h. subst (λ t. IsOfBytes (title_string on names t)) (sym none) no_bytes;
       definitions = refl;
     };
+    fill = λ around may. record { rest = end_slots; fill = fill_none around end_slots; ends = refl };
   }
 
   -- a title after white space
@@ -233,7 +244,7 @@ module _ {A : Type 0} (text : List ℕ) (stop : Stop) (on : Constructs) (names :
       → WritesWhite text content rest stop a b → rest ≡ front ++ after
       → WritesQuoted on names text n.DefinitionTitle n.DefinitionTitleMarker n.DefinitionTitleString string front after stop b c
       → content_codes string ≡ read → title ≡ Some read → next_line (content_codes after) ≡ Some []
-      → WritesParts text content (SpellsEnd on names text title) stop a c
+      → WritesParts text content (SpellsEnd on names text title) FillsEnd stop a c
   title_in a b c content rest front after string title read bytes white parts w read_is some ends =
       let ns = white.nodes in
       let node = w.node in
@@ -262,6 +273,16 @@ module _ {A : Type 0} (text : List ℕ) (stop : Stop) (on : Constructs) (names :
               none_named on names text ns (one node) no_more
               (quoted_definitions on names text n.DefinitionTitle n.DefinitionTitleMarker n.DefinitionTitleString string node refl refl refl w.is);
         };
+        fill = λ around may.
+            let both = may_both around white.front front may in
+            record {
+              rest = [];
+              fill = fill_both (white.fill around end_slots both.0 (record { space = refl; ending = refl; blank = refl; quote = refl }))
+                  (fill_taken around end_slots n.DefinitionTitle Plain [] node w.is.named refl
+                  (marked_filled on names text around n.DefinitionTitle n.DefinitionTitleMarker n.DefinitionTitleString (opt n.DefinitionTitleString) string
+                  node definition_title w.is (λ none. refl) (w.lines around both.1)));
+              ends = refl;
+            };
       }
 
   -- what the destination among its nodes spells
@@ -319,7 +340,8 @@ module _ {A : Type 0} (text : List ℕ) (stop : Stop) (on : Constructs) (names :
   -- a destination, and what is behind it
   pub target_in : (q : PlaceNames) (a b c : Walk A) (content front after string : List ℕ) (read : List Code) (title : Option (List Code)) → AreOfDefinition q
       → AreBytes string → content ≡ front ++ after → WritesDestination on names text q string front after stop a b → content_codes string ≡ read
-      → WritesParts text after (SpellsEnd on names text title) stop b c → WritesParts text content (SpellsPlace on names text read title) stop a c
+      → WritesParts text after (SpellsEnd on names text title) FillsEnd stop b c
+      → WritesParts text content (SpellsPlace on names text read title) FillsPlace stop a c
   target_in q a b c content front after string read title are bytes parts w read_is end =
       let is = place_spells q string front after a b end.nodes are w in
       let titled_is : child n.DefinitionTitle (append (one w.node) end.nodes) ≡ child n.DefinitionTitle end.nodes =
@@ -343,6 +365,17 @@ module _ {A : Type 0} (text : List ℕ) (stop : Stop) (on : Constructs) (names :
             definitions = none_named on names text (one w.node) end.nodes is.1 end.spells.definitions;
           };
         };
+        fill = λ around may.
+            let more = end.fill around (may_both around front end.front may).1 in
+            record {
+              rest = more.rest;
+              fill = fill_both
+                  (fill_taken around place_slots n.DefinitionDestination Plain end_slots w.node (w.named ∙ are.destination) refl
+                  (place_filled on names text around q string w.node w.inner
+                  (place_renamed are.destination are.literal are.marker are.raw are.string definition_place) w.named w.kids w.is w.dark))
+                  more.fill;
+              ends = more.ends;
+            };
       }
 
   -- a label, a colon, white space, and what is behind
@@ -350,8 +383,8 @@ module _ {A : Type 0} (text : List ℕ) (stop : Stop) (on : Constructs) (names :
       → 0 < length string → content_codes string ≡ found.label
       → WritesQuoted on names text n.DefinitionLabel n.DefinitionLabelMarker n.DefinitionLabelString string front (58 ∷ inside) stop a b
       → WritesToken text stop n.DefinitionMarker (58 ∷ []) inside b c → WritesWhite text inside rest stop c d
-      → WritesParts text rest (SpellsPlace on names text found.destination found.title) stop d e
-      → WritesParts text content (SpellsDefinition on names text found) stop a e
+      → WritesParts text rest (SpellsPlace on names text found.destination found.title) FillsPlace stop d e
+      → WritesParts text content (SpellsDefinition on names text found) FillsDefinition stop a e
   definition_in a b c d e content front inside rest string found parts some label_is w colon white place =
       let label = w.node in
       let tail = append white.nodes place.nodes in
@@ -406,4 +439,22 @@ module _ {A : Type 0} (text : List ℕ) (stop : Stop) (on : Constructs) (names :
             };
           };
         };
+        fill = λ around may.
+            let label_may = may_both around front (58 ∷ (white.front ++ place.front)) may in
+            let colon_may = may_both around (58 ∷ []) (white.front ++ place.front) label_may.1 in
+            let white_may = may_both around white.front place.front colon_may.1 in
+            let behind_fill = place.fill around white_may.1 in
+            record {
+              rest = behind_fill.rest;
+              fill = fill_both
+                  (fill_taken around (row n.Definition Plain) n.DefinitionLabel Plain colon_slots label w.is.named refl
+                  (marked_filled on names text around n.DefinitionLabel n.DefinitionLabelMarker n.DefinitionLabelString (one_slot n.DefinitionLabelString)
+                  string label definition_label w.is (λ none. absurd (none-some has.node (sym none ∙ has.is))) (w.lines around label_may.0)))
+                  (fill_both
+                  (fill_taken around colon_slots n.DefinitionMarker Plain place_slots colon.node colon.void.0 refl
+                  (filled_void around Plain n.DefinitionMarker colon.node colon.void.0 colon.void.1 refl))
+                  (fill_both (white.fill around place_slots white_may.0 (record { space = refl; ending = refl; blank = refl; quote = refl }))
+                  behind_fill.fill));
+              ends = behind_fill.ends;
+            };
       }

@@ -2,7 +2,7 @@
 use Rattle.std.proofs.Common.{◌≡◌, ◌⊎◌, ℕ, ◌<◌, length, List, [], ◌∷◌, ◌++◌, inl, inr, refl, sym, ap, subst, ◌∙◌, arith, slice_index}
 use Rattle.parse_links.proofs.Prelude.{AreCutApart, Around, Constructs, End, end_in, ends_line, enter_at, EntersInContent, exit_at, ExitsInContent, IsMark}
 use Rattle.parse_links.proofs.Prelude.{IsPlace, list_any, one, Stop, Walk, WritesDestination, WritesInContent, WritesQuoted, WritesRaw}
-use Rattle.std.proofs.Common.{true}
+use Rattle.std.proofs.Common.{true, false}
 use Rattle.std.proofs.lemmas.Bool.{and_parts}
 use Rattle.event_tokens.specs.Tokens.{is_token}
 use Rattle.definition_inline.specs.CharacterReference as references
@@ -52,15 +52,16 @@ module _ {A : Type 0} (text : List ℕ) (stop : Stop) (on : Constructs) (known :
             whole = w.whole;
           }
 
-  pub destination_in : (a b c d : Walk A) (string front content : List ℕ) → IsOwn names.destination
+  pub destination_in : (a b c d : Walk A) (string front content : List ℕ) → list_any ends_line string ≡ false → IsOwn names.destination
       → EntersInContent text names.destination (front ++ content) stop a b → WritesInner on known text names string front content stop b c
       → ExitsInContent text names.destination content stop c d → WritesDestination on known text names string front content stop a d
-  destination_in a b c d string front content own enters inner exits = record {
+  destination_in a b c d string front content dark own enters inner exits = record {
     node = Around (enter_at text names.destination (end_in a.out)) (one inner.node) (exit_at text names.destination (end_in c.out));
     inner = inner.node;
     named = refl;
     kids = refl;
     is = inner.is;
+    dark = dark;
     writes = around_in text stop on known a b c d names.destination front content (one inner.node) own enters inner.writes exits;
     whole = ap (λ (x : End). x.owed) exits.end ∙ inner.whole;
   }

@@ -15,7 +15,13 @@ use Rattle.std.proofs.lemmas.Bool.{ne_eqb}
 use Rattle.definition_inline.specs.Resource.{LinkResource, after_destination, opens_title, resource_at, resource_end}
 use Rattle.engine_events.specs.declared.event.Name.TheVariants as n
 use Rattle.inline_leaves.proofs.Codes.{at_return}
-use Rattle.parse_links.specs.Tails.{SpellsResource, WritesPlace}
+use Rattle.event_grammar.specs.declared.slot.Form.TheVariants.{Plain}
+use Rattle.event_grammar.specs.declared.slot.Slot.{Slot}
+use Rattle.event_grammar.specs.Checks.{one_line}
+use Rattle.event_grammar.specs.Grammar.{one as one_slot, opt, row}
+use Rattle.parse_slots.proofs.Steps.{fill_both, fill_none, fill_taken, filled_by, filled_void, may_both}
+use Rattle.parse_links.specs.Tails.{FillsTail, FillsTarget, FillsTitle, SpellsResource, tail_slots, target_slots, title_slots, WritesPlace}
+use Rattle.parse_links.proofs.Fills.{marked_filled, may_in, place_filled, place_renamed, resource_place, resource_title}
 use Rattle.parse_links.proofs.Found.{FindsString, IsStringName, IsUnsought, own_around, own_found, named_around, void_plain, finds_around, finds_before}
 use Rattle.parse_links.proofs.Found.{finds_quoted, finds_raw, held_spells}
 use Rattle.parse_links.proofs.Written.{WritesToken, around_in}
@@ -181,6 +187,10 @@ place_size xs p pb size count {all} is whole small angle bare = elim (cases_Bool
   | inr h ↦ let other = eqb-false (get_or xs 0 0) 60 h in omega (arith, bare other, is, pb.bare other)
 ]
 
+-- what a resource holds after its title
+abbrev last_slots : List Slot
+last_slots = one_slot n.ResourceMarker ∷ []
+
 no_bytes : IsOfBytes []
 no_bytes k = omega arith
 
@@ -265,7 +275,7 @@ module _ {A : Type 0} (text : List ℕ) (stop : Stop) (on : Constructs) (names :
   pub title_tail : (a b c : Walk A) (content front after rest string : List ℕ) (read left : List Code) → IsOfBytes string → content ≡ front ++ after
       → WritesQuoted on names text n.ResourceTitle n.ResourceTitleMarker n.ResourceTitleString string front after stop a b
       → WritesWhite text after rest stop b c → content_codes rest ≡ left → content_codes string ≡ read
-      → WritesTail text content (SpellsTitle on names text read) left stop a c
+      → WritesTail text content (SpellsTitle on names text read) FillsTitle left stop a c
   title_tail a b c content front after rest string read left bytes parts w white left_is read_is =
       let quoted =
       finds_quoted on names text n.ResourceTitle n.ResourceTitleMarker n.ResourceTitleString string w.node
@@ -291,6 +301,17 @@ module _ {A : Type 0} (text : List ℕ) (stop : Stop) (on : Constructs) (names :
           definitions = finds.definitions;
           columns = finds.columns;
         };
+        fill = λ around may.
+            let both = may_both around front white.front may in
+            record {
+              rest = last_slots;
+              fill = fill_both
+                  (fill_taken around title_slots n.ResourceTitle Plain last_slots w.node w.is.named refl
+                  (marked_filled on names text around n.ResourceTitle n.ResourceTitleMarker n.ResourceTitleString (opt n.ResourceTitleString) string w.node
+                  resource_title w.is (λ none. refl) (w.lines around both.0)))
+                  (white.fill around last_slots both.1 (record { space = refl; ending = refl; blank = refl; quote = refl }));
+              ends = refl;
+            };
       }
 
   -- a destination, and white space
@@ -314,12 +335,19 @@ module _ {A : Type 0} (text : List ℕ) (stop : Stop) (on : Constructs) (names :
         no_title = finds.others n.ResourceTitleString refl refl;
         definitions = finds.definitions;
         columns = finds.columns;
+        fill = λ around may.
+            let both = may_both around front white.front may in
+            fill_both
+            (fill_taken around target_slots n.ResourceDestination Plain title_slots w.node (w.named ∙ are.destination) refl
+            (place_filled on names text around q string w.node w.inner
+            (place_renamed are.destination are.literal are.marker are.raw are.string resource_place) w.named w.kids w.is w.dark))
+            (white.fill around title_slots both.1 (record { space = refl; ending = refl; blank = refl; quote = refl }));
       }
 
   -- without a title
   pub target_none : (a b : Walk A) (place : Part) (content rest : List ℕ) (r : LinkResource) (left : List Code)
       → WritesPlace on names text place content rest stop a b → after_white place.rest ≡ left → r.destination ≡ place.text → r.title ≡ None
-      → WritesTail text content (SpellsTarget on names text r) left stop a b
+      → WritesTail text content (SpellsTarget on names text r) FillsTarget left stop a b
   target_none a b place content rest r left w left_is read_is none = record {
     front = w.front;
     after = rest;
@@ -336,12 +364,13 @@ module _ {A : Type 0} (text : List ℕ) (stop : Stop) (on : Constructs) (names :
       definitions = w.definitions;
       columns = w.columns;
     };
+    fill = λ around may. record { rest = title_slots; fill = w.fill around may; ends = refl };
   }
 
   -- and a title
   pub target_title : (a b c : Walk A) (place : Part) (content rest : List ℕ) (r : LinkResource) (read left : List Code)
-      → WritesPlace on names text place content rest stop a b → WritesTail text rest (SpellsTitle on names text read) left stop b c
-      → r.destination ≡ place.text → r.title ≡ Some read → WritesTail text content (SpellsTarget on names text r) left stop a c
+      → WritesPlace on names text place content rest stop a b → WritesTail text rest (SpellsTitle on names text read) FillsTitle left stop b c
+      → r.destination ≡ place.text → r.title ≡ Some read → WritesTail text content (SpellsTarget on names text r) FillsTarget left stop a c
   target_title a b c place content rest r read left w title read_is some = record {
     front = w.front ++ title.front;
     after = title.after;
@@ -368,6 +397,10 @@ module _ {A : Type 0} (text : List ℕ) (stop : Stop) (on : Constructs) (names :
       columns =
           named_both n.GfmTableDelimiterCellValue w.nodes title.nodes ∙ ap₂ (λ (xs ys : List Node). xs ++ ys) w.columns title.spells.columns;
     };
+    fill = λ around may.
+        let both = may_both around w.front title.front may in
+        let more = title.fill around both.1 in
+        record { rest = more.rest; fill = fill_both (w.fill around both.0) more.fill; ends = more.ends };
   }
     where
       or_nothing : (o : Option Node) → option_or o None ≡ o
@@ -376,7 +409,7 @@ module _ {A : Type 0} (text : List ℕ) (stop : Stop) (on : Constructs) (names :
 
   -- nothing between the parentheses
   pub target_nothing : (a : Walk A) (content : List ℕ) (r : LinkResource) → r.destination ≡ [] → r.title ≡ None → content_codes content ≡ 41 ∷ r.rest
-      → StandsInContent text content stop a → IsWhole a → WritesTail text content (SpellsTarget on names text r) (41 ∷ r.rest) stop a a
+      → StandsInContent text content stop a → IsWhole a → WritesTail text content (SpellsTarget on names text r) FillsTarget (41 ∷ r.rest) stop a a
   target_nothing a content r destination none codes st whole = record {
     front = [];
     after = content;
@@ -393,6 +426,7 @@ module _ {A : Type 0} (text : List ℕ) (stop : Stop) (on : Constructs) (names :
       definitions = refl;
       columns = refl;
     };
+    fill = λ around may. record { rest = target_slots; fill = fill_none around target_slots; ends = refl };
   }
 
   -- ---- the resource
@@ -400,9 +434,10 @@ module _ {A : Type 0} (text : List ℕ) (stop : Stop) (on : Constructs) (names :
   -- a resource between its parentheses
   pub resource_tail : (a b c d e f g : Walk A) (content inside : List ℕ) (others : List ℕ) (r : LinkResource) → content ≡ 40 ∷ others
       → EntersInContent text n.Resource content stop a b → WritesToken text stop n.ResourceMarker (40 ∷ []) others b c
-      → WritesWhite text others inside stop c d → (tail : WritesTail text inside (SpellsTarget on names text r) (41 ∷ r.rest) stop d e) → (last : List ℕ)
+      → WritesWhite text others inside stop c d → (tail : WritesTail text inside (SpellsTarget on names text r) FillsTarget (41 ∷ r.rest) stop d e)
+      → (last : List ℕ)
       → tail.after ≡ 41 ∷ last → WritesToken text stop n.ResourceMarker (41 ∷ []) last e f → content_codes last ≡ r.rest
-      → ExitsInContent text n.Resource last stop f g → WritesTail text content (SpellsResource on names text r) r.rest stop a g
+      → ExitsInContent text n.Resource last stop f g → WritesTail text content (SpellsResource on names text r) FillsTail r.rest stop a g
   resource_tail a b c d e f g content inside others r is enters first white tail last closes closed codes exits =
       let before = append (one first.node) white.nodes in
       let after = one closed.node in
@@ -450,4 +485,25 @@ module _ {A : Type 0} (text : List ℕ) (stop : Stop) (on : Constructs) (names :
               named_around node n.GfmTableDelimiterCellValue refl
               ∙ wrapped_named n.GfmTableDelimiterCellValue before tail.nodes after one_is.columns tail.spells.columns two_is.columns;
         };
+        fill = λ around may.
+            let within = one_line around n.Resource in
+            let all_may = may_both within (40 ∷ []) (white.front ++ (tail.front ++ 41 ∷ [])) (may_in around n.Resource front refl may) in
+            let white_may = may_both within white.front (tail.front ++ 41 ∷ []) all_may.1 in
+            let tail_may = may_both within tail.front (41 ∷ []) white_may.1 in
+            let inner = tail.fill within tail_may.0 in
+            record {
+              rest = [];
+              fill = fill_taken around tail_slots n.Resource Plain [] node refl refl
+                  (filled_by around Plain n.Resource [] node refl
+                  (fill_both
+                  (fill_both
+                  (fill_taken within (row n.Resource Plain) n.ResourceMarker Plain target_slots first.node first.void.0 refl
+                  (filled_void within Plain n.ResourceMarker first.node first.void.0 first.void.1 refl))
+                  (white.fill within target_slots white_may.0 (record { space = refl; ending = refl; blank = refl; quote = refl })))
+                  (fill_both inner.fill
+                  (fill_taken within inner.rest n.ResourceMarker Plain [] closed.node closed.void.0 inner.ends
+                  (filled_void within Plain n.ResourceMarker closed.node closed.void.0 closed.void.1 refl))))
+                  refl);
+              ends = refl;
+            };
       }

@@ -3,9 +3,9 @@ use Rattle.std.proofs.Common.{◌≡◌, ℕ, zero, suc, ◌+◌, ◌≤◌, tru
 use Rattle.std.proofs.Common.{◌∙◌, append_assoc, arith, drop, inl, inr, take, length}
 use Rattle.parse_lines.specs.Content.{HasBytes}
 use Rattle.parse_links.proofs.Prelude.{after_ending, after_spaces, after_white, append, append-nil, AreBytes, bare, begins_with_eol, cases_Bool, cond-false}
-use Rattle.parse_links.proofs.Prelude.{cond-true, Cons, content_codes, contents_both, End, end_after, end_in, ending_bytes, indent, is_ascii_byte, is_eol}
-use Rattle.parse_links.proofs.Prelude.{is_white, list_all, lt-ltb, one, or_left, plain_both, ReadsEnding, standing, StandsInContent, StandsInLine, Stop}
-use Rattle.parse_links.proofs.Prelude.{take-append-drop, void_nodes, Walk, WritesInContent, WritesInLine, WritesWhite}
+use Rattle.parse_links.proofs.Prelude.{cond-true, Cons, content_codes, contents_both, End, end_after, end_in, ending_bytes, ends_line, indent, is_ascii_byte}
+use Rattle.parse_links.proofs.Prelude.{is_eol, is_white, list_all, list_any, lt-ltb, one, or_left, plain_both, ReadsEnding, standing, StandsInContent}
+use Rattle.parse_links.proofs.Prelude.{StandsInLine, Stop, take-append-drop, void_nodes, Walk, WritesInContent, WritesInLine, WritesWhite}
 use Rattle.std.proofs.lemmas.Bool.{and_from}
 use Rattle.std.proofs.lemmas.List.Folds.{list_all-append}
 use Rattle.markdown_options.specs.Defaults.{default_constructs}
@@ -13,8 +13,14 @@ use Rattle.markdown_options.specs.declared.line_ending.LineEnding.{LineEnding}
 use Rattle.markdown_options.specs.declared.line_ending.LineEnding.TheVariants.{CarriageReturnLineFeed, CarriageReturn, LineFeed}
 use Rattle.definition_text.specs.Content.{line_ending_code}
 use Rattle.engine_events.specs.declared.event.Name.TheVariants as n
+use Rattle.event_grammar.specs.declared.slot.Between.{Between}
+use Rattle.event_grammar.specs.declared.slot.Between.TheVariants.{Lines}
 use Rattle.parse_lines.specs.InContent.{WritesEndingIn}
 use Rattle.parse_lines.proofs.Ahead.{owed_after}
+use Rattle.parse_lines.proofs.Quiet.{ending_fill}
+use Rattle.parse_slots.specs.Left.{Fill}
+use Rattle.parse_slots.proofs.Steps.{fill_both, may_both, may_lines, may_space}
+use Rattle.parse_slots.proofs.Voids.{void_between}
 use Rattle.inline_leaves.specs.declared.line_ending.Ending.{Ending}
 use Rattle.inline_leaves.proofs.Codes.{after_codes}
 use Rattle.inline_leaves.proofs.Endings.{ending_is_eol}
@@ -38,6 +44,11 @@ ending_ascii : (e : LineEnding) → list_all is_ascii_byte (ending_bytes e) ≡ 
 ending_ascii LineFeed = refl
 ending_ascii CarriageReturn = refl
 ending_ascii CarriageReturnLineFeed = refl
+
+ending_ends : (e : LineEnding) → list_any ends_line (ending_bytes e) ≡ true
+ending_ends LineFeed = refl
+ending_ends CarriageReturn = refl
+ending_ends CarriageReturnLineFeed = refl
 
 -- ---- codes
 
@@ -77,6 +88,8 @@ module _ {A : Type 0} (text : List ℕ) (stop : Stop) where
             (append-nil (drop size xs)) w.writes;
         whole = omega (arith, owed_indent text stop a xs st, is, ap (λ (x : End). x.owed) w.end, owed_after from.index from.owed size);
         plain = plain_void text n.SpaceOrTab from (end_after from size) refl refl;
+        fill = λ around slots may none.
+            void_between around slots n.SpaceOrTab text from (end_after from size) refl none.space (may_space around (take size xs) may) refl;
         others = λ name h. space_child name text from (end_after from size) h;
       }
 
@@ -110,6 +123,15 @@ module _ {A : Type 0} (text : List ℕ) (stop : Stop) where
             plain_both first.nodes (append nodes last.nodes) first.plain
             (plain_both nodes last.nodes
             (plain_both (one ends.node) ends.quiet (void_node ends.node ends.named ends.empty) (plain_quiet ends.quiet ends.are_quiet)) last.plain);
+        fill = λ around slots may none.
+            let one_may = may_both around first.front (ending_bytes e ++ last.front) may in
+            let two_may = may_both around (ending_bytes e) last.front one_may.1 in
+            let lines : around ≡ Lines = may_lines around (ending_bytes e) (ending_ends e) two_may.0 in
+            fill_both (first.fill around slots one_may.0 none)
+            (fill_both
+            (subst (λ (b : Between). Fill b slots nodes slots) (sym lines)
+            (ending_fill slots n.LineEnding ends.node ends.quiet ends.named ends.empty none.ending refl refl none.space none.quote ends.are_quiet))
+            (last.fill around slots two_may.1 none));
         others = λ name h.
             none_both name first.nodes (append nodes last.nodes) (first.others name h)
             (none_both name nodes last.nodes (ending_child name ends.node ends.quiet ends.named ends.are_quiet h) (last.others name h));

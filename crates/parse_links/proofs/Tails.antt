@@ -8,7 +8,11 @@ use Rattle.parse_links.proofs.Prelude.{Node, one, Part, StandsInContent, Stop, t
 use Rattle.std.proofs.lemmas.Slice.Eq.{bytes_eq-Decides}
 use Rattle.definition_text.specs.Bytes.{begins_with}
 use Rattle.engine_events.specs.declared.event.Name.TheVariants as n
-use Rattle.parse_links.specs.Tails.{HasLabel, IsShortcut, SpellsReference}
+use Rattle.event_grammar.specs.declared.slot.Form.TheVariants.{Plain}
+use Rattle.event_grammar.specs.Grammar.{opt}
+use Rattle.parse_slots.proofs.Steps.{fill_none, fill_taken}
+use Rattle.parse_links.specs.Tails.{FillsTail, HasLabel, IsShortcut, SpellsReference, tail_slots}
+use Rattle.parse_links.proofs.Fills.{marked_filled, reference}
 use Rattle.parse_links.proofs.Found.{IsStringName, IsUnsought, finds_quoted}
 
 pub left_mark : IsMark 91
@@ -72,8 +76,8 @@ held_label on names text (Some label) string (Some node) has holds = (node, refl
 
 module _ {A : Type 0} (text : List ℕ) (stop : Stop) where
   pub no_reference : (a : Walk A) (content : List ℕ) → IsShortcut content → StandsInContent text content stop a → IsWhole a
-      → WritesTail text content (SpellsReference text (label_at (content_codes content))) (after_reference (label_at (content_codes content))
-      (content_codes content))
+      → WritesTail text content (SpellsReference text (label_at (content_codes content))) FillsTail
+      (after_reference (label_at (content_codes content)) (content_codes content))
       stop a a
   no_reference a content is st whole = record {
     front = [];
@@ -84,13 +88,14 @@ module _ {A : Type 0} (text : List ℕ) (stop : Stop) where
     writes = contents_none text stop a content st;
     whole = whole;
     spells = record { is_none = refl; string = subst (λ l. HasLabel text l None) (sym is.label) refl; definitions = refl; columns = refl };
+    fill = λ around may. record { rest = tail_slots; fill = fill_none around tail_slots; ends = refl };
   }
 
   module _ (on : Constructs) (names : Names) where
     pub reference_tail : (a b : Walk A) (content front after string : List ℕ) (label : Option Part) (left : List Code) → content ≡ front ++ after
         → content_codes after ≡ left → HasCodes label string
         → WritesQuoted on names text n.Reference n.ReferenceMarker n.ReferenceString string front after stop a b
-        → WritesTail text content (SpellsReference text label) left stop a b
+        → WritesTail text content (SpellsReference text label) FillsTail left stop a b
     reference_tail a b content front after string label left parts rest has w =
         let finds = finds_quoted on names text n.Reference n.ReferenceMarker n.ReferenceString string w.node outer_is marker_is reference_is w.is in
         record {
@@ -106,6 +111,13 @@ module _ {A : Type 0} (text : List ℕ) (stop : Stop) where
             string = subst (λ o. HasLabel text label o) (sym finds.found) (held_label on names text label string w.is.held has w.is.holds);
             definitions = finds.definitions;
             columns = finds.columns;
+          };
+          fill = λ around may. record {
+            rest = [];
+            fill = fill_taken around tail_slots n.Reference Plain [] w.node w.is.named refl
+                (marked_filled on names text around n.Reference n.ReferenceMarker n.ReferenceString (opt n.ReferenceString) string w.node reference w.is
+                (λ none. refl) (w.lines around may));
+            ends = refl;
           };
         }
 

@@ -16,6 +16,8 @@ use Rattle.parse_output.specs.Forest.{cut, is_nil}
 use Rattle.parse_output.specs.Joined.{AreJoined, end_edge, flat_text}
 use Rattle.parse_output.proofs.Joined.{flat_label}
 use Rattle.parse_lines.proofs.InContent.{contents_around, line_in_content}
+use Rattle.parse_slots.specs.Left.{MayEndLines}
+use Rattle.parse_slots.proofs.Steps.{may_both}
 use Rattle.parse_strings.specs.References.{token}
 use Rattle.parse_strings.specs.Strings.{WritesStringIn}
 use Rattle.parse_strings.proofs.SameText.{same_text_words}
@@ -163,6 +165,9 @@ module _ {A : Type 0} (text : List ℕ) (stop : Stop) where
             void_last = last.void;
             holds = held.holds;
           };
+          lines = λ around may.
+              (may_both around string (closing ∷ [])
+              (may_both around (opening ∷ []) (string ++ closing ∷ []) (subst (MayEndLines around) is may)).1).0;
           writes =
               subst (λ ns. WritesInContent text front ns content stop a f) (cut_own (enter_at text outer from) (exit_at text outer to) kids own.other)
               (contents_around text stop a b e f outer front content kids enters inner exits own.prefix);

@@ -3,6 +3,7 @@ use Rattle.parse_links.proofs.Prelude.{after_white, AreBytes, both_ok, bytes_aft
 use Rattle.parse_links.proofs.Prelude.{Part, part_of, same_codes, SpellsPlace, StandsInContent, WritesParts, WritesWhite}
 use Rattle.engine_events.specs.declared.event.Name.TheVariants as n
 use Rattle.parse_output.specs.Children.{has_string, may_hold}
+use Rattle.parse_links.specs.Definition.{FillsPlace}
 use Rattle.parse_links.proofs.Definitions.{cut_after_ascii, definition_in, reads_definition}
 use Rattle.parse_links.proofs.Marks.{label_filled, one_byte, quoted_bytes, quoted_cut}
 use Rattle.parse_links.proofs.Tails.{left_mark, right_mark, string_filled}
@@ -58,7 +59,7 @@ returns-clause-written g c =
     let codes : after_white r.more ≡ content_codes c.last.result.now =
     sym (ap content_codes last ∙ c.in_ok-rest.ensures.rest ∙ ap (λ ys. after_white (content_codes ys)) inside_is ∙ ap after_white colon.2) in
     let target =
-    subst (λ ys. WritesParts bytes ys (SpellsPlace on names bytes d.destination d.title) stop c.push_white.new.walk c.push_target.new.walk) last
+    subst (λ ys. WritesParts bytes ys (SpellsPlace on names bytes d.destination d.title) FillsPlace stop c.push_white.new.walk c.push_target.new.walk) last
     (written bytes d.destination d.title stop (subst (λ ys. IsTarget ys d.destination d.title) codes r.target)
     (subst (λ ys. StandsInContent bytes ys stop c.push_white.new.walk) (sym last) white.writes.stands) white.whole) in
     definition_in bytes stop on names _ _ _ _ _ xs front inside rest q.string d ahead

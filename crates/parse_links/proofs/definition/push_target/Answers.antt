@@ -2,6 +2,7 @@ use Rattle.std.proofs.Common.{◌≡◌, ◌++◌, None, Some, arith, length, re
 use Rattle.parse_links.proofs.Prelude.{AreBytes, both_ok, bytes_after, bytes_drop, content_codes, destination_at, EndsWithTitle, from_some, IsPlace, Part}
 use Rattle.parse_links.proofs.Prelude.{part_of, same_codes, SpellsEnd, StandsInContent, WritesParts}
 use Rattle.parse_output.specs.Children.{has_string, may_hold}
+use Rattle.parse_links.specs.Definition.{FillsEnd}
 use Rattle.parse_links.proofs.Definitions.{target_in}
 use Rattle.parse_links.proofs.Marks.{destination_marks, place_bytes}
 use Rattle.parse_links.proofs.definition.push_target.Goals as goal
@@ -44,7 +45,7 @@ returns-clause-written g c =
     c.in_ok-push_destination.ensures.written bytes pb.string pb.after stop (subst (IsPlace pb.string) (sym taken) pb.is)
     (subst (λ ys. StandsInContent bytes ys stop c.args.walk.now) ahead st) whole in
     let end =
-    subst (λ ys. WritesParts bytes ys (SpellsEnd on names bytes title) stop c.push_destination.new.walk c.push_title.new.walk) last
+    subst (λ ys. WritesParts bytes ys (SpellsEnd on names bytes title) FillsEnd stop c.push_destination.new.walk c.push_title.new.walk) last
     (written bytes title stop (subst (EndsWithTitle title) codes is.ends)
     (subst (λ ys. StandsInContent bytes ys stop c.push_destination.new.walk) (sym last) w.writes.stands) w.whole) in
     target_in bytes stop on names _ _ _ _ xs c.without_last.result.now pb.after pb.string place title

@@ -13,5 +13,5 @@ returns-clause-written g c =
     let enters = line_enters bytes stop _ _ name _ st c.in_ok-enter.ensures.stays (c.in_ok-enter.ensures.written bytes) in
     let inner = c.in_ok-push_inner.ensures.written bytes string content stop is enters.stands (ap owed enters.end ∙ whole) in
     destination_in bytes stop c.args.on.now (g.T.Tables.reference_of c.args.tables.now) c.args.names.now _ _ _ _ string c.args.text.now content
-    (own_of name c.args.names.now.own_destination) enters inner (line_exits bytes stop _ _ name content inner.writes.stands stays (exits bytes)))
+    is.dark (own_of name c.args.names.now.own_destination) enters inner (line_exits bytes stop _ _ name content inner.writes.stands stays (exits bytes)))
     c.exit.ensures.written c.exit.ensures.stays

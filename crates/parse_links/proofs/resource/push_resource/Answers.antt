@@ -2,6 +2,7 @@ use Rattle.std.proofs.Common.{◌≡◌, ◌∷◌, ◌++◌, arith, drop, subst
 use Rattle.parse_links.proofs.Prelude.{after_white, both_ok, content_codes, End, line_enters, line_exits, resource_inside, resource_of, SpellsTarget}
 use Rattle.parse_links.proofs.Prelude.{StandsInContent, WritesTail, WritesWhite}
 use Rattle.engine_events.specs.declared.event.Name.TheVariants as n
+use Rattle.parse_links.specs.Tails.{FillsTarget}
 use Rattle.parse_links.proofs.Marks.{one_byte}
 use Rattle.parse_links.proofs.Resources.{ascii_cut, at_inside, resource_tail}
 use Rattle.parse_links.proofs.Written.{token_in}
@@ -35,7 +36,7 @@ returns-clause-written g c =
     let codes : content_codes inside ≡ after_white at.0 =
     c.in_ok-inside.ensures.rest ∙ ap (λ ys. after_white (content_codes ys)) left ∙ ap after_white first.2 in
     let tail =
-    subst (λ ys. WritesTail bytes ys (SpellsTarget on names bytes r) (41 ∷ r.rest) stop c.push_white.new.walk c.push_inside.new.walk) last
+    subst (λ ys. WritesTail bytes ys (SpellsTarget on names bytes r) FillsTarget (41 ∷ r.rest) stop c.push_white.new.walk c.push_inside.new.walk) last
     (c.in_ok-push_inside.ensures.written bytes stop (at.2 ∙ ap resource_inside (sym codes ∙ ap content_codes (sym last)))
     (subst (λ ys. StandsInContent bytes ys stop c.push_white.new.walk) (sym last) white.writes.stands) white.whole) in
     let end = one_byte 41 r.rest tail.after tail.rest refl in

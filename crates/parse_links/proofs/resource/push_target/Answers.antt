@@ -1,6 +1,7 @@
 use Rattle.std.proofs.Common.{◌≡◌, ◌∷◌, Some, arith, refl, subst, sym, ap, ◌∙◌}
 use Rattle.parse_links.proofs.Prelude.{after_white, both_ok, content_codes, resource_of, SpellsTitle, StandsInContent, title_at, WritesTail}
 use Rattle.inline_links.specs.View.{title_codes}
+use Rattle.parse_links.specs.Tails.{FillsTitle}
 use Rattle.parse_links.proofs.Marks.{before_ascii}
 use Rattle.parse_links.proofs.Resources.{after_is, read_title, target_none, target_title, title_ascii, unread_title}
 use Rattle.parse_links.proofs.resource.push_target.Goals as goal
@@ -34,8 +35,10 @@ returns-in-Some-clause-written g c =
     written bytes some.read stop (ap (λ ys. title_at (content_codes ys)) last ∙ title) some.text_is
     (subst (λ ys. StandsInContent bytes ys stop c.push_place.new.walk) (sym last) w.writes.stands) w.whole in
     target_title bytes stop on names _ _ _ place xs rest r some.read.text (41 ∷ r.rest) w
-    (subst (λ ys. WritesTail bytes rest (SpellsTitle on names bytes some.read.text) ys stop c.push_place.new.walk c.push_title.new.walk) some.left
-    (subst (λ ys. WritesTail bytes ys (SpellsTitle on names bytes some.read.text) (after_white some.read.rest) stop c.push_place.new.walk c.push_title.new.walk)
+    (subst (λ ys. WritesTail bytes rest (SpellsTitle on names bytes some.read.text) FillsTitle ys stop c.push_place.new.walk c.push_title.new.walk) some.left
+    (subst
+    (λ ys. WritesTail bytes ys (SpellsTitle on names bytes some.read.text) FillsTitle (after_white some.read.rest) stop c.push_place.new.walk
+    c.push_title.new.walk)
     last tail))
     is.destination some.title)
     c.push_title.ensures.written c.push_title.ensures.open
