@@ -1,8 +1,9 @@
 -- What is written of fenced code and math that a fence closes (CommonMark 4.5).
 use Rattle.std.proofs.Common.{◌≡◌, ◌⊎◌, ℕ, Bool, true, false, List, [], ◌∷◌, ◌++◌, Option, None, Some, refl, sym, ap, ap₂, subst, ◌∙◌, flat_map, length, reverse}
 use Rattle.parse_raw.proofs.Prelude.{append, append-nil, AreBlocksAlike, AreLeavesAlike, AreNames, AreRaw, AreTaken, around, Around, at_ending, AtEnding}
-use Rattle.parse_raw.proofs.Prelude.{Between, block_info, block_names, BlockLine, blocks_of, child, code_parts, cond-true, Cons, Constructs, Container, End}
-use Rattle.parse_raw.proofs.Prelude.{end_at, end_in, end_part, EndPart, enter_at, exit_at, Exits, Fence, fence_name, fence_start, fenced_lines, FencedCode}
+use Rattle.parse_raw.proofs.Prelude.{Between, block_info, block_names, BlockLine, blocks_of, child, chunk_name, code_parts, cond-true, Cons, Constructs}
+use Rattle.parse_raw.proofs.Prelude.{Container, End, end_at, end_in, end_part, EndPart, enter_at, exit_at, Exits, Fence, fence_name, fence_start}
+use Rattle.parse_raw.proofs.Prelude.{fenced_lines, FencedCode}
 use Rattle.parse_raw.proofs.Prelude.{FenceNames, HasSameOpen, InAll, info_by, info_of, info_text, inside_of, is_listed, IsFenceLine, IsInOrder}
 use Rattle.parse_raw.proofs.Prelude.{IsWrittenToRest, kids_in, kids_of, last_ending_or, line_left, LineEnding, LineRest, math_info, math_start, Meaning, Name}
 use Rattle.parse_raw.proofs.Prelude.{named, Names, Node, node_name, Nodes, one, one_block, PassesLine, Place, prefixed, raw_parts, RawPart, read_leaf, Reading}
@@ -10,15 +11,25 @@ use Rattle.parse_raw.proofs.Prelude.{same_name, standing, Standing, StandsAt, Wa
 use Rattle.parse_raw.proofs.Prelude.{WritesOpening, written_to}
 use Rattle.engine_events.specs.declared.event.Name.TheVariants as n
 use Rattle.definition_page.specs.Page as page
+use Rattle.event_grammar.specs.declared.slot.Between.TheVariants.{Lines}
+use Rattle.event_grammar.specs.declared.slot.Child.TheVariants.{As}
+use Rattle.event_grammar.specs.declared.slot.Form.TheVariants.{Closing, Plain}
+use Rattle.event_grammar.specs.declared.slot.Slot.{Slot}
+use Rattle.event_grammar.specs.declared.slot.Slot.TheVariants.{Opt}
+use Rattle.event_grammar.specs.Grammar.{many, row}
+use Rattle.event_grammar.specs.Slots.{may_end, take_child}
 use Rattle.event_meaning.specs.Blocks.{code_fenced_of, math_flow_of}
+use Rattle.parse_slots.specs.Left.{Fill, IsFilled, took}
+use Rattle.parse_slots.proofs.Steps.{fill_both, fill_taken, filled_by}
+use Rattle.parse_lines.proofs.Quiet.{quiet_fill}
 use Rattle.parse_laid.specs.Leaves.{IsClosedLaid}
 use Rattle.parse_laid.specs.Places.{IsOn}
 use Rattle.parse_laid.proofs.Taken.{after_taken}
 use Rattle.definition_block.specs.CodeFenced.{is_fence_end}
 use Rattle.parse_raw.specs.FenceParts.{WritesClosing, block_name}
+use Rattle.parse_raw.specs.RawLines.{TakesChunks}
 use Rattle.parse_raw.proofs.ClosingFence.{closed_alike, info_read, parts_closed}
 use Rattle.parse_raw.proofs.FencedCode.{closed_leaf, math_string}
-use Rattle.parse_raw.proofs.Prelude.{false≢true}
 use Rattle.parse_raw.proofs.LeafNodes.{leaf_written}
 use Rattle.parse_raw.proofs.NextLines.{next_written, none_unread}
 use Rattle.parse_raw.proofs.Nodes.{quiet_parts, raw_append, raw_parts_append, raw_quiet, named_append}
@@ -41,6 +52,46 @@ pub ending_some : (text : List ℕ) (ending : Option LineEnding) (next : LineRes
     → StandsAt text (AtEnding ending (next ∷ others)) s → (own : LineEnding) × (ending ≡ Some own)
 ending_some text None next others s st = absurd (none_unread next others s.left (st.line.last st.ending) st.unread)
 ending_some text (Some own) next others s st = (own, refl)
+
+-- ---- the block's row
+
+-- what a block of code or math may hold after its first fence
+abbrev pub chunk_slots : Bool → List Slot
+chunk_slots true = many n.MathFlowChunk ∷ Opt (As n.MathFlowFence Closing) ∷ []
+chunk_slots false = many n.CodeFlowChunk ∷ Opt (As n.CodeFencedFence Closing) ∷ []
+
+pub record HasBlockRow (math : Bool) : Type 0 where
+  pub opening : take_child (row (block_name math) Plain) (fence_name math) ≡ Some (took Plain (chunk_slots math))
+  pub chunks : TakesChunks (chunk_name math) (chunk_slots math)
+  pub closing : take_child (chunk_slots math) (fence_name math) ≡ Some (took Closing [])
+  pub ends : may_end (chunk_slots math) ≡ true
+
+pub block_row : (math : Bool) → HasBlockRow math
+block_row true = record {
+  opening = refl;
+  chunks = record { chunk = refl; between = record { space = refl; ending = refl; blank = refl; quote = refl } };
+  closing = refl;
+  ends = refl;
+}
+block_row false = record {
+  opening = refl;
+  chunks = record { chunk = refl; between = record { space = refl; ending = refl; blank = refl; quote = refl } };
+  closing = refl;
+  ends = refl;
+}
+
+-- its fence and what follows fill its row
+pub block_filled : (math : Bool) (node first : Node) (others : Nodes) (rest : List Slot) → node_name node ≡ block_name math → kids_of node ≡ Cons first others
+    → node_name first ≡ fence_name math → IsFilled Lines Plain first → Fill Lines (chunk_slots math) others rest → may_end rest ≡ true
+    → IsFilled Lines Plain node
+block_filled true node first others rest named kids first_is filled fill may =
+    filled_by Lines Plain n.MathFlow rest node named
+    (subst (λ (ns : Nodes). Fill Lines (row n.MathFlow Plain) ns rest) (sym kids)
+    (fill_both (fill_taken Lines (row n.MathFlow Plain) n.MathFlowFence Plain (chunk_slots true) first first_is refl filled) fill)) may
+block_filled false node first others rest named kids first_is filled fill may =
+    filled_by Lines Plain n.CodeFenced rest node named
+    (subst (λ (ns : Nodes). Fill Lines (row n.CodeFenced Plain) ns rest) (sym kids)
+    (fill_both (fill_taken Lines (row n.CodeFenced Plain) n.CodeFencedFence Plain (chunk_slots false) first first_is refl filled) fill)) may
 
 module _ (names : Names) (text : List ℕ) (top : Bool) where
   abbrev pub leaf_of : Bool → Nodes → page.PageLeaf
@@ -137,6 +188,16 @@ module _ {A : Type 0} (r : Reading) (first : Bool) (text : List ℕ) (top : Bool
       ∙ parts_closed o.math here.beside.ending ls ∙ ap (λ (k : Option LineEnding). end_part k ++ flat_map code_parts ls) first_end.1 in
       let found = found_of r.tables.names text top o.math o.node in
       let same = same_d ∙ cl.same in
+      let node = Around (enter_at text fence_names.block (end_in o.space.out)) kids (exit_at text fence_names.block (end_in e.out)) in
+      let slots = chunk_slots o.math in
+      let has = block_row o.math in
+      let between = has.chunks.between in
+      let inner_fill : Fill Lines slots inner slots =
+      fill_both (o.lines.fill slots has.chunks)
+      (fill_both (passed.fill slots between) (quiet_fill slots cl.quiet.nodes between.space between.quote cl.quiet.quiet)) in
+      let filled =
+      block_filled o.math node o.node (append inner (one cl.node)) [] block.0 refl o.named_so o.filled
+      (fill_both inner_fill (fill_taken Lines slots (fence_name o.math) Closing [] cl.node cl.named_so has.closing cl.filled)) refl in
       leaf_written text r.parse.constructs r.tables.names top (read_leaf r (record { top = top; first = first }) (FencedCode info true ls)) to old o.space o.entered e d
       fence_names.block kids o.quiet o.enters kids_writes exited block.1 block.2 block.3 none
       (λ m m'. block_alike r.tables.names text top m m' o.math fence_names.block kids (end_in o.space.out) (end_in e.out)
@@ -148,7 +209,7 @@ module _ {A : Type 0} (r : Reading) (first : Bool) (text : List ℕ) (top : Bool
       subst (StandsAt text (AtEnding end.beside.ending others)) (sym same_d) cl.stands))
       (ap (λ (s : Standing). s.on) same ∙ kept.0 ∙ on_l, ap (λ (s : Standing). s.outermost) same ∙ kept.1 ∙ open_l)
       end_d (cl.written ∙ ap (λ (s : Standing). end_at s.line_end 0) (sym same_d)) o.starts o.begins
-      (λ is. absurd (false≢true is))
+      (λ is. filled)
 
   pub closed_written : (info : List ℕ) (ls : List BlockLine) (here : LineRest) (left : List LineRest) (to : Place) (count : ℕ) (old l x e d : Walk A) → count ≡ length ls
       → StandsAt text (Within here left) (standing old) → IsWrittenToRest old → IsInOrder text old.out

@@ -5,10 +5,12 @@ use Rattle.parse_raw.proofs.Prelude.{code_parts, cond-false, cut, end_at, end_in
 use Rattle.parse_raw.proofs.Prelude.{FenceNames, info_by, info_text, is_nil, IsInOrder, IsWrittenToRest, last_ending_or, LineEnding, LineRest, Meaning, named}
 use Rattle.parse_raw.proofs.Prelude.{Node, one, parts_after, raw_lines_are_alike, RawPart, Reading, rest_of, same_name, Standing, standing, StandsAt, Walk}
 use Rattle.parse_raw.proofs.Prelude.{Within, Writes, writes_around, WritesUpTo, written_to}
-use Rattle.parse_raw.proofs.Prelude.{AreClosing, fence_marks, is_white, list_all, prefix_len-le-length, Rest, run}
+use Rattle.parse_raw.proofs.Prelude.{AreClosing, fence_marks, fence_name, is_white, list_all, prefix_len-le-length, Rest, run}
 use Rattle.std.proofs.Common.{drop, eqb, get_or, take}
 use Rattle.engine_events.specs.declared.event.Name.TheVariants as n
 use Rattle.definition_page.specs.Page as page
+use Rattle.event_grammar.specs.declared.slot.Form.TheVariants.{Closing}
+use Rattle.event_grammar.specs.Grammar.{row}
 use Rattle.definition_page.specs.Read.{code_lines}
 use Rattle.parse_raw.specs.FenceParts.{WritesClosingOf}
 use Rattle.parse_raw.proofs.FencedCode.{has_some}
@@ -17,7 +19,9 @@ use Rattle.parse_raw.proofs.OpeningFence.{fence_is, sequence_other}
 use Rattle.parse_raw.proofs.RawBlocks.{line_parts}
 use Rattle.parse_lines.proofs.Runs.{run_fits}
 use Rattle.parse_raw.proofs.Runs.{sequence_fits}
-use Rattle.parse_raw.proofs.Tokens.{left_none, left_same, token_all, token_on, tokens_both}
+use Rattle.parse_raw.proofs.FenceRows.{closing_filled, mark_some, sequence_row}
+use Rattle.parse_raw.proofs.FilledTokens.{filled_both, token_filled, white_filled}
+use Rattle.parse_raw.proofs.Tokens.{left_none, left_same, run_some}
 
 module _ {A : Type 0} (math : Bool) (fence_names : FenceNames) (text : List ℕ) where
   pub closing_written : (here : LineRest) (left : List LineRest) (size : ℕ) (bytes : List ℕ) (old a b c d e : Walk A) → AreNames math fence_names
@@ -45,9 +49,14 @@ module _ {A : Type 0} (math : Bool) (fence_names : FenceNames) (text : List ℕ)
       let blank : list_all is_white (drop size own) ≡ true = ap (λ (k : ℕ). list_all is_white (drop k own)) run_is ∙ is.1 in
       let left_b = left_same text own a b white.after entered.order same_b end_b in
       let seq = sequence_other fence_names math are in
-      let both = tokens_both own (drop size own) [] b c d (token_on fence_names.sequence own size b c seq.1 fits_count sequence same_c end_c token)
-      (token_all n.SpaceOrTab (drop size own) c d (record { no_data = refl; no_definition = refl; no_code = refl; no_math = refl }) blank same_d end_d all) in
-      let kids = both text left_b in
+      let slots = row (fence_name math) Closing in
+      let has = sequence_row fence_names math are in
+      let some : 0 < size = omega (arith, run_is, run_some own first (mark_some math first own is.0 refl) refl) in
+      let both = filled_both slots [] [] own (drop size own) [] b c d
+      (token_filled fence_names.sequence slots [] own size b c seq.1 some fits_count sequence same_c end_c token has.closing has.void)
+      (white_filled [] (drop size own) c d blank same_d end_d all refl) in
+      let within = both text left_b in
+      let kids = within.tokens in
       let exited = exits kids.writes.order in
       let named_is = fence_is fence_names math are in
       let node = Around (enter_at text fence_names.fence (end_in a.out)) kids.nodes (exit_at text fence_names.fence (end_in d.out)) in
@@ -66,6 +75,7 @@ module _ {A : Type 0} (math : Bool) (fence_names : FenceNames) (text : List ℕ)
         same = same;
         stands = subst (StandsAt text (AtEnding here.beside.ending left)) (sym same) (at_ending text here left (standing old) st);
         written = end_e ∙ left_none text [] d refl kids.after ∙ ap (λ (s : Standing). end_at s.line_end 0) (sym same_e);
+        filled = closing_filled math node [] named_is.0 within.fill refl;
       }
 
 -- ---- what it spells

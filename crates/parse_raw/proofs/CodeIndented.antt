@@ -108,7 +108,6 @@ module _ {A : Type 0} (text : List ℕ) where
         stands = subst (λ (l : BlockLine). StandsAt text (AtEnding l.ending left) (standing c)) first_is st_c;
         around = (ap (λ (s : Standing). s.on) same_c, ap (λ (s : Standing). s.outermost) same_c);
         written = end_c ∙ ap (λ (s : Standing). end_at s.line_end 0) (sym same_c);
-        fill = chunk.fill;
       } in
       let fits : more ≡ length others = omega (arith, fewer, size, ap length is, own_count first others) in
       let taken_code = taken_as old.on.now (around (standing old)) (IsCodeLine old.on.now) (IsCutLine (outdent 4)) others (Between code.1) after (code_line old.on.now) code.5 in

@@ -7,7 +7,15 @@ use Rattle.std.proofs.Math.Seq.{drop-append_seam, take-append_seam}
 use Rattle.markdown_options.specs.LineEndings.{ending_bytes}
 use Rattle.markdown_options.specs.declared.line_ending.LineEnding.TheVariants.{CarriageReturnLineFeed, CarriageReturn, LineFeed}
 use Rattle.engine_events.specs.declared.event.Name.TheVariants as n
+use Rattle.event_grammar.specs.declared.slot.Between.TheVariants.{Lines}
+use Rattle.event_grammar.specs.declared.slot.Form.TheVariants.{Plain}
+use Rattle.event_grammar.specs.declared.slot.Slot.{Slot}
+use Rattle.event_grammar.specs.Checks.{stands_between}
+use Rattle.event_grammar.specs.Grammar.{row}
+use Rattle.event_grammar.specs.Slots.{may_end, take_child}
 use Rattle.event_meaning.specs.Raw.{ending_of}
+use Rattle.parse_slots.specs.Left.{Fill}
+use Rattle.parse_slots.proofs.Steps.{fill_between, fill_none, filled_void}
 use Rattle.parse_raw.proofs.Nodes.{raw_none, raw_one, void_cases}
 
 -- where the ending of a line begins and ends in the text
@@ -91,3 +99,11 @@ ending_raw text (Some ending) ns are =
 pub ending_last : (text : List ℕ) (before : Bool) (ending : LineEnding) (ns : Nodes) → AreEnding text n.LineEnding (Some ending) ns
     → ends_in n.SpaceOrTab before ns ≡ false
 ending_last text before ending ns are = ap (ends_in n.SpaceOrTab before) are.1 ∙ ap (λ (x : Name). same_name x n.SpaceOrTab) are.2
+
+-- a row stays as it is, if the ending may stand between its children
+pub ending_fills : (text : List ℕ) (name : Name) (slots : List Slot) (ending : Option LineEnding) (ns : Nodes) → take_child slots name ≡ None
+    → stands_between Lines name ≡ true → may_end (row name Plain) ≡ true → AreEnding text name ending ns → Fill Lines slots ns slots
+ending_fills text name slots None ns takes between void are = subst (λ (ms : Nodes). Fill Lines slots ms slots) (sym are) (fill_none Lines slots)
+ending_fills text name slots (Some ending) ns takes between void are =
+    subst (λ (ms : Nodes). Fill Lines slots ms slots) (sym are.1)
+    (fill_between Lines slots name are.0 are.2 takes between (filled_void Lines Plain name are.0 are.2 are.3 void))

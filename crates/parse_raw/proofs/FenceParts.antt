@@ -1,5 +1,6 @@
 -- What is written of a fence, step by step (CommonMark 4.5).
-use Rattle.std.proofs.Common.{◌≡◌, ℕ, suc, ◌+◌, ◌-◌, ◌^◌, ◌<◌, ◌≤◌, Bool, true, false, not, cond, ◌||◌, List, [], ◌∷◌, ◌++◌, Option, None, Some, eqb, inl, inr, refl, sym, ap, ap₂, subst, ◌∙◌}
+use Rattle.std.proofs.Common.{◌≡◌, ℕ, suc, ◌+◌, ◌-◌, ◌^◌, ◌<◌, ◌≤◌, Bool, true, false, not, cond, ◌||◌, List, [], ◌∷◌, ◌++◌, Option, None, Some, eqb, inl}
+use Rattle.std.proofs.Common.{inr, refl, sym, ap, ap₂, subst, ◌∙◌}
 use Rattle.std.proofs.Common.{drop, take, get_or, length, length-append, arith}
 use Rattle.parse_raw.proofs.Prelude.{after_bytes, append, append-nil, AreNext, AtEnding, cases_Bool, child, cond-false, cond-true, Cons, Constructs, End}
 use Rattle.parse_raw.proofs.Prelude.{end_after, end_at, end_in, ends_line, eqb-true, Follows, indent, info_by, info_of, is_space, is_white, IsBefore}
@@ -12,8 +13,16 @@ use Rattle.std.specs.List.{suffix_len}
 use Rattle.std.proofs.lemmas.List.Folds.{list_any-append}
 use Rattle.std.proofs.lemmas.List.Sums.{passes_at_first}
 use Rattle.engine_events.specs.declared.event.Name.TheVariants as n
+use Rattle.event_grammar.specs.declared.slot.Between.TheVariants.{Spaces}
+use Rattle.event_grammar.specs.declared.slot.Form.TheVariants.{Plain}
+use Rattle.event_grammar.specs.declared.slot.Slot.{Slot}
+use Rattle.event_grammar.specs.Slots.{take_child}
+use Rattle.parse_slots.specs.Left.{took}
+use Rattle.parse_slots.proofs.Steps.{fill_both, fill_none}
 use Rattle.text_bytes.proofs.Ascii.{boundary_after, boundary_before, space_ascii}
 use Rattle.parse_lines.proofs.Bytes.{whole_between}
+use Rattle.parse_raw.specs.FenceParts.{after_string}
+use Rattle.parse_raw.proofs.FenceRows.{FillsToken, part_fill}
 use Rattle.parse_raw.proofs.Bytes.{suffix_passes}
 use Rattle.parse_raw.proofs.LeafNodes.{line_in_text}
 use Rattle.parse_raw.proofs.Nodes.{child_append, raw_append, raw_none, raw_void, void_cases}
@@ -110,14 +119,21 @@ module _ (names : Names) where
 
 module _ {A : Type 0} (names : Names) where
   -- nothing
-  pub parts_none : (bytes : List ℕ) (w : Walk A) → LeadsTo names None bytes bytes w w
-  parts_none bytes w text ending left before =
-      record { nodes = Nil; writes = writes_none text w.out before.order; raw = raw_none; found = refl; around = (refl, refl); before = before }
+  pub parts_none : (slots : List Slot) (bytes : List ℕ) (w : Walk A) → LeadsTo names None slots slots bytes bytes w w
+  parts_none slots bytes w text ending left before = record {
+    nodes = Nil;
+    writes = writes_none text w.out before.order;
+    raw = raw_none;
+    found = refl;
+    around = (refl, refl);
+    before = before;
+    fill = fill_none Spaces slots;
+  }
 
   -- parts without an info, and then others
-  pub parts_both : (info : Option (List ℕ)) (xs ys zs : List ℕ) (a b c : Walk A) → LeadsTo names None xs ys a b → LeadsTo names info ys zs b c
-      → LeadsTo names info xs zs a c
-  parts_both info xs ys zs a b c first second text ending left before =
+  pub parts_both : (info : Option (List ℕ)) (slots mid more : List Slot) (xs ys zs : List ℕ) (a b c : Walk A) → LeadsTo names None slots mid xs ys a b
+      → LeadsTo names info mid more ys zs b c → LeadsTo names info slots more xs zs a c
+  parts_both info slots mid more xs ys zs a b c first second text ending left before =
       let one = first text ending left before in
       let two = second text ending left one.before in
       record {
@@ -129,12 +145,13 @@ module _ {A : Type 0} (names : Names) where
             ∙ two.found;
         around = (two.around.0 ∙ one.around.0, two.around.1 ∙ one.around.1);
         before = two.before;
+        fill = fill_both one.fill two.fill;
       }
 
   -- an info, and then parts without one
-  pub parts_after : (info : Option (List ℕ)) (xs ys zs : List ℕ) (a b c : Walk A) → LeadsTo names info xs ys a b → LeadsTo names None ys zs b c
-      → LeadsTo names info xs zs a c
-  parts_after info xs ys zs a b c first second text ending left before =
+  pub parts_after : (info : Option (List ℕ)) (slots mid more : List Slot) (xs ys zs : List ℕ) (a b c : Walk A) → LeadsTo names info slots mid xs ys a b
+      → LeadsTo names None mid more ys zs b c → LeadsTo names info slots more xs zs a c
+  parts_after info slots mid more xs ys zs a b c first second text ending left before =
       let one = first text ending left before in
       let two = second text ending left one.before in
       record {
@@ -144,14 +161,17 @@ module _ {A : Type 0} (names : Names) where
         found = found_first names text info one.nodes two.nodes one.found two.found;
         around = (two.around.0 ∙ one.around.0, two.around.1 ∙ one.around.1);
         before = two.before;
+        fill = fill_both one.fill two.fill;
       }
 
   -- an event that holds no other
-  pub token_part : (name : Name) (front rest : List ℕ) (size : ℕ) (a b : Walk A) → IsRawName name → same_name name n.CodeFencedFenceInfo ≡ false
+  pub token_part : (name : Name) (slots more : List Slot) (front rest : List ℕ) (size : ℕ) (a b : Walk A) → FillsToken name size slots more → IsRawName name
+      → same_name name n.CodeFencedFenceInfo ≡ false
       → is_token name front ≡ true → size ≡ length front → standing b ≡ standing a
       → ((written_to a).index + size < 2 ^ 64 → written_to b ≡ end_at ((written_to a).index + size) 0)
-      → ((written_to a).index + size < 2 ^ 64 → WritesUpTo name (end_at ((written_to a).index + size) 0) a b) → LeadsTo names None (front ++ rest) rest a b
-  token_part name front rest size a b raw other may count same ends writes text ending left before =
+      → ((written_to a).index + size < 2 ^ 64 → WritesUpTo name (end_at ((written_to a).index + size) 0) a b)
+      → LeadsTo names None slots more (front ++ rest) rest a b
+  token_part name slots more front rest size a b fills raw other may count same ends writes text ending left before =
       let i = (end_in a.out).index in
       let at : end_in a.out ≡ end_at i 0 = ap (end_at i) before.whole in
       let sizes = length-append front rest in
@@ -186,24 +206,29 @@ module _ {A : Type 0} (names : Names) where
           end = omega (arith, index, sizes, before.end, line_end, count);
           dark = (dark_both front rest before.dark).1;
         };
+        fill = fills text (end_in a.out);
       }
 
   -- all that is left
-  pub all_part : (name : Name) (bytes : List ℕ) (a b : Walk A) → IsRawName name → same_name name n.CodeFencedFenceInfo ≡ false → is_token name bytes ≡ true
-      → standing b ≡ standing a → written_to b ≡ end_at a.line_end 0 → WritesUpTo name (end_at a.line_end 0) a b → LeadsTo names None bytes [] a b
-  all_part name bytes a b raw other may same ends writes text ending left before =
+  pub all_part : (name : Name) (slots more : List Slot) (bytes : List ℕ) (a b : Walk A) → FillsToken name (length bytes) slots more → IsRawName name
+      → same_name name n.CodeFencedFenceInfo ≡ false → is_token name bytes ≡ true
+      → standing b ≡ standing a → written_to b ≡ end_at a.line_end 0 → WritesUpTo name (end_at a.line_end 0) a b
+      → LeadsTo names None slots more bytes [] a b
+  all_part name slots more bytes a b fills raw other may same ends writes text ending left before =
       let i = (end_in a.out).index in
       let there : a.line_end ≡ i + length bytes = sym before.end in
       let ends_there : written_to b ≡ end_at (i + length bytes) 0 = ends ∙ ap (λ (k : ℕ). end_at k 0) there in
       let writes_there = subst (λ (k : ℕ). WritesUpTo name (end_at k 0) a b) there writes in
-      token_part name bytes [] (length bytes) a b raw other may refl same (λ fits. ends_there) (λ fits. writes_there) text ending left
+      token_part name slots more bytes [] (length bytes) a b fills raw other may refl same (λ fits. ends_there) (λ fits. writes_there) text ending left
       (subst (λ (xs : List ℕ). IsBefore text ending left xs a) (sym (append-nil bytes)) before)
 
   -- a string, as the info of code or as something else
-  pub info_part : (on : Constructs) (string rest : List ℕ) (a b : Walk A)
+  pub info_part : (on : Constructs) (slots more : List Slot) (string rest : List ℕ) (a b : Walk A)
+      → take_child slots n.CodeFencedFenceInfo ≡ Some (took Plain more)
       → ((text : List ℕ) (ending : Option LineEnding) (left : List LineRest) → IsBefore text ending left (string ++ rest) a
-      → WritesPart on names text ending left n.CodeFencedFenceInfo string rest a b) → LeadsTo names (info_by on names string) (string ++ rest) rest a b
-  info_part on string rest a b writes text ending left before =
+      → WritesPart on names text ending left n.CodeFencedFenceInfo string rest a b)
+      → LeadsTo names (info_by on names string) slots (after_string string slots more) (string ++ rest) rest a b
+  info_part on slots more string rest a b takes writes text ending left before =
       let done = writes text ending left before in
       record {
         nodes = done.nodes;
@@ -212,12 +237,15 @@ module _ {A : Type 0} (names : Names) where
         found = info_found names text on string done.nodes done.is_part;
         around = done.around;
         before = done.before;
+        fill = part_fill names text on n.CodeFencedFenceInfo slots more string done.nodes (λ some. takes) done.is_part;
       }
 
-  pub other_part : (on : Constructs) (name : Name) (string rest : List ℕ) (a b : Walk A) → same_name name n.CodeFencedFenceInfo ≡ false
+  pub other_part : (on : Constructs) (name : Name) (slots more : List Slot) (string rest : List ℕ) (a b : Walk A) → same_name name n.CodeFencedFenceInfo ≡ false
+      → (0 < length string → take_child slots name ≡ Some (took Plain more))
       → ((text : List ℕ) (ending : Option LineEnding) (left : List LineRest) → IsBefore text ending left (string ++ rest) a
-      → WritesPart on names text ending left name string rest a b) → LeadsTo names None (string ++ rest) rest a b
-  other_part on name string rest a b other writes text ending left before =
+      → WritesPart on names text ending left name string rest a b)
+      → LeadsTo names None slots (after_string string slots more) (string ++ rest) rest a b
+  other_part on name slots more string rest a b other takes writes text ending left before =
       let done = writes text ending left before in
       record {
         nodes = done.nodes;
@@ -226,4 +254,5 @@ module _ {A : Type 0} (names : Names) where
         found = other_found names text on name string done.nodes other done.is_part;
         around = done.around;
         before = done.before;
+        fill = part_fill names text on name slots more string done.nodes takes done.is_part;
       }

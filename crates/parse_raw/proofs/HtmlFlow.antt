@@ -15,6 +15,7 @@ use Rattle.event_grammar.specs.Grammar.{many}
 use Rattle.parse_lines.proofs.Quiet.{quiet_none}
 use Rattle.parse_slots.proofs.Steps.{filled_by}
 use Rattle.parse_raw.proofs.Prelude.{Around, end_in, enter_at, exit_at}
+use Rattle.parse_raw.specs.RawLines.{TakesChunks}
 use Rattle.parse_raw.proofs.LeafNodes.{leaf_written, rest_within}
 use Rattle.parse_raw.proofs.RawBlocks.{WritesFirst, all_written, html_alike, own_count, taken_as}
 use Rattle.parse_raw.proofs.RawLines.{whole_written}
@@ -56,7 +57,6 @@ module _ {A : Type 0} (text : List ℕ) where
         stands = subst (λ (l : BlockLine). StandsAt text (AtEnding l.ending left) (standing c)) first_is line.stands;
         around = (ap (λ (s : Standing). s.on) line.same, ap (λ (s : Standing). s.outermost) line.same);
         written = line.written;
-        fill = line.fill;
       } in
       let fits : more ≡ length others = omega (arith, fewer, size, ap length is, own_count first others) in
       let taken_html = taken_as old.on.now (around (standing old)) (IsHtmlLine kind) (IsCutLine (λ rest. rest)) others (Between html.1) after (html_line kind) html.6 in
@@ -71,6 +71,7 @@ module _ {A : Type 0} (text : List ℕ) where
       subst (λ (ps : List RawPart). AreHtmlLinesAlike (own_lines (first ∷ others)) (raw_lines ps)) (sym all.parts) (html_alike (own_lines (first ∷ others)))
       ) in
       let line_end = ap (λ (s : Standing). s.line_end) same_d in
+      let takes : TakesChunks n.HtmlFlowData html_row = record { chunk = refl; between = record { space = refl; ending = refl; blank = refl; quote = refl } } in
       leaf_written text on names top (page.Html ls) to old old b e d n.HtmlFlow all.nodes (quiet_none text old.out order) enters all.writes
       (exits all.writes.order) refl refl refl all.raw.definitions (λ m m'. (alike, tt))
       (subst (λ (p : Place). StandsAt text p (standing d)) (sym ends.2) (subst (StandsAt text (AtEnding (last_ending (first ∷ others)) ends.0)) (sym same_d) all.stands)) (
@@ -79,7 +80,7 @@ module _ {A : Type 0} (text : List ℕ) where
       )
       end_d (all.written ∙ ap (λ (k : ℕ). end_at k 0) (sym line_end)) (omega arith) (rest_within text old here left st at)
       (λ is. filled_by Lines Plain n.HtmlFlow html_row (Around (enter_at text n.HtmlFlow (end_in old.out)) all.nodes (exit_at text n.HtmlFlow (end_in e.out))) refl
-      (all.fill html_row (record { chunk = refl; between = record { space = refl; ending = refl; blank = refl; quote = refl } })) refl)
+      (all.fill html_row html_row (line.fill html_row takes) takes) refl)
 
   pub html_written : (on : Constructs) (names : Names) (top : Bool) (ls : List BlockLine) (count more : ℕ) (here : LineRest) (left : List LineRest) (to : Place)
       (old b c e d : Walk A) → count ≡ length ls → more ≡ count - 1 → StandsAt text (Within here left) (standing old) → IsWrittenToRest old

@@ -8,6 +8,7 @@ pub mod Raw
 pub mod RawLines
 pub mod NextLines
 pub mod Tokens
+pub mod FilledTokens
 pub mod Breaks
 pub mod LeafNodes
 pub mod Blank
@@ -15,6 +16,7 @@ pub mod RawBlocks
 pub mod HtmlFlow
 pub mod CodeIndented
 pub mod MetadataLines
+pub mod FenceRows
 pub mod FenceParts
 pub mod FenceStrings
 pub mod OpeningFence

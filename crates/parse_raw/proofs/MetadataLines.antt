@@ -3,15 +3,24 @@ use Rattle.std.proofs.Common.{◌≡◌, ℕ, suc, ◌-◌, ◌<◌, true, ◌&&
 use Rattle.std.proofs.Common.{drop, get_or, length, reverse, arith}
 use Rattle.parse_raw.proofs.Prelude.{and_parts, AreLeft, AreRaw, AreTaken, at_ending, AtEnding, beside_line, Between, BlockLine, bytes_after}
 use Rattle.parse_raw.proofs.Prelude.{bytes_of, cases_Bool, cond-false, cond-true, Constructs, Container, end_at, ending_text, InAll}
-use Rattle.parse_raw.proofs.Prelude.{IsCutLine, IsInOrder, IsWrittenToRest, LeadsOn, left_within, line_left, line_rest, LineEnding, LineRest, lines}
+use Rattle.parse_raw.proofs.Prelude.{IsCutLine, IsInOrder, IsWrittenToRest, left_within, line_left, line_rest, LineEnding, LineRest, lines}
 use Rattle.parse_raw.proofs.Prelude.{Nodes, prefixed, Rest, rest_line, rest_of, rest_start, standing, StandsAt, start_whole}
 use Rattle.parse_raw.proofs.Prelude.{TextLine, unread, Walk, whole, Within, Writes, WritesCutLines, WritesLines, written_to}
-use Rattle.parse_raw.proofs.Prelude.{AreNext, End, left_bytes, left_next, replicate, space}
+use Rattle.parse_raw.proofs.Prelude.{append, AreNext, Around, End, enter_at, exit_at, left_bytes, left_next, replicate, space}
 use Rattle.std.specs.Prelude.{codes}
 use Rattle.event_tokens.specs.Tokens.{is_among}
 use Rattle.parse_raw.specs.Bytes.{AreMetadataFence}
 use Rattle.markdown_options.specs.declared.beside.Kind.TheVariants.{Whitespace}
 use Rattle.engine_events.specs.declared.event.Name.TheVariants as n
+use Rattle.event_grammar.specs.declared.slot.Between.TheVariants.{Lines}
+use Rattle.event_grammar.specs.declared.slot.Form.TheVariants.{Plain}
+use Rattle.event_grammar.specs.declared.slot.Slot.{Slot}
+use Rattle.event_grammar.specs.Grammar.{many, one as one_slot, row}
+use Rattle.event_grammar.specs.Slots.{take_child}
+use Rattle.parse_slots.specs.Left.{Fill, IsFilled, TakesNoBetween, took}
+use Rattle.parse_slots.proofs.Steps.{fill_both, fill_taken, filled_by}
+use Rattle.parse_raw.specs.RawLines.{TakesChunks}
+use Rattle.parse_raw.specs.Tokens.{PassesEvent}
 use Rattle.definition_block.specs.Frontmatter.{after_frontmatter, after_metadata_fence, is_metadata_fence}
 use Rattle.text_lines.proofs.Codes.{bytes_of_codes, no_columns}
 use Rattle.parse_lines.proofs.Lines.{joined, lines_joined}
@@ -150,14 +159,16 @@ pub record WritesFenceLine {A : Type 0} (text : List ℕ) (ending : Option LineE
   pub same : standing f ≡ standing b
   pub stands : StandsAt text (AtEnding ending left) (standing f)
   pub written : written_to f ≡ end_at f.line_end 0
+  pub fill : (slots more : List Slot) → take_child slots n.FrontmatterFence ≡ Some (took Plain more) → Fill Lines slots nodes more
 
 pub fence_line : {A : Type 0} (text content : List ℕ) (a b f : Walk A) (here : LineRest) (left : List LineRest) → StandsAt text (Within here left) (standing a)
     → IsWrittenToRest a → IsInOrder text a.out → here.rest ≡ whole content → AreBytes content → AreMetadataFence content → IsInOrder text b.out
-    → standing b ≡ standing a → written_to b ≡ written_to a → ((bs : List ℕ) → AreMetadataFence bs → LeadsOn bs [] b f)
+    → standing b ≡ standing a → written_to b ≡ written_to a → ((bs : List ℕ) → AreMetadataFence bs → PassesEvent n.FrontmatterFence bs [] b f)
     → WritesFenceLine text here.beside.ending left b f
 fence_line text content a b f here left st at order is bytes fence order_b same_b end_b writes =
     let left_a = fresh_left text content a here left st at order is bytes in
-    let done = writes content fence text (left_same text content a b left_a order_b same_b end_b) in
+    let event = writes content fence text (left_same text content a b left_a order_b same_b end_b) in
+    let done = event.tokens in
     record {
       nodes = done.nodes;
       writes = done.writes;
@@ -165,7 +176,25 @@ fence_line text content a b f here left st at order is bytes fence order_b same_
       same = done.same;
       stands = subst (StandsAt text (AtEnding here.beside.ending left)) (sym (done.same ∙ same_b)) (at_ending text here left (standing a) st);
       written = left_none text [] f refl done.after;
+      fill = λ slots more takes.
+          subst (λ (ns : Nodes). Fill Lines slots ns more) (sym event.nodes_are)
+          (fill_taken Lines slots n.FrontmatterFence Plain more event.node event.named takes event.filled);
     }
+
+-- a fence, lines, an ending with what follows it, and a fence fill the row of frontmatter
+pub front_filled : (text : List ℕ) (from to : End) (first mid end last : Nodes)
+    → ((slots more : List Slot) → take_child slots n.FrontmatterFence ≡ Some (took Plain more) → Fill Lines slots first more)
+    → ((slots : List Slot) → TakesChunks n.FrontmatterChunk slots → Fill Lines slots mid slots)
+    → ((slots : List Slot) → TakesNoBetween slots → Fill Lines slots end slots)
+    → ((slots more : List Slot) → take_child slots n.FrontmatterFence ≡ Some (took Plain more) → Fill Lines slots last more)
+    → IsFilled Lines Plain (Around (enter_at text n.Frontmatter from) (append first (append mid (append end last))) (exit_at text n.Frontmatter to))
+front_filled text from to first mid end last one_fill two_fill three_fill four_fill =
+    let slots = many n.FrontmatterChunk ∷ one_slot n.FrontmatterFence ∷ [] in
+    let between : TakesNoBetween slots = record { space = refl; ending = refl; blank = refl; quote = refl } in
+    filled_by Lines Plain n.Frontmatter []
+    (Around (enter_at text n.Frontmatter from) (append first (append mid (append end last))) (exit_at text n.Frontmatter to)) refl
+    (fill_both (one_fill (row n.Frontmatter Plain) slots refl)
+    (fill_both (two_fill slots (record { chunk = refl; between = between })) (fill_both (three_fill slots between) (four_fill slots [] refl)))) refl
 
 -- the lines between the fences
 pub mid_lines : {A : Type 0} (text : List ℕ) (first : Option LineEnding) (mids others : List TextLine) (count : ℕ) (f l : Walk A) → (standing f).outermost ≡ []

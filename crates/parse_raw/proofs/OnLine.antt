@@ -3,7 +3,7 @@ use Rattle.std.proofs.Common.{◌≡◌, ℕ, ◌+◌, ◌-◌, ◌^◌, ◌<◌
 use Rattle.parse_raw.proofs.Prelude.{append, append-nil, AreNext, is_token, Around, at_ending, AtEnding, bare, bytes_of, End, end_after, end_at, end_in}
 use Rattle.parse_raw.proofs.Prelude.{enter_at, exit_at, IsInOrder, IsWrittenToRest, length-take-le, LineEnding}
 use Rattle.parse_raw.proofs.Prelude.{LineRest, Name, Nodes, one, rest_of, same_name, Standing, standing, StandsAt}
-use Rattle.parse_raw.proofs.Prelude.{take-append-drop, tokens, Walk, whole, whole_end, Within, Writes, writes_around, writes_both, WritesFirst, WritesQuiet}
+use Rattle.parse_raw.proofs.Prelude.{take-append-drop, tokens, Walk, whole_end, Within, Writes, writes_around, writes_both, WritesFirst, WritesQuiet}
 use Rattle.parse_raw.proofs.Prelude.{WritesUpTo, written_to}
 use Rattle.engine_events.specs.declared.event.Name.TheVariants as n
 use Rattle.parse_lines.specs.Standing.{TEXT_MAX}

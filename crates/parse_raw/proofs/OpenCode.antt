@@ -1,8 +1,9 @@
 -- What is written of fenced code and math that no fence closes (CommonMark 4.5).
 use Rattle.std.proofs.Common.{◌≡◌, ◌⊎◌, ℕ, ◌<◌, Bool, true, false, not, ◌||◌, List, [], ◌∷◌, ◌++◌, Option, None, Some, refl, sym, ap, ap₂, subst, ◌∙◌, flat_map, length, arith}
 use Rattle.parse_raw.proofs.Prelude.{AreFencedAlike, AreRaw, AreTaken, around, at_ending, AtEnding, Between, BlockLine, child, chunk_name, code_parts}
-use Rattle.parse_raw.proofs.Prelude.{cond-true, Cons, end_at, end_in, end_part, EndPart, ends_in, Exits, Fence, fence_name, fence_start, fenced_lines}
-use Rattle.parse_raw.proofs.Prelude.{FencedCode, FenceNames, HasSameOpen, info_of, inside_of, IsFenceLine, IsInOrder, IsWrittenToRest, kids_in, kids_of}
+use Rattle.parse_raw.proofs.Prelude.{Around, cond-true, Cons, end_at, end_in, end_part, EndPart, ends_in, enter_at, exit_at, Exits, Fence, fence_name}
+use Rattle.parse_raw.proofs.Prelude.{fence_start, fenced_lines, FencedCode, FenceNames, HasSameOpen, info_of, inside_of, IsFenceLine, IsInOrder}
+use Rattle.parse_raw.proofs.Prelude.{IsWrittenToRest, kids_in, kids_of}
 use Rattle.parse_raw.proofs.Prelude.{last_ending_or, line_left, LineEnding, LineRest, math_info, math_start, Name, named, Names, Node, node_name, Nodes, one}
 use Rattle.parse_raw.proofs.Prelude.{own_lines, parts_after, Place, raw_lines_are_alike, raw_parts, RawPart, read_leaf, Reading, same_name, Standing, standing}
 use Rattle.parse_raw.proofs.Prelude.{StandsAt, Walk, Within, writes_both, WritesLeaf, WritesOpened, WritesOpening, written_to}
@@ -10,10 +11,9 @@ use Rattle.engine_events.specs.declared.event.Name.TheVariants as n
 use Rattle.definition_text.specs.BlockLines.{block_line}
 use Rattle.definition_page.specs.Page as page
 use Rattle.parse_laid.specs.Leaves.{IsUnclosedLaid}
-use Rattle.parse_raw.proofs.ClosedCode.{block_alike, block_is, ending_some, found_of, info_found, leaf_of}
+use Rattle.parse_raw.proofs.ClosedCode.{block_alike, block_filled, block_is, block_row, chunk_slots, ending_some, found_of, info_found, leaf_of}
 use Rattle.parse_raw.proofs.ClosingFence.{chunk_same}
 use Rattle.parse_raw.proofs.FencedCode.{open_leaf}
-use Rattle.parse_raw.proofs.Prelude.{false≢true}
 use Rattle.parse_raw.proofs.LeafNodes.{leaf_written}
 use Rattle.parse_raw.proofs.Nodes.{named_append}
 use Rattle.parse_raw.proofs.RawBlocks.{line_parts, parts_own}
@@ -118,6 +118,11 @@ module _ {A : Type 0} (r : Reading) (first : Bool) (text : List ℕ) (fence_name
       let alike = inside_alike o.math here.beside.ending ls begins.some in
       let alike_parts = subst (λ (ps : List RawPart). AreFencedAlike (own_lines ls) (fenced_lines true ps)) (sym o.lines.parts) alike in
       let leaf = read_leaf r (record { top = false; first = first }) (FencedCode info false ls) in
+      let node = Around (enter_at text fence_names.block (end_in o.space.out)) kids (exit_at text fence_names.block (end_in l.out)) in
+      let has = block_row o.math in
+      let filled =
+      block_filled o.math node o.node o.lines.nodes (chunk_slots o.math) block.0 refl o.named_so o.filled
+      (o.lines.fill (chunk_slots o.math) has.chunks) has.ends in
       leaf_written text r.parse.constructs r.tables.names false leaf to old o.space o.entered l d
       fence_names.block kids o.quiet o.enters kids_writes (exits o.lines.writes.order) block.1 block.2 block.3 none
       (λ m m'. block_alike r.tables.names text false m m' o.math fence_names.block kids (end_in o.space.out) (end_in l.out)
@@ -128,4 +133,4 @@ module _ {A : Type 0} (r : Reading) (first : Bool) (text : List ℕ) (fence_name
       subst (StandsAt text (AtEnding (last_ending_or here.beside.ending ls) begins.after)) (sym same_d) o.lines.stands))
       (ap (λ (s : Standing). s.on) same_d ∙ begins.kept.0, ap (λ (s : Standing). s.outermost) same_d ∙ begins.kept.1)
       end_d (o.lines.written ∙ ap (λ (s : Standing). end_at s.line_end 0) (sym same_d)) o.starts o.begins
-      (λ is. absurd (false≢true is))
+      (λ is. filled)

@@ -89,10 +89,10 @@ pub record WritesFirst {A : Type 0} (text : List ℕ) (name : Name) (first : Blo
   pub stands : StandsAt text (AtEnding first.ending left) (standing c)
   pub around : HasSameOpen (standing b) (standing c)
   pub written : written_to c ≡ end_at c.line_end 0
-  pub fill : (slots : List Slot) → TakesChunks name slots → Fill Lines slots nodes slots
 
--- all lines are written
-pub record WritesAll {A : Type 0} (text : List ℕ) (name : Name) (first : BlockLine) (others : List BlockLine) (after : List LineRest) (b e : Walk A) : Type 0 where
+-- all lines are written, of which the first has these nodes
+pub record WritesAll {A : Type 0} (text : List ℕ) (name : Name) (first : BlockLine) (others : List BlockLine) (after : List LineRest) (front : Nodes)
+    (b e : Walk A) : Type 0 where
   pub nodes : Nodes
   pub writes : Writes text b.out e.out nodes
   pub raw : AreRaw nodes
@@ -100,13 +100,13 @@ pub record WritesAll {A : Type 0} (text : List ℕ) (name : Name) (first : Block
   pub stands : StandsAt text (AtEnding (last_ending (first ∷ others)) after) (standing e)
   pub around : HasSameOpen (standing b) (standing e)
   pub written : written_to e ≡ end_at e.line_end 0
-  pub fill : (slots : List Slot) → TakesChunks name slots → Fill Lines slots nodes slots
+  pub fill : (slots more : List Slot) → Fill Lines slots front more → TakesChunks name more → Fill Lines slots nodes more
 
 module _ {A : Type 0} (text : List ℕ) where
   pub all_written : (name : Name) (cut : Rest → Rest) (first : BlockLine) (others : List BlockLine) (left after : List LineRest) (count : ℕ) (b c e : Walk A)
-      → IsChunkName name → WritesFirst text name first left b c → count ≡ length others
+      → IsChunkName name → (one : WritesFirst text name first left b c) → count ≡ length others
       → AreTaken b.on.now (around (standing b)) (IsCutLine cut) others (Between left) (Between after)
-      → WritesCutLines name cut count c e → WritesAll text name first others after b e
+      → WritesCutLines name cut count c e → WritesAll text name first others after one.nodes b e
   all_written name cut first others left after count b c e is_chunk one size taken writes =
       let taken_c = subst (λ (x : Constructs). AreTaken x (reverse (standing c).outermost) (IsCutLine cut) others (Between left) (Between after)) (sym one.around.0) (
       subst (λ (cs : List Container). AreTaken b.on.now (reverse cs) (IsCutLine cut) others (Between left) (Between after)) (sym one.around.1) taken
@@ -121,5 +121,5 @@ module _ {A : Type 0} (text : List ℕ) where
         stands = more.stands;
         around = (more.around.0 ∙ one.around.0, more.around.1 ∙ one.around.1);
         written = more.written;
-        fill = λ slots takes. fill_both (one.fill slots takes) (more.fill slots takes);
+        fill = λ slots rest fill takes. fill_both fill (more.fill rest takes);
       }

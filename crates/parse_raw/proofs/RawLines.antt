@@ -7,17 +7,17 @@ use Rattle.parse_raw.proofs.Prelude.{indent, is_tab_column, IsChunkName, IsInOrd
 use Rattle.parse_raw.proofs.Prelude.{Nil, no_void, Node, Nodes, outdent, prefix_len, raw_part, raw_parts, RawPart, replicate, Rest, rest_of, rest_start}
 use Rattle.parse_raw.proofs.Prelude.{rest_to_end, same_end, same_name, space, spaced_text_of, Standing, standing, StandsAt, tab_column, void_nodes, Walk}
 use Rattle.parse_raw.proofs.Prelude.{whole, Within, Writes, writes_both, WritesCut, WritesUpTo, written_to}
-use Rattle.std.proofs.Common.{◌≤◌}
+use Rattle.std.proofs.Common.{◌≤◌, Some}
 use Rattle.std.proofs.lemmas.List.{length-map}
 use Rattle.engine_events.specs.declared.event.Name.TheVariants as n
 use Rattle.event_grammar.specs.declared.slot.Between.TheVariants.{Lines}
 use Rattle.event_grammar.specs.declared.slot.Form.TheVariants.{Plain}
 use Rattle.event_grammar.specs.declared.slot.Slot.{Slot}
 use Rattle.event_grammar.specs.Grammar.{row}
-use Rattle.event_grammar.specs.Slots.{may_end}
-use Rattle.parse_slots.specs.Left.{Fill}
+use Rattle.event_grammar.specs.Slots.{may_end, take_child}
+use Rattle.parse_slots.specs.Left.{Fill, took}
 use Rattle.parse_slots.proofs.Steps.{fill_both}
-use Rattle.parse_slots.proofs.Voids.{void_again, void_between}
+use Rattle.parse_slots.proofs.Voids.{void_again, void_between, void_taken}
 use Rattle.text_lines.proofs.Codes.{no_bytes}
 use Rattle.parse_raw.specs.RawLines.{TakesChunks}
 use Rattle.parse_raw.proofs.Bytes.{columns_white, rest_fits}
@@ -89,6 +89,10 @@ no_codes (c ∷ cs) h =
           absurd (false≢true (sym h ∙ ap₂ (λ (m : ℕ) (xs : List ℕ). has_codes (take m (c ∷ cs) ++ xs)) k some))
     ]
 
+-- something is left where there are codes
+pub has_some : (rest : Rest) → (rest ≡ [] → ⊥) → has_codes (block_codes rest) ≡ true
+has_some rest some = elim (cases_Bool (has_codes (block_codes rest))) [ inl h ↦ h | inr h ↦ absurd (some (no_codes rest h)) ]
+
 no_has : (codes : List Code) → length codes ≡ 0 → has_codes codes ≡ false
 no_has [] is = refl
 no_has (c ∷ cs) is = absurd (omega arith)
@@ -134,6 +138,15 @@ module _ (text before content after : List ℕ) (line_end m : ℕ) (line : IsLin
   front_by : raw_parts text (void_nodes text n.FrontmatterChunk (rest_start line_end left) (end_at line_end 0)) ≡ []
   front_by =
       void_cases (λ (ns : Nodes). raw_parts text ns ≡ []) text n.FrontmatterChunk (rest_start line_end left) (end_at line_end 0) refl (λ h. refl) (λ h. refl)
+
+  -- where something is left, an event for it is there
+  pub rest_apart : has_codes (block_codes left) ≡ true → same_end (end_at line_end 0) (rest_start line_end left) ≡ false
+  rest_apart some =
+      let size = rest_size before content line_end m line.bytes end in
+      elim (cases_Bool (same_end (end_at line_end 0) (rest_start line_end left))) [
+        | inl h ↦ absurd (false≢true (sym (no_has (block_codes left) (codes_size left ∙ ap length (size.0 h))) ∙ some))
+        | inr h ↦ h
+      ]
 
   raw_by : (name : Name) → IsRawName name → AreRaw (void_nodes text name (rest_start line_end left) (end_at line_end 0))
   raw_by name is = raw_void text name (rest_start line_end left) (end_at line_end 0) is
@@ -181,6 +194,8 @@ module _ {A : Type 0} (text : List ℕ) (name : Name) where
     pub raw : AreRaw nodes
     pub parts : raw_parts text nodes ≡ chunk_parts name codes
     pub fill : (slots : List Slot) → TakesChunks name slots → Fill Lines slots nodes slots
+    -- where something is left, a row takes it
+    pub taken : (slots more : List Slot) → has_codes codes ≡ true → take_child slots name ≡ Some (took Plain more) → Fill Lines slots nodes more
 
   pub rest_written : (b d : Walk A) (before content after : List ℕ) (m : ℕ) → IsLineOf text before content after → b.line_end ≡ length before + length content
       → written_to b ≡ rest_start b.line_end (drop m (whole content)) → IsInOrder text b.out → IsChunkName name
@@ -203,6 +218,9 @@ module _ {A : Type 0} (text : List ℕ) (name : Name) where
         parts = ap (raw_parts text) (sym is) ∙ nodes.0;
         fill = λ slots takes.
             void_again Lines slots name Plain text (written_to b) (end_at b.line_end 0) chunk.0 takes.chunk chunk.1;
+        taken = λ slots more some takes.
+            void_taken Lines slots name Plain more text (written_to b) (end_at b.line_end 0)
+            (ap (same_end (end_at b.line_end 0)) at ∙ rest_apart text before content after b.line_end m line end some) chunk.0 takes chunk.1;
       }
 
   -- all that is left of a line

@@ -1,7 +1,7 @@
 -- Runs of one byte in the breaks and fences of raw blocks.
-use Rattle.std.proofs.Common.{◌≡◌, ℕ, ◌+◌, ◌≤◌, ◌<◌, Bool, true, false, ◌&&◌, ◌||◌, List, [], ◌∷◌, eqb, inl, inr, refl, sym, ap, ap₂, subst, ◌∙◌}
+use Rattle.std.proofs.Common.{◌≡◌, ℕ, ◌+◌, ◌≤◌, ◌<◌, Bool, true, false, ◌&&◌, ◌||◌, List, [], ◌∷◌, eqb, inl, inr, sym, ap, ◌∙◌}
 use Rattle.std.proofs.Common.{drop, take, get_or, length, arith}
-use Rattle.parse_raw.proofs.Prelude.{after_run, all_prefix, and_parts, AreNames, bare, bytes_of, cases_Bool, cond-true, Constructs, eqb-true, false≢true, Fence}
+use Rattle.parse_raw.proofs.Prelude.{after_run, and_parts, AreNames, bare, bytes_of, cases_Bool, cond-true, Constructs, eqb-true, false≢true, Fence}
 use Rattle.parse_raw.proofs.Prelude.{FenceNames, indent, is_token, is_white, list_all, Name, nat_tests, prefix_len-le-length, prefix_len_passes, Rest, run}
 use Rattle.parse_raw.proofs.Prelude.{◌==◌}
 use Rattle.std.specs.Prelude.{codes, leb}

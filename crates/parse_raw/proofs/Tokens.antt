@@ -1,14 +1,12 @@
 -- What is written of the bytes of a line, step by step.
-use Rattle.std.proofs.Common.{◌≡◌, ℕ, ◌+◌, ◌-◌, ◌^◌, ◌<◌, ◌≤◌, Bool, true, ◌&&◌, List, [], ◌∷◌, ◌++◌, eqb, inl, refl, sym, ap, subst, ◌∙◌, drop, take, length, length-drop}
+use Rattle.std.proofs.Common.{◌≡◌, ℕ, ◌+◌, ◌-◌, ◌^◌, ◌<◌, ◌≤◌, true, List, [], ◌∷◌, eqb, inl, refl, sym, ap, subst, ◌∙◌, drop, take, length, length-drop}
 use Rattle.std.proofs.Common.{get_or, arith}
-use Rattle.parse_raw.proofs.Prelude.{append, AreLeft, Around, cond-false, cond-true, cut, End, end_at, end_in, enter_at, Enters, exit_at, Exits, Follows}
-use Rattle.parse_raw.proofs.Prelude.{is_nil, IsInOrder, LeadsOn, Name, named, Node, one, run, same_name, Standing, standing, void_nodes, Walk, Writes}
-use Rattle.parse_raw.proofs.Prelude.{writes_around, writes_both, WritesUpTo, written_to}
+use Rattle.parse_raw.proofs.Prelude.{append, AreLeft, cond-true, End, end_at, Follows, IsInOrder, Name, run, Standing, standing, void_nodes, Walk}
+use Rattle.parse_raw.proofs.Prelude.{writes_both, WritesUpTo, written_to}
 use Rattle.parse_raw.proofs.Prelude.{AreNext, end_after, is_token, length-take-le, next_after, take-append-drop, text_between}
 use Rattle.std.proofs.lemmas.Bool.{eq-eqb}
 use Rattle.std.proofs.lemmas.List.{drop_all}
 use Rattle.std.proofs.Math.Seq.{take-length}
-use Rattle.engine_events.specs.declared.event.Name.TheVariants as n
 use Rattle.parse_lines.proofs.Bytes.{whole_between}
 use Rattle.parse_raw.proofs.LineTokens.{after_first}
 use Rattle.parse_raw.specs.Tokens.{WritesTokens}
@@ -29,22 +27,16 @@ module _ {A : Type 0} where
     after = two.after;
   }
 
-  pub tokens_both : (xs ys zs : List ℕ) (a b c : Walk A) → LeadsOn xs ys a b → LeadsOn ys zs b c → LeadsOn xs zs a c
-  tokens_both xs ys zs a b c first second text left =
-      let one = first text left in
-      let two = second text one.after in
-      tokens_joined text ys zs a b c one two
-
   -- an event that holds no other
-  pub record WritesVoid (text : List ℕ) (name : Name) (bytes : List ℕ) (size : ℕ) (a b : Walk A) : Type 0 where
-    pub tokens : WritesTokens text (drop size bytes) a b
+  pub record WritesVoid (text : List ℕ) (name : Name) (after : List ℕ) (size : ℕ) (a b : Walk A) : Type 0 where
+    pub tokens : WritesTokens text after a b
     pub is : tokens.nodes ≡ void_nodes text name (written_to a) (end_at ((written_to a).index + size) 0)
 
   pub token_void : (name : Name) (bytes : List ℕ) (size : ℕ) (a b : Walk A) → IsRawName name → size ≤ length bytes → is_token name (take size bytes) ≡ true
       → standing b ≡ standing a
       → ((written_to a).index + size < 2 ^ 64 → written_to b ≡ end_at ((written_to a).index + size) 0)
       → ((written_to a).index + size < 2 ^ 64 → WritesUpTo name (end_at ((written_to a).index + size) 0) a b)
-      → (text : List ℕ) → AreLeft text bytes a → WritesVoid text name bytes size a b
+      → (text : List ℕ) → AreLeft text bytes a → WritesVoid text name (drop size bytes) size a b
   token_void name bytes size a b raw le may same ends writes text left =
       let index = ap (λ (e : End). e.index) left.at in
       let line_end = ap (λ (s : Standing). s.line_end) same in
@@ -85,25 +77,20 @@ module _ {A : Type 0} where
         is = refl;
       }
 
-  pub token_on : (name : Name) (bytes : List ℕ) (size : ℕ) (a b : Walk A) → IsRawName name → size ≤ length bytes → is_token name (take size bytes) ≡ true
-      → standing b ≡ standing a
-      → ((written_to a).index + size < 2 ^ 64 → written_to b ≡ end_at ((written_to a).index + size) 0)
-      → ((written_to a).index + size < 2 ^ 64 → WritesUpTo name (end_at ((written_to a).index + size) 0) a b) → LeadsOn bytes (drop size bytes) a b
-  token_on name bytes size a b raw le may same ends writes text left = (token_void name bytes size a b raw le may same ends writes text left).tokens
-
   -- all that is left
-  pub token_all : (name : Name) (bytes : List ℕ) (a b : Walk A) → IsRawName name → is_token name bytes ≡ true → standing b ≡ standing a
-      → written_to b ≡ end_at a.line_end 0 → WritesUpTo name (end_at a.line_end 0) a b → LeadsOn bytes [] a b
-  token_all name bytes a b raw may same ends writes text left =
+  pub all_void : (name : Name) (bytes : List ℕ) (a b : Walk A) → IsRawName name → is_token name bytes ≡ true → standing b ≡ standing a
+      → written_to b ≡ end_at a.line_end 0 → WritesUpTo name (end_at a.line_end 0) a b
+      → (text : List ℕ) → AreLeft text bytes a → WritesVoid text name [] (length bytes) a b
+  all_void name bytes a b raw may same ends writes text left =
       let size = length bytes in
       let none : drop size bytes ≡ [] = drop_all size bytes (omega arith) in
       let all : take size bytes ≡ bytes = take-length bytes in
       let there : a.line_end ≡ (written_to a).index + size = omega (arith, ap (λ (e : End). e.index) left.at, left.within) in
       let ends_there : written_to b ≡ end_at ((written_to a).index + size) 0 = ends ∙ ap (λ (k : ℕ). end_at k 0) there in
       let writes_there = subst (λ (k : ℕ). WritesUpTo name (end_at k 0) a b) there writes in
-      subst (λ (bs : List ℕ). LeadsOn bytes bs a b) none (
-      token_on name bytes size a b raw (omega arith) (ap (is_token name) all ∙ may) same (λ fits. ends_there) (λ fits. writes_there)
-      ) text left
+      subst (λ (bs : List ℕ). WritesVoid text name bs size a b) none (
+      token_void name bytes size a b raw (omega arith) (ap (is_token name) all ∙ may) same (λ fits. ends_there) (λ fits. writes_there) text left
+      )
 
 -- bytes begin with one or more of their first
 pub run_some : (bytes : List ℕ) (first : ℕ) → 0 < length bytes → first ≡ get_or bytes 0 0 → 0 < run first bytes
@@ -132,29 +119,3 @@ module _ {A : Type 0} (text : List ℕ) where
   left_none bytes w none left =
       let all : w.line_end - length bytes ≡ w.line_end = omega (arith, none) in
       left.at ∙ ap (λ (k : ℕ). end_at k 0) all
-
--- an event around others
-pub tokens_around : {A : Type 0} (name : Name) (xs ys : List ℕ) (a b c d : Walk A) → IsRawName name
-    → ((text : List ℕ) → IsInOrder text a.out → Enters text name a.out b.out) → standing b ≡ standing a → written_to b ≡ written_to a → LeadsOn xs ys b c
-    → ((text : List ℕ) → IsInOrder text c.out → Exits text name c.out d.out) → standing d ≡ standing c → written_to d ≡ written_to c → LeadsOn xs ys a d
-tokens_around name xs ys a b c d raw enters same_b end_b kids exits same_d end_d text left =
-    let entered = enters text left.order in
-    let inner = kids text (left_same text xs a b left entered.order same_b end_b) in
-    let exited = exits text inner.writes.order in
-    let node = Around (enter_at text name (end_in a.out)) inner.nodes (exit_at text name (end_in c.out)) in
-    let whole : cut node ≡ one node =
-    cond-false (same_name name n.Data && is_nil inner.nodes) _ _ (ap (λ (t : Bool). t && is_nil inner.nodes) raw.no_data) in
-    record {
-      nodes = one node;
-      writes = subst (Writes text a.out d.out) whole (writes_around text a.out b.out c.out d.out name inner.nodes entered inner.writes exited);
-      raw = record {
-        definitions =
-            ap (λ (ns : List Node). ns ++ [])
-            (cond-false (same_name name n.Definition) (node ∷ named n.Definition inner.nodes) (named n.Definition inner.nodes) raw.no_definition
-            ∙ inner.raw.definitions);
-        code = cond-false (same_name name n.CodeFencedFence) _ _ raw.no_code;
-        math = cond-false (same_name name n.MathFlowFence) _ _ raw.no_math;
-      };
-      same = same_d ∙ inner.same ∙ same_b;
-      after = left_same text ys c d inner.after exited.order same_d end_d;
-    }

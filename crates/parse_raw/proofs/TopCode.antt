@@ -8,12 +8,13 @@ use Rattle.parse_raw.proofs.Prelude.{writes_around, writes_both, WritesEnding, W
 use Rattle.engine_events.specs.declared.event.Name.TheVariants as n
 use Rattle.definition_page.specs.Page as page
 use Rattle.parse_output.proofs.Forests.{append-nil}
+use Rattle.parse_slots.proofs.Steps.{fill_both}
 use Rattle.parse_raw.specs.Laid.{WritesReadUnclosed, WritesToEnd}
 use Rattle.parse_raw.proofs.Bytes.{line_ending_fits}
 use Rattle.parse_raw.proofs.Blank.{end_written}
-use Rattle.parse_raw.proofs.ClosedCode.{block_alike, block_is, found_of, info_found}
+use Rattle.parse_raw.proofs.ClosedCode.{block_alike, block_filled, block_is, block_row, chunk_slots, found_of, info_found}
 use Rattle.parse_raw.proofs.ClosingFence.{parts_closed}
-use Rattle.parse_raw.proofs.Endings.{ending_last, ending_parts, ending_raw}
+use Rattle.parse_raw.proofs.Endings.{ending_fills, ending_last, ending_parts, ending_raw}
 use Rattle.parse_raw.proofs.LeafNodes.{spelled}
 use Rattle.parse_raw.proofs.Nodes.{ends_append, named_append, raw_append, raw_parts_append}
 use Rattle.parse_raw.proofs.OpenCode.{BeginsCode, begins_code, inside_written, open_is}
@@ -90,6 +91,8 @@ module _ {A : Type 0} (r : Reading) (first : Bool) (text : List ℕ) (fence_name
       top_alike text here.beside.ending ls o.lines.nodes done.nodes done.are_ending begins.some (o.lines.there (o.around.1 ∙ outermost))) in
       let leaf = read_leaf r (record { top = true; first = first }) (FencedCode info false ls) in
       let node = Around (enter_at text fence_names.block (end_in o.space.out)) kids (exit_at text fence_names.block (end_in e.out)) in
+      let slots = chunk_slots o.math in
+      let has = block_row o.math in
       let whole : cut node ≡ one node = cond-false (same_name fence_names.block n.Data && is_nil kids) _ _ (ap (λ (t : Bool). t && is_nil kids) block.3) in
       let writes_node = subst (Writes text o.space.out d.out) whole (
       writes_around text o.space.out o.entered.out e.out d.out fence_names.block kids o.enters kids_writes exited) in
@@ -115,6 +118,10 @@ module _ {A : Type 0} (r : Reading) (first : Bool) (text : List ℕ) (fence_name
         starts = o.starts;
         begins = o.begins;
         ends = sym (ap (λ (end : End). end.index) end_d);
+        filled =
+            block_filled o.math node o.node inner slots block.0 refl o.named_so o.filled
+            (fill_both (o.lines.fill slots has.chunks)
+            (ending_fills text n.LineEnding slots last done.nodes has.chunks.between.ending refl refl done.are_ending)) has.ends;
       }
 
 -- ---- in a container or at the top

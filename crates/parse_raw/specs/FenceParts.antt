@@ -1,5 +1,5 @@
 -- What is written of the fence of code or math, one part after another (CommonMark 4.5).
-use Rattle.std.specs.Prelude.{◌≡◌, ◌⊎◌, ◌≤◌, ◌<◌, ◌+◌, ℕ, Bool, true, false, List, [], ◌∷◌, Option, None, Some, if◌then◌else◌, length, take}
+use Rattle.std.specs.Prelude.{◌≡◌, ◌⊎◌, ◌≤◌, ◌<◌, ◌+◌, ℕ, Bool, true, false, List, [], ◌∷◌, Option, None, Some, if◌then◌else◌, drop, length, take}
 use Rattle.std.specs.List.{list_any, position_or_len}
 use Rattle.definition_text.specs.Columns.{bare, bytes_of, is_white, trim}
 use Rattle.definition_text.specs.Runs.{after_run}
@@ -13,6 +13,10 @@ use Rattle.definition_block.specs.CodeFenced.{Fence, fence_start}
 use Rattle.definition_block.specs.MathFlow.{math_info, math_start}
 use Rattle.definition_inline.specs.CharacterReference.{Names}
 use Rattle.definition_inline.specs.Strings.{string_text}
+use Rattle.event_grammar.specs.declared.slot.Between.TheVariants.{Lines, Spaces}
+use Rattle.event_grammar.specs.declared.slot.Form.TheVariants.{Closing, Plain}
+use Rattle.event_grammar.specs.declared.slot.Slot.{Slot}
+use Rattle.event_grammar.specs.Grammar.{lead, opt, row, string_row}
 use Rattle.event_grammar.specs.InGrammar.{kids_of, node_name}
 use Rattle.event_grammar.specs.References.{named}
 use Rattle.event_grammar.specs.Trees.{Node, Nodes, Nil}
@@ -33,7 +37,8 @@ use Rattle.parse_lines.specs.Standing.{StandsAt, around, standing}
 use Rattle.parse_lines.specs.Steps.{HasSameOpen}
 use Rattle.parse_raw.specs.declared.fence_names.FenceNames.{FenceNames}
 use Rattle.parse_raw.specs.Bytes.{AreClosing, fence_marks}
-use Rattle.parse_raw.specs.RawLines.{AreRaw, WritesLines}
+use Rattle.parse_raw.specs.RawLines.{AreRaw, IsRawName, WritesLines}
+use Rattle.parse_slots.specs.Left.{Fill, IsFilled}
 
 -- ---- names
 
@@ -62,27 +67,34 @@ abbrev pub info_by : Constructs → Names → List ℕ → Option (List ℕ)
 info_by on names [] = None
 info_by on names (b ∷ bs) = Some (string_text on names (b ∷ bs))
 
--- parts of a fence are written up to these bytes, with this info among them
+-- Parts of a fence are written up to these bytes, with this info among them. They lead its row from slots to others.
 pub record WritesParts {A : Type 0} (names : Names) (text : List ℕ) (ending : Option LineEnding) (left : List LineRest) (info : Option (List ℕ))
-    (bytes : List ℕ) (old new : Walk A) : Type 0 where
+    (slots more : List Slot) (bytes : List ℕ) (old new : Walk A) : Type 0 where
   pub nodes : Nodes
   pub writes : Writes text old.out new.out nodes
   pub raw : AreRaw nodes
   pub found : info_of names text (child n.CodeFencedFenceInfo nodes) ≡ info
   pub around : HasSameOpen (standing old) (standing new)
   pub before : IsBefore text ending left bytes new
+  pub fill : Fill Spaces slots nodes more
 
 -- From a walk before these bytes, parts are written up to others.
-abbrev pub LeadsTo : {A : Type 0} → Names → Option (List ℕ) → List ℕ → List ℕ → Walk A → Walk A → Type 0
-LeadsTo names info from to old new =
+abbrev pub LeadsTo : {A : Type 0} → Names → Option (List ℕ) → List Slot → List Slot → List ℕ → List ℕ → Walk A → Walk A → Type 0
+LeadsTo names info slots more from to old new =
     (text : List ℕ) (ending : Option LineEnding) (left : List LineRest) → IsBefore text ending left from old
-    → WritesParts names text ending left info to old new
+    → WritesParts names text ending left info slots more to old new
 
--- the node of a string by a name; none without bytes
+-- a name of a string in a fence
+pub record IsPartName (name : Name) : Type 0 where
+  pub raw : IsRawName name
+  pub row_is : row name Plain ≡ string_row
+
+-- the node of a string by a name, whose row is filled; none without bytes
 abbrev pub IsPartOf : Constructs → Names → List ℕ → Name → List ℕ → Nodes → Type 0
 IsPartOf on names text name [] ns = ns ≡ Nil
 IsPartOf on names text name (b ∷ bs) ns =
     (node : Node) × (ns ≡ one node) × (node_name node ≡ name) × (string_of names text (kids_of node) ≡ string_text on names (b ∷ bs))
+    × IsFilled Spaces Plain node
 
 -- The node of a string is written, up to other bytes.
 pub record WritesPart {A : Type 0} (on : Constructs) (names : Names) (text : List ℕ) (ending : Option LineEnding) (left : List LineRest) (name : Name)
@@ -103,6 +115,29 @@ abbrev pub info_in : Bool → Constructs → Names → List ℕ → Option (List
 info_in true on names text = None
 info_in false on names text = info_by on names (take (position_or_len is_white text) text)
 
+-- what a fence may hold after its sequence
+abbrev pub fence_slots : Bool → List Slot
+fence_slots true = opt n.MathFlowFenceMeta ∷ []
+fence_slots false = lead n.CodeFencedFenceInfo ∷ opt n.CodeFencedFenceMeta ∷ []
+
+-- the slots after a string: no node is written for no bytes
+abbrev pub after_string : List ℕ → List Slot → List Slot → List Slot
+after_string [] slots more = slots
+after_string (b ∷ bs) slots more = more
+
+-- after the info, and after what follows it
+abbrev pub info_slots : Bool → List ℕ → List Slot
+info_slots true text = fence_slots true
+info_slots false text = after_string (take (position_or_len is_white text) text) (fence_slots false) (opt n.CodeFencedFenceMeta ∷ [])
+
+abbrev pub meta_slots : Bool → List ℕ → List Slot
+meta_slots math text = after_string (bare (drop (info_size math text) text)) (info_slots math text) []
+
+-- no white space comes first
+abbrev pub BeginsBare : List ℕ → Type 0
+BeginsBare [] = Unit {0}
+BeginsBare (b ∷ bs) = is_white b ≡ false
+
 -- the name of a fence
 abbrev pub fence_name : Bool → Name
 fence_name true = n.MathFlowFence
@@ -118,6 +153,7 @@ pub record WritesFenceOf {A : Type 0} (on : Constructs) (names : Names) (math : 
   pub writes : Writes text old.out new.out (one node)
   pub around : HasSameOpen (standing old) (standing new)
   pub before : IsBefore text ending left [] new
+  pub filled : IsFilled Lines Plain node
 
 abbrev pub WritesFence : {A : Type 0} → Constructs → Names → Bool → ℕ → List ℕ → Walk A → Walk A → Type 0
 WritesFence on names math byte bare old new =
@@ -161,6 +197,7 @@ pub record WritesOpened {A : Type 0} (on : Constructs) (names : Names) (text : L
   -- which lines may close it
   pub mark : is_among (fence_marks math) fence.byte ≡ true
   pub some : 0 < fence.run
+  pub filled : IsFilled Lines Plain node
 
 -- Where a fence begins, it is written so, with lines that it doesn't close.
 abbrev pub WritesOpening : {A : Type 0} → Constructs → Names → ℕ → FenceNames → Walk A → Walk A → Type 0
@@ -182,6 +219,7 @@ pub record WritesClosingOf {A : Type 0} (math : Bool) (text : List ℕ) (here : 
   pub same : standing new ≡ standing old
   pub stands : StandsAt text (AtEnding here.beside.ending left) (standing new)
   pub written : written_to new ≡ end_at new.line_end 0
+  pub filled : IsFilled Lines Closing node
 
 abbrev pub WritesClosing : {A : Type 0} → FenceNames → Walk A → Walk A → Type 0
 WritesClosing fence_names old new =

@@ -16,12 +16,15 @@ use Rattle.definition_inline.specs.CharacterReference.{Names}
 use Rattle.definition_page.specs.Page as page
 use Rattle.definition_page.specs.Read.{Reading, read_leaf}
 use Rattle.block_starts.specs.View.{rest_of}
+use Rattle.event_grammar.specs.declared.slot.Between.TheVariants.{Lines}
+use Rattle.event_grammar.specs.declared.slot.Form.TheVariants.{Plain}
 use Rattle.event_grammar.specs.InGrammar.{kids_of, node_name}
 use Rattle.event_grammar.specs.References.{named}
 use Rattle.event_grammar.specs.Trees.{Node, Nodes, Nil}
 use Rattle.event_meaning.specs.Children.{text_of}
 use Rattle.parse_output.specs.Forest.{append, one}
 use Rattle.parse_output.specs.Written.{IsInOrder, Writes}
+use Rattle.parse_slots.specs.Left.{IsFilled}
 use Rattle.parse_laid.specs.Laid.{IsBlankLaid}
 use Rattle.parse_laid.specs.Leaves.{IsLeafLaid}
 use Rattle.parse_laid.specs.Places.{AtEnding, Between, LineRest, Place, Within, unread}
@@ -63,6 +66,7 @@ pub record WritesToEnd {A : Type 0} (on : Constructs) (names : Names) (text : Li
   pub starts : (written_to old).index ≤ (node_start node).index
   pub begins : (node_start node).index ≤ old.line_end
   pub ends : (node_end node).index ≡ (written_to new).index
+  pub filled : IsFilled Lines Plain node
 
 -- Where this leaf begins at the top, it is written so.
 abbrev pub WritesReadToEnd : {A : Type 0} → Reading → Bool → LeafBlock → Walk A → Walk A → Type 0
@@ -118,6 +122,7 @@ pub record WritesFront {A : Type 0} (text : List ℕ) (others : List TextLine) (
   pub are_quiet : AreQuiet before
   pub node : Node
   pub is_front : node_name node ≡ n.Frontmatter
+  pub filled : IsFilled Lines Plain node
   pub definitions : named n.Definition (one node) ≡ []
   pub ending : Option LineEnding
   pub nodes : Nodes

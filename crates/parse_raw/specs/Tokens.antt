@@ -1,15 +1,18 @@
 -- What is written of the bytes of a line, one event after another: of a thematic break, or of a fence.
 use Rattle.std.specs.Prelude.{◌≡◌, ◌-◌, ◌≤◌, ℕ, false, List, [], ◌∷◌, length}
 use Rattle.definition_text.specs.Columns.{is_white}
+use Rattle.engine_events.specs.declared.event.Name.{Name}
 use Rattle.engine_events.specs.declared.event.Name.TheVariants as n
 use Rattle.event_grammar.specs.declared.slot.Between.TheVariants.{Lines}
 use Rattle.event_grammar.specs.declared.slot.Form.TheVariants.{Plain}
 use Rattle.event_grammar.specs.declared.slot.Slot.{Slot}
 use Rattle.event_grammar.specs.Grammar.{many, row}
-use Rattle.event_grammar.specs.Trees.{Nodes}
+use Rattle.event_grammar.specs.InGrammar.{node_name}
+use Rattle.event_grammar.specs.Trees.{Node, Nodes}
 use Rattle.parse_output.specs.Ends.{end_at}
+use Rattle.parse_output.specs.Forest.{one}
 use Rattle.parse_output.specs.Written.{IsInOrder, Writes}
-use Rattle.parse_slots.specs.Left.{Fill}
+use Rattle.parse_slots.specs.Left.{Fill, IsFilled}
 use Rattle.parse_lines.specs.declared.walk.Walk.{Walk}
 use Rattle.parse_lines.specs.Content.{AreNext}
 use Rattle.parse_lines.specs.Ends.{written_to}
@@ -36,6 +39,18 @@ pub record WritesTokens {A : Type 0} (text left : List ℕ) (old new : Walk A) :
 -- From a walk before these bytes, nodes are written, and others are left.
 abbrev pub LeadsOn : {A : Type 0} → List ℕ → List ℕ → Walk A → Walk A → Type 0
 LeadsOn before after old new = (text : List ℕ) → AreLeft text before old → WritesTokens text after old new
+
+-- an event of a name is written, whose row is filled
+pub record WritesEvent {A : Type 0} (name : Name) (text left : List ℕ) (old new : Walk A) : Type 0 where
+  pub tokens : WritesTokens text left old new
+  pub node : Node
+  pub nodes_are : tokens.nodes ≡ one node
+  pub named : node_name node ≡ name
+  pub filled : IsFilled Lines Plain node
+
+-- From a walk before these bytes, an event is written, and others are left.
+abbrev pub PassesEvent : {A : Type 0} → Name → List ℕ → List ℕ → Walk A → Walk A → Type 0
+PassesEvent name before after old new = (text : List ℕ) → AreLeft text before old → WritesEvent name text after old new
 
 -- ---- breaks (CommonMark 4.1)
 

@@ -16,8 +16,8 @@ ghost use Rattle.parse_raw.specs.Laid.{IsFenceRead, WritesReadUnclosed};
 ghost use Rattle.event_tokens.specs.Tokens.{is_among};
 ghost use Rattle.parse_raw.specs.Bytes.{fence_marks};
 ghost use Rattle.parse_raw.specs.Fences.{may_enter_any};
-ghost use Rattle.parse_raw.specs.FenceParts.{AreNames, IsBefore, LeadsTo, WritesClosing, WritesFence, WritesOpening, WritesPart, info_in, info_size};
-ghost use Rattle.parse_raw.specs.RawLines.{IsRawName};
+ghost use Rattle.parse_raw.specs.FenceParts.{AreNames, BeginsBare, IsBefore, IsPartName, LeadsTo, WritesClosing, WritesFence, WritesOpening, WritesPart};
+ghost use Rattle.parse_raw.specs.FenceParts.{fence_slots, info_in, info_size, info_slots, meta_slots};
 ghost use Rattle.std.specs.List.{list_any};
 ghost use Rattle.definition_text.specs.Ascii.{dollar};
 ghost use Rattle.definition_text.specs.Lines.{ends_line, lines};
@@ -159,9 +159,10 @@ fn push_info_and_meta<T: Tables, A: Allocator + Clone>(
     requires info { may_enter_any (still_open walk.old) names.now.info ≡ true }
     requires meta { may_enter (still_open walk.old) names.now.meta ≡ true }
     ensures open { OnOk result (still_open walk.new ≡ still_open walk.old) }
-    ensures written { OnOk result ((math : Bool) (tail : List ℕ) → AreNames math names.now → list_any ends_line text.now ≡ false
+    ensures written { OnOk result ((math : Bool) (tail : List ℕ) → AreNames math names.now → list_any ends_line text.now ≡ false → BeginsBare text.now
         → LeadsTo (T.reference_of texts.now.tables.now)
-        (info_in math texts.now.options.now.constructs (T.reference_of texts.now.tables.now) text.now) (text.now ++ tail) tail walk.old walk.new) }
+        (info_in math texts.now.options.now.constructs (T.reference_of texts.now.tables.now) text.now) (fence_slots math) (meta_slots math text.now)
+        (text.now ++ tail) tail walk.old walk.new) }
 {
     let rest = from(text, push_info(walk, texts, names, text)?);
     let white = white_size(rest.as_bytes());
@@ -181,7 +182,7 @@ fn push_info<T: Tables, A: Allocator + Clone>(
     ensures size { IfOk result (λ size. (math : Bool) → AreNames math names.now → list_any ends_line text.now ≡ false → size ≡ info_size math text.now) }
     ensures written { OnOk result ((math : Bool) (tail : List ℕ) → AreNames math names.now → list_any ends_line text.now ≡ false
         → LeadsTo (T.reference_of texts.now.tables.now)
-        (info_in math texts.now.options.now.constructs (T.reference_of texts.now.tables.now) text.now)
+        (info_in math texts.now.options.now.constructs (T.reference_of texts.now.tables.now) text.now) (fence_slots math) (info_slots math text.now)
         (text.now ++ tail) (drop (info_size math text.now) text.now ++ tail) walk.old walk.new) }
 {
     let Some(info) = names.info else {
@@ -203,7 +204,7 @@ fn push_part<T: Tables, A: Allocator + Clone>(
     requires child { may_enter (still_open walk.old) name ≡ true }
     requires parts { has_string name ≡ true }
     ensures open { OnOk result (still_open walk.new ≡ still_open walk.old) }
-    ensures written { OnOk result ((text rest : List ℕ) (ending : Option LineEnding) (left : List LineRest) → IsRawName name
+    ensures written { OnOk result ((text rest : List ℕ) (ending : Option LineEnding) (left : List LineRest) → IsPartName name
         → IsBefore text ending left (string.now ++ rest) walk.old
         → WritesPart texts.now.options.now.constructs (T.reference_of texts.now.tables.now) text ending left name string.now rest walk.old walk.new) }
 {

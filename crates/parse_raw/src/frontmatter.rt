@@ -9,7 +9,7 @@ ghost use Rattle.parse_lines.specs.Open.{still_open};
 ghost use Rattle.definition_text.specs.Lines.{lines};
 ghost use Rattle.parse_raw.specs.Bytes.{AreMetadataFence};
 ghost use Rattle.parse_raw.specs.Laid.{WritesFrontLaid};
-ghost use Rattle.parse_raw.specs.Tokens.{LeadsOn};
+ghost use Rattle.parse_raw.specs.Tokens.{PassesEvent};
 
 use crate::code_lines::{line_count, push_lines};
 use engine_events::event::Name;
@@ -44,7 +44,7 @@ pub fn push_frontmatter<A: Allocator>(walk: &mut Walk<'_, A>, text: &str) -> Res
 fn push_metadata_fence<A: Allocator>(walk: &mut Walk<'_, A>) -> Result<(), AllocError>
     requires child { may_enter (still_open walk.old) FrontmatterFence ≡ true }
     ensures open { OnOk result (still_open walk.new ≡ still_open walk.old) }
-    ensures written { OnOk result ((bytes : List ℕ) → AreMetadataFence bytes → LeadsOn bytes [] walk.old walk.new) }
+    ensures written { OnOk result ((bytes : List ℕ) → AreMetadataFence bytes → PassesEvent FrontmatterFence bytes [] walk.old walk.new) }
 {
     walk.enter(Name::FrontmatterFence)?;
     walk.token(Name::FrontmatterSequence, FRONTMATTER_SEQUENCE_SIZE)?;

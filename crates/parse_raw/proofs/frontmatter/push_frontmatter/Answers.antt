@@ -6,7 +6,7 @@ use Rattle.parse_raw.proofs.Prelude.{LineRest, lines, Node, one, Standing, stand
 use Rattle.parse_raw.proofs.Prelude.{written_to}
 use Rattle.parse_raw.proofs.Bytes.{line_ending_fits}
 use Rattle.parse_raw.proofs.Blank.{end_written}
-use Rattle.parse_raw.proofs.MetadataLines.{AreBytes, fence_line, front_lines, line_bytes, mid_lines, text_lines, top_line}
+use Rattle.parse_raw.proofs.MetadataLines.{AreBytes, fence_line, front_filled, front_lines, line_bytes, mid_lines, text_lines, top_line}
 use Rattle.parse_raw.proofs.NextLines.{all_ok, next_written}
 use Rattle.parse_raw.proofs.Nodes.{raw_append}
 use Rattle.parse_raw.proofs.frontmatter.push_frontmatter.Goals as goal
@@ -82,6 +82,8 @@ returns-clause-written g c =
       are_quiet = begun.0.quiet;
       node = node;
       is_front = refl;
+      filled =
+          front_filled text (end_in a.out) (end_in h.out) opening.nodes mids.nodes passed.nodes closing.nodes opening.fill mids.fill passed.fill closing.fill;
       definitions = ap (λ (ns : List Node). ns ++ []) raw.definitions;
       ending = fl.last.ending;
       nodes = done.nodes;
