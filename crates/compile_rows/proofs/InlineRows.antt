@@ -3,7 +3,7 @@ use Rattle.std.proofs.Common.{◌≡◌, ℕ, Bool, true, false, ◌||◌, List,
 use Rattle.std.specs.Prelude.{map}
 use Rattle.std.specs.Str.{bytes_eq}
 use Rattle.std.proofs.lemmas.Slice.Eq.{bytes_eq-Decides}
-use Rattle.compile_rows.proofs.Prelude.{content_codes, Data, ending_rows, inline_rows, InlineLeaf, InlineRow, Inlines, line_ending_code, LineEnd, LinkTexts}
+use Rattle.compile_rows.proofs.Prelude.{content_codes, ending_rows, inline_rows, InlineLeaf, InlineRow, Inlines, line_ending_code, LineEnd, LinkTexts}
 use Rattle.compile_rows.proofs.Prelude.{Part, Target}
 use Rattle.definition_inline.specs.Inline.{Inline, Leaf}
 use Rattle.definition_inline.specs.Inline as inline

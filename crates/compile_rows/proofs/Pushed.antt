@@ -1,6 +1,8 @@
 -- Rows and texts that are pushed.
-use Rattle.std.proofs.Common.{◌≡◌, ℕ, Bool, true, false, if◌then◌else◌, List, [], ◌∷◌, ◌++◌, Option, Some, sym, ap, ◌∙◌, append_assoc, subst}
-use Rattle.compile_rows.proofs.Prelude.{Autolink, autolink_by, Character, ending_rows, Event, has, html_part_rows, InlineRow, LineEnd}
+use Rattle.std.proofs.Common.{◌≡◌, ◌<◌, ℕ, Bool, true, false, if◌then◌else◌, List, [], ◌∷◌, ◌++◌, Option, Some, refl, sym, ap, ◌∙◌, append_assoc, subst}
+use Rattle.std.proofs.Common.{arith, length}
+use Rattle.compile_rows.proofs.Prelude.{append-nil, Autolink, autolink_by, Character, content_codes, ending_rows, Event, has, Html, html_part_rows, InlineRow}
+use Rattle.compile_rows.proofs.Prelude.{LineEnd}
 use Rattle.compile_rows.proofs.Prelude.{literal_kind, literal_rows, Name, Names, number_of, numbered_text, OnOk, option_map, Part, reference_by, same_name}
 use Rattle.compile_rows.proofs.Prelude.{unwrap_or, valid, value_of}
 use Rattle.std.specs.List.{flat_map}
@@ -89,6 +91,11 @@ html_ending name piece h k =
     ap (λ (z : Bool). if z then ending_rows piece else []) (sym k)
     ∙ ap (λ (z : Bool). if z then map Part (html_data (valid piece)) else (if same_name name n.LineEnding then ending_rows piece else [])) (sym h)
 
+-- a piece that isn't empty has one row
+pub piece_row : (piece : List ℕ) → 0 < length piece → Part (Html (content_codes piece)) ∷ [] ≡ map Part (html_piece piece)
+piece_row [] some = absurd (omega (arith, some))
+piece_row (b ∷ bs) some = refl
+
 -- a line of data is pushed, and its ending
 pub line_pushed : (old with_line new : List InlineRow) (line after rest : List ℕ) (ending : Option LineEnding)
     → lines rest ≡ text_line line ending ∷ lines after → with_line ≡ old ++ map Part (html_piece line)
@@ -105,3 +112,8 @@ line_pushed old with_line new line after rest ending is with ended =
     ∙ map-append Part (html_piece line ++ map LineEnd (ending_code ending)) (html_data after)
     ∙ ap (λ (z : List InlineRow). z ++ others) (map-append Part (html_piece line) (map LineEnd (ending_code ending)))
     ∙ append_assoc piece end others))
+
+-- no data is left
+pub all_pushed : (rows whole : List InlineRow) (rest : List ℕ) → length rest ≡ 0 → rows ++ map Part (html_data rest) ≡ whole → rows ≡ whole
+all_pushed rows whole [] none is = sym (append-nil rows) ∙ is
+all_pushed rows whole (b ∷ bs) none is = absurd (omega (arith, none))

@@ -3,7 +3,7 @@ use Rattle.std.proofs.Common.{◌≡◌, ℕ, ◌+◌, ◌==◌, Bool, true, fal
 use Rattle.std.proofs.Common.{Option, Some, None, refl, sym, ap, subst, ◌∙◌, append_assoc}
 use Rattle.compile_rows.proofs.Prelude.{append-nil, AreNodes, AreTexts, Around, Cons, enter_rows, entered, EnterLinked, Event, events_of, exit_rows, exited}
 use Rattle.compile_rows.proofs.Prelude.{HasEndings, HaveEndings, Image, inline_rows, InlineRow, Inlines, is_around, is_listed, IsNode, IsTextNode, Leave, less}
-use Rattle.compile_rows.proofs.Prelude.{Link, LinkedKind, LinkTexts, media_names, Name, Names, Nil, Nodes, nonzero, part_rows, Place, place, rows_by}
+use Rattle.compile_rows.proofs.Prelude.{Link, LinkTexts, media_names, Name, Names, Nil, Nodes, nonzero, part_rows, Place, place, rows_by}
 use Rattle.compile_rows.proofs.Prelude.{same_name, span_of, SpanKind, split, Target, target_by, text_of, text_part}
 use Rattle.std.proofs.Math.Bool.{or-false}
 use Rattle.engine_events.specs.declared.event.Kind.TheVariants.{Exit}

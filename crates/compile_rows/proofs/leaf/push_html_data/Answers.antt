@@ -1,7 +1,7 @@
 use Rattle.std.proofs.Common.{◌<◌, length, sym, ◌∙◌, rules, arith}
 use Rattle.compile_rows.proofs.Prelude.{rows_view}
-use Rattle.compile_rows.proofs.Pushed.{line_pushed}
-use Rattle.std.proofs.lemmas.Bool.{eqb-false}
+use Rattle.compile_rows.proofs.Pushed.{all_pushed, line_pushed}
+use Rattle.std.proofs.lemmas.Bool.{eqb-false, eqb-true}
 use Rattle.std.specs.Str.{IsUtf8}
 use Rattle.compile_rows.proofs.leaf.push_html_data.Goals as goal
 
@@ -19,3 +19,9 @@ loop-rest-preserved g c =
           ∙ c.loop-rest.invariant.rows at;
       text = whole;
     }
+
+pub returns : goal.returns
+returns g c at =
+    let rest = c.loop-rest.rest.now in
+    all_pushed (rows_view at c.loop-rest.rows.items) _ rest (eqb-true (length rest) 0 (sym c.is_empty.ensures ∙ c.loop-rest-test.false))
+    (c.loop-rest.invariant.rows at)
