@@ -2,8 +2,11 @@ use Rattle.std.proofs.Common.{◌≡◌, [], ◌∷◌, ◌++◌, drop, length, 
 use Rattle.parse_inline.proofs.Prelude.{AreHeld, Entered, leave_all, sequence_size, SpanNames, still_open}
 use Rattle.parse_inline.specs.declared.opened.Open.TheVariants as held
 use Rattle.parse_inline.proofs.Calls.{DoesEnter, DoesText, span_entered}
-use Rattle.parse_inline.proofs.Held.{more}
+use Rattle.parse_inline.proofs.Held.{more, span_text_row}
 use Rattle.parse_inline.proofs.span.enter_span.Goals as goal
+
+pub enter-requires-2-clause-row : goal.enter-requires-2-clause-row
+enter-requires-2-clause-row g c = span_text_row c.args.span c.span_names-names.result c.span_names-names.ensures
 
 pub returns-clause-open : goal.returns-clause-open
 returns-clause-open g c =
