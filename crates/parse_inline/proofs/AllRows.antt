@@ -9,7 +9,7 @@ use Rattle.parse_inline.proofs.Prelude.{append-nil, AreBytesAt, AreLaid, ArePart
 use Rattle.parse_inline.proofs.Prelude.{cond_both, Constructs, content_codes, End, end_after, end_in, ends_line, enter_at, eqb-true, exit_at, filled}
 use Rattle.parse_inline.proofs.Prelude.{held_levels, hole_of, indent, InlineCode, InlineContext, InlineRow, Inlines, inlines_from, inlines_of, is_eol}
 use Rattle.parse_inline.proofs.Prelude.{is_white, IsInRows, IsReadBy, laid_levels, Level, line_bytes, list_any, Names, Nil, no_ends, one, or_from, Outside}
-use Rattle.parse_inline.proofs.Prelude.{PassesRow, plain_void, rows_view, same_end, Setting, StandsInContent, StandsInText, Step, steps_of, Target, void_nodes}
+use Rattle.parse_inline.proofs.Prelude.{PassesRow, plain_void, rows_view, same_end, Setting, StandsInContent, StandsInText, Step, steps_of, void_nodes}
 use Rattle.parse_inline.proofs.Prelude.{Walk, WritesInContent, WritesParts, WritesText, ◌==◌}
 use Rattle.std.proofs.lemmas.Bool.{or_cases}
 use Rattle.engine_events.specs.declared.event.Name.TheVariants as n
@@ -23,6 +23,10 @@ use Rattle.parse_rows.proofs.Steps.{rows_of_steps}
 use Rattle.parse_written.specs.Laid.{MayBeSpaces}
 use Rattle.parse_written.proofs.Contents.{written_from_law}
 use Rattle.parse_written.proofs.Laid.{laid_law}
+use Rattle.event_grammar.specs.Grammar.{text_row}
+use Rattle.parse_slots.specs.Left.{MayEndLines}
+use Rattle.parse_slots.proofs.Steps.{may_space}
+use Rattle.parse_slots.proofs.Voids.{void_between}
 use Rattle.parse_inline.specs.declared.opened.Open as opened
 use Rattle.parse_inline.proofs.Calls.{DoesText, texting}
 use Rattle.parse_inline.proofs.Holes.{filled_whole, linkable_steps}
@@ -211,13 +215,17 @@ all_written s first held old new size d is does =
     let all =
     more_parts s.context s.text s.stop false s.is inline.Nil s.bytes d.left d.left [] first old new ns d.parts (sym (append-nil d.left)) w.writes
     (λ m m' meant. white_spells s.context.names s.text (end_in old.out) (end_after (end_in old.out) (length d.left)))
-    (plain_void s.text n.SpaceOrTab (end_in old.out) (end_after (end_in old.out) (length d.left)) refl refl) in
+    (plain_void s.text n.SpaceOrTab (end_in old.out) (end_after (end_in old.out) (length d.left)) refl refl)
+    (λ around may.
+    void_between around text_row n.SpaceOrTab s.text (end_in old.out) (end_after (end_in old.out) (length d.left)) refl refl (may_space around d.left may)
+    refl) in
     record {
       nodes = all.nodes;
       writes = subst (λ bs. WritesInContent s.text bs all.nodes [] s.stop first new) (sym (all.both ∙ append-nil all.front)) all.writes;
       spells = λ m m' meant.
           subst (λ is. ArePartsAlike m m' is (inlines_of s.context.names s.text false all.nodes)) (append_none s.is) (all.spells m m' meant);
       plain = all.plain;
+      fill = λ around may. all.fill around (subst (MayEndLines around) (all.both ∙ append-nil all.front) may);
     }
 
 -- nothing is left of a list after its end

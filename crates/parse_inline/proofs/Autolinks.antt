@@ -10,6 +10,15 @@ use Rattle.parse_inline.proofs.Prelude.{plain_both, plain_none, plain_one, same_
 use Rattle.parse_inline.proofs.Prelude.{token, token_text, void_nodes, void_one, Walk, WritesFront, WritesInLine}
 use Rattle.engine_events.specs.declared.event.Name.TheVariants as n
 use Rattle.definition_inline.specs.Inline.{Autolink}
+use Rattle.event_grammar.specs.declared.slot.Between.TheVariants.{Spaces}
+use Rattle.event_grammar.specs.declared.slot.Child.TheVariants.{Either}
+use Rattle.event_grammar.specs.declared.slot.Form.TheVariants.{Plain}
+use Rattle.event_grammar.specs.declared.slot.Slot.{Slot}
+use Rattle.event_grammar.specs.declared.slot.Slot.TheVariants.{One}
+use Rattle.event_grammar.specs.Grammar.{one as one_slot, row, text_row}
+use Rattle.parse_slots.specs.Left.{Fill}
+use Rattle.parse_slots.proofs.Steps.{fill_both, fill_taken, filled_in_line}
+use Rattle.parse_strings.proofs.Fills.{token_taken}
 use Rattle.parse_lines.proofs.InLine.{lines_around, lines_both}
 use Rattle.parse_inline.specs.Leaves.{address_name}
 use Rattle.parse_inline.proofs.Fronts.{WritesNext, next_here}
@@ -34,6 +43,22 @@ address_plain text false i j k size =
     plain_both (one (token text n.AutolinkMarker i 1)) _ (plain_one _ refl plain_none)
     (plain_both (one (token text n.AutolinkProtocol j size)) (one (token text n.AutolinkMarker k 1)) (plain_one _ refl plain_none)
     (plain_one _ refl plain_none))
+
+-- what is left of the row of an autolink after its address, and before it
+abbrev closing : List Slot
+closing = one_slot n.AutolinkMarker ∷ []
+
+abbrev addressed : List Slot
+addressed = One (Either n.AutolinkProtocol n.AutolinkEmail) ∷ closing
+
+address_taken : (text : List ℕ) (email : Bool) (j size : ℕ) → Fill Spaces addressed (one (token text (address_name email) j size)) closing
+address_taken text true j size = token_taken Spaces addressed n.AutolinkEmail closing text j size refl refl
+address_taken text false j size = token_taken Spaces addressed n.AutolinkProtocol closing text j size refl refl
+
+address_fill : (text : List ℕ) (email : Bool) (i j k size : ℕ) → Fill Spaces (row n.Autolink Plain) (autolink_kids text email i j k size) []
+address_fill text email i j k size =
+    fill_both (token_taken Spaces (row n.Autolink Plain) n.AutolinkMarker addressed text i 1 refl refl)
+    (fill_both (address_taken text email j size) (token_taken Spaces closing n.AutolinkMarker [] text k 1 refl refl))
 
 address_data : (email : Bool) → same_name (address_name email) n.Data ≡ false
 address_data true = refl
@@ -101,4 +126,7 @@ module _ {A : Type 0} (names : Names) (text : List ℕ) (stop : Stop) where
         spells = λ linked may.
             autolink_spells names text linked email address i j k (end_in a.out) (end_in e.out)
             (token_text text (address_name email) j address (62 ∷ line) (next_here text (address ++ 62 ∷ line) c at_value whole_c));
+        fill = λ around may.
+            fill_taken around text_row n.Autolink Plain text_row node refl refl
+            (filled_in_line around Plain n.Autolink [] node refl refl refl (address_fill text email i j k (length address)) refl);
       }

@@ -13,6 +13,12 @@ use Rattle.parse_inline.proofs.Prelude.{void_nodes, Walk, WritesInContent, Write
 use Rattle.std.specs.Prelude.{Result, Ok, Err, OnOk}
 use Rattle.engine_events.specs.declared.event.Name.TheVariants as n
 use Rattle.inline_runs.specs.declared.pair.Span.TheVariants as span
+use Rattle.event_grammar.specs.declared.slot.Between.{Between}
+use Rattle.event_grammar.specs.declared.slot.Form.TheVariants.{Plain}
+use Rattle.event_grammar.specs.Grammar.{row}
+use Rattle.event_grammar.specs.Checks.{between_of}
+use Rattle.parse_slots.specs.Left.{Fill}
+use Rattle.parse_slots.proofs.Steps.{filled_by}
 use Rattle.parse_lines.proofs.Ahead.{owed_after}
 use Rattle.parse_inline.specs.Rows.{WritesMark}
 use Rattle.parse_inline.proofs.Plain.{cut_one}
@@ -124,9 +130,10 @@ module _ {A : Type 0} (text : List ℕ) (stop : Stop) where
   -- ---- marks
 
   pub marking : (a b c d : Walk A) (name : Name) (front content : List ℕ) (ns : Nodes) → IsMark name → ArePlain ns
+      → ((around : Between) → Fill around (row name Plain) ns [])
       → EntersInContent text name (front ++ content) stop a b → IsWritten ns front content b c → ExitsInContent text name content stop c d → IsWhole a
       → WritesMark text name front content stop a d
-  marking a b c d name front content ns is plain enters within exits whole =
+  marking a b c d name front content ns is plain fill enters within exits whole =
       let from = end_in a.out in
       let to = end_in c.out in
       record {
@@ -137,6 +144,9 @@ module _ {A : Type 0} (text : List ℕ) (stop : Stop) where
             (contents_around text stop a b c d name front content ns enters within.writes exits is.no_quote);
         plain = plain_one (Around (enter_at text name from) ns (exit_at text name to)) is.other plain;
         whole = exited_whole c d name content exits (within.whole (entered_whole a b name (front ++ content) enters whole));
+        filled = λ around.
+            filled_by around Plain name [] (Around (enter_at text name from) ns (exit_at text name to)) refl (fill (between_of (row name Plain) around name))
+            refl;
       }
 
   -- ---- labels

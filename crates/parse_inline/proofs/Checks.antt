@@ -8,10 +8,11 @@ use Rattle.definition_text.specs.Columns.{is_white}
 use Rattle.definition_text.specs.Content.{is_space}
 use Rattle.markdown_options.specs.declared.line_ending.LineEnding.TheVariants as endings
 use Rattle.event_tokens.specs.Tokens.{fits, is_among, is_token, Ending as EndingForm, Most}
-use Rattle.parse_inline.proofs.Prelude.{and_parts, Anywhere, append, AreBytes, ArePartsAlike, ArePlain, AreQuiet, Around, begins_with_eol, bytes_drop}
+use Rattle.parse_inline.proofs.Prelude.{and_parts, Anywhere, append, append-nil, AreBytes, ArePartsAlike, ArePlain, AreQuiet, Around, begins_with_eol}
 use Rattle.parse_inline.proofs.Prelude.{cases_Bool, codes_split, cond-false, cond-true, Cons, Constructs, content_codes, contents_around, contents_both}
 use Rattle.parse_inline.proofs.Prelude.{default_constructs, drop-append_seam, End, end_in, Ending, ending_bytes, ending_step, ends_line, enter_at}
 use Rattle.parse_inline.proofs.Prelude.{EntersInLine, eqb-true, exit_at, ExitsInLine, is_eol, is_listed, IsApart, IsWhole, Leaf, leaves, length-append}
+use Rattle.parse_inline.proofs.Prelude.{bytes_drop, kids_of}
 use Rattle.parse_inline.proofs.Prelude.{line_bytes, line_ending_code, line_enters, line_exits, LineEnding, list_any, Name, Names, Nil, no_ends, Node}
 use Rattle.parse_inline.proofs.Prelude.{node_name, Nodes, one, or_from, or_parts, part, plain_both, plain_none, plain_one, plain_quiet, ReadsEnding}
 use Rattle.parse_inline.proofs.Prelude.{same_codes, same_name, sought_names, standing, StandsInContent, StandsInLine, Stop, take-append_seam, the_type, token}
@@ -21,13 +22,23 @@ use denote.Enum.Bare.{true_same}
 use Rattle.engine_events.specs.declared.event.Name.TheVariants as n
 use Rattle.definition_inline.specs.GfmTaskListItem.{check_of, is_apart, is_done}
 use Rattle.definition_inline.specs.Inline.{TaskCheck}
+use Rattle.event_grammar.specs.declared.slot.Between.{Between}
+use Rattle.event_grammar.specs.declared.slot.Between.TheVariants.{Lines}
+use Rattle.event_grammar.specs.declared.slot.Form.TheVariants.{Plain}
+use Rattle.event_grammar.specs.Grammar.{row, text_row}
+use Rattle.parse_slots.specs.Left.{Fill}
+use Rattle.parse_slots.proofs.Steps.{fill_both, fill_taken, filled_void, may_both, may_lines}
+use Rattle.parse_lines.proofs.Quiet.{quiet_fill}
+use Rattle.parse_strings.proofs.Fills.{token_taken}
 use Rattle.parse_output.specs.Children.{may_hold}
 use Rattle.event_meaning.specs.Children.{child}
 use Rattle.inline_leaves.specs.GfmTaskListItem.{IsAfterCheck}
-use Rattle.parse_inline.specs.Checks.{IsValueOf, WritesValue}
+use Rattle.parse_inline.specs.Checks.{IsValueOf, WritesValue, bracket_slots, value_slots}
 use Rattle.parse_inline.specs.Leaves.{check_name}
+use Rattle.parse_inline.proofs.Fills.{filled_around}
 use Rattle.parse_inline.proofs.Fronts.{WritesNext, token_in}
 use Rattle.parse_inline.proofs.LeavesAlike.{leaf_alike}
+use Rattle.parse_inline.proofs.LineEnds.{ending_any}
 use Rattle.parse_inline.proofs.RawSpans.{cut_before}
 use Rattle.parse_inline.proofs.RawTexts.{dark_whole}
 
@@ -71,6 +82,16 @@ value_prefix false = refl
 value_sought : (done : Bool) → is_listed sought_names (check_name done) ≡ false
 value_sought true = refl
 value_sought false = refl
+
+-- the row of a check takes it
+value_taken : (around : Between) (done : Bool) (node : Node) → node_name node ≡ check_name done → kids_of node ≡ Nil
+    → Fill around value_slots (one node) bracket_slots
+value_taken around true node is none =
+    fill_taken around value_slots n.GfmTaskListItemValueChecked Plain bracket_slots node is refl
+    (filled_void around Plain n.GfmTaskListItemValueChecked node is none refl)
+value_taken around false node is none =
+    fill_taken around value_slots n.GfmTaskListItemValueUnchecked Plain bracket_slots node is refl
+    (filled_void around Plain n.GfmTaskListItemValueUnchecked node is none refl)
 
 -- a byte between the brackets, and a line ending
 value_may : (done : Bool) (byte : ℕ) → is_eol byte ≡ false → is_done byte ≡ Some done → is_token (check_name done) (byte ∷ []) ≡ true
@@ -128,6 +149,7 @@ module _ {A : Type 0} (names : Names) (text : List ℕ) (stop : Stop) where
         quiet = Nil;
         are_quiet = tt;
         writes = t.writes;
+        fill = λ around may. value_taken around done node is refl;
       }
 
   -- a line ending
@@ -140,6 +162,10 @@ module _ {A : Type 0} (names : Names) (text : List ℕ) (stop : Stop) where
     quiet = w.quiet;
     are_quiet = w.are_quiet;
     writes = w.writes;
+    fill = λ around may.
+        subst (λ (b : Between). Fill b value_slots (Cons w.node w.quiet) bracket_slots)
+        (sym (may_lines around (ending_bytes ending) (ap (list_any ends_line) (sym (append-nil (ending_bytes ending))) ∙ ending_any ending []) may))
+        (fill_both (value_taken Lines done w.node (w.named ∙ is) w.empty) (quiet_fill bracket_slots w.quiet refl refl w.are_quiet));
   }
 
   pub check_front : (a b c d e f : Walk A) (done : Bool) (value content : List ℕ) → StandsInContent text (91 ∷ (value ++ 93 ∷ content)) stop a → IsWhole a
@@ -175,6 +201,12 @@ module _ {A : Type 0} (names : Names) (text : List ℕ) (stop : Stop) where
             (plain_both (one t_node) (append ns (one u_node)) (plain_one t_node refl plain_none)
             (plain_both ns (one u_node) (plain_both (one v.node) v.quiet v.plain (plain_quiet v.quiet v.are_quiet)) (plain_one u_node refl plain_none)));
         spells = λ linked may. ap (λ t. leaves (TaskCheck t ∷ [])) (checked_is done v.node u_node v.quiet v.named v.are_quiet refl);
+        fill = λ around may.
+            let inside = (may_both around value (93 ∷ []) (may_both around (91 ∷ []) (value ++ 93 ∷ []) may).1).0 in
+            fill_taken around text_row n.GfmTaskListItemCheck Plain text_row node refl refl
+            (filled_around around Plain n.GfmTaskListItemCheck (row n.GfmTaskListItemCheck Plain) [] value node refl refl refl refl inside
+            (fill_both (token_taken around (row n.GfmTaskListItemCheck Plain) n.GfmTaskListItemMarker value_slots text (end_in b.out).index 1 refl refl)
+            (fill_both (v.fill around inside) (token_taken around bracket_slots n.GfmTaskListItemMarker [] text (end_in d.out).index 1 refl refl))) refl);
       }
 
 -- ---- where a check is
@@ -318,6 +350,7 @@ module _ {A : Type 0} (names : Names) (text : List ℕ) (stop : Stop) where
               subst (ArePartsAlike m m' (part (Leaf (TaskCheck done)))) (sym (here.spells false tt))
               (leaf_alike m m' (TaskCheck done) (leaves (TaskCheck done ∷ [])) refl);
           plain = here.plain;
+          fill = here.fill;
         },
         here.whole,
       )

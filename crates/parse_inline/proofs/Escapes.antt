@@ -26,6 +26,9 @@ use Rattle.parse_strings.proofs.Texts.{marked}
 use Rattle.inline_references.proofs.Written.{read_is_written}
 use Rattle.parse_rows.proofs.Leaves.{reference_bytes_law}
 use Rattle.parse_written.specs.Leaves.{IsReference}
+use Rattle.event_grammar.specs.declared.slot.Form.TheVariants.{Plain}
+use Rattle.event_grammar.specs.Grammar.{text_row}
+use Rattle.parse_slots.proofs.Steps.{fill_none, fill_taken}
 use Rattle.parse_inline.proofs.Fronts.{fronts_both, leaves_of_front}
 use Rattle.parse_inline.proofs.LeavesAlike.{leaf_alike}
 
@@ -58,6 +61,7 @@ module _ (names : Names) (text : List ℕ) where
       spells = λ linked may.
           node_spells linked n.CharacterEscape w.node w.named
           ∙ ap (λ (xs : List ℕ). texts.append (leaves (map Escape xs)) inline.Nil) (string_spells n.CharacterEscape w.node (byte ∷ []) w.named w.spells);
+      fill = λ around may. fill_taken around text_row n.CharacterEscape Plain text_row w.node w.named refl (w.filled around);
     }
 
     pub reference_front : (a b : Walk A) (front string content : List ℕ) → WritesNodeIn names text n.CharacterReference front string content stop a b
@@ -70,6 +74,7 @@ module _ (names : Names) (text : List ℕ) where
       spells = λ linked may.
           node_spells linked n.CharacterReference w.node w.named
           ∙ ap (λ t. leaves (Character t ∷ [])) (string_spells n.CharacterReference w.node string w.named w.spells);
+      fill = λ around may. fill_taken around text_row n.CharacterReference Plain text_row w.node w.named refl (w.filled around);
     }
 
     pub no_escapes : (a : Walk A) (front content : List ℕ) → StandsInContent text (escaped front ++ content) stop a → IsWhole a
@@ -80,6 +85,7 @@ module _ (names : Names) (text : List ℕ) where
       whole = whole;
       plain = plain_none;
       spells = λ linked may. refl;
+      fill = λ around may. fill_none around text_row;
     }
 
     pub escapes_more : (a b c : Walk A) (front content : List ℕ) (done next : ℕ) → done < length front → next ≡ done + 1 → list_all is_ascii_punctuation front ≡ true

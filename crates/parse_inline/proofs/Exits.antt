@@ -1,5 +1,5 @@
 -- The row that ends the innermost that is open.
-use Rattle.std.proofs.Common.{◌≡◌, ◌+◌, ℕ, false, List, [], ◌∷◌, ◌++◌, drop, length, map, replicate, reverse, refl, sym, ap, subst, ◌∙◌, arith}
+use Rattle.std.proofs.Common.{◌≡◌, ◌<◌, ◌+◌, ℕ, false, List, [], ◌∷◌, ◌++◌, drop, length, map, replicate, reverse, refl, sym, ap, subst, ◌∙◌, arith}
 use Rattle.parse_inline.proofs.Prelude.{AreBytesAt, AreLaid, AreLinkable, AreWritten, codes_of, ends_line, EndsLinked, filled, Frame, HaveTextsOfBytes}
 use Rattle.parse_inline.proofs.Prelude.{held_levels, held_of, hole_of, Image, inline_bytes_law, InlineCode, InlineRow, Inlines, InLinked, InSpan, IsFirstLaid}
 use Rattle.parse_inline.proofs.Prelude.{IsInRows, IsWhole, laid_levels, LeavesLinked, LeavesSpan, length-replicate, level, Level, Link, linked_name}
@@ -18,7 +18,7 @@ use Rattle.parse_inline.specs.declared.opened.Open.TheVariants as opens
 use Rattle.parse_inline.specs.Rows.{framed}
 use Rattle.parse_inline.proofs.Data.{dark_text}
 use Rattle.parse_inline.proofs.InRows.{found, onward}
-use Rattle.parse_inline.proofs.Levels.{dark_written, leave_linked_written, leave_span_written, may_written}
+use Rattle.parse_inline.proofs.Levels.{dark_written, leave_linked_written, leave_span_written, may_written, some_written}
 
 -- the last of a list that is turned round, and those before it
 last_of : {B : Type 0} (others : List B) (last first : B) (all : List B) → others ++ last ∷ [] ≡ reverse (first ∷ all) → (others ≡ reverse all) × (last ≡ first)
@@ -87,6 +87,9 @@ module _ {A : Type 0} (s : Setting) (first : Walk A) (others : List InlineRow) (
       let front = replicate size' marker in
       let inline = dark_written s.context s.text s.stop s.bytes first span' marker size' before ls b.kids b.left old b.written in
       let may = may_written s.context s.text s.stop s.bytes first span' marker size' before ls b.kids b.left old b.written in
+      let some : 0 < length front =
+      omega (arith, length-replicate size' marker, some_written s.context s.text s.stop s.bytes first span' marker size' before ls b.kids b.left old b.written)
+      in
       let passes = inline_bytes_law front b.left b.place b.laid.next b.stands.codes here.1 inline in
       let after = drop (length front) b.left in
       let both : b.left ≡ front ++ after = sym (take-append-drop (length front) b.left) ∙ ap (λ xs. xs ++ after) passes.front in
@@ -97,7 +100,7 @@ module _ {A : Type 0} (s : Setting) (first : Walk A) (others : List InlineRow) (
       (subst (λ bs. StandsInContent s.text bs s.stop old) both b.stands.stands) b.stands.whole) in
       let place : new.place ≡ old.place + length front = omega (arith, leaves.ends.place, leaves.sequence.place, leaves.leaves.place) in
       over (InSpan span' marker size') before ls b front after here.0 both place leaves.whole passes.left leaves.leaves.stands
-      (leave_span_written s.context s.text s.stop s.bytes first span' marker size' before ls b.kids b.left front after old new b.written both leaves)
+      (leave_span_written s.context s.text s.stop s.bytes first span' marker size' before ls b.kids b.left front after old new b.written both some leaves)
   span_over span size (InLinked Link target inside) before ls same does b = absurd cc
   span_over span size (InLinked Image target inside) before ls same does b = absurd cc
 

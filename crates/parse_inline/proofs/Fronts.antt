@@ -6,13 +6,17 @@ use Rattle.parse_lines.specs.Content.{HasBytes}
 use Rattle.parse_lines.proofs.Bytes.{has_bytes}
 use Rattle.parse_inline.proofs.Prelude.{append, AreBytesAt, AreNext, ArePartsAlike, AreQuiet, Around, cond_both, Cons, contents_both, End, end_after, end_at}
 use Rattle.parse_inline.proofs.Prelude.{end_in, ends_line, enter_at, exit_at, InlineCode, InlineLeaf, inlines_of, is_listed, IsWhole, kids_of, Leaf, leaves}
-use Rattle.parse_inline.proofs.Prelude.{line_in_content, LineEnd, list_any, Meaning, Name, Names, Nil, Node, node_name, Nodes, one, part, plain_both}
+use Rattle.parse_inline.proofs.Prelude.{line_in_content, list_any, Meaning, Name, Names, Nil, Node, node_name, Nodes, one, plain_both}
 use Rattle.parse_inline.proofs.Prelude.{plain_none, plain_one, same_end, same_name, sought_names, standing, StandsInContent, StandsInLine, still_whole, Stop}
 use Rattle.parse_inline.proofs.Prelude.{text_of, text_part, text_within, token, token_text, void_nodes, void_one, Walk, whole_end, WritesFront}
 use Rattle.parse_inline.proofs.Prelude.{WritesInContent, WritesInLine, WritesLeaves}
 use Rattle.engine_events.specs.declared.event.Name.TheVariants as n
 use Rattle.definition_inline.specs.Inline as inline
 use Rattle.event_meaning.specs.Texts as texts
+use Rattle.event_grammar.specs.Grammar.{text_row}
+use Rattle.parse_slots.proofs.Steps.{fill_both, may_both}
+use Rattle.parse_strings.proofs.Fills.{token_taken}
+use Rattle.parse_inline.proofs.Fills.{IsTextToken}
 use Rattle.parse_inline.proofs.LeavesAlike.{inlines_append}
 
 pub leaves_append : (ls ks : List InlineLeaf) → leaves (ls ++ ks) ≡ texts.append (leaves ls) (leaves ks)
@@ -71,6 +75,7 @@ module _ {A : Type 0} (names : Names) (text : List ℕ) (stop : Stop) where
         inlines_append names text linked first.nodes second.nodes
         ∙ ap₂ texts.append (first.spells linked may) (second.spells linked may)
         ∙ sym (leaves_append ls ks);
+    fill = λ around may. let both = may_both around front after may in fill_both (first.fill around both.0) (second.fill around both.1);
   }
 
   -- so they are the first of the bytes that are ahead
@@ -88,6 +93,7 @@ module _ {A : Type 0} (names : Names) (text : List ℕ) (stop : Stop) where
     whole = writes.whole;
     plain = writes.plain;
     spells = λ linked may m m'. subst (ArePartsAlike m m' (leaves parts)) (sym (writes.spells linked may)) (alike m m');
+    fill = writes.fill;
   }
 
   -- a token of some bytes
@@ -114,11 +120,11 @@ module _ {A : Type 0} (names : Names) (text : List ℕ) (stop : Stop) where
 
   pub token_front : (a b : Walk A) (name : Name) (front content : List ℕ) (size : ℕ) (MayBe : Bool → Type 0) (ls : List InlineLeaf) → size ≡ length front
       → 0 < length front → list_any ends_line front ≡ false → same_name name n.Data ≡ false → same_name name n.BlockQuotePrefix ≡ false
-      → is_listed sought_names name ≡ false → is_token name front ≡ true
+      → is_listed sought_names name ≡ false → IsTextToken name → is_token name front ≡ true
       → ((linked : Bool) → MayBe linked → texts.append (text_part names text linked name front Nil inline.Nil) inline.Nil ≡ leaves ls)
       → StandsInContent text (front ++ content) stop a → IsWhole a → standing b ≡ standing a → WritesNext text name size a b
       → WritesFront names text front content MayBe ls stop a b
-  token_front a b name front content size MayBe ls is some dark no_data no_prefix unsought may spells st whole same written =
+  token_front a b name front content size MayBe ls is some dark no_data no_prefix unsought known may spells st whole same written =
       let t = token_in a b name front content size is some dark no_data no_prefix may st whole same written in
       let node = token text name (end_in a.out).index (length front) in
       record {
@@ -127,4 +133,5 @@ module _ {A : Type 0} (names : Names) (text : List ℕ) (stop : Stop) where
         whole = t.whole;
         plain = plain_one node unsought plain_none;
         spells = λ linked may. void_spells names text linked name front node refl refl t.read ∙ spells linked may;
+        fill = λ around may. token_taken around text_row name text_row text (end_in a.out).index (length front) known.taken known.void;
       }

@@ -68,7 +68,8 @@ codes_same (b ∷ bs) small inline = ap₂ (λ c cs. c ∷ cs) (code_same b smal
 
 -- ---- tokens
 
-moved : (index owed size : ℕ) → 0 < size → same_end (end_after (end_at index owed) size) (end_at index owed) ≡ false
+-- an end after some bytes is another
+pub moved : (index owed size : ℕ) → 0 < size → same_end (end_after (end_at index owed) size) (end_at index owed) ≡ false
 moved index zero size some =
     let apart : ((index + size) == index) ≡ false = grind (arith, nat_tests) in
     ap (λ e. same_end e (end_at index 0)) (after_bytes index size) ∙ ap (λ t. t && (0 == 0)) apart

@@ -8,7 +8,15 @@ use Rattle.definition_inline.specs.Inline as inline
 use Rattle.parse_output.specs.Joined.{AreJoined, end_edge, flat_text}
 use Rattle.parse_output.proofs.Joined.{flat_label}
 use Rattle.parse_strings.proofs.SameText.{same_text_words}
-use Rattle.parse_inline.proofs.Labels.{IsLabel, Label, call_nodes, call_plain, call_spelled, label_node, own_node}
+use Rattle.event_grammar.specs.declared.slot.Between.{Between}
+use Rattle.event_grammar.specs.declared.slot.Form.{Form}
+use Rattle.event_grammar.specs.declared.slot.Form.TheVariants.{OfCall}
+use Rattle.event_grammar.specs.Grammar.{text_row}
+use Rattle.parse_slots.specs.Left.{Fill, IsFilled, MayEndLines}
+use Rattle.parse_slots.proofs.Steps.{may_both}
+use Rattle.parse_inline.specs.Texts.{FillsText}
+use Rattle.parse_inline.proofs.Labels.{HasLabelRow, IsLabel, Label, call_fill, call_label, call_nodes, call_plain, call_spelled, label_filled, label_node}
+use Rattle.parse_inline.proofs.Labels.{own_node}
 use Rattle.parse_inline.proofs.LeavesAlike.{append_none}
 
 module _ {A : Type 0} (text : List ℕ) (stop : Stop) where
@@ -18,6 +26,8 @@ module _ {A : Type 0} (text : List ℕ) (stop : Stop) where
       → WritesInContent text own ns (93 ∷ behind) stop inside w → ArePlain ns → EndsLabel text behind stop w ended
       → (l : Label) × IsLabel l × WritesInContent text ((front ++ own) ++ 93 ∷ []) (one (label_node text l)) behind stop enters.outer ended
       × HaveSameWords (content_codes own) (content_codes (label_text text (own_node text l))) × ◌≡◌ {A = Nodes} l.kids ns
+      × ((around : Between) (form : Form) → HasLabelRow sign form → MayEndLines around own → Fill around text_row ns text_row
+      → IsFilled around form (label_node text l))
   labelled name sign front here own behind ns outside inside w ended no_text no_label rest enters writes plain ends =
       let first = enters.marks.mark in
       let last = ends.marks.mark in
@@ -59,16 +69,18 @@ module _ {A : Type 0} (text : List ℕ) (stop : Stop) where
         subst (λ bs. HaveSameWords (content_codes own) (content_codes bs)) (sym (flat_label text n.LabelText l.b l.c l.kids joined))
             (same_text_words false own (flat_text text ns) (writes.has_text false (λ some. absurd (omega (arith, some, enters.whole)))).same),
         refl,
+        λ around form has may fill.
+            label_filled around form sign own text l has enters.marks.named ends.marks.named enters.marks.filled ends.marks.filled may fill,
       )
 
   -- a call with a label
   pub call_written : (context : InlineContext) (label content after : List ℕ) (to : List InlineCode) (ns : Nodes) (old inside w ended new : Walk A)
       → content ≡ (91 ∷ 94 ∷ []) ++ (label ++ 93 ∷ after) → AreBytesAt after to
       → EntersLabel text n.GfmFootnoteCall n.GfmFootnoteCallLabel (91 ∷ 94 ∷ []) (label ++ 93 ∷ after) stop old inside
-      → WritesInContent text label ns (93 ∷ after) stop inside w → ArePlain ns → EndsLabel text after stop w ended
+      → WritesInContent text label ns (93 ∷ after) stop inside w → ArePlain ns → FillsText label ns → EndsLabel text after stop w ended
       → ExitsInContent text n.GfmFootnoteCall after stop ended new → IsWhole new → WritesCall context text (content_codes label) content to stop old new
-  call_written context label content after to ns old inside w ended new parts left enters writes plain ends leaves whole =
-      let (l, is, labels, words, same) =
+  call_written context label content after to ns old inside w ended new parts left enters writes plain fill ends leaves whole =
+      let (l, is, labels, words, same, label_fills) =
       labelled n.GfmFootnoteCall n.GfmFootnoteCallLabel (91 ∷ 94 ∷ []) (label ++ 93 ∷ after) label after ns old inside w ended refl refl refl enters writes
       plain ends in
       let front = ((91 ∷ 94 ∷ []) ++ label) ++ 93 ∷ [] in
@@ -95,4 +107,8 @@ module _ {A : Type 0} (text : List ℕ) (stop : Stop) where
               refl,
             );
         plain = call_plain text l is (end_in old.out) (end_in ended.out);
+        fill = λ around may.
+            let inside_may = (may_both around (91 ∷ 94 ∷ []) label (may_both around ((91 ∷ 94 ∷ []) ++ label) (93 ∷ []) may).0).1 in
+            call_fill around label text l is (end_in old.out) (end_in ended.out) inside_may
+            (label_fills around OfCall call_label inside_may (fill around inside_may));
       }

@@ -2,6 +2,7 @@
 use Rattle.std.proofs.Common.{◌≡◌, ◌||◌, ℕ, Bool, true, false, List, [], ◌∷◌, ◌++◌, Option, None, Some, inl, inr, refl, sym, ap, ap₂, subst, ◌∙◌}
 use Rattle.parse_inline.proofs.Prelude.{AreMeanings, ArePlain, Around, Code, cond-false, cond-true, Cons, content_codes, cut, End, enter_at, exit_at}
 use Rattle.parse_inline.proofs.Prelude.{HaveSameWords, HaveTextsOfBytes, if◌then◌else◌, Image, InlineContext, inlines_of, InLinked, is_link, is_listed}
+use Rattle.parse_inline.proofs.Prelude.{mark_name}
 use Rattle.parse_inline.proofs.Prelude.{label_text, Link, linked_name, LinkedKind, Meaning, Name, named, named_in, Names, Nil, Node, node_name, Nodes, one}
 use Rattle.parse_inline.proofs.Prelude.{option_or, own, own_in, part, Reference, Resource, same_name, same_words_are_alike, SpellsTarget, string_of, Target}
 use Rattle.parse_inline.proofs.Prelude.{target_of, text_names, text_within}
@@ -13,11 +14,22 @@ use Rattle.definition_inline.specs.Strings.{string_text}
 use Rattle.event_meaning.specs.Children.{inside_of}
 use Rattle.event_meaning.specs.Strings.{written}
 use Rattle.event_meaning.specs.Texts.{label_codes, label_or_none, resource_of}
-use Rattle.parse_links.specs.Tails.{title_string}
+use Rattle.event_grammar.specs.declared.slot.Between.{Between}
+use Rattle.event_grammar.specs.declared.slot.Child.TheVariants.{As}
+use Rattle.event_grammar.specs.declared.slot.Form.{Form}
+use Rattle.event_grammar.specs.declared.slot.Form.TheVariants.{OfCall, OfImage, Plain}
+use Rattle.event_grammar.specs.declared.slot.Slot.{Slot}
+use Rattle.event_grammar.specs.declared.slot.Slot.TheVariants.{One}
+use Rattle.event_grammar.specs.Grammar.{one as one_slot, row, text_row}
+use Rattle.event_grammar.specs.Slots.{take_child}
+use Rattle.parse_slots.specs.Left.{Fill, IsFilled, MayEndLines, took}
+use Rattle.parse_slots.proofs.Steps.{fill_both, fill_taken}
+use Rattle.parse_links.specs.Tails.{FillsTail, tail_slots, title_string}
 use Rattle.parse_strings.specs.Plain.{tail_names}
 use Rattle.parse_alike.specs.Strings.{IsOfBytes, rewritten, rewritten_title}
 use Rattle.parse_alike.specs.Targets.{AreLabelsAlike, AreTargetsAlike, title_text}
 use Rattle.parse_alike.proofs.Strings.{written_strings_are_alike}
+use Rattle.parse_inline.proofs.Fills.{filled_around}
 use Rattle.parse_inline.proofs.Plain.{HaveNoOther, named_one, own_one, plain_media}
 
 -- a label: a mark, its text and its end
@@ -203,3 +215,66 @@ module _ (text : List ℕ) (l : Label) (is : IsLabel l) where
   call_plain from to =
       plain_media (enter_at text n.GfmFootnoteCall from) (exit_at text n.GfmFootnoteCall to) (one (label_node text l)) refl refl refl
       (no_other text l is Nil (record { definitions = refl; columns = refl }))
+
+-- ---- the rows of the grammar
+
+-- what is left of the row of a label after its text, and before that
+abbrev closing : List Slot
+closing = one_slot n.LabelEnd ∷ []
+
+abbrev begun : List Slot
+begun = one_slot n.LabelText ∷ closing
+
+-- a label of this form begins with this mark
+pub record HasLabelRow (sign : Name) (form : Form) : Type 0 where
+  pub row_is : row n.Label form ≡ one_slot sign ∷ begun
+  pub takes_sign : take_child (one_slot sign ∷ begun) sign ≡ Some (took Plain begun)
+
+pub call_label : HasLabelRow n.GfmFootnoteCallLabel OfCall
+call_label = record { row_is = refl; takes_sign = refl }
+
+abbrev pub label_form : LinkedKind → Form
+label_form Link = Plain
+label_form Image = OfImage
+
+pub linked_label : (kind : LinkedKind) → HasLabelRow (mark_name kind) (label_form kind)
+linked_label Link = record { row_is = refl; takes_sign = refl }
+linked_label Image = record { row_is = refl; takes_sign = refl }
+
+-- a mark, the parts of a text and the end of a label
+pub label_filled : (around : Between) (form : Form) (sign : Name) (bytes text : List ℕ) (l : Label) → HasLabelRow sign form → node_name l.first ≡ sign
+    → node_name l.last ≡ n.LabelEnd → ((around : Between) → IsFilled around Plain l.first) → ((around : Between) → IsFilled around Plain l.last)
+    → MayEndLines around bytes → Fill around text_row l.kids text_row → IsFilled around form (label_node text l)
+label_filled around form sign bytes text l has first_named last_named first last may fill =
+    let own = own_node text l in
+    filled_around around form n.Label (one_slot sign ∷ begun) [] bytes (label_node text l) refl has.row_is refl refl may
+    (fill_both (fill_taken around (one_slot sign ∷ begun) sign Plain begun l.first first_named has.takes_sign (first around))
+    (fill_both
+    (fill_taken around begun n.LabelText Plain closing own refl refl
+    (filled_around around Plain n.LabelText text_row text_row bytes own refl refl refl refl may fill refl))
+    (fill_taken around closing n.LabelEnd Plain [] l.last last_named refl (last around)))) refl
+
+module _ (around : Between) (bytes text : List ℕ) (l : Label) (is : IsLabel l) (from to : End) (may : MayEndLines around bytes) where
+  -- a link or an image, with what is behind its label
+  pub linked_fill : (ns : Nodes) (kind : LinkedKind) → IsFilled around (label_form kind) (label_node text l) → FillsTail around ns
+      → Fill around text_row (linked_nodes text l is ns kind from to) text_row
+  linked_fill ns Link label tail =
+      let node = Around (enter_at text n.Link from) (Cons (label_node text l) ns) (exit_at text n.Link to) in
+      let slots = one_slot n.Label ∷ tail_slots in
+      fill_taken around text_row n.Link Plain text_row node refl refl
+      (filled_around around Plain n.Link slots tail.rest bytes node refl refl refl refl may
+      (fill_both (fill_taken around slots n.Label Plain tail_slots (label_node text l) refl refl label) tail.fill) tail.ends)
+  linked_fill ns Image label tail =
+      let node = Around (enter_at text n.Image from) (Cons (label_node text l) ns) (exit_at text n.Image to) in
+      let slots = One (As n.Label OfImage) ∷ tail_slots in
+      fill_taken around text_row n.Image Plain text_row node refl refl
+      (filled_around around Plain n.Image slots tail.rest bytes node refl refl refl refl may
+      (fill_both (fill_taken around slots n.Label OfImage tail_slots (label_node text l) refl refl label) tail.fill) tail.ends)
+
+  pub call_fill : IsFilled around OfCall (label_node text l) → Fill around text_row (call_nodes text l is from to) text_row
+  call_fill label =
+      let node = Around (enter_at text n.GfmFootnoteCall from) (one (label_node text l)) (exit_at text n.GfmFootnoteCall to) in
+      let slots = One (As n.Label OfCall) ∷ [] in
+      fill_taken around text_row n.GfmFootnoteCall Plain text_row node refl refl
+      (filled_around around Plain n.GfmFootnoteCall slots [] bytes node refl refl refl refl may
+      (fill_taken around slots n.Label OfCall [] (label_node text l) refl refl label) refl)

@@ -8,6 +8,10 @@ use Rattle.std.specs.Prelude.{leb, not}
 use Rattle.std.proofs.lemmas.Bool.{le-leb, or_right}
 use Rattle.std.proofs.lemmas.List.{length-replicate}
 use Rattle.event_tokens.specs.Tokens.{is_among, is_nothing, is_token}
+use Rattle.event_grammar.specs.declared.slot.Child.TheVariants.{TextPart}
+use Rattle.event_grammar.specs.Grammar.{text_row}
+use Rattle.parse_slots.proofs.Steps.{fill_none}
+use Rattle.parse_slots.proofs.Voids.{data_fill}
 use Rattle.parse_lines.specs.Content.{HasBytes}
 use Rattle.parse_lines.proofs.Bytes.{has_kind}
 use Rattle.parse_lines.proofs.Bytes.{dark_line as none_ends}
@@ -17,9 +21,8 @@ use Rattle.parse_inline.proofs.Prelude.{html_leaves, if◌then◌else◌, in_ang
 use Rattle.parse_inline.proofs.Prelude.{is_listed, is_white, IsApart, IsData, IsLeafLaid, IsPartLaid, IsWhole, Leaf, LeafPart, leaves, line_bytes, line_end}
 use Rattle.parse_inline.proofs.Prelude.{line_ending_code, line_in_content, LineEnding, list_any, Meaning, Name, Names, Nil, part, plain_none, same_name}
 use Rattle.parse_inline.proofs.Prelude.{slice_index, sought_names, spelled_view, SpelledLeaf, standing, StandsInContent, StandsInLine, still_whole, Stop}
-use Rattle.parse_inline.proofs.Prelude.{take-append-drop, text_part, the_type, true≢false, Walk, WritesFront, WritesInLine, WritesLeaves, WritesPart}
-use Rattle.parse_inline.proofs.Prelude.{WritesSpelled, ◌||◌}
-use denote.Enum.Bare.{same_true}
+use Rattle.parse_inline.proofs.Prelude.{take-append-drop, text_part, true≢false, Walk, WritesFront, WritesInLine, WritesLeaves, WritesPart}
+use Rattle.parse_inline.proofs.Prelude.{WritesSpelled}
 use Rattle.markdown_options.specs.declared.line_ending.LineEnding.TheVariants as endings
 use Rattle.engine_events.specs.declared.event.Name.TheVariants as n
 use Rattle.definition_inline.specs.Inline as inline
@@ -42,6 +45,7 @@ use Rattle.parse_written.specs.Written.{IsLiteral, IsText, is_literal}
 use Rattle.parse_written.proofs.Codes.{codes_are}
 use Rattle.parse_inline.specs.Leaves.{literal_names}
 use Rattle.parse_inline.proofs.Data.{dark_text, data_plain, data_spells}
+use Rattle.parse_inline.proofs.Fills.{IsTextToken, one_of}
 use Rattle.parse_inline.proofs.Fronts.{WritesNext, leaves_of_front, token_front}
 use Rattle.parse_inline.proofs.LeavesAlike.{data_alike, escapes_alike, leaf_alike}
 use Rattle.parse_inline.proofs.LineEnds.{indent_dark, indent_parts, indent_size}
@@ -102,19 +106,12 @@ html_end html codes is =
     let cut = codes_split codes (62 ∷ []) html is in
     (cut.front, cut.parts ∙ ap (λ xs. cut.front ++ xs) (sym (line_bytes cut.after (ap (list_any is_eol) cut.last)) ∙ cut.last))
 
--- the first of some names, or one of the others
-one_of : (P : Name → Type 0) (first : Name) (others : List Name) (name : Name) → P first → (is_listed others name ≡ true → P name)
-    → is_listed (first ∷ others) name ≡ true → P name
-one_of P first others name here later listed = elim (cases_Bool (same_name first name)) [
-  | inl same ↦ subst P (same_true the_type tt first name same) here
-  | inr other ↦ later (ap (λ t. t || is_listed others name) (sym other) ∙ listed)
-]
-
 -- what is known of its name
 record LiteralName (kind : LiteralKind) (name : Name) : Type 0 where
   no_data : same_name name n.Data ≡ false
   no_prefix : same_name name n.BlockQuotePrefix ≡ false
   unsought : is_listed sought_names name ≡ false
+  token : IsTextToken name
   spells : (names : Names) (text front : List ℕ) (linked : Bool) → linked ≡ false
       → texts.append (text_part names text linked name front Nil inline.Nil) inline.Nil ≡ leaves (inline.Literal (kind_view kind) front ∷ [])
 
@@ -126,19 +123,49 @@ outside kind front linked is =
 literal_of_kind : (kind : LiteralKind) (name : Name) → is_listed (literal_names kind) name ≡ true → LiteralName kind name
 literal_of_kind Www name listed =
     one_of (LiteralName Www) n.GfmAutolinkLiteralWww [] name
-    (record { no_data = refl; no_prefix = refl; unsought = refl; spells = λ names text front linked is. outside inline.Www front linked is })
+    (record {
+      no_data = refl;
+      no_prefix = refl;
+      unsought = refl;
+      token = record { taken = refl; void = refl };
+      spells = λ names text front linked is. outside inline.Www front linked is;
+    })
     (λ none. absurd (true≢false (sym none))) listed
 literal_of_kind Email name listed =
     one_of (LiteralName Email) n.GfmAutolinkLiteralEmail [] name
-    (record { no_data = refl; no_prefix = refl; unsought = refl; spells = λ names text front linked is. outside inline.Email front linked is })
+    (record {
+      no_data = refl;
+      no_prefix = refl;
+      unsought = refl;
+      token = record { taken = refl; void = refl };
+      spells = λ names text front linked is. outside inline.Email front linked is;
+    })
     (λ none. absurd (true≢false (sym none))) listed
 literal_of_kind Protocol name listed =
     one_of (LiteralName Protocol) n.GfmAutolinkLiteralMailto (n.GfmAutolinkLiteralXmpp ∷ n.GfmAutolinkLiteralProtocol ∷ []) name
-    (record { no_data = refl; no_prefix = refl; unsought = refl; spells = λ names text front linked is. outside inline.Protocol front linked is })
+    (record {
+      no_data = refl;
+      no_prefix = refl;
+      unsought = refl;
+      token = record { taken = refl; void = refl };
+      spells = λ names text front linked is. outside inline.Protocol front linked is;
+    })
     (one_of (LiteralName Protocol) n.GfmAutolinkLiteralXmpp (n.GfmAutolinkLiteralProtocol ∷ []) name
-    (record { no_data = refl; no_prefix = refl; unsought = refl; spells = λ names text front linked is. outside inline.Protocol front linked is })
+    (record {
+      no_data = refl;
+      no_prefix = refl;
+      unsought = refl;
+      token = record { taken = refl; void = refl };
+      spells = λ names text front linked is. outside inline.Protocol front linked is;
+    })
     (one_of (LiteralName Protocol) n.GfmAutolinkLiteralProtocol [] name
-    (record { no_data = refl; no_prefix = refl; unsought = refl; spells = λ names text front linked is. outside inline.Protocol front linked is })
+    (record {
+      no_data = refl;
+      no_prefix = refl;
+      unsought = refl;
+      token = record { taken = refl; void = refl };
+      spells = λ names text front linked is. outside inline.Protocol front linked is;
+    })
     (λ none. absurd (true≢false (sym none))))) listed
 
 -- a construct of this shape, where these bytes are ahead
@@ -211,6 +238,7 @@ module _ {A : Type 0} (names : Names) (text bytes : List ℕ) (from to : List In
         writes = ahead.lifts _ b same w;
         whole = ap (λ (e : End). e.owed) w.end ∙ still_whole (end_in a.out) (length front) whole;
         plain = data_plain text (end_in a.out) (end_after (end_in a.out) (length front));
+        fill = λ around may. data_fill around TextPart [] text (end_in a.out) (end_after (end_in a.out) (length front)) refl;
         spells = λ linked may. data_spells names text linked stop a front content here dark whole;
       })
       (map Data front) (λ m m'. data_alike m m' front)
@@ -227,15 +255,15 @@ module _ {A : Type 0} (names : Names) (text bytes : List ℕ) (from to : List In
 
   pub token_part : (name : Name) (front : List ℕ) (MayBe : Bool → Type 0) (l : InlineLeaf) → IsText front from to → ((m m' : Meaning)
       → ArePartsAlike m m' (leaves (l ∷ [])) (leaves (l ∷ [])))
-      → same_name name n.Data ≡ false → same_name name n.BlockQuotePrefix ≡ false → is_listed sought_names name ≡ false
+      → same_name name n.Data ≡ false → same_name name n.BlockQuotePrefix ≡ false → is_listed sought_names name ≡ false → IsTextToken name
       → is_token name front ≡ true
       → ((linked : Bool) → MayBe linked → texts.append (text_part names text linked name front Nil inline.Nil) inline.Nil ≡ leaves (l ∷ []))
       → standing b ≡ standing a → WritesNext text name (length front) a b → WritesLeaves names text bytes MayBe (l ∷ []) to stop a b
-  token_part name front MayBe l is alike no_data no_prefix unsought may spells same written =
+  token_part name front MayBe l is alike no_data no_prefix unsought token may spells same written =
       leaves_first front MayBe (l ∷ []) (codes_first front bytes from to at is.codes is.inline)
       (λ here. token_front names text stop a b name front (drop (length front) bytes) (length front) MayBe (l ∷ []) refl is.some
       (dark_text front is.inline) no_data no_prefix
-      unsought may spells here whole same written)
+      unsought token may spells here whole same written)
       (l ∷ []) alike
 
   pub literal_part : (kind : LiteralKind) (name : Name) (front : List ℕ) → is_listed (literal_names kind) name ≡ true
@@ -246,8 +274,8 @@ module _ {A : Type 0} (names : Names) (text bytes : List ℕ) (from to : List In
   literal_part kind name front listed may is same written =
       let known = literal_of_kind kind name listed in
       let l = inline.Literal (kind_view kind) front in
-      token_part name front (λ linked. linked ≡ false) l is.text (λ m m'. leaf_alike m m' l (leaves (l ∷ [])) refl) known.no_data known.no_prefix known.unsought
-      (may is.form)
+      token_part name front (λ linked. linked ≡ false) l is.text (λ m m'. leaf_alike m m' l (leaves (l ∷ [])) refl) known.no_data known.no_prefix
+      known.unsought known.token (may is.form)
       (λ linked outer. known.spells names text front linked outer) same written
 
   pub escaped_break_part : IsText (92 ∷ []) from to → standing b ≡ standing a → WritesNext text n.HardBreakEscape 1 a b
@@ -255,7 +283,7 @@ module _ {A : Type 0} (names : Names) (text bytes : List ℕ) (from to : List In
   escaped_break_part is same written =
       token_part n.HardBreakEscape (92 ∷ []) Anywhere inline.EscapedBreak is
       (λ m m'. leaf_alike m m' inline.EscapedBreak (leaves (inline.EscapedBreak ∷ [])) refl) refl refl
-      refl refl (λ linked may. refl) same written
+      refl (record { taken = refl; void = refl }) refl (λ linked may. refl) same written
 
   pub break_part : (size : ℕ) → size ≡ indent bytes → AreAllSpaces from to → standing b ≡ standing a → WritesNext text n.HardBreakTrailing size a b
       → WritesLeaves names text bytes Anywhere (inline.TrailingBreak ∷ []) to stop a b
@@ -271,7 +299,7 @@ module _ {A : Type 0} (names : Names) (text bytes : List ℕ) (from to : List In
       (sym (indent_parts bytes))
       (break_bytes_law bytes from to at all)
       (token_front names text stop a b n.HardBreakTrailing front (bare bytes) size Anywhere (inline.TrailingBreak ∷ []) (is ∙ indent_size bytes) some
-      (indent_dark bytes) refl refl refl may
+      (indent_dark bytes) refl refl refl (record { taken = refl; void = refl }) may
       (λ linked may. refl) (subst (λ xs. StandsInContent text xs stop a) (sym (indent_parts bytes)) st) whole same written)
       (λ m m'. leaf_alike m m' inline.TrailingBreak (leaves (inline.TrailingBreak ∷ [])) refl)
 
@@ -328,4 +356,5 @@ module _ {A : Type 0} (names : Names) (text bytes : List ℕ) (from to : List In
     whole = whole;
     plain = plain_none;
     spells = λ linked may m m'. refl;
+    fill = λ around may. fill_none around text_row;
   }

@@ -1,12 +1,12 @@
 -- What is written in what is open: more of it, one more that is open, and one less.
-use Rattle.std.proofs.Common.{◌≡◌, ◌||◌, ℕ, Bool, length, false, List, [], ◌∷◌, ◌++◌, refl, sym, ap, subst, ◌∙◌, append_assoc, arith, replicate}
+use Rattle.std.proofs.Common.{◌≡◌, ◌||◌, ◌<◌, ℕ, Bool, length, false, List, [], ◌∷◌, ◌++◌, refl, sym, ap, subst, ◌∙◌, append_assoc, arith, replicate}
 use Rattle.parse_inline.proofs.Prelude.{AreBytesAt, AreMeanings, ArePartsAlike, ArePlain, AreWritten, Code, codes_of, Cons, content_codes, contents_around}
 use Rattle.parse_inline.proofs.Prelude.{contents_both, contents_none, end_after, end_in, EndNoLine, EntersInContent, EntersLabel, EntersSpan, Frame}
 use Rattle.parse_inline.proofs.Prelude.{HaveSameWords, HaveTextsOfBytes, Image, in_link, InlineCode, InlineContext, Inlines, inlines_of, InLinked, InSpan}
 use Rattle.parse_inline.proofs.Prelude.{is_link, is_listed, label_text, LeavesLinked, LeavesSpan, level, Level, Link, linked_name, LinkedKind, links}
-use Rattle.parse_inline.proofs.Prelude.{mark_name, Meaning, Nil, Nodes, one, Outside, part, plain_both, plain_none, Reference, Resource, same_name}
-use Rattle.parse_inline.proofs.Prelude.{sequence_name, Span, span_name, span_view, SpellsTarget, StandsInContent, Stop, Target, target_of, text_before}
-use Rattle.parse_inline.proofs.Prelude.{text_name, text_names, Walk, WritesInContent, WritesParts}
+use Rattle.parse_inline.proofs.Prelude.{length-replicate, mark_name, Meaning, Nil, Nodes, one, Outside, part, plain_both, plain_none, Reference, Resource}
+use Rattle.parse_inline.proofs.Prelude.{same_name, sequence_name, Span, span_name, span_view, SpellsTarget, StandsInContent, Stop, Target, target_of}
+use Rattle.parse_inline.proofs.Prelude.{text_before, text_name, text_names, Walk, WritesInContent, WritesParts}
 use Rattle.std.proofs.Common.{true}
 use Rattle.event_tokens.specs.Tokens.{is_token}
 use Rattle.engine_events.specs.declared.event.Name.TheVariants as n
@@ -19,11 +19,15 @@ use Rattle.parse_output.specs.Forest as forest
 use Rattle.parse_alike.specs.Inline.{IsPartAlike}
 use Rattle.parse_alike.proofs.Composed.{alike_parts_compose}
 use Rattle.parse_inline.specs.Rows.{Inside, EntersFrame}
-use Rattle.parse_inline.proofs.Labels.{label_node, linked_nodes, linked_plain, linked_spelled, own_node, target_alike}
+use Rattle.event_grammar.specs.Grammar.{text_row}
+use Rattle.parse_slots.proofs.Steps.{fill_both, fill_none, may_both}
+use Rattle.parse_inline.specs.Texts.{FillsText}
+use Rattle.parse_inline.proofs.Kids.{moved}
+use Rattle.parse_inline.proofs.Labels.{label_form, label_node, linked_fill, linked_label, linked_nodes, linked_plain, linked_spelled, own_node, target_alike}
 use Rattle.parse_inline.proofs.Plain.{HaveNoOther}
 use Rattle.parse_inline.proofs.LabelWritten.{labelled}
 use Rattle.parse_inline.proofs.LeavesAlike.{append_none, inlines_append}
-use Rattle.parse_inline.proofs.Spans.{span_nodes, span_plain, span_spelled, text_nodes}
+use Rattle.parse_inline.proofs.Spans.{span_fill, span_nodes, span_plain, span_spelled, text_nodes}
 
 -- ---- names
 
@@ -83,12 +87,13 @@ module _ {A : Type 0} (context : InlineContext) (text : List ℕ) (stop : Stop) 
     writes = contents_none text stop w content st;
     spells = λ m m' meant. refl;
     plain = plain_none;
+    fill = λ around may. fill_none around text_row;
   }
 
   pub more_parts : (linked : Bool) (is js : Inlines) (bytes content front after : List ℕ) (old mid new : Walk A) (ns : Nodes)
       → WritesParts context text linked is bytes content stop old mid → content ≡ front ++ after → WritesInContent text front ns after stop mid new
-      → AreAlike context text linked js ns → ArePlain ns → WritesParts context text linked (append is js) bytes after stop old new
-  more_parts linked is js bytes content front after old mid new ns p both writes alike plain = record {
+      → AreAlike context text linked js ns → ArePlain ns → FillsText front ns → WritesParts context text linked (append is js) bytes after stop old new
+  more_parts linked is js bytes content front after old mid new ns p both writes alike plain fill = record {
     front = p.front ++ front;
     both = p.both ∙ ap (λ c. p.front ++ c) both ∙ sym (append_assoc p.front front after);
     nodes = forest.append p.nodes ns;
@@ -100,6 +105,7 @@ module _ {A : Type 0} (context : InlineContext) (text : List ℕ) (stop : Stop) 
         (alike_parts_compose.joined m m' is (inlines_of context.names text linked p.nodes) js (inlines_of context.names text linked ns)
         (p.spells m m' meant) (alike m m' meant));
     plain = plain_both p.nodes ns p.plain plain;
+    fill = λ around may. let each = may_both around p.front front may in fill_both (p.fill around each.0) (fill around each.1);
   }
 
   module _ (bytes : List ℕ) (first : Walk A) where
@@ -109,12 +115,12 @@ module _ {A : Type 0} (context : InlineContext) (text : List ℕ) (stop : Stop) 
     -- more in the innermost that is open
     pub more_written : (levels : List Level) (kids js : Inlines) (content front after : List ℕ) (w new : Walk A) (ns : Nodes) → Written levels kids content w
         → content ≡ front ++ after → WritesInContent text front ns after stop w new → AreAlike context text (in_link (links levels)) js ns → ArePlain ns
-        → Written levels (append kids js) after new
-    more_written _ _ js _ front after _ new ns (Outside kids content w p) both writes alike plain =
-        Outside (append kids js) after new (more_parts false kids js bytes content front after first w new ns p both writes alike plain)
-    more_written _ _ js _ front after _ new ns (Inside l ls kids enter here content outside inside w outer enters p) both writes alike plain =
+        → FillsText front ns → Written levels (append kids js) after new
+    more_written _ _ js _ front after _ new ns (Outside kids content w p) both writes alike plain fill =
+        Outside (append kids js) after new (more_parts false kids js bytes content front after first w new ns p both writes alike plain fill)
+    more_written _ _ js _ front after _ new ns (Inside l ls kids enter here content outside inside w outer enters p) both writes alike plain fill =
         Inside l ls (append kids js) enter here after outside inside new outer enters
-        (more_parts (in_link (links (l ∷ ls))) kids js here content front after inside w new ns p both writes alike plain)
+        (more_parts (in_link (links (l ∷ ls))) kids js here content front after inside w new ns p both writes alike plain fill)
 
     -- one more is open
     pub enter_written : (frame : Frame) (levels : List Level) (kids : Inlines) (content front after : List ℕ) (w new : Walk A) → Written levels kids content w
@@ -153,14 +159,21 @@ module _ {A : Type 0} (context : InlineContext) (text : List ℕ) (stop : Stop) 
         → Written (level (InSpan span marker size) before ∷ ls) kids content w → is_token (sequence_name span) (replicate size marker) ≡ true
     may_written s marker size before ls kids content w written = (innermost (level (InSpan s marker size) before) ls kids content w written).enters.2
 
+    -- and has some
+    pub some_written : (span : Span) (marker size : ℕ) (before : Inlines) (ls : List Level) (kids : Inlines) (content : List ℕ) (w : Walk A)
+        → Written (level (InSpan span marker size) before ∷ ls) kids content w → 0 < size
+    some_written s marker size before ls kids content w written = (innermost (level (InSpan s marker size) before) ls kids content w written).enters.3
+
     -- a span is over
     pub leave_span_written : (span : Span) (marker size : ℕ) (before : Inlines) (ls : List Level) (kids : Inlines) (content front after : List ℕ) (w new : Walk A)
-        → Written (level (InSpan span marker size) before ∷ ls) kids content w → content ≡ front ++ after → LeavesSpan text span front after stop w new
+        → Written (level (InSpan span marker size) before ∷ ls) kids content w → content ≡ front ++ after → 0 < length front
+        → LeavesSpan text span front after stop w new
         → Written ls (append before (part (inline.Span (span_view span) kids))) after new
-    leave_span_written s marker size before ls kids content front after w new written both leaves =
+    leave_span_written s marker size before ls kids content front after w new written both some leaves =
         let it = innermost (level (InSpan s marker size) before) ls kids content w written in
         let p = it.parts in
-        let enters : EntersSpan text s it.front it.here stop it.outside it.inside = it.enters.3 in
+        let enters : EntersSpan text s it.front it.here stop it.outside it.inside = it.enters.4 in
+        let begins : 0 < length it.front = omega (arith, it.enters.3, ap length it.enters.0, length-replicate size marker) in
         let first = forest.void_nodes text (sequence_name s) (end_in enters.outer.out) (end_after (end_in enters.outer.out) (length it.front)) in
         let last = forest.void_nodes text (sequence_name s) (end_in leaves.inner.out) (end_after (end_in leaves.inner.out) (length front)) in
         let own = text_nodes text s (end_in enters.inner.out) p.nodes (end_in w.out) in
@@ -193,6 +206,13 @@ module _ {A : Type 0} (context : InlineContext) (text : List ℕ) (stop : Stop) 
         (inlines_of context.names text (in_link (links ls) || false) p.nodes, refl, p.spells m m' meant)))
         (span_plain text s (end_in it.outside.out) (end_in leaves.outer.out) (end_in enters.outer.out) (end_after (end_in enters.outer.out) (length it.front))
         (end_in enters.inner.out) (end_in w.out) (end_in leaves.inner.out) (end_after (end_in leaves.inner.out) (length front)) p.nodes p.plain)
+        (λ around may.
+        let own_may = (may_both around it.front p.front (may_both around (it.front ++ p.front) front may).0).1 in
+        span_fill around p.front text s (end_in it.outside.out) (end_in leaves.outer.out) (end_in enters.outer.out)
+        (end_after (end_in enters.outer.out) (length it.front)) (end_in enters.inner.out) (end_in w.out) (end_in leaves.inner.out)
+        (end_after (end_in leaves.inner.out) (length front)) p.nodes
+        (moved (end_in enters.outer.out).index (end_in enters.outer.out).owed (length it.front) begins)
+        (moved (end_in leaves.inner.out).index (end_in leaves.inner.out).owed (length front) some) own_may (p.fill around own_may))
 
     -- a link or an image is over
     pub leave_linked_written : HaveTextsOfBytes context.names → (kind : LinkedKind) (target : Target) (within at to : List InlineCode) (before : Inlines)
@@ -208,7 +228,7 @@ module _ {A : Type 0} (context : InlineContext) (text : List ℕ) (stop : Stop) 
         let front = leaves.tail.front in
         let after = leaves.tail.after in
         let rest : it.here ≡ p.front ++ 93 ∷ behind = p.both ∙ ap (λ c. p.front ++ c) leaves.bracket in
-        let (l, is, label, own_words, same) =
+        let (l, is, label, own_words, same, label_fills) =
         labelled text stop (linked_name kind) (mark_name kind) it.front it.here p.front behind p.nodes it.outside it.inside w leaves.ended (mark_no_text kind)
         (mark_no_label kind) rest enters (subst (λ c. WritesInContent text p.front p.nodes c stop it.inside w) leaves.bracket p.writes) p.plain leaves.label in
         let all : it.front ++ it.here ≡ (((it.front ++ p.front) ++ 93 ∷ []) ++ front) ++ after =
@@ -247,3 +267,8 @@ module _ {A : Type 0} (context : InlineContext) (text : List ℕ) (stop : Stop) 
         )))
         (linked_plain text l is leaves.tail.nodes kind (end_in it.outside.out) (end_in leaves.last.out)
         (no_definition context text target own_codes leaves.tail.nodes leaves.tail.leads))
+        (λ around may.
+        let parts = may_both around ((it.front ++ p.front) ++ 93 ∷ []) front may in
+        let own_may = (may_both around it.front p.front (may_both around (it.front ++ p.front) (93 ∷ []) parts.0).0).1 in
+        linked_fill around p.front text l is (end_in it.outside.out) (end_in leaves.last.out) own_may leaves.tail.nodes kind
+        (label_fills around (label_form kind) (linked_label kind) own_may (p.fill around own_may)) (leaves.tail.fill around parts.1))

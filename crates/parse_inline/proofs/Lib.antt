@@ -14,6 +14,7 @@ pub mod HtmlLines
 pub mod Columns
 pub mod Spaced
 pub mod Kids
+pub mod Fills
 pub mod LeavingAll
 pub mod Held
 pub mod Runs

@@ -13,7 +13,16 @@ use Rattle.markdown_options.specs.declared.line_ending.LineEnding.TheVariants as
 use Rattle.engine_events.specs.declared.event.Name.TheVariants as n
 use Rattle.definition_inline.specs.Inline as inline
 use Rattle.event_meaning.specs.Texts as texts
+use Rattle.event_grammar.specs.declared.slot.Between.{Between}
+use Rattle.event_grammar.specs.declared.slot.Between.TheVariants.{Lines}
+use Rattle.event_grammar.specs.declared.slot.Slot.{Slot}
+use Rattle.event_grammar.specs.Grammar.{text_row}
+use Rattle.parse_slots.specs.Left.{Fill, TakesNoBetween}
+use Rattle.parse_slots.proofs.Steps.{fill_both, may_both, may_lines}
+use Rattle.parse_slots.proofs.Voids.{void_between}
+use Rattle.parse_lines.proofs.Quiet.{ending_fill}
 use Rattle.parse_strings.proofs.Texts.{white_dark}
+use Rattle.parse_inline.proofs.Fills.{text_between}
 use Rattle.parse_inline.proofs.Fronts.{WritesNext, quiet_spells, void_spells, white_spells}
 use Rattle.parse_inline.proofs.LeavesAlike.{append_none, inlines_append}
 
@@ -50,6 +59,12 @@ ending_leaves endings.LineFeed = refl
 ending_leaves endings.CarriageReturn = refl
 ending_leaves endings.CarriageReturnLineFeed = refl
 
+-- a line ends where bytes begin with an ending
+pub ending_any : (e : LineEnding) (bytes : List ℕ) → list_any ends_line (ending_bytes e ++ bytes) ≡ true
+ending_any endings.LineFeed bytes = refl
+ending_any endings.CarriageReturn bytes = refl
+ending_any endings.CarriageReturnLineFeed bytes = refl
+
 -- white space comes first
 pub indent_all : (bytes : List ℕ) → list_all is_white (take (indent bytes) bytes) ≡ true
 indent_all bytes = all_prefix is_white (indent bytes) bytes (omega arith)
@@ -71,6 +86,12 @@ module _ {A : Type 0} (text : List ℕ) (stop : Stop) where
   ending_plain a b ending content w =
       plain_both (one w.node) w.quiet (plain_one w.node (ap (is_listed sought_names) w.named) (subst ArePlain (sym w.empty) plain_none))
       (plain_quiet w.quiet w.are_quiet)
+
+  -- it stands between the children of a row
+  pub ending_between : (a b : Walk A) (ending : LineEnding) (content : List ℕ) (w : WritesEndingIn text n.LineEnding ending content stop a b)
+      → (slots : List Slot) → TakesNoBetween slots → Fill Lines slots (Cons w.node w.quiet) slots
+  ending_between a b ending content w slots none =
+      ending_fill slots n.LineEnding w.node w.quiet w.named w.empty none.ending refl refl none.space none.quote w.are_quiet
 
   ending_spells : (names : Names) (linked : Bool) (a b : Walk A) (ending : LineEnding) (content : List ℕ)
       (w : WritesEndingIn text n.LineEnding ending content stop a b)
@@ -124,4 +145,10 @@ module _ {A : Type 0} (text : List ℕ) (stop : Stop) where
             (inlines_append names text linked ending_nodes u
             ∙ ap₂ texts.append (ending_spells names linked b c ending rest ended) (white_spells names text linked c_end d_end)
             ∙ append_none (leaves (LineEnd (line_ending_code ending) ∷ [])));
+        fill = λ around may.
+            subst (λ (b : Between). Fill b text_row (append v (append ending_nodes u)) text_row)
+            (sym (may_lines around (eb ++ more) (ending_any ending more) (may_both around white (eb ++ more) may).1))
+            (fill_both (void_between Lines text_row n.SpaceOrTab text a_end b_end refl refl refl refl)
+            (fill_both (ending_between b c ending rest ended text_row text_between)
+            (void_between Lines text_row n.SpaceOrTab text c_end d_end refl refl refl refl)));
       }

@@ -10,9 +10,9 @@ use Rattle.parse_inline.proofs.Prelude.{after_bytes, after_return_code, append, 
 use Rattle.parse_inline.proofs.Prelude.{begins_with_eol, BeginsDark, cases_Bool, code_part, code_parts, code_space, cond-false, cond-true, cond_both, Cons}
 use Rattle.parse_inline.proofs.Prelude.{content_codes, contents_both, default_constructs, Each, End, end_after, end_at, end_in, Ending, ending_bytes}
 use Rattle.parse_inline.proofs.Prelude.{ending_step, ends_line, enter_at, eqb-true, exit_at, Html, html_leaves, html_part, html_parts, indent, is_eol}
-use Rattle.parse_inline.proofs.Prelude.{is_listed, is_white, IsApart, IsChunk, IsCodeChunk, IsInLine, Leaf, leaves, length-append, length-take-le}
+use Rattle.parse_inline.proofs.Prelude.{is_listed, is_white, IsApart, IsChunk, IsCodeChunk, IsInLine, leaves, length-append, length-take-le}
 use Rattle.parse_inline.proofs.Prelude.{line_ending_code, line_in_content, line_names, LineEnd, LineEnding, list_any, map-append, Name, Names, nat_tests, Nil}
-use Rattle.parse_inline.proofs.Prelude.{Node, node_name, Nodes, one, or_from, or_parts, part, plain_both, plain_none, plain_one, plain_void, position_or_len}
+use Rattle.parse_inline.proofs.Prelude.{Node, node_name, Nodes, one, or_from, or_parts, plain_both, plain_none, plain_one, plain_void, position_or_len}
 use Rattle.parse_inline.proofs.Prelude.{prefix_len-le-length, ReadsEnding, same_end, same_name, sought_names, spaced_text_of, standing, StandsInContent, Stop}
 use Rattle.parse_inline.proofs.Prelude.{take-append-drop, take-append_seam, text_of, the_type, token_text, true≢false, void_nodes, Walk, whole_end}
 use Rattle.parse_inline.proofs.Prelude.{WritesEndingIn, WritesInContent, WritesLine, ◌==◌}
@@ -28,7 +28,15 @@ use Rattle.event_meaning.specs.Texts as texts
 use Rattle.parse_inline.proofs.Fronts.{WritesNext, next_here}
 use Rattle.parse_inline.proofs.HtmlLines.{BeginsBare, BeginsEnding, EndsNoLine, IsWhite, html_chunk, html_ending}
 use Rattle.parse_inline.proofs.Kids.{codes_same, html_append, named_both, void_some}
-use Rattle.parse_inline.proofs.LineEnds.{ending_leaves, ending_plain, indent_all, indent_parts, indent_size, indent_dark, space_in}
+use Rattle.event_grammar.specs.declared.slot.Between.{Between}
+use Rattle.event_grammar.specs.declared.slot.Between.TheVariants.{Lines}
+use Rattle.event_grammar.specs.declared.slot.Form.TheVariants.{Plain}
+use Rattle.event_grammar.specs.Grammar.{row}
+use Rattle.event_grammar.specs.Slots.{may_end}
+use Rattle.parse_slots.specs.Left.{Fill}
+use Rattle.parse_slots.proofs.Steps.{fill_both, fill_taken, filled_void, may_lines}
+use Rattle.parse_slots.proofs.Voids.{void_between}
+use Rattle.parse_inline.proofs.LineEnds.{ending_any, ending_between, ending_leaves, ending_plain, indent_all, indent_parts, indent_size, indent_dark, space_in}
 use Rattle.parse_inline.proofs.Spaced.{spaced_token}
 
 -- ---- names
@@ -57,6 +65,11 @@ pub chunk_sought : (name : Name) → IsChunk name → is_listed sought_names nam
 chunk_sought name (inl (inl is)) = ap (is_listed sought_names) is
 chunk_sought name (inl (inr is)) = ap (is_listed sought_names) is
 chunk_sought name (inr is) = ap (is_listed sought_names) is
+
+chunk_void : (name : Name) → IsChunk name → may_end (row name Plain) ≡ true
+chunk_void name (inl (inl is)) = ap (λ x. may_end (row x Plain)) is
+chunk_void name (inl (inr is)) = ap (λ x. may_end (row x Plain)) is
+chunk_void name (inr is) = ap (λ x. may_end (row x Plain)) is
 
 chunk_named : (name : Name) → is_listed (line_names name) name ≡ true
 chunk_named name = ap (λ t. t || is_listed (n.LineEnding ∷ n.SpaceOrTab ∷ n.BlockQuotePrefix ∷ []) name) (true_same the_type name name refl)
@@ -371,6 +384,8 @@ module _ {A : Type 0} (names : Names) (text : List ℕ) (stop : Stop) where
             ∙ sym (ap (λ cs. leaves (html_leaves cs)) codes
             ∙ ap leaves (chunk_leaves front (content_codes rest) (omega (arith, some, length_is)) (each_no_eol front small inline_front)
             (codes_ending rest stops)));
+        fill = λ around slots takes none may.
+            fill_taken around slots name Plain slots node refl takes (filled_void around Plain name node refl refl (chunk_void name chunk));
       }
 
   -- the ending that bytes begin with
@@ -421,6 +436,11 @@ module _ {A : Type 0} (names : Names) (text : List ℕ) (stop : Stop) where
             ∙ ap (λ c. c ∷ map code_space (content_codes rest)) (sym (ending_space found.ending))
             ∙ sym (ap (map code_space) reads.codes);
         html = λ on. absurd (true≢false (sym on ∙ flat));
+        fill = λ around slots takes none may.
+            subst (λ (b : Between). Fill b slots (Cons w.node w.quiet) slots)
+            (sym (may_lines around (take found.size bytes)
+            (ap (list_any ends_line) (front ∙ sym (append-nil eb)) ∙ ending_any found.ending []) may))
+            (ending_between text stop a b found.ending (rest ++ content) w slots none);
       }
 
   pub ending_white : (a b c : Walk A) (name : Name) (indented : Bool) (bytes content : List ℕ) (found : Ending) (white size : ℕ) → indented ≡ true
@@ -472,4 +492,9 @@ module _ {A : Type 0} (names : Names) (text : List ℕ) (stop : Stop) where
             ∙ sym (ap (λ cs. leaves (html_leaves cs)) codes
             ∙ ap leaves (html_ending ec more (content_codes (bare rest)) (ending_eol found.ending) (indent_white rest)
             (codes_bare (bare rest) (bare_dark rest))));
+        fill = λ around slots takes none may.
+            subst (λ (b : Between). Fill b slots ns slots)
+            (sym (may_lines around (take size bytes) (ap (list_any ends_line) front ∙ ending_any found.ending more) may))
+            (fill_both (ending_between text stop a b found.ending (rest ++ content) w slots none)
+            (void_between Lines slots n.SpaceOrTab text b_end c_end refl none.space refl refl));
       }

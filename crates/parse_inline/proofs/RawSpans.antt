@@ -17,7 +17,16 @@ use Rattle.definition_text.specs.Runs.{after_run}
 use Rattle.definition_inline.specs.CodeText.{code_text}
 use Rattle.definition_inline.specs.Inline as inline
 use Rattle.parse_rows.specs.Bytes.{IsRawInBytes}
-use Rattle.parse_inline.specs.Lines.{are_raw_names, is_raw_marker, raw_leaf}
+use Rattle.event_grammar.specs.declared.slot.Between.{Between}
+use Rattle.event_grammar.specs.declared.slot.Form.TheVariants.{Plain}
+use Rattle.event_grammar.specs.declared.slot.Slot.{Slot}
+use Rattle.event_grammar.specs.Grammar.{many, one as one_slot, one_line_names, row, text_row}
+use Rattle.event_grammar.specs.Slots.{may_end, take_child}
+use Rattle.parse_slots.specs.Left.{Fill, MayEndLines, TakesNoBetween, took}
+use Rattle.parse_slots.proofs.Steps.{fill_both, fill_taken, may_both}
+use Rattle.parse_strings.proofs.Fills.{token_taken}
+use Rattle.parse_inline.specs.Lines.{FillsLines, are_raw_names, is_raw_marker, raw_leaf}
+use Rattle.parse_inline.proofs.Fills.{filled_around}
 use Rattle.parse_inline.proofs.Fronts.{WritesNext, token_in}
 use Rattle.parse_inline.proofs.Kids.{code_between}
 use Rattle.parse_inline.proofs.LeavesAlike.{leaf_alike}
@@ -53,9 +62,39 @@ raw_by P marker text sequence chunk are code math =
           (subst (λ x. P 36 n.MathText n.MathTextSequence x) (sym (same_true the_type tt chunk n.MathTextData two.1)) math)))
     ]
 
+-- what is left of a row after its first sequence
+abbrev raw_slots : Name → Name → List Slot
+raw_slots sequence chunk = many chunk ∷ one_slot sequence ∷ []
+
+-- an event of a text that holds a sequence, chunks, and the sequence again
+record HasRawRow (text sequence chunk : Name) : Type 0 where
+  row_is : row text Plain ≡ one_slot sequence ∷ raw_slots sequence chunk
+  lines : is_listed one_line_names text ≡ false
+  taken : take_child text_row text ≡ Some (took Plain text_row)
+  void : may_end (row sequence Plain) ≡ true
+  takes_first : take_child (one_slot sequence ∷ raw_slots sequence chunk) sequence ≡ Some (took Plain (raw_slots sequence chunk))
+  takes_chunk : take_child (raw_slots sequence chunk) chunk ≡ Some (took Plain (raw_slots sequence chunk))
+  takes_last : take_child (raw_slots sequence chunk) sequence ≡ Some (took Plain [])
+  between : TakesNoBetween (raw_slots sequence chunk)
+
+raw_fill : (around : Between) (name sequence chunk : Name) (bytes text : List ℕ) (i j size last_size : ℕ) (ns : Nodes) (from to : End)
+    → HasRawRow name sequence chunk → FillsLines chunk bytes ns → MayEndLines around bytes
+    → Fill around text_row
+    (one (Around (enter_at text name from) (append (one (token text sequence i size)) (append ns (one (token text sequence j last_size))))
+    (exit_at text name to))) text_row
+raw_fill around name sequence chunk bytes text i j size last_size ns from to has lines may =
+    let slots = raw_slots sequence chunk in
+    let kids = append (one (token text sequence i size)) (append ns (one (token text sequence j last_size))) in
+    let node = Around (enter_at text name from) kids (exit_at text name to) in
+    fill_taken around text_row name Plain text_row node refl has.taken
+    (filled_around around Plain name (one_slot sequence ∷ slots) [] bytes node refl has.row_is refl has.lines may
+    (fill_both (token_taken around (one_slot sequence ∷ slots) sequence slots text i size has.takes_first has.void)
+    (fill_both (lines around slots has.takes_chunk has.between may) (token_taken around slots sequence [] text j last_size has.takes_last has.void))) refl)
+
 -- what is known of them
 record RawNames (marker : ℕ) (text sequence chunk : Name) : Type 0 where
   chunks : IsCodeChunk chunk
+  has_row : HasRawRow text sequence chunk
   text_data : same_name text n.Data ≡ false
   text_prefix : same_name text n.BlockQuotePrefix ≡ false
   text_sought : is_listed sought_names text ≡ false
@@ -73,6 +112,16 @@ raw_names marker text sequence chunk are =
     raw_by RawNames marker text sequence chunk are
     (record {
       chunks = inl refl;
+      has_row = record {
+        row_is = refl;
+        lines = refl;
+        taken = refl;
+        void = refl;
+        takes_first = refl;
+        takes_chunk = refl;
+        takes_last = refl;
+        between = record { space = refl; ending = refl; blank = refl; quote = refl };
+      };
       text_data = refl;
       text_prefix = refl;
       text_sought = refl;
@@ -86,6 +135,16 @@ raw_names marker text sequence chunk are =
     })
     (record {
       chunks = inr refl;
+      has_row = record {
+        row_is = refl;
+        lines = refl;
+        taken = refl;
+        void = refl;
+        takes_first = refl;
+        takes_chunk = refl;
+        takes_last = refl;
+        between = record { space = refl; ending = refl; blank = refl; quote = refl };
+      };
       text_data = refl;
       text_prefix = refl;
       text_sought = refl;
@@ -279,4 +338,7 @@ module _ {A : Type 0} (names : Names) (text : List ℕ) (stop : Stop) where
             subst (ArePartsAlike m m' (leaves (raw_leaf name printed ∷ [])))
             (sym (known.spells names text linked (end_in a.out) (end_in e.out) kids ∙ ap (λ p. leaves (raw_leaf name p ∷ [])) read))
             (known.alike m m' printed);
+        fill = λ around may.
+            raw_fill around name sequence chunk inner text (end_in b.out).index (end_in d.out).index (length opening) (length closing) w.nodes (end_in a.out)
+            (end_in e.out) known.has_row w.fill (may_both around inner closing (may_both around opening (inner ++ closing) may).1).0;
       }

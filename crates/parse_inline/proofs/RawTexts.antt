@@ -11,8 +11,21 @@ use Rattle.engine_events.specs.declared.event.Name.TheVariants as n
 use Rattle.definition_text.specs.Content.{at_line_start}
 use Rattle.event_meaning.specs.Texts as texts
 use Rattle.parse_lines.specs.InContent.{ends_at_start}
+use Rattle.event_grammar.specs.declared.slot.Form.TheVariants.{Plain}
+use Rattle.event_grammar.specs.declared.slot.Slot.{Slot}
+use Rattle.event_grammar.specs.Grammar.{many, text_row}
+use Rattle.parse_slots.specs.Left.{MayEndLines, TakesNoBetween}
+use Rattle.parse_slots.proofs.Steps.{fill_both, fill_none, fill_taken, may_both}
+use Rattle.parse_inline.proofs.Fills.{filled_around}
 use Rattle.parse_inline.proofs.Kids.{code_append, html_append, named_both}
 use Rattle.parse_inline.proofs.LeavesAlike.{append_append, append_none}
+
+-- the row of raw HTML
+abbrev html_row : List Slot
+html_row = many n.HtmlTextData ∷ []
+
+html_between : TakesNoBetween html_row
+html_between = record { space = refl; ending = refl; blank = refl; quote = refl }
 
 -- before a byte that is no space and no tab, a walk isn't inside of a tab
 pub dark_whole : {A : Type 0} (text : List ℕ) (b : ℕ) (bs : List ℕ) (stop : Stop) (w : Walk A) → is_white b ≡ false → StandsInContent text (b ∷ bs) stop w
@@ -59,6 +72,7 @@ module _ {A : Type 0} (names : Names) (text : List ℕ) where
     whole = λ on whole some. whole;
     code = λ flat raw. refl;
     html = λ on is whole. refl;
+    fill = λ around slots takes none may. fill_none around slots;
   }
 
   pub lines_more : (a b c : Walk A) (name : Name) (indented : Bool) (bytes rest next content : List ℕ) (size : ℕ) (stop : Stop) → next ≡ drop size rest
@@ -88,6 +102,8 @@ module _ {A : Type 0} (names : Names) (text : List ℕ) where
             ∙ append_append (html_parts names text w.nodes) (html_parts names text line.nodes) (leaves (html_leaves (content_codes left)))
             ∙ ap (texts.append (html_parts names text w.nodes)) (line.html on html_is (w.whole on whole some))
             ∙ w.html on html_is whole;
+        fill = λ around slots takes none may.
+            let both = may_both around w.front more may in fill_both (w.fill around slots takes none both.0) (line.fill around slots takes none both.1);
       })
 
   pub lines_end : (a b : Walk A) (name : Name) (indented : Bool) (bytes rest content : List ℕ) (stop : Stop) → rest ≡ []
@@ -102,6 +118,7 @@ module _ {A : Type 0} (names : Names) (text : List ℕ) where
         plain = w.plain;
         code = λ flat raw. sym (append-nil (code_parts names text w.nodes)) ∙ w.code flat raw;
         html = λ on html_is whole. sym (append_none (html_parts names text w.nodes)) ∙ w.html on html_is whole;
+        fill = λ around slots takes none may. w.fill around slots takes none (subst (MayEndLines around) (sym all) may);
       }
 
   -- raw HTML
@@ -124,4 +141,7 @@ module _ {A : Type 0} (names : Names) (text : List ℕ) where
         whole = written_whole text bytes content (one node) stop a d all whole (ap (ends_at_start false) closed ∙ dark_end front 62 refl refl);
         plain = plain_one node refl w.plain;
         spells = λ linked may. append_none (html_parts names text w.nodes) ∙ w.html refl refl whole_b;
+        fill = λ around may.
+            fill_taken around text_row n.HtmlText Plain text_row node refl refl
+            (filled_around around Plain n.HtmlText html_row html_row bytes node refl refl refl refl may (w.fill around html_row refl html_between may) refl);
       }

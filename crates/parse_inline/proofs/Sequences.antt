@@ -1,5 +1,5 @@
 -- Which bytes the sequences of spans and of raw text have (CommonMark 6.1 and 6.2, GFM 6.5).
-use Rattle.std.proofs.Common.{inl, inr, ◌≡◌, ℕ, true, false, ◌&&◌, [], ◌∷◌, refl, ap, subst, ◌∙◌, replicate}
+use Rattle.std.proofs.Common.{inl, inr, ◌≡◌, ◌<◌, arith, ℕ, true, false, ◌&&◌, [], ◌∷◌, refl, ap, subst, ◌∙◌, replicate}
 use Rattle.std.specs.Prelude.{◌==◌}
 use Rattle.std.proofs.lemmas.Bool.{and_parts, eqb-true, or_cases, true≢false}
 use Rattle.markdown_options.specs.declared.configuration.ParseOptions.{ParseOptions}
@@ -48,3 +48,19 @@ sequence_may options span.Mark marker size is marks =
     let equals : marker ≡ 61 = eqb-true marker 61 is.0 in
     ap (λ m. is_token n.MarkSequence (replicate size m)) equals
     ∙ ap (λ k. is_token n.MarkSequence (replicate k 61)) (eqb-true size 2 (subst (λ m. has_span_size options m size ≡ true) equals is.1))
+
+some_tildes : (options : ParseOptions) (size : ℕ) → has_span_size options 126 size ≡ true → 0 < size
+some_tildes options size sized = elim (or_cases (size == 2) (options.gfm_strikethrough_single_tilde && (size == 1)) sized) [
+  | inl two ↦ omega (arith, eqb-true size 2 two)
+  | inr one ↦ omega (arith, eqb-true size 1 (and_parts options.gfm_strikethrough_single_tilde (size == 1) one).1)
+]
+
+-- and it has some
+pub sequence_some : (options : ParseOptions) (s : Span) (marker size : ℕ) → IsSequence options (span_view s) marker size → 0 < size
+sequence_some options span.Emphasis marker size is = omega (arith, is.1)
+sequence_some options span.Strong marker size is = omega (arith, is.1)
+sequence_some options span.Strikethrough marker size is =
+    let tilde : marker ≡ 126 = eqb-true marker 126 is.0 in some_tildes options size (subst (λ m. has_span_size options m size ≡ true) tilde is.1)
+sequence_some options span.Mark marker size is =
+    let equals : marker ≡ 61 = eqb-true marker 61 is.0 in
+    omega (arith, eqb-true size 2 (subst (λ m. has_span_size options m size ≡ true) equals is.1))

@@ -24,6 +24,7 @@ use Rattle.inline_rows.specs.View.{spelled_view}
 use Rattle.inline_rows.specs.declared.row.SpelledLeaf.{SpelledLeaf}
 use Rattle.parse_alike.specs.Inline.{ArePartsAlike}
 use Rattle.parse_rows.specs.Bytes.{AreBytesAt}
+use Rattle.parse_inline.specs.Texts.{FillsText}
 
 -- the names of a literal of a kind (GFM 6.9)
 abbrev pub literal_names : LiteralKind → List Name
@@ -66,6 +67,7 @@ pub record WritesFront {A : Type 0} (names : Names) (text front content : List �
   pub whole : IsWhole new
   pub plain : ArePlain nodes
   pub spells : (linked : Bool) → MayBe linked → inlines_of names text linked nodes ≡ leaves ls
+  pub fill : FillsText front nodes
 
 -- nodes are written for the first of these bytes, the others are ahead, and the nodes spell these leaves in a text in which they may be
 pub record WritesLeaves {A : Type 0} (names : Names) (text bytes : List ℕ) (MayBe : Bool → Type 0) (ls : List InlineLeaf) (to : List InlineCode) (stop : Stop)
@@ -79,6 +81,7 @@ pub record WritesLeaves {A : Type 0} (names : Names) (text bytes : List ℕ) (Ma
   pub whole : IsWhole new
   pub plain : ArePlain nodes
   pub spells : (linked : Bool) → MayBe linked → (m m' : Meaning) → ArePartsAlike m m' (leaves ls) (inlines_of names text linked nodes)
+  pub fill : FillsText front nodes
 
 -- a construct is written
 abbrev pub WritesPart : {A : Type 0} → Names → List ℕ → List ℕ → LeafPart → List InlineCode → Stop → Walk A → Walk A → Type 0

@@ -1,5 +1,5 @@
 -- What is written of raw text, line by line (CommonMark 6.1 and 6.6).
-use Rattle.std.specs.Prelude.{◌≡◌, ◌⊎◌, ◌≤◌, ◌<◌, ℕ, Bool, true, false, ◌&&◌, ◌||◌, ◌==◌, List, [], ◌∷◌, ◌++◌, drop, length, map, take}
+use Rattle.std.specs.Prelude.{◌≡◌, ◌⊎◌, ◌≤◌, ◌<◌, ℕ, Bool, true, false, ◌&&◌, ◌||◌, ◌==◌, List, [], ◌∷◌, ◌++◌, Some, drop, length, map, take}
 use Rattle.engine_events.specs.Names.{is_listed, same_name}
 use Rattle.engine_events.specs.declared.event.Name.{Name}
 use Rattle.engine_events.specs.declared.event.Name.TheVariants as n
@@ -9,11 +9,16 @@ use Rattle.definition_text.specs.Content.{content_codes}
 use Rattle.definition_inline.specs.CharacterReference.{Names}
 use Rattle.definition_inline.specs.CodeText.{code_space}
 use Rattle.definition_inline.specs.Inline.{InlineLeaf, Code, Math}
+use Rattle.event_grammar.specs.declared.slot.Between.{Between}
+use Rattle.event_grammar.specs.declared.slot.Form.TheVariants.{Plain}
+use Rattle.event_grammar.specs.declared.slot.Slot.{Slot}
+use Rattle.event_grammar.specs.Slots.{take_child}
 use Rattle.event_grammar.specs.InGrammar.{node_name}
 use Rattle.event_grammar.specs.Trees.{Nodes, Nil, Cons}
 use Rattle.event_meaning.specs.Texts.{append, code_parts, html_parts, leaves}
 use Rattle.parse_lines.specs.declared.walk.Walk.{Walk}
 use Rattle.parse_lines.specs.InContent.{IsWhole, Stop, WritesInContent}
+use Rattle.parse_slots.specs.Left.{Fill, MayEndLines, TakesNoBetween, took}
 use Rattle.parse_strings.specs.Plain.{ArePlain}
 use Rattle.parse_alike.specs.HtmlText.{html_leaves}
 
@@ -58,6 +63,12 @@ abbrev pub BeginsDark : List ℕ → Type 0
 BeginsDark [] = Unit {0}
 BeginsDark (b ∷ bs) = is_white b ≡ false
 
+-- nodes leave a row as it is that takes any number of chunks of a name, where these bytes may stand
+abbrev pub FillsLines : Name → List ℕ → Nodes → Type 0
+FillsLines name bytes nodes =
+    (around : Between) (slots : List Slot) → take_child slots name ≡ Some (took Plain slots) → TakesNoBetween slots → MayEndLines around bytes
+    → Fill around slots nodes slots
+
 -- lines of raw text are written
 pub record WritesLines {A : Type 0} (names : Names) (text : List ℕ) (name : Name) (indented : Bool) (bytes content : List ℕ) (stop : Stop) (old new : Walk A)
     : Type 0 where
@@ -67,6 +78,7 @@ pub record WritesLines {A : Type 0} (names : Names) (text : List ℕ) (name : Na
   pub plain : ArePlain nodes
   pub code : indented ≡ false → IsCodeChunk name → code_parts names text nodes ≡ map code_space (content_codes bytes)
   pub html : indented ≡ true → name ≡ n.HtmlTextData → IsWhole old → html_parts names text nodes ≡ leaves (html_leaves (content_codes bytes))
+  pub fill : FillsLines name bytes nodes
 
 -- a part of a line is written, or a line ending, with the white space after it if lines are indented
 pub record WritesLine {A : Type 0} (names : Names) (text : List ℕ) (name : Name) (indented : Bool) (size : ℕ) (bytes content : List ℕ) (stop : Stop)
@@ -82,6 +94,7 @@ pub record WritesLine {A : Type 0} (names : Names) (text : List ℕ) (name : Nam
       → code_parts names text nodes ++ map code_space (content_codes (drop size bytes)) ≡ map code_space (content_codes bytes)
   pub html : indented ≡ true → name ≡ n.HtmlTextData → IsWhole old
       → append (html_parts names text nodes) (leaves (html_leaves (content_codes (drop size bytes)))) ≡ leaves (html_leaves (content_codes bytes))
+  pub fill : FillsLines name (take size bytes) nodes
 
 -- the first lines of raw text are written, and the rest is ahead
 pub record WritesLinesTo {A : Type 0} (names : Names) (text : List ℕ) (name : Name) (indented : Bool) (bytes rest content : List ℕ) (stop : Stop)
@@ -96,3 +109,4 @@ pub record WritesLinesTo {A : Type 0} (names : Names) (text : List ℕ) (name : 
   pub code : indented ≡ false → IsCodeChunk name → code_parts names text nodes ++ map code_space (content_codes rest) ≡ map code_space (content_codes bytes)
   pub html : indented ≡ true → name ≡ n.HtmlTextData → IsWhole old
       → append (html_parts names text nodes) (leaves (html_leaves (content_codes rest))) ≡ leaves (html_leaves (content_codes bytes))
+  pub fill : FillsLines name front nodes

@@ -1,5 +1,5 @@
 -- Where a walk is among the rows of a text: what is written of the inline structure, and what is left of it (CommonMark 6).
-use Rattle.std.specs.Prelude.{◌≡◌, ◌⊎◌, ℕ, Bool, true, false, List, [], ◌∷◌, ◌++◌, None, Some, length, map, replicate, reverse}
+use Rattle.std.specs.Prelude.{◌≡◌, ◌⊎◌, ◌<◌, ℕ, Bool, true, false, List, [], ◌∷◌, ◌++◌, None, Some, length, map, replicate, reverse}
 use Rattle.markdown_options.specs.declared.configuration.Constructs.{Constructs}
 use Rattle.engine_events.specs.declared.event.Name.{Name}
 use Rattle.engine_events.specs.declared.event.Name.TheVariants as n
@@ -17,6 +17,8 @@ use Rattle.inline_rows.specs.declared.row.InlineRow.{InlineRow}
 use Rattle.inline_rows.specs.declared.row.InlineRow.TheVariants.{Exit}
 use Rattle.inline_runs.specs.View.{span_view}
 use Rattle.inline_runs.specs.declared.pair.Span as runs
+use Rattle.event_grammar.specs.declared.slot.Between.{Between}
+use Rattle.event_grammar.specs.declared.slot.Form.TheVariants.{Plain}
 use Rattle.event_grammar.specs.InGrammar.{node_name}
 use Rattle.event_tokens.specs.Tokens.{is_token}
 use Rattle.event_grammar.specs.References.{label_text, named, own}
@@ -27,7 +29,8 @@ use Rattle.parse_output.specs.Written.{end_in}
 use Rattle.parse_lines.specs.declared.walk.Walk.{Walk}
 use Rattle.parse_lines.specs.Content.{end_after}
 use Rattle.parse_lines.specs.InContent.{EntersInContent, ExitsInContent, IsWhole, Stop, WritesInContent}
-use Rattle.parse_links.specs.Tails.{SpellsResource}
+use Rattle.parse_links.specs.Tails.{FillsTail, SpellsResource}
+use Rattle.parse_slots.specs.Left.{IsFilled, MayEndLines}
 use Rattle.parse_strings.specs.Plain.{ArePlain}
 use Rattle.parse_alike.specs.Inline.{ArePartsAlike}
 use Rattle.parse_alike.specs.LabelMatch.{HaveSameWords}
@@ -40,7 +43,7 @@ use Rattle.parse_inline.specs.declared.opened.Open as opened
 use Rattle.parse_inline.specs.declared.opened.Open.TheVariants as held
 use Rattle.parse_inline.specs.Holes.{AreLinkable, Hole, filled, hole, in_link}
 use Rattle.parse_inline.specs.Leaving.{sequence_name, span_name, text_name}
-use Rattle.parse_inline.specs.Texts.{AreMeanings, StandsInText}
+use Rattle.parse_inline.specs.Texts.{AreMeanings, FillsText, StandsInText}
 
 -- ---- starts and ends
 
@@ -73,6 +76,7 @@ pub record WritesMark {A : Type 0} (text : List ℕ) (name : Name) (front conten
   pub writes : WritesInContent text front (one mark) content stop old new
   pub plain : ArePlain (one mark)
   pub whole : IsWhole new
+  pub filled : (around : Between) → IsFilled around Plain mark
 
 -- an event is entered, in it a label, and after the mark of a name the text of the label
 pub record EntersLabel {A : Type 0} (text : List ℕ) (name mark : Name) (front content : List ℕ) (stop : Stop) (old new : Walk A) : Type 0 where
@@ -115,6 +119,7 @@ pub record WritesBehind {A : Type 0} (context : InlineContext) (text : List ℕ)
   pub whole : IsWhole new
   pub left : AreBytesAt after to
   pub leads : SpellsTarget context text target own_text nodes
+  pub fill : (around : Between) → MayEndLines around front → FillsTail around nodes
 
 -- a link or an image is exited, after the end of its label and what is behind that
 pub record LeavesLinked {A : Type 0} (context : InlineContext) (text : List ℕ) (name : Name) (target : Target) (own_text : List Code) (content : List ℕ)
@@ -140,6 +145,7 @@ pub record WritesCall {A : Type 0} (context : InlineContext) (text : List ℕ) (
   pub left : AreBytesAt after to
   pub spells : (linked : Bool) (m m' : Meaning) → ArePartsAlike m m' (Inlines.Cons (Inline.Call label) Inlines.Nil) (inlines_of context.names text linked nodes)
   pub plain : ArePlain nodes
+  pub fill : FillsText front nodes
 
 -- ---- what is open
 
@@ -194,7 +200,7 @@ mark_name Image = n.LabelImage
 -- it is entered by its first bytes
 abbrev pub EntersFrame : {A : Type 0} → List ℕ → Frame → List ℕ → List ℕ → Stop → Walk A → Walk A → Type 0
 EntersFrame text (InSpan span marker size) front content stop old new =
-    (front ≡ replicate size marker) × EndNoLine (replicate size marker) × (is_token (sequence_name span) (replicate size marker) ≡ true)
+    (front ≡ replicate size marker) × EndNoLine (replicate size marker) × (is_token (sequence_name span) (replicate size marker) ≡ true) × (0 < size)
     × EntersSpan text span front content stop old new
 EntersFrame text (InLinked kind target inside) front content stop old new =
     AreBytesAt content inside × EntersLabel text (linked_name kind) (mark_name kind) front content stop old new
@@ -211,6 +217,7 @@ pub record WritesParts {A : Type 0} (context : InlineContext) (text : List ℕ) 
   pub spells : (m m' : Meaning) → AreMeanings context.options.constructs context.names m m'
       → ArePartsAlike m m' is (inlines_of context.names text linked nodes)
   pub plain : ArePlain nodes
+  pub fill : FillsText front nodes
 
 -- parts are written in what is open, the innermost first, since the first of these bytes
 pub data AreWritten {A : Type 0} (context : InlineContext) (text bytes : List ℕ) (stop : Stop) (first : Walk A)

@@ -3,8 +3,10 @@ use Rattle.parse_inline.proofs.Prelude.{IsCharBoundary, StandsInContent, take-ap
 use Rattle.std.proofs.lemmas.Str.{IsCharBoundary-before_ascii}
 use Rattle.std.proofs.lemmas.List.{get_or-drop, get_or_at}
 use Rattle.engine_events.specs.declared.event.Name.TheVariants as n
+use Rattle.parse_slots.specs.Left.{MayEndLines}
 use Rattle.parse_inline.proofs.Behind.{call_ahead}
 use Rattle.parse_inline.proofs.Calls.{exited_whole, exiting, label_entered, on_ok_both}
+use Rattle.parse_inline.proofs.Fills.{string_fills}
 use Rattle.parse_inline.proofs.LabelWritten.{call_written}
 use Rattle.parse_inline.proofs.Places.{byte_at}
 use Rattle.parse_inline.proofs.gfm_footnote_call.push_call.Goals as goal
@@ -47,6 +49,7 @@ returns-clause-written g c =
     subst (λ bs. WritesInContent text bs pushed.nodes (93 ∷ it.after) stop inside w) string pushed.writes in
     let ends = c.in_ok-label_end.ensures.written text it.after stop writes.stands pushed.whole in
     let leaves = exiting text stop ended new n.GfmFootnoteCall it.after (stays, written) ends.leaves.stands in
-    call_written text stop context label content it.after to pushed.nodes old inside w ended new it.parts it.left enters writes pushed.plain ends leaves
+    call_written text stop context label content it.after to pushed.nodes old inside w ended new it.parts it.left enters writes pushed.plain
+    (λ around may. string_fills around pushed.nodes (pushed.fill around (subst (MayEndLines around) (sym string) may))) ends leaves
     (exited_whole text stop ended new n.GfmFootnoteCall it.after leaves ends.whole))
     c.exit.ensures.stays c.exit.ensures.written

@@ -1,7 +1,10 @@
-use Rattle.std.proofs.Common.{[], ◌∷◌, refl}
+use Rattle.std.proofs.Common.{[], ◌∷◌, refl, arith}
 use Rattle.engine_events.specs.declared.event.Name.TheVariants as n
 use Rattle.parse_inline.proofs.Prelude.{end_after, end_in, plain_void, void_next}
 use Rattle.parse_inline.proofs.Calls.{entered_whole, entering, exiting, marking, may_have, on_ok_both, texting}
+use Rattle.event_grammar.specs.declared.slot.Form.TheVariants.{Plain}
+use Rattle.event_grammar.specs.Grammar.{row}
+use Rattle.parse_inline.proofs.Fills.{next_taken}
 use Rattle.parse_inline.proofs.label.end_mark.Goals as goal
 
 pub returns-clause-written : goal.returns-clause-written
@@ -18,5 +21,6 @@ returns-clause-written g c =
     enters.stands in
     let exits = exiting text stop b new n.LabelEnd content (stays, written) within.writes.stands in
     marking text stop old a b new n.LabelEnd (93 ∷ []) content (void_next text n.LabelMarker 1 a) (record { no_quote = refl; no_data = refl; other = refl })
-    (plain_void text n.LabelMarker (end_in a.out) (end_after (end_in a.out) 1) refl refl) enters within exits whole)
+    (plain_void text n.LabelMarker (end_in a.out) (end_after (end_in a.out) 1) refl refl)
+    (λ around. next_taken around (row n.LabelEnd Plain) n.LabelMarker [] text (end_in a.out) 1 (omega arith) refl refl refl) enters within exits whole)
     c.exit.ensures.stays c.exit.ensures.written

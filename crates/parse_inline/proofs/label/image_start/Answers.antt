@@ -1,7 +1,11 @@
-use Rattle.std.proofs.Common.{[], ◌∷◌, refl}
+use Rattle.std.proofs.Common.{[], ◌∷◌, refl, arith}
 use Rattle.engine_events.specs.declared.event.Name.TheVariants as n
 use Rattle.parse_inline.proofs.Prelude.{append, end_after, end_in, plain_both, plain_void, void_next}
 use Rattle.parse_inline.proofs.Calls.{entered_whole, entering, exiting, marking, may_have, on_ok_both, texting, written_both}
+use Rattle.event_grammar.specs.declared.slot.Form.TheVariants.{Plain}
+use Rattle.event_grammar.specs.Grammar.{one as one_slot, row}
+use Rattle.parse_slots.proofs.Steps.{fill_both}
+use Rattle.parse_inline.proofs.Fills.{next_taken}
 use Rattle.parse_inline.proofs.label.image_start.Goals as goal
 
 pub returns-clause-written : goal.returns-clause-written
@@ -26,6 +30,9 @@ returns-clause-written g c =
     let exits = exiting text stop d new n.LabelImage content (stays, written) two.writes.stands in
     marking text stop old a d new n.LabelImage (33 ∷ 91 ∷ []) content (append first second) (record { no_quote = refl; no_data = refl; other = refl })
     (plain_both first second (plain_void text n.LabelImageMarker (end_in a.out) (end_after (end_in a.out) 1) refl refl)
-    (plain_void text n.LabelMarker (end_in b.out) (end_after (end_in b.out) 1) refl refl)) enters
+    (plain_void text n.LabelMarker (end_in b.out) (end_after (end_in b.out) 1) refl refl))
+    (λ around.
+    fill_both (next_taken around (row n.LabelImage Plain) n.LabelImageMarker (one_slot n.LabelMarker ∷ []) text (end_in a.out) 1 (omega arith) refl refl refl)
+    (next_taken around (one_slot n.LabelMarker ∷ []) n.LabelMarker [] text (end_in b.out) 1 (omega arith) refl refl refl)) enters
     (written_both text stop a b d first second (33 ∷ []) (91 ∷ []) content one two) exits whole)
     c.exit.ensures.stays c.exit.ensures.written

@@ -26,6 +26,7 @@ returns-in-Some-clause-written g c =
       whole = tail.whole;
       left = is.rest ∙ sym tail.rest;
       leads = is.leads;
+      fill = tail.fill;
     })
     c.push_resource.ensures.written
 
@@ -47,5 +48,6 @@ returns-in-None-clause-written g c =
       whole = tail.whole;
       left = is.rest ∙ sym tail.rest;
       leads = is.leads;
+      fill = tail.fill;
     })
     c.push_link_reference.ensures.written
