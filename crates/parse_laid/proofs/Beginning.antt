@@ -1,5 +1,5 @@
 -- An open leaf takes a line, and a line begins a leaf.
-use Rattle.std.proofs.Common.{suc, ◌⊎◌, ◌≡◌, ℕ, ◌-◌, Bool, true, cond, ◌&&◌, List, [], ◌∷◌, ◌++◌, Option, None, Some, length, take, drop}
+use Rattle.std.proofs.Common.{suc, ◌⊎◌, ◌≡◌, ℕ, ◌-◌, Bool, true, false, cond, ◌&&◌, List, [], ◌∷◌, ◌++◌, Option, None, Some, length, take, drop}
 use Rattle.std.proofs.Common.{refl, sym, ap, ◌∙◌, subst, inl, inr, arith}
 use Rattle.std.specs.Option.{option_and_then}
 use Rattle.parse_laid.proofs.Prelude.{after, and_parts, AreCode, AreHtml, AreLines, AreTable, AreTaken, At, AtEnding, Atx, atx_tree, Beside, Between, Blank}
@@ -47,7 +47,7 @@ module _ (on : Constructs) (around : List Container) where
       → AreTaken on around (IsCodeLine on) others under to → AreCode on around (ls ++ others) from to
   code_more [] others from under to p q = absurd p
   code_more (first ∷ ls) others from under to p q =
-      (p.0, p.1, p.2, p.3, p.4, join_taken on around (IsCodeLine on) ls others (Between p.1) under to p.5 q)
+      (p.0, p.1, p.2, p.3, p.4, join_taken on around (IsCodeLine on) ls others (Between p.1) under to p.5 q, p.6)
 
   blank_code : (here : Prefixed) (line : BlockLine) → IsBlankLine here line → IsCodeLine on here line
   blank_code (InAll here) line p = (or_right (starts_code_indented on here.rest) (is_blank here.rest) p.0, p.1)
@@ -124,8 +124,8 @@ module _ (on : Constructs) (around : List Container) where
   -- ---- a line begins a leaf
 
   module _ (rest : Rest) (beside : Beside) (at : Place) (left : List LineRest) (is : IsOn on around at (InAll (line_rest rest beside)) left) where
-    pub indented_laid : (starts_code_indented on rest ≡ true) → TreeLaid on around (indented_tree rest beside) at (Between left)
-    indented_laid e = (at, refl, (Between left, (line_rest rest beside, left, is, e, refl, refl), refl))
+    pub indented_laid : (is_blank rest ≡ false) → (starts_code_indented on rest ≡ true) → TreeLaid on around (indented_tree rest beside) at (Between left)
+    indented_laid dark e = (at, refl, (Between left, (line_rest rest beside, left, is, e, refl, refl, dark), refl))
 
     pub fence_laid : WhereSome (λ (fence : Fence). TreeLaid on around (fence_tree beside fence) at (Between left)) (fence_start on rest)
     fence_laid =

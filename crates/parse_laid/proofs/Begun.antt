@@ -39,7 +39,7 @@ module _ (on : Constructs) (around : List Container) where
       → AreCode on around ls (begun on around from) to × (is_in_line (begun on around from) ≡ true)
   code_begun [] from to p = absurd p
   code_begun (first ∷ others) from to p =
-      ((p.0, p.1, on_begun from (InAll p.0) p.1 p.2, p.3, p.4, p.5), line_begun from (InAll p.0) p.1 p.2)
+      ((p.0, p.1, on_begun from (InAll p.0) p.1 p.2, p.3, p.4, p.5, p.6), line_begun from (InAll p.0) p.1 p.2)
 
   html_begun : (kind : ℕ) (ls : List BlockLine) (from to : Place) → AreHtml on around kind ls from to
       → AreHtml on around kind ls (begun on around from) to × (is_in_line (begun on around from) ≡ true)

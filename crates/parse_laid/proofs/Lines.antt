@@ -167,7 +167,7 @@ module _ (on : Constructs) where
         blank = λ e.
             after_laid on around away (tree (one (Blank beside.ending)) nothing) from to (Between left) h p (blank_laid on around rest beside to left is e);
         closes = λ t q. after_laid on around away t from to (Between left) h p q;
-        indented = λ e. indented_laid on around rest beside to left is (and_parts (starts_code_indented on rest) (not (has_text away)) e).0;
+        indented = λ dark e. indented_laid on around rest beside to left is dark (and_parts (starts_code_indented on rest) (not (has_text away)) e).0;
         fenced = fence_laid on around rest beside to left is;
         math = math_laid on around rest beside to left is;
         html = html_start_laid on around rest beside to left is (has_text away);

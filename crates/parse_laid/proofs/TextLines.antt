@@ -23,7 +23,7 @@ where_or P (Some x) p h k = h
 pub record AnyLine (P Q : Tree → Type 0) (on : Constructs) (away : Opening) (rest : Rest) (beside : Beside) : Type 0 where
   pub blank : is_blank rest ≡ true → P (after on away (tree (one (Blank beside.ending)) nothing))
   pub closes : (t : Tree) → Q t → P (after on away t)
-  pub indented : (starts_code_indented on rest && not (has_text away)) ≡ true → Q (indented_tree rest beside)
+  pub indented : is_blank rest ≡ false → (starts_code_indented on rest && not (has_text away)) ≡ true → Q (indented_tree rest beside)
   pub fenced : WhereSome (λ (fence : Fence). Q (fence_tree beside fence)) (fence_start on rest)
   pub math : WhereSome (λ (fence : Fence). Q (fence_tree beside fence)) (math_start on rest)
   pub html : WhereSome (λ kind. Q (html_tree rest beside kind)) (html_start on (has_text away) rest)
@@ -83,7 +83,7 @@ where_any_line P Q on away rest beside h =
     cond_both (is_blank rest) _ _ P h.blank
     (λ some.
     where_none P (first_of (leaf_starts on away rest beside)) text
-    (where_or P _ _ (where_begun P Q on away closes (starts_code_indented on rest && not (has_text away)) (indented_tree rest beside) h.indented)
+    (where_or P _ _ (where_begun P Q on away closes (starts_code_indented on rest && not (has_text away)) (indented_tree rest beside) (h.indented some))
     (where_or P _ _ (where_found P Q on away closes (fence_tree beside) (fence_start on rest) h.fenced)
     (where_or P _ _ (where_found P Q on away closes (fence_tree beside) (math_start on rest) h.math)
     (where_or P _ _ (where_found P Q on away closes (html_tree rest beside) (html_start on (has_text away) rest) h.html)

@@ -77,12 +77,12 @@ abbrev pub AreText : Constructs → List Container → List BlockLine → Place 
 AreText on around ls from to =
     (0 < length ls) × AreTaken on around (IsTextLine on) ls from to × (IsInAll on around from ⊎ FollowsDefinition on around from)
 
--- lines of indented code, the first of which is indented (CommonMark 4.4)
+-- lines of indented code, the first of which is indented, and isn't blank (CommonMark 4.4)
 abbrev pub AreCode : Constructs → List Container → List BlockLine → Place → Place → Type 0
 AreCode on around [] from to = ⊥
 AreCode on around (first ∷ others) from to =
     (here : LineRest) × (left : List LineRest) × IsOn on around from (InAll here) left × (starts_code_indented on here.rest ≡ true)
-    × (first ≡ rest_line (outdent 4 here.rest) here.beside) × AreTaken on around (IsCodeLine on) others (Between left) to
+    × (first ≡ rest_line (outdent 4 here.rest) here.beside) × AreTaken on around (IsCodeLine on) others (Between left) to × (is_blank here.rest ≡ false)
 
 -- lines of an HTML block of a kind, which may be told by whether it would interrupt a paragraph (CommonMark 4.6)
 abbrev pub AreHtml : Constructs → List Container → ℕ → List BlockLine → Place → Place → Type 0

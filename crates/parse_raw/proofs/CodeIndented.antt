@@ -1,5 +1,6 @@
 -- What is written of indented code, step by step (CommonMark 4.4).
-use Rattle.std.proofs.Common.{◌≡◌, ℕ, ◌+◌, ◌-◌, ◌≤◌, Bool, List, [], ◌∷◌, ◌++◌, inl, refl, sym, ap, subst, ◌∙◌, drop, length, arith}
+use Rattle.std.proofs.Common.{◌≡◌, ℕ, ◌+◌, ◌-◌, ◌≤◌, Bool, false, List, [], ◌∷◌, ◌++◌, inl, refl, sym, ap, subst, ◌∙◌, drop, length, take, arith}
+use Rattle.definition_text.specs.Columns.{is_blank}
 use Rattle.parse_raw.proofs.Prelude.{all_prefix, AreTaken, around, at_ending, AtEnding, Between, block_codes, BlockLine, chunk_parts, Constructs, drop-drop}
 use Rattle.parse_raw.proofs.Prelude.{End, end_at, ending_text, EndsAt, Enters, Exits, InAll, indent, InSome, is_white, IsAfterWhite, IsCutLine, IsInOrder}
 use Rattle.parse_raw.proofs.Prelude.{IsLeafLaid, IsLineOf, IsWrittenToRest, last_ending, line_follows, line_left, LineRest, min, Names, outdent, own_lines}
@@ -9,17 +10,34 @@ use Rattle.parse_raw.proofs.Prelude.{written_to}
 use Rattle.engine_events.specs.declared.event.Name.TheVariants as n
 use Rattle.definition_block.specs.Tree.{IndentedCode}
 use Rattle.definition_page.specs.Page as page
+use Rattle.event_grammar.specs.declared.slot.Between.TheVariants.{Lines}
+use Rattle.event_grammar.specs.declared.slot.Form.TheVariants.{Plain}
+use Rattle.event_grammar.specs.declared.slot.Slot.{Slot}
+use Rattle.event_grammar.specs.Grammar.{many, row}
+use Rattle.parse_slots.proofs.Steps.{filled_by}
+use Rattle.parse_raw.specs.RawLines.{TakesChunks}
 use Rattle.parse_alike.specs.BlockLines.{AreCodeLinesAlike}
 use Rattle.parse_laid.specs.Leaves.{AreCode, IsCodeLine}
-use Rattle.parse_raw.proofs.Prelude.{false≢true}
+use Rattle.parse_raw.proofs.Prelude.{append-nil, Around, end_in, enter_at, exit_at, false≢true, list_all, take-append-drop}
 use Rattle.parse_raw.proofs.LeafNodes.{leaf_written}
 use Rattle.parse_raw.proofs.RawBlocks.{WritesFirst, all_written, own_count, taken_as}
-use Rattle.parse_raw.proofs.RawLines.{rest_written}
+use Rattle.parse_raw.proofs.RawLines.{has_some, rest_written}
 
 -- a later line is one of which four columns are cut
 code_line : (on : Constructs) (here : Prefixed) (line : BlockLine) → IsCodeLine on here line → IsCutLine (outdent 4) here line
 code_line on (InAll own) line is = (own, refl, is.1)
 code_line on (InSome own) line is = absurd is
+
+-- the row of indented code after its first line
+abbrev chunk_slots : List Slot
+chunk_slots = many n.CodeFlowChunk ∷ []
+
+-- of a line that isn't blank something is left
+cut_some : (k : ℕ) (rest : Rest) → is_blank rest ≡ false → outdent k rest ≡ [] → ⊥
+cut_some k rest dark none =
+    let j = min k (indent rest) in
+    let whole_is : take j rest ≡ rest = sym (append-nil (take j rest)) ∙ ap (λ (xs : Rest). take j rest ++ xs) (sym none) ∙ take-append-drop j rest in
+    false≢true (sym dark ∙ ap (list_all is_white) (sym whole_is) ∙ all_prefix is_white j rest (omega arith))
 
 module _ {A : Type 0} (text : List ℕ) where
   -- columns of white space are written, and begin where the line's rest does
@@ -122,13 +140,21 @@ module _ {A : Type 0} (text : List ℕ) where
       subst (λ (ps : List RawPart). AreCodeLinesAlike (own_lines (first ∷ others)) (raw_lines ps)) (sym all.parts) (raw_lines_are_alike.code (own_lines (first ∷ others)))
       ) in
       let line_end = ap (λ (s : Standing). s.line_end) same_d in
+      let row_is = row n.CodeIndented Plain in
+      let takes : TakesChunks n.CodeFlowChunk chunk_slots =
+      record { chunk = refl; between = record { space = refl; ending = refl; blank = refl; quote = refl } } in
+      let dark : is_blank here.rest ≡ false = ap (λ (l : LineRest). is_blank l.rest) (sym own) ∙ code.6 in
+      let some : drop space.columns (whole space.content) ≡ [] → ⊥ = λ none. cut_some 4 here.rest dark (space.rest ∙ none) in
+      let front = chunk.taken row_is chunk_slots (has_some (drop space.columns (whole space.content)) some) refl in
+      let node = Around (enter_at text n.CodeIndented (end_in a.out)) all.nodes (exit_at text n.CodeIndented (end_in e.out)) in
+      let filled = filled_by Lines Plain n.CodeIndented chunk_slots node refl (all.fill row_is chunk_slots front takes) refl in
       leaf_written text on names top (page.IndentedCode ls) to old a b e d n.CodeIndented all.nodes space.quiet enters all.writes
       (exits all.writes.order) refl refl refl all.raw.definitions (λ m m'. (alike, tt))
       (subst (λ (p : Place). StandsAt text p (standing d)) (sym ends.2) (subst (StandsAt text (AtEnding (last_ending (first ∷ others)) ends.0)) (sym same_d) all.stands)) (
         ap (λ (s : Standing). s.on) same_d ∙ all.around.0 ∙ ap (λ (s : Standing). s.on) same,
         ap (λ (s : Standing). s.outermost) same_d ∙ all.around.1 ∙ ap (λ (s : Standing). s.outermost) same,
       )
-      end_d (all.written ∙ ap (λ (k : ℕ). end_at k 0) (sym line_end)) space.starts space.begins (λ is. absurd (false≢true is))
+      end_d (all.written ∙ ap (λ (k : ℕ). end_at k 0) (sym line_end)) space.starts space.begins (λ is. filled)
 
   pub code_written : (on : Constructs) (names : Names) (top : Bool) (ls : List BlockLine) (count more : ℕ) (here : LineRest) (left : List LineRest) (to : Place)
       (old a b c e d : Walk A) → count ≡ length ls → more ≡ count - 1 → StandsAt text (Within here left) (standing old)

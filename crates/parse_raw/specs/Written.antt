@@ -40,6 +40,7 @@ pub record SpellsLeaf (on : Constructs) (names : Names) (text : List ℕ) (top :
 -- whether the node of a leaf is known to fill its row of the grammar
 abbrev pub has_row : page.PageLeaf → Bool
 has_row page.Break = true
+has_row (page.IndentedCode ls) = true
 has_row (page.FencedCode info closed ls) = true
 has_row (page.Html ls) = true
 has_row leaf = false
