@@ -1,6 +1,5 @@
 -- A heading by `#`, as it is written (CommonMark 4.2).
 use Rattle.std.proofs.Common.{◌≡◌, ℕ, ◌<◌, ◌≤◌, Bool, false, List, [], ◌∷◌, ◌++◌, None, refl, sym, ap, ◌∙◌, subst, length, replicate, take, drop, arith}
-use Rattle.std.proofs.lemmas.Bool.{false≢true}
 use Rattle.parse_leaves.proofs.Prelude.{append, AreMeanings, AreNext, ArePartsAlike, around, Around, around_on, AtEnding, bare, bare_end, BlockLine, bytes_of}
 use Rattle.parse_leaves.proofs.Prelude.{Constructs, End, end_at, end_in, enter_at, EnterCall, entered_on, exit_at, ExitCall, heading_atx, indent, Inlines}
 use Rattle.parse_leaves.proofs.Prelude.{is_tab_column, IsInOrder, IsOnLine, IsWrittenToRest, length-take-le, line_left, LineRest, list_any, Meaning, named}
@@ -12,12 +11,15 @@ use Rattle.std.proofs.Math.Seq.{drop-append_seam}
 use Rattle.std.proofs.lemmas.List.Sums.{prefix_len-le-length}
 use Rattle.engine_events.specs.declared.event.Name.TheVariants as n
 use Rattle.definition_page.specs.Page as page
+use Rattle.event_grammar.specs.declared.slot.Between.TheVariants.{Lines}
+use Rattle.event_grammar.specs.declared.slot.Form.TheVariants.{Plain}
 use Rattle.parse_laid.specs.Leaves.{IsAtxLaid}
 use Rattle.std.specs.Prelude.{codes}
 use Rattle.parse_lines.proofs.Runs.{run_fits}
 use Rattle.parse_leaves.specs.Atx.{EndsHeading}
 use Rattle.parse_leaves.proofs.AtxLists.{atx_front, atx_on, text_bytes}
 use Rattle.parse_leaves.proofs.AtxParts.{hash_named, hash_within, space_within}
+use Rattle.parse_leaves.proofs.Fills.{atx_fill, filled_up}
 use Rattle.parse_leaves.proofs.TextLeaves.{none_alike, open_both}
 use Rattle.parse_leaves.proofs.Underlines.{named_pair, space_named}
 
@@ -150,5 +152,7 @@ module _ {A : Type 0} (text : List ℕ) where
         starts = white.starts;
         begins = white.begins;
         ends = omega (arith, ap (λ (x : End). x.index) exit.1, whole.on.end);
-        filled = λ is. absurd (false≢true is);
+        filled = λ known.
+            filled_up Lines Plain n.HeadingAtx node refl
+            (atx_fill text i j hashes (take m rest) t.nodes cl.nodes (omega (arith, hash_size, size_is, info.some)) t.fill (cl.fill t.fill.rest t.fill.ends));
       })

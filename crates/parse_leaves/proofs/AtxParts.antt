@@ -1,5 +1,5 @@
 -- The parts of a heading by `#`, as they are written (CommonMark 4.2).
-use Rattle.std.proofs.Common.{◌≡◌, ℕ, ◌+◌, ◌≤◌, false, List, [], ◌∷◌, ◌++◌, Option, None, refl, sym, ap, ◌∙◌, inl, inr, subst, length, length-append, map, replicate, take, drop, arith}
+use Rattle.std.proofs.Common.{◌≡◌, ℕ, ◌+◌, ◌≤◌, false, List, [], ◌∷◌, ◌++◌, Option, None, refl, sym, ap, ap₂, ◌∙◌, inl, inr, subst, length, length-append, map, replicate, take, drop, arith}
 use Rattle.parse_leaves.proofs.Prelude.{all_on, append, append-nil, AreNext, ArePartsAlike, Around, AtEnding, block_line, cases_Bool, code_byte, cond-false}
 use Rattle.parse_leaves.proofs.Prelude.{cond-true, Constructs, content_text, End, end_at, end_in, ends_line, enter_at, exit_at, indent, inline_content}
 use Rattle.parse_leaves.proofs.Prelude.{is_tab_column, IsOnLine, LineEnding, LineRest, list_any, named, Names, Nil, Node, Nodes, NoInlines, on_line_both, one}
@@ -15,11 +15,17 @@ use Rattle.parse_lines.proofs.Runs.{run_fits}
 use Rattle.markdown_options.specs.declared.beside.Kind.TheVariants.{Whitespace}
 use Rattle.engine_events.specs.declared.event.Name.TheVariants as n
 use Rattle.definition_inline.specs.GfmAutolinkLiteral.{linked_literals, with_literals}
+use Rattle.event_grammar.specs.declared.slot.Between.TheVariants.{Spaces}
+use Rattle.event_grammar.specs.declared.slot.Form.TheVariants.{Plain}
+use Rattle.event_grammar.specs.Grammar.{opt}
 use Rattle.parse_output.proofs.Written.{writes_none}
+use Rattle.parse_slots.proofs.Steps.{fill_none, fill_taken}
 use Rattle.parse_lines.specs.Content.{BeginsLineHere}
 use Rattle.parse_lines.proofs.Ahead.{next_after}
 use Rattle.parse_lines.proofs.Parts.{part_begins, same_line}
 use Rattle.parse_raw.proofs.LineTokens.{after_first}
+use Rattle.parse_leaves.specs.Atx.{atx_rest}
+use Rattle.parse_leaves.proofs.Fills.{closing_fill, text_filled}
 use Rattle.parse_leaves.proofs.Underlines.{named_pair, space_named}
 
 pub hash_named : (text : List ℕ) (index : ℕ) (front : List ℕ) → named n.Definition (tokens text n.HeadingAtxSequence index front) ≡ []
@@ -67,6 +73,8 @@ module _ {A : Type 0} (text : List ℕ) (ending : Option LineEnding) (left : Lis
         definitions =
             named_pair ns (append hs ss) (space_named text (written_to old).index front)
             (named_pair hs ss (hash_named text (written_to a).index (take k rest)) (space_named text (written_to b).index last));
+        fill = λ slots takes.
+            closing_fill slots text (written_to old).index (written_to a).index (written_to b).index front (take k rest) last takes;
       }
 
 -- ---- the text
@@ -110,6 +118,7 @@ module _ {A : Type 0} (text : List ℕ) (ending : Option LineEnding) (left : Lis
     spells = λ others no m m' means.
         subst (λ is. ArePartsAlike m m' is (text_within r.tables.names text false others)) (sym (empty_text r piece none empty)) no;
     definitions = refl;
+    fill = record { rest = atx_rest; fill = fill_none Spaces atx_rest; ends = record { sequence = refl; space = refl; may = refl } };
   }
 
   pub heading_text : (r : Reading) (piece : Piece) (old mid new : Walk A) → piece.owed ≡ 0 → list_any is_tab_column piece.text.now ≡ false
@@ -139,6 +148,7 @@ module _ {A : Type 0} (text : List ℕ) (ending : Option LineEnding) (left : Lis
       (after_first (end_in old.out) (length content) on.before.whole ∙ ap (λ k. end_at k 0) (sym index) ∙ sym (whole_end (end_in new.out) t.whole))
       (next_after text content behind (end_in old.out) on.before.next) in
       let node = Around (enter_at text n.HeadingAtxText t.from) t.nodes (exit_at text n.HeadingAtxText t.to) in
+      let closing_row = opt n.HeadingAtxSequence ∷ [] in
       record {
         nodes = one node;
         line = record {
@@ -153,4 +163,12 @@ module _ {A : Type 0} (text : List ℕ) (ending : Option LineEnding) (left : Lis
         };
         spells = λ others no m m' means. t.spells m m' means;
         definitions = ap (λ (ds : List Node). ds ++ []) t.plain.definitions;
+        fill = record {
+          rest = closing_row;
+          fill =
+              fill_taken Spaces atx_rest n.HeadingAtxText Plain closing_row node refl refl
+              (text_filled Spaces n.HeadingAtxText node refl refl
+              (t.fill Spaces (ap₂ (λ (k : ℕ) bs. list_any ends_line (drop k bs)) begins.0 (sym is_content) ∙ dark)));
+          ends = record { sequence = refl; space = refl; may = refl };
+        };
       }

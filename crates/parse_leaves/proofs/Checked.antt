@@ -89,7 +89,8 @@ module _ (r : Reading) (content : Content) (start : List ℕ) (place : IsPlace c
         → WritesText r.parse.constructs r.tables.names text (drop old.place content.text.now) is [] stop old new
     after_white new is written =
         subst (λ bs. WritesText r.parse.constructs r.tables.names text bs is [] stop old new) (sym white.parts)
-        (quiet_then r.parse.constructs r.tables.names text stop old mid new white.front (without_white content.text.now) white.nodes is white.quiet white.writes
+        (quiet_then r.parse.constructs r.tables.names text stop old mid new white.front (without_white content.text.now) white.nodes is white.quiet white.fill
+        white.writes
         (subst (λ bs. WritesText r.parse.constructs r.tables.names text bs is [] stop mid new) bare written))
 
     -- a check, and the text after it

@@ -34,6 +34,8 @@ use Rattle.definition_inline.specs.Space.{after_spaces, after_white}
 use Rattle.definition_inline.specs.Strings.{string_text}
 use Rattle.definition_inline.proofs.LinkRenaming.{code_byte-renames, definition_renamed, renamed_definition}
 use Rattle.definition_page.specs.Page as page
+use Rattle.event_grammar.specs.declared.slot.Between.TheVariants.{Lines}
+use Rattle.event_grammar.specs.declared.slot.Form.TheVariants.{Plain}
 use Rattle.event_grammar.specs.References.{label_text}
 use Rattle.event_meaning.specs.Blocks.{label_of}
 use Rattle.event_meaning.specs.Strings.{string_of, written}
@@ -48,10 +50,11 @@ use Rattle.parse_lines.specs.Content.{ExitsInLine}
 use Rattle.parse_lines.proofs.Ahead.{after_bytes, owes}
 use Rattle.parse_lines.proofs.InContent.{line_exits, no_more}
 use Rattle.parse_strings.proofs.Texts.{white_last}
-use Rattle.parse_links.specs.Definition.{IsDefinition, SpellsDefinition, WritesParts, place_of}
+use Rattle.parse_links.specs.Definition.{FillsDefinition, IsDefinition, SpellsDefinition, WritesParts, place_of}
 use Rattle.parse_links.specs.Tails.{title_string}
 use Rattle.parse_leaves.specs.Definition.{IsOnOneLine, WritesDefinition, WritesReadDefinition}
 use Rattle.parse_leaves.proofs.Entered.{white_entered}
+use Rattle.parse_leaves.proofs.Fills.{filled_up}
 use Rattle.parse_leaves.proofs.Indents.{void_quiet, whole_start}
 use Rattle.parse_leaves.proofs.Lines.{text_begins, text_stops}
 use Rattle.parse_leaves.proofs.Starts.{BeginsDark, count_dark, count_white, start_dark, white_count, white_fits}
@@ -325,7 +328,7 @@ module _ {A : Type 0} (text : List ℕ) where
       → WritesInLine text front (void_nodes text n.SpaceOrTab (end_in s.out) (end_after (end_in s.out) white)) line s t)
       → standing a ≡ standing t → ((line : List ℕ) → StandsInLine text line t → EntersInLine text n.Definition line t a)
       → ((d : Definition) (stop : Stop) → IsDefinition (content_codes rest) d → StandsInContent text rest stop a → IsWhole a
-      → WritesParts text rest (SpellsDefinition on names text d) stop a b)
+      → WritesParts text rest (SpellsDefinition on names text d) FillsDefinition stop a b)
       → standing c ≡ standing b → ((line : List ℕ) → StandsInLine text line b → ExitsInLine text n.Definition line b c)
       → standing e ≡ standing c
       → ((front line : List ℕ) → size ≡ length front → same_name n.SpaceOrTab n.BlockQuotePrefix ≡ false → StandsInLine text (front ++ line) c → HasBytes text n.SpaceOrTab size c
@@ -403,6 +406,9 @@ module _ {A : Type 0} (text : List ℕ) where
         begins = entered.begins;
         ends =
             on_one_line text parts.after ahead.line i e.line_end next dark (sym index ∙ ap (λ (x : End). x.index) end_e);
+        filled =
+            filled_up Lines Plain n.Definition (Around (enter_at text n.Definition from) parts.nodes (exit_at text n.Definition to_end)) refl
+            (parts.fill Lines tt);
       }
 
 -- what a row stands for is a definition, whether one is read off its bytes or not

@@ -4,6 +4,7 @@ use Rattle.parse_leaves.proofs.Prelude.{content_done, cut_one, End, end_in, Ente
 use Rattle.parse_leaves.proofs.Prelude.{Reading, same_name, Standing, standing, StandsAt, StandsInContent, StandsInLine, Walk, Writes, writes_around}
 use Rattle.parse_leaves.proofs.Prelude.{WritesContent, WritesContentIn, written_to}
 use Rattle.engine_events.specs.declared.event.Name.TheVariants as n
+use Rattle.parse_inline.specs.Texts.{FillsText}
 
 pub text_in_event : {A : Type 0} (r : Reading) (name : Name) (content : List ℕ) (is : Inlines) (old b c new : Walk A) → same_name name n.Data ≡ false
     → standing b ≡ standing old → ((text line : List ℕ) → StandsInLine text line old → EntersInLine text name line old b)
@@ -30,6 +31,7 @@ text_in_event r name content is old b c new other same_b enters writes same end 
           (writes_around text old.out b.out c.out new.out name ns entered.enters written.writes.writes (exits text written.writes.writes.order));
       spells = written.spells;
       plain = written.plain;
+      fill = subst (λ k. FillsText (drop k content) ns) place written.fill;
       at = subst (StandsAt text stop.place) (sym same) done.at;
       whole = ap (λ (e : End). e.owed) end ∙ done.whole;
       index =

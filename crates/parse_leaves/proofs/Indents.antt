@@ -4,9 +4,12 @@ use Rattle.parse_leaves.proofs.Prelude.{AreNext, AreQuiet, Around, BlockLine, co
 use Rattle.parse_leaves.proofs.Prelude.{length-drop, length-take-le, line_in_content, LineEnding, Nil, same_name, standing, StandsInContent, StandsInLine}
 use Rattle.parse_leaves.proofs.Prelude.{Stop, true≢false, void_nodes, Walk, without_white, WritesInLine, WritesWhite}
 use Rattle.engine_events.specs.declared.event.Name.TheVariants.{BlockQuotePrefix, SpaceOrTab}
+use Rattle.event_grammar.specs.Grammar.{text_row}
 use Rattle.parse_output.specs.Ends.{same_end}
 use Rattle.parse_output.specs.Forest.{cut}
 use Rattle.parse_lines.specs.Content.{HasBytes, IsNext}
+use Rattle.parse_slots.proofs.Steps.{may_space}
+use Rattle.parse_slots.proofs.Voids.{void_between}
 use Rattle.parse_lines.proofs.Bytes.{has_kind}
 use Rattle.parse_leaves.proofs.Starts.{BeginsDark, start_dark, white_count, white_fits, white_front, white_in_line, white_parts}
 
@@ -67,4 +70,6 @@ module _ {A : Type 0} (text : List ℕ) (stop : Stop) where
         writes = written;
         whole = whole_start (without_white content) new written.stands (start_dark content);
         ahead = ap (λ k. drop k content) (omega (arith, written.place, front_size, le));
+        fill = λ around may.
+            void_between around text_row SpaceOrTab text (end_in old.out) (end_after (end_in old.out) size) refl refl (may_space around front may) refl;
       }

@@ -1,4 +1,5 @@
 mod Prelude
+pub mod Fills
 pub mod Decoded
 pub mod Starts
 pub mod Lines

@@ -1,6 +1,5 @@
 -- A heading with an underline, as it is written (CommonMark 4.3).
 use Rattle.std.proofs.Common.{◌≡◌, ℕ, suc, ◌+◌, ◌<◌, Bool, true, false, ◌&&◌, eqb, if◌then◌else◌, leb, List, [], ◌∷◌, ◌++◌, Option, None, Some, refl, sym, ap, ◌∙◌, inl, inr, subst, length, get_or, drop, reverse, arith}
-use Rattle.std.proofs.lemmas.Bool.{false≢true}
 use Rattle.parse_leaves.proofs.Prelude.{append, AreMeanings, ArePartsAlike, ArePlain, AreQuiet, around, Around, AtEnding, bare, Between, BlockLine, bytes_of}
 use Rattle.parse_leaves.proofs.Prelude.{cases_Bool, cond-false, cond-true, Cons, Constructs, Container, content_text, cut_one, End, end_at, end_in, enter_at}
 use Rattle.parse_leaves.proofs.Prelude.{EntersAt, EntersText, eqb-true, exit_at, Exits, HasSameOpen, inline_content, Inlines, inlines_of, is_white}
@@ -21,14 +20,18 @@ use Rattle.engine_events.specs.declared.event.Name.TheVariants as n
 use Rattle.definition_text.specs.Runs.{is_run}
 use Rattle.definition_block.specs.HeadingSetext.{underline, underline_of}
 use Rattle.definition_page.specs.Page as page
+use Rattle.event_grammar.specs.declared.slot.Between.TheVariants.{Lines}
+use Rattle.event_grammar.specs.declared.slot.Form.TheVariants.{Plain}
 use Rattle.event_grammar.specs.InGrammar.{kids_of}
 use Rattle.event_meaning.specs.Blocks.{underline_rank}
 use Rattle.event_meaning.specs.Children.{child, inside_of}
 use Rattle.parse_laid.specs.Leaves.{IsSetextLaid}
 use Rattle.parse_laid.specs.Places.{InAll, IsOn}
+use Rattle.parse_slots.proofs.Steps.{filled_by}
 use Rattle.parse_lines.specs.Ends.{WritesNextLine, line_after}
 use Rattle.parse_lines.specs.Steps.{PassesLine}
 use Rattle.parse_raw.proofs.Nodes.{child_append, quiet_definitions, void_cases}
+use Rattle.parse_leaves.proofs.Fills.{setext_fill, text_filled}
 use Rattle.parse_leaves.proofs.TextLeaves.{enters_lines, none_alike, open_both}
 
 -- ---- the rank
@@ -222,7 +225,10 @@ module _ {A : Type 0} (text : List ℕ) where
         starts = entered.starts;
         begins = entered.begins;
         ends = index;
-        filled = λ is. absurd (false≢true is);
+        filled = λ known.
+            filled_by Lines Plain n.HeadingSetext [] node refl
+            (setext_fill text text_node (written_to b) to quiet u.before u.node refl
+            (text_filled Lines n.HeadingSetextText text_node refl refl (t.fill Lines tt)) done.2 u.are_quiet u.is_underline u.filled) refl;
       }
 
   pub setext_written : (r : Reading) (top : Bool) (rank : ℕ) (here : LineRest) (left : List LineRest) (to : Place) (ls : List BlockLine)

@@ -1,7 +1,5 @@
 -- Blocks that hold a text, as they are written (CommonMark 4.8).
 use Rattle.std.proofs.Common.{◌≡◌, ℕ, Bool, false, List, [], ◌++◌, refl, sym, ap, ◌∙◌, subst, map, drop, arith}
-use Rattle.parse_raw.specs.Written.{has_row}
-use Rattle.std.proofs.lemmas.Bool.{false≢true}
 use Rattle.std.specs.Prelude.{OnOk, Result, Ok, Err}
 use Rattle.parse_leaves.proofs.Prelude.{AreDefinitionsAlike, AreMeanings, ArePartsAlike, ArePlain, around, Around, AtEnding, Between, BlockLine, Constructs}
 use Rattle.parse_leaves.proofs.Prelude.{content_done, content_text, cut_one, definition_of, End, end_at, end_in, enter_at, EntersAt, EntersText, exit_at}
@@ -13,7 +11,14 @@ use Rattle.markdown_options.specs.declared.beside.Kind.TheVariants.{Whitespace}
 use Rattle.engine_events.specs.declared.event.Name.TheVariants as n
 use Rattle.definition_page.specs.Page as page
 use Rattle.definition_page.specs.Read.{read_paragraph}
+use Rattle.event_grammar.specs.declared.slot.Between.{Between as BetweenChildren}
+use Rattle.event_grammar.specs.declared.slot.Between.TheVariants.{Lines}
+use Rattle.event_grammar.specs.declared.slot.Form.TheVariants.{Plain}
+use Rattle.event_grammar.specs.Checks.{one_line}
+use Rattle.event_grammar.specs.Grammar.{row, text_row}
+use Rattle.parse_slots.specs.Left.{Fill}
 use Rattle.parse_laid.specs.Leaves.{AreText}
+use Rattle.parse_leaves.proofs.Fills.{text_filled}
 use Rattle.parse_leaves.proofs.Lines.{text_begins}
 
 -- three facts of a call that succeeds
@@ -64,9 +69,9 @@ module _ {A : Type 0} (text : List ℕ) where
       → ((ns : Nodes) (from to : End) → ArePlain ns
       → ((m m' : Meaning) → AreMeanings on names m m' → ArePartsAlike m m' is (inlines_of names text false ns))
       → SpellsLeaf on names text top leaf [] (Around (enter_at text name from) ns (exit_at text name to)))
-      → has_row leaf ≡ false
+      → row name Plain ≡ text_row → one_line Lines name ≡ Lines
       → WritesLeaf on names text top leaf [] stop.place old new
-  leaf_around on names top leaf name content is stop old a b new other none entered written exits same end spells untold =
+  leaf_around on names top leaf name content is stop old a b new other none entered written exits same end spells row_is lines =
       let ns = written.nodes in
       let from = end_in entered.space in
       let to = end_in b.out in
@@ -91,7 +96,9 @@ module _ {A : Type 0} (text : List ℕ) where
         starts = entered.starts;
         begins = entered.begins;
         ends = index;
-        filled = λ is. absurd (false≢true (sym untold ∙ is));
+        filled = λ known.
+            text_filled Lines name (Around (enter_at text name from) ns (exit_at text name to)) refl row_is
+            (subst (λ (b : BetweenChildren). Fill b text_row ns text_row) (sym lines) (written.fill Lines tt));
       }
 
   -- a paragraph
@@ -115,4 +122,4 @@ module _ {A : Type 0} (text : List ℕ) where
       subst (λ p. WritesLeaf on names text top (page.Paragraph is) [] p old new) to_is
       (leaf_around on names top (page.Paragraph is) n.Paragraph (content_text ls) is stop old a b new refl refl entered.2
       (writes text stop entered.2.stands entered.2.white) exits same end
-      (λ ns from end plain spells. paragraph_spells on names text top is ns from end plain spells) refl)
+      (λ ns from end plain spells. paragraph_spells on names text top is ns from end plain spells) refl refl)

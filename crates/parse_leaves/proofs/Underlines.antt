@@ -12,6 +12,10 @@ use Rattle.event_tokens.specs.Tokens.{is_among}
 use Rattle.parse_lines.proofs.Runs.{run_fits}
 use Rattle.parse_leaves.specs.Entered.{AreUnderline}
 use Rattle.engine_events.specs.declared.event.Name.TheVariants as n
+use Rattle.event_grammar.specs.declared.slot.Between.TheVariants.{Lines}
+use Rattle.event_grammar.specs.declared.slot.Form.TheVariants.{Plain}
+use Rattle.parse_slots.proofs.Steps.{filled_by}
+use Rattle.parse_leaves.proofs.Fills.{underline_fill}
 use Rattle.parse_leaves.proofs.TextLeaves.{open_both}
 use Rattle.parse_raw.proofs.Tokens.{run_some}
 
@@ -76,6 +80,7 @@ module _ {A : Type 0} (text : List ℕ) where
             ∙ first_of_front front rest some_front ∙ ap (λ bs. get_or bs 0 0) (take-append-drop size bytes ∙ all);
         definitions =
             ap (λ (ds : List Node). ds ++ []) (named_pair sequence space (sequence_named text i front) (space_named text j rest));
+        filled = filled_by Lines Plain n.HeadingSetextUnderline [] node refl (underline_fill text i j front rest some_front) refl;
         writes = writes_both text old.out a.out new.out white.quiet.nodes (one node) white.quiet.writes whole.writes;
         at = whole.on.at;
         written = on_end text ending left new whole.on;

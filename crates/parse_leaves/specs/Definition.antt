@@ -9,10 +9,13 @@ use Rattle.definition_inline.specs.CharacterReference.{Names}
 use Rattle.definition_inline.specs.Definition.{Definition}
 use Rattle.definition_page.specs.Page as page
 use Rattle.definition_page.specs.Read.{Reading}
+use Rattle.event_grammar.specs.declared.slot.Between.TheVariants.{Lines}
+use Rattle.event_grammar.specs.declared.slot.Form.TheVariants.{Plain}
 use Rattle.event_grammar.specs.Trees.{Node, Nodes}
 use Rattle.parse_output.specs.Ends.{end_at}
 use Rattle.parse_output.specs.Forest.{append, one}
 use Rattle.parse_output.specs.Written.{IsInOrder, Writes}
+use Rattle.parse_slots.specs.Left.{IsFilled}
 use Rattle.parse_laid.specs.Laid.{IsWrittenLaid}
 use Rattle.parse_laid.specs.Places.{LineRest, Place, Within}
 use Rattle.parse_lines.specs.declared.walk.Walk.{Walk}
@@ -50,6 +53,7 @@ pub record WritesDefinition {A : Type 0} (on : Constructs) (names : Names) (text
   pub starts : (written_to old).index ≤ (node_start node).index
   pub begins : (node_start node).index ≤ old.line_end
   pub ends : IsOnOneLine text (node_end node).index new.line_end
+  pub filled : IsFilled Lines Plain node
 
 -- Where a definition is laid that begins on the line that is begun, and all before it is written, it is written with its label, its destination and its title.
 abbrev pub WritesReadDefinition : {A : Type 0} → Reading → LeafBlock → Walk A → Walk A → Type 0

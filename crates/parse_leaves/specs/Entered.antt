@@ -14,6 +14,8 @@ use Rattle.definition_inline.specs.CharacterReference.{Names}
 use Rattle.definition_inline.specs.Inline.{Inlines}
 use Rattle.definition_page.specs.InlinePieces.{Meaning}
 use Rattle.definition_page.specs.Read.{Reading}
+use Rattle.event_grammar.specs.declared.slot.Between.TheVariants.{Lines}
+use Rattle.event_grammar.specs.declared.slot.Form.TheVariants.{Plain}
 use Rattle.event_grammar.specs.InGrammar.{kids_of, node_name}
 use Rattle.event_grammar.specs.References.{named}
 use Rattle.event_grammar.specs.Trees.{Node, Nodes, Around}
@@ -25,6 +27,7 @@ use Rattle.parse_output.specs.Forest.{append, one}
 use Rattle.parse_output.specs.declared.output.Output.{Output}
 use Rattle.parse_output.specs.Written.{Enters, IsInOrder, Writes, end_in}
 use Rattle.parse_alike.specs.Inline.{ArePartsAlike}
+use Rattle.parse_slots.specs.Left.{IsFilled}
 use Rattle.parse_laid.specs.Leaves.{AreTaken}
 use Rattle.parse_laid.specs.Places.{LineRest, Between, Within, AtEnding}
 use Rattle.parse_lines.specs.declared.walk.Walk.{Walk}
@@ -34,7 +37,7 @@ use Rattle.parse_lines.specs.Quiet.{AreQuiet}
 use Rattle.parse_lines.specs.Standing.{StandsAt, around, standing}
 use Rattle.parse_lines.specs.Steps.{HasSameOpen}
 use Rattle.parse_strings.specs.Plain.{ArePlain}
-use Rattle.parse_inline.specs.Texts.{AreMeanings}
+use Rattle.parse_inline.specs.Texts.{AreMeanings, FillsText}
 
 -- An event is entered in a content, after white space at its start, which spells nothing.
 pub record EntersAt {A : Type 0} (text : List ℕ) (name : Name) (content : List ℕ) (stop : Stop) (old new : Walk A) : Type 0 where
@@ -60,8 +63,8 @@ EntersText name old new =
     → IsWrittenToRest old → IsInOrder text old.out → AreTaken old.on.now (around (standing old)) IsRestLine others (Between left) (Between after)
     → let ls = rest_line here.rest here.beside ∷ others in EntersAt text name (content_text ls) (text_stop ls after) old new
 
--- An event of a name is written that holds all that is left of a text, and the walk is where the content ends.
-pub record WritesTextIn {A : Type 0} (on : Constructs) (names : Names) (text : List ℕ) (name : Name) (is : Inlines)
+-- An event of a name is written that holds all that is left of a text, which is these bytes, and the walk is where the content ends.
+pub record WritesTextIn {A : Type 0} (on : Constructs) (names : Names) (text : List ℕ) (name : Name) (front : List ℕ) (is : Inlines)
     (stop : Stop) (old new : Walk A) : Type 0 where
   pub nodes : Nodes
   pub from : End
@@ -69,6 +72,7 @@ pub record WritesTextIn {A : Type 0} (on : Constructs) (names : Names) (text : L
   pub writes : Writes text old.out new.out (one (Around (enter_at text name from) nodes (exit_at text name to)))
   pub spells : (m m' : Meaning) → AreMeanings on names m m' → ArePartsAlike m m' is (inlines_of names text false nodes)
   pub plain : ArePlain nodes
+  pub fill : FillsText front nodes
   pub at : StandsAt text stop.place (standing new)
   pub whole : (end_in new.out).owed ≡ 0
   pub index : (end_in new.out).index + stop.behind ≡ new.line_end
@@ -78,7 +82,7 @@ pub record WritesTextIn {A : Type 0} (on : Constructs) (names : Names) (text : L
 abbrev pub WritesContentIn : {A : Type 0} → Reading → Name → List ℕ → Inlines → Walk A → Walk A → Type 0
 WritesContentIn r name content is old new =
     (text : List ℕ) (stop : Stop) → StandsInContent text (drop old.place content) stop old → old.place ≤ prefix_len is_white content
-    → WritesTextIn r.parse.constructs r.tables.names text name is stop old new
+    → WritesTextIn r.parse.constructs r.tables.names text name (drop old.place content) is stop old new
 
 -- bytes of an underline: its first byte, again and again, and then only spaces and tabs (CommonMark 4.3)
 abbrev pub AreUnderline : List ℕ → Type 0
@@ -92,6 +96,7 @@ pub record WritesUnderline {A : Type 0} (text : List ℕ) (here : LineRest) (lef
   pub is_underline : node_name node ≡ n.HeadingSetextUnderline
   pub marker : slice_index (text_in text n.HeadingSetextUnderlineSequence (kids_of node)) 0 ≡ slice_index (bytes_of (bare here.rest)) 0
   pub definitions : named n.Definition (one node) ≡ []
+  pub filled : IsFilled Lines Plain node
   pub writes : Writes text old.out new.out (append before (one node))
   pub at : StandsAt text (AtEnding here.beside.ending left) (standing new)
   pub written : written_to new ≡ end_at new.line_end 0

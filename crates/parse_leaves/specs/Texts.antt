@@ -15,7 +15,7 @@ use Rattle.parse_lines.specs.declared.walk.Walk.{Walk}
 use Rattle.event_grammar.specs.Trees.{Nodes}
 use Rattle.parse_lines.specs.InContent.{IsWhole, StandsInContent, Stop, WritesInContent}
 use Rattle.parse_lines.specs.Quiet.{AreQuiet}
-use Rattle.parse_inline.specs.Texts.{StandsInText, WritesText}
+use Rattle.parse_inline.specs.Texts.{FillsText, StandsInText, WritesText}
 use Rattle.parse_raw.specs.declared.texts.Texts.{Texts}
 
 -- the labels that texts are read by are those of these targets
@@ -50,6 +50,7 @@ pub record WritesWhite {A : Type 0} (text content : List ℕ) (stop : Stop) (old
   pub writes : WritesInContent text front nodes (without_white content) stop old new
   pub whole : IsWhole new
   pub ahead : without_white content ≡ drop new.place content
+  pub fill : FillsText front nodes
 
 -- from such a walk it is written
 abbrev pub WritesIndent : {A : Type 0} → List ℕ → Walk A → Walk A → Type 0
