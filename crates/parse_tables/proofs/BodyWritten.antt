@@ -69,6 +69,7 @@ head_written r line old entered rowed begun delimited new enters row passes writ
         are_quiet = d.are_quiet;
         delimiters = d.node;
         delimiters_name = d.name;
+        delimiters_filled = d.filled;
         on_next = on_next text here.beside.ending below left rowed begun (append d.space (one d.node)) b;
         aligns = d.aligns;
         definitions = d.definitions;

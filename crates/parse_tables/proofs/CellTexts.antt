@@ -8,8 +8,10 @@ use Rattle.parse_tables.proofs.Prelude.{WritesInCell, WritesInContent}
 use Rattle.text_pieces.specs.ParagraphLines.{HaveNoEnding}
 use Rattle.definition_inline.specs.Scan.{inlines}
 use Rattle.engine_events.specs.declared.event.Name.TheVariants as n
+use Rattle.event_grammar.specs.declared.slot.Between.TheVariants.{Spaces}
 use Rattle.event_meaning.specs.Texts.{inlines_of}
 use Rattle.parse_alike.proofs.Composed.{alike_parts_compose}
+use Rattle.parse_tables.proofs.Fills.{cell_text}
 use Rattle.parse_tables.proofs.Parts.{part_entered, part_left, stop_before}
 use Rattle.parse_tables.proofs.Steps.{dark_front}
 
@@ -107,8 +109,9 @@ module _ {A : Type 0} (r : Reading) (text behind : List ℕ) (ending : Option Li
       let inside : WritesInContent text bytes w.nodes [] stop entered texted =
       subst (λ (xs : List ℕ). WritesInContent text xs w.nodes [] stop entered texted) ahead w.writes in
       let parts = content_is r.tables.is_punctuation before after codes found in
+      let node = Around (enter_at text n.GfmTableCellText (end_in old.out)) w.nodes (exit_at text n.GfmTableCellText (end_in texted.out)) in
       record {
-        nodes = one (Around (enter_at text n.GfmTableCellText (end_in old.out)) w.nodes (exit_at text n.GfmTableCellText (end_in texted.out)));
+        nodes = one node;
         writes = part_left text ending left behind old begun entered texted new n.GfmTableCellText bytes w.nodes b out.1 same e inside exits leaves;
         spells = λ m m' are.
             alike_parts_compose.in_cells m m' (inlines (context_of r) (with_kinds r.tables.is_punctuation None before after (map code_byte codes)))
@@ -118,4 +121,5 @@ module _ {A : Type 0} (r : Reading) (text behind : List ℕ) (ending : Option Li
           definitions = ap (λ (xs : List Node). xs ++ []) w.plain.definitions;
           columns = ap (λ (xs : List Node). xs ++ []) w.plain.columns;
         };
+        fill = cell_text node refl (w.fill Spaces (ap (list_any ends_line) ahead ∙ dark));
       }

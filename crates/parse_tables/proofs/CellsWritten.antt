@@ -15,9 +15,14 @@ use Rattle.definition_inline.specs.Inline as inline
 use Rattle.definition_inline.specs.Scan.{inlines_from, without_indent}
 use Rattle.definition_page.specs.GfmTable.{in_cell}
 use Rattle.engine_events.specs.declared.event.Name.TheVariants as n
+use Rattle.event_grammar.specs.declared.slot.Between.TheVariants.{Spaces}
+use Rattle.event_grammar.specs.declared.slot.Form.TheVariants.{Plain}
 use Rattle.event_meaning.specs.Texts.{text_within}
+use Rattle.parse_slots.proofs.Steps.{fill_both, fill_none}
+use Rattle.parse_leaves.proofs.Fills.{filled_up}
 use Rattle.parse_tables.proofs.Steps.{IsEntered, IsExited, IsToken, around_written, before_both, before_none, token_written}
-use Rattle.parse_tables.specs.Cells.{WritesCell, WritesCellHere, WritesFirstCells}
+use Rattle.parse_tables.specs.Cells.{WritesCell, WritesCellHere, WritesFirstCells, cells_row}
+use Rattle.parse_tables.proofs.Fills.{bar_part, cell_part, cell_space, space_part}
 use Rattle.parse_tables.proofs.CellNodes.{children_both, children_void, in_row_both, in_row_none, in_row_void, spell_after, spell_both, spell_one}
 
 -- ---- a cell of white space has no text
@@ -75,6 +80,7 @@ module _ {A : Type 0} (r : Reading) (text : List ℕ) (ending : Option LineEndin
         spells = λ m m' are.
             subst (λ is. ArePartsAlike m m' is (in_cell (text_within r.tables.names text false ns))) (sym (blank_reads r c blank)) (ap in_cell nothing);
         in_row = in_row_void text n.SpaceOrTab from to refl refl refl;
+        fill = cell_space text from to;
       }
 
   -- ---- a cell of a line
@@ -83,9 +89,11 @@ module _ {A : Type 0} (r : Reading) (text : List ℕ) (ending : Option LineEndin
       → IsEntered n.GfmTableCell old entered → WritesInCell r text c behind ending left entered inside → IsExited n.GfmTableCell inside new
       → WritesCell r text c behind ending left old new
   cell_written old entered inside new c bytes behind before enters w exits =
+      let node = Around (enter_at text n.GfmTableCell (end_in old.out)) w.nodes (exit_at text n.GfmTableCell (end_in inside.out)) in
       record {
-        node = Around (enter_at text n.GfmTableCell (end_in old.out)) w.nodes (exit_at text n.GfmTableCell (end_in inside.out));
+        node = node;
         name = refl;
+        filled = filled_up Spaces Plain n.GfmTableCell node refl w.fill;
         writes = around_written text ending left old entered inside new n.GfmTableCell bytes behind w.nodes before enters w.writes exits;
         spells = w.spells;
         in_row = record {
@@ -114,6 +122,7 @@ module _ {A : Type 0} (r : Reading) (text : List ℕ) (ending : Option LineEndin
         spell = spell_after r text (c ∷ []) (one w.node) bar (children_void text n.GfmTableCell n.GfmTableCellDivider from to refl refl)
             (spell_one r text c w.node w.name w.spells);
         in_row = in_row_both (one w.node) bar w.in_row (in_row_void text n.GfmTableCellDivider from to refl refl refl);
+        fill = fill_both (cell_part w.node w.name w.filled) (bar_part text from to);
       }
 
   -- with none, as the last one
@@ -128,6 +137,7 @@ module _ {A : Type 0} (r : Reading) (text : List ℕ) (ending : Option LineEndin
         writes = w.writes;
         spell = spell_one r text c w.node w.name w.spells;
         in_row = w.in_row;
+        fill = cell_part w.node w.name w.filled;
       }
 
   -- ---- cells, one after another
@@ -144,6 +154,7 @@ module _ {A : Type 0} (r : Reading) (text : List ℕ) (ending : Option LineEndin
         writes = before_none text ending left w bytes before;
         spell = λ m m' are. tt;
         in_row = in_row_none;
+        fill = fill_none Spaces cells_row;
       }
 
   pub more_cells : (old now new : Walk A) (cs mid last : List Cell) → WritesFirstCells r text cs mid ending left old now
@@ -159,6 +170,7 @@ module _ {A : Type 0} (r : Reading) (text : List ℕ) (ending : Option LineEndin
         writes = before_both text ending left old now new first.behind second.behind first.nodes second.nodes first.writes second.writes;
         spell = spell_both r text first.done second.done first.nodes second.nodes first.spell second.spell;
         in_row = in_row_both first.nodes second.nodes first.in_row second.in_row;
+        fill = fill_both first.fill second.fill;
       }
 
 -- some of the cells are written
@@ -235,6 +247,7 @@ module _ {A : Type 0} (bytes : List ℕ) (white : ℕ) (is : white ≡ prefix_le
         writes = before_none text ending left w (after_first_bar bytes) (subst (λ (xs : List ℕ). IsBefore text xs ending left w) (sym none) before);
         no_cell = refl;
         in_row = in_row_none;
+        fill = fill_none Spaces cells_row;
       }
 
   -- white space, and the bar
@@ -273,6 +286,7 @@ module _ {A : Type 0} (bytes : List ℕ) (white : ℕ) (is : white ≡ prefix_le
             (children_void text n.GfmTableCell n.GfmTableCellDivider at_bar after_bar refl refl);
         in_row = in_row_both ns ms (in_row_void text n.SpaceOrTab start there refl refl refl)
             (in_row_void text n.GfmTableCellDivider at_bar after_bar refl refl refl);
+        fill = fill_both (space_part text start there) (bar_part text at_bar after_bar);
       }
     where
       first_is : (xs : List ℕ) (b : ℕ) → slice_index xs 0 ≡ b → 0 < b → xs ≡ b ∷ drop 1 xs

@@ -3,14 +3,22 @@ use Rattle.std.proofs.Common.{◌≡◌, ◌<◌, ℕ, zero, suc, ◌+◌, Bool,
 use Rattle.parse_tables.proofs.Prelude.{AlignKind, alignment, and_parts, append, Around, begins_other, colon_if, cond-false, cond_both, Cons, cut, End, end_at}
 use Rattle.parse_tables.proofs.Prelude.{enter_at, exit_at, if◌then◌else◌, Name, named, named_both, Nil, Node, Nodes, one, run, same_end, same_name}
 use Rattle.parse_tables.proofs.Prelude.{value_align, void_nodes}
-use Rattle.std.specs.Prelude.{not, ◌&&◌, drop}
+use Rattle.std.specs.Prelude.{not, ◌&&◌, drop, Some}
 use Rattle.std.proofs.lemmas.Bool.{not-true}
 use Rattle.engine_events.specs.declared.event.Event.{Event}
 use Rattle.engine_events.specs.declared.event.Name.TheVariants as n
 use Rattle.event_check.specs.Align.{align_of, mark, marks, marks_in}
 use Rattle.event_check.specs.declared.align.Marks.{Marks}
-use Rattle.parse_slots.proofs.Voids.{void_is}
+use Rattle.event_grammar.specs.declared.slot.Between.TheVariants.{Spaces}
+use Rattle.event_grammar.specs.declared.slot.Form.TheVariants.{Plain}
+use Rattle.event_grammar.specs.declared.slot.Slot.{Slot}
+use Rattle.event_grammar.specs.Grammar.{many, one as one_slot, opt, row}
+use Rattle.event_grammar.specs.Slots.{take_child}
+use Rattle.parse_slots.specs.Left.{Fill, IsFilled, took}
+use Rattle.parse_slots.proofs.Steps.{fill_both, fill_none, fill_taken, filled_by}
+use Rattle.parse_slots.proofs.Voids.{further_apart, void_is, void_taken}
 use Rattle.parse_lines.proofs.Quiet.{no_void}
+use Rattle.parse_links.specs.Tails.{FillsTo, MayEnd}
 
 -- ---- runs
 
@@ -121,6 +129,58 @@ aligned true false = refl
 aligned false true = refl
 aligned false false = refl
 
+-- ---- the row of the grammar
+
+-- what is left of the row of a delimiter after the first colon, after the dashes, and of that around it
+abbrev dashes_slots : List Slot
+dashes_slots = one_slot n.GfmTableDelimiterFiller ∷ opt n.GfmTableDelimiterMarker ∷ []
+
+abbrev colon_slots : List Slot
+colon_slots = opt n.GfmTableDelimiterMarker ∷ []
+
+abbrev bar_slots : List Slot
+bar_slots = many n.GfmTableCellDivider ∷ []
+
+-- dashes may follow, and then a colon or nothing
+abbrev TakesDashes : List Slot → Type 0
+TakesDashes slots = take_child slots n.GfmTableDelimiterFiller ≡ Some (took Plain colon_slots)
+
+no_colon : (slots : List Slot) (text : List ℕ) (e : End) → e.owed ≡ 0
+    → Fill Spaces slots (void_nodes text n.GfmTableDelimiterMarker e (end_at (e.index + 0) 0)) slots
+no_colon slots text e bare =
+    let here : e.index ≡ e.index + 0 = omega arith in
+    subst (λ (ns : Nodes). Fill Spaces slots ns slots) (sym (no_void text n.GfmTableDelimiterMarker e (end_at (e.index + 0) 0) (ap₂ end_at here bare)))
+    (fill_none Spaces slots)
+
+one_colon : (slots rest : List Slot) (text : List ℕ) (e : End) → take_child slots n.GfmTableDelimiterMarker ≡ Some (took Plain rest)
+    → Fill Spaces slots (void_nodes text n.GfmTableDelimiterMarker e (end_at (e.index + suc zero) 0)) rest
+one_colon slots rest text e takes =
+    void_taken Spaces slots n.GfmTableDelimiterMarker Plain rest text e (end_at (e.index + suc zero) 0)
+    (further_apart e (end_at (e.index + suc zero) 0) (omega arith)) refl takes refl
+
+dashes_fill : (slots : List Slot) (text : List ℕ) (e : End) (k : ℕ) → TakesDashes slots
+    → Fill Spaces slots (void_nodes text n.GfmTableDelimiterFiller e (end_at (e.index + suc k) 0)) colon_slots
+dashes_fill slots text e k takes =
+    void_taken Spaces slots n.GfmTableDelimiterFiller Plain colon_slots text e (end_at (e.index + suc k) 0)
+    (further_apart e (end_at (e.index + suc k) 0) (omega arith)) refl takes refl
+
+first_fill : (text : List ℕ) (e : End) (first : Bool) → e.owed ≡ 0
+    → FillsTo (row n.GfmTableDelimiterCellValue Plain) TakesDashes Spaces
+    (void_nodes text n.GfmTableDelimiterMarker e (end_at (e.index + length (colon_if first)) 0))
+first_fill text e true bare = record { rest = dashes_slots; fill = one_colon (row n.GfmTableDelimiterCellValue Plain) dashes_slots text e refl; ends = refl }
+first_fill text e false bare = record {
+  rest = row n.GfmTableDelimiterCellValue Plain;
+  fill = no_colon (row n.GfmTableDelimiterCellValue Plain) text e bare;
+  ends = refl;
+}
+
+last_fill : (text : List ℕ) (e : End) (last : Bool) → e.owed ≡ 0
+    → FillsTo colon_slots MayEnd Spaces (void_nodes text n.GfmTableDelimiterMarker e (end_at (e.index + length (colon_if last)) 0))
+last_fill text e true bare = record { rest = []; fill = one_colon colon_slots [] text e refl; ends = refl }
+last_fill text e false bare = record { rest = colon_slots; fill = no_colon colon_slots text e bare; ends = refl }
+
+-- ---- a delimiter
+
 -- the nodes of the parts of a delimiter, from an end on
 module _ (text : List ℕ) (e : End) (first last : Bool) (count : ℕ) where
   abbrev after_colon : End
@@ -173,3 +233,16 @@ module _ (text : List ℕ) (e : End) (first last : Bool) (count : ℕ) where
 
   pub column_definitions : named n.Definition (one column_node) ≡ []
   column_definitions = ap (λ (xs : List Node). (xs ++ []) ++ []) (none_named n.Definition refl refl)
+
+  -- and fills its row
+  value_filled : e.owed ≡ 0 → IsFilled Spaces Plain value_node
+  value_filled bare =
+      let left = first_fill text e first bare in
+      let right = last_fill text after_dashes last refl in
+      filled_by Spaces Plain n.GfmTableDelimiterCellValue right.rest value_node refl
+      (fill_both left.fill (fill_both (dashes_fill left.rest text after_colon count left.ends) right.fill)) right.ends
+
+  pub column_filled : e.owed ≡ 0 → IsFilled Spaces Plain column_node
+  column_filled bare =
+      filled_by Spaces Plain n.GfmTableDelimiterCell bar_slots column_node refl
+      (fill_taken Spaces (row n.GfmTableDelimiterCell Plain) n.GfmTableDelimiterCellValue Plain bar_slots value_node refl refl (value_filled bare)) refl

@@ -7,7 +7,8 @@ use Rattle.std.specs.List.{list_all}
 use Rattle.std.specs.Prelude.{codes}
 use Rattle.event_tokens.specs.Tokens.{is_among, is_token}
 use Rattle.engine_events.specs.declared.event.Name.TheVariants as n
-use Rattle.parse_tables.proofs.ColumnNodes.{column_aligns, column_definitions, column_end, column_kids, column_node, runs_of, value_node}
+use Rattle.parse_tables.proofs.ColumnNodes.{column_aligns, column_definitions, column_end, column_filled, column_kids, column_node, runs_of, value_node}
+use Rattle.parse_tables.proofs.Fills.{cell_columns}
 use Rattle.parse_tables.proofs.Steps.{IsEntered, IsExited, IsToken, around_written, before_both, entered_before, place_fits, token_written}
 
 colon_fits : (some : Bool) → is_token n.GfmTableDelimiterMarker (colon_if some) ≡ true
@@ -95,5 +96,6 @@ module _ {A : Type 0} (w0 w1 w2 w3 w4 w5 w6 w7 : Walk A) (bytes : List ℕ) wher
           writes = cell_done;
           aligns = column_aligns text e first last k b2.bare;
           definitions = column_definitions text e first last k;
+          fill = cell_columns (alignment first last ∷ []) (column_node text e first last k) refl (column_filled text e first last k b2.bare);
         };
       }

@@ -263,3 +263,20 @@ row_delimited bytes aligns h =
           (some_are (alignments_of (cells Whitespace bytes)) aligns (sym (cond-true (list_any is_bar_or_colon bytes) (some_alignments (alignments_of (cells Whitespace bytes))) None e) ∙ h)))
       | inr e ↦ absurd (let wrong : None ≡ Some aligns = sym (cond-false (list_any is_bar_or_colon bytes) _ None e) ∙ h in cc)
     ]
+
+none_aligned : (found : Option (List AlignKind)) (aligns : List AlignKind) → some_alignments found ≡ Some aligns → aligns ≡ [] → ⊥
+none_aligned None aligns h empty = absurd (let wrong : None ≡ Some aligns = h in cc)
+none_aligned (Some []) aligns h empty = absurd (let wrong : None ≡ Some aligns = h in cc)
+none_aligned (Some (a ∷ more)) aligns h empty =
+    let same : a ∷ more ≡ aligns = (let all : Some (a ∷ more) ≡ Some aligns = h in cc) in
+    let size = ap length (same ∙ empty) in
+    absurd (omega (arith, size))
+
+-- A row of delimiters has some columns.
+pub some_columns : (bytes : List ℕ) (aligns : List AlignKind) → delimiters bytes ≡ Some aligns → aligns ≡ [] → ⊥
+some_columns bytes aligns h empty = elim (cases_Bool (list_any is_bar_or_colon bytes)) [
+  | inl e ↦
+      none_aligned (alignments_of (cells Whitespace bytes)) aligns
+      (sym (cond-true (list_any is_bar_or_colon bytes) (some_alignments (alignments_of (cells Whitespace bytes))) None e) ∙ h) empty
+  | inr e ↦ absurd (let wrong : None ≡ Some aligns = sym (cond-false (list_any is_bar_or_colon bytes) _ None e) ∙ h in cc)
+]

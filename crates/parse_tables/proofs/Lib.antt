@@ -1,4 +1,5 @@
 mod Prelude
+pub mod Fills
 pub mod Steps
 pub mod CellBytes
 pub mod Parts

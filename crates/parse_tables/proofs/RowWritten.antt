@@ -13,9 +13,10 @@ use Rattle.event_tokens.specs.Tokens.{is_token}
 use Rattle.parse_lines.proofs.White.{all_prefix}
 use Rattle.engine_events.specs.declared.event.Name.TheVariants as n
 use Rattle.block_starts.specs.View.{rest_of}
-use Rattle.parse_tables.specs.Columns.{WritesColumn, WritesColumns, WritesDelimiters, WritesPart, WritesPartHere}
+use Rattle.parse_tables.specs.Columns.{FillColumns, WritesColumn, WritesColumns, WritesDelimiters, WritesPart, WritesPartHere}
 use Rattle.parse_tables.proofs.ColumnNodes.{named_void}
-use Rattle.parse_tables.proofs.Delimited.{row_delimited}
+use Rattle.parse_tables.proofs.Delimited.{row_delimited, some_columns}
+use Rattle.parse_tables.proofs.Fills.{bar_columns, columns_both, delimiters_filled, no_columns, space_columns}
 use Rattle.parse_tables.proofs.LineStarts.{before_bare}
 use Rattle.parse_tables.proofs.Steps.{IsEntered, IsExited, IsToken, around_written, before_both, before_none, entered_before, token_written}
 
@@ -82,14 +83,16 @@ module _ {A : Type 0} (w0 w1 : Walk A) (bytes : List ℕ) where
   -- a token that holds no delimiter
   token_columns : (text : List ℕ) (ending : Option LineEnding) (left : List LineRest) (name : Name) (size : ℕ) (front line : List ℕ) → IsToken name size w0 w1
       → size ≡ length front → is_token name front ≡ true → IsBefore text (front ++ line) ending left w0 → same_name name n.Data ≡ false → same_name name n.GfmTableDelimiterCellValue ≡ false
-      → same_name name n.Definition ≡ false → WritesColumns text line ending left [] w0 w1
-  token_columns text ending left name size front line t is may b no_data no_column no_definition =
+      → same_name name n.Definition ≡ false → FillColumns [] (void_nodes text name (end_in w0.out) (end_at ((end_in w0.out).index + size) 0))
+      → WritesColumns text line ending left [] w0 w1
+  token_columns text ending left name size front line t is may b no_data no_column no_definition fill =
       record {
         nodes = void_nodes text name (end_in w0.out) (end_at ((end_in w0.out).index + size) 0);
         writes = token_written text ending left w0 w1 name size front line t is may b;
         aligns =
             ap (map value_align) (named_void text n.GfmTableDelimiterCellValue name (end_in w0.out) (end_at ((end_in w0.out).index + size) 0) no_data no_column);
         definitions = named_void text n.Definition name (end_in w0.out) (end_at ((end_in w0.out).index + size) 0) no_data no_definition;
+        fill = fill;
       }
 
   pub bar_part : slice_index bytes 0 ≡ 124 → IsToken n.GfmTableCellDivider 1 w0 w1 → WritesPartHere bytes 1 w0 w1
@@ -106,7 +109,9 @@ module _ {A : Type 0} (w0 w1 : Walk A) (bytes : List ℕ) where
             later = columns;
             all = refl;
             rest = after_bar x bs columns is d;
-            writes = token_columns text ending left n.GfmTableCellDivider 1 (x ∷ []) bs t refl (ap (λ (y : ℕ). is_token n.GfmTableCellDivider (y ∷ [])) is) b refl refl refl;
+            writes =
+                token_columns text ending left n.GfmTableCellDivider 1 (x ∷ []) bs t refl (ap (λ (y : ℕ). is_token n.GfmTableCellDivider (y ∷ [])) is) b refl refl refl
+                (bar_columns text (end_in w0.out) (end_at ((end_in w0.out).index + 1) 0) (omega arith));
           }
 
   pub white_part : (size : ℕ) → size ≡ prefix_len is_white bytes → 0 < size → IsToken n.SpaceOrTab size w0 w1
@@ -123,7 +128,8 @@ module _ {A : Type 0} (w0 w1 : Walk A) (bytes : List ℕ) where
         writes =
             token_columns text ending left n.SpaceOrTab size (take size bytes) (drop size bytes) t (sym front)
             (all_prefix is_white size bytes (omega (arith, is)))
-            (subst (λ xs. IsBefore text xs ending left w0) (sym (take-append-drop size bytes)) b) refl refl refl;
+            (subst (λ xs. IsBefore text xs ending left w0) (sym (take-append-drop size bytes)) b) refl refl refl
+            (space_columns text (end_in w0.out) (end_at ((end_in w0.out).index + size) 0));
       }
 
   pub other_part : (size : ℕ) → (slice_index bytes 0 ≡ 124 → ⊥) → prefix_len is_white bytes ≡ 0 → WritesColumnHere bytes size w0 w1
@@ -205,6 +211,7 @@ module _ {A : Type 0} (old : Walk A) where
               (entered_before text here.beside.ending left bare_walk entered n.GfmTableDelimiterRow bytes enters first_bytes.before);
           aligns = refl;
           definitions = refl;
+          fill = no_columns;
         };
       }
 
@@ -234,6 +241,7 @@ module _ {A : Type 0} (old : Walk A) where
               ∙ map-append value_align (named n.GfmTableDelimiterCellValue s.written.nodes) (named n.GfmTableDelimiterCellValue p.writes.nodes)
               ∙ ap₂ (λ (xs ys : List AlignKind). xs ++ ys) s.written.aligns p.writes.aligns;
           definitions = named_both n.Definition s.written.nodes p.writes.nodes ∙ ap₂ (λ (xs ys : List Node). xs ++ ys) s.written.definitions p.writes.definitions;
+          fill = columns_both s.done p.now s.written.nodes p.writes.nodes s.written.fill p.writes.fill;
         };
       } in
       subst (λ (k : ℕ). RowSoFar text here.beside.ending left columns (drop k rest) old next) (sym step) moved
@@ -247,6 +255,7 @@ module _ {A : Type 0} (old : Walk A) where
       let row = around_written text here.beside.ending left s.bare_walk s.entered now new n.GfmTableDelimiterRow s.bytes rest ns s.first.before s.enters
       s.written.writes exits in
       let node = Around (enter_at text n.GfmTableDelimiterRow (end_in s.bare_walk.out)) ns (exit_at text n.GfmTableDelimiterRow (end_in now.out)) in
+      let all_done : s.done ≡ columns = sym (append-nil s.done) ∙ ap (λ xs. s.done ++ xs) (sym done.1) ∙ sym s.all in
       record {
         space = s.space;
         are_quiet = s.are_quiet;
@@ -254,9 +263,10 @@ module _ {A : Type 0} (old : Walk A) where
         name = refl;
         writes = subst (λ xs. WritesTo text xs here.beside.ending left (append s.space (one node)) old new) done.0
             (before_both text here.beside.ending left old s.bare_walk new s.bytes rest s.space (one node) s.first row);
-        aligns = ap (map value_align) (append-nil (named n.GfmTableDelimiterCellValue ns)) ∙ s.written.aligns ∙ sym (append-nil s.done)
-            ∙ ap (λ xs. s.done ++ xs) (sym done.1) ∙ sym s.all;
+        aligns = ap (map value_align) (append-nil (named n.GfmTableDelimiterCellValue ns)) ∙ s.written.aligns ∙ all_done;
         definitions = append-nil (named n.Definition ns) ∙ s.written.definitions;
+        filled =
+            delimiters_filled s.done node refl (λ empty. some_columns (bytes_of (bare here.rest)) columns found (sym all_done ∙ empty)) s.written.fill;
       }
     where
       no_rest : (rest : List ℕ) → length rest ≡ 0 → {later : List AlignKind} → AreDelimiters rest later → (rest ≡ []) × (later ≡ [])

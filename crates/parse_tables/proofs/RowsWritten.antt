@@ -13,7 +13,9 @@ use Rattle.parse_output.proofs.Forests.{append-assoc as nodes_assoc}
 use Rattle.parse_lines.specs.Ends.{line_after}
 use Rattle.parse_raw.proofs.Bytes.{ending_token, line_ending_fits}
 use Rattle.parse_raw.proofs.Endings.{ending_nodes}
+use Rattle.parse_slots.proofs.Steps.{fill_both}
 use Rattle.parse_tables.proofs.CellBytes.{AreLineCodes, cells_are}
+use Rattle.parse_tables.proofs.Fills.{row_filled, space_part}
 use Rattle.parse_tables.proofs.LineStarts.{before_rest}
 use Rattle.parse_tables.proofs.Steps.{IsEntered, IsExited, before_after, before_both, before_none, before_token, open_both, same_open}
 use Rattle.parse_tables.specs.Rows.{WritesNextRowHere}
@@ -122,8 +124,9 @@ module _ {A : Type 0} (r : Reading) (line : BlockLine) (owed : ℕ) (bytes : Lis
       (in_row_both bar.nodes (append cs.nodes ms) bar.in_row
       (in_row_both cs.nodes ms cs.in_row (in_row_void text n.SpaceOrTab behind line_end refl refl refl))) in
       let done : line_cells line ≡ cs.done = cs.all ∙ append-nil cs.done in
+      let node = Around (enter_at text n.GfmTableRow (end_in old.out)) kids (exit_at text n.GfmTableRow (end_in all.out)) in
       record {
-        node = Around (enter_at text n.GfmTableRow (end_in old.out)) kids (exit_at text n.GfmTableRow (end_in all.out));
+        node = node;
         is_row = record {
           name = refl;
           spell =
@@ -135,6 +138,8 @@ module _ {A : Type 0} (r : Reading) (line : BlockLine) (owed : ℕ) (bytes : Lis
             definitions = append-nil (named n.Definition kids) ∙ row.definitions;
             columns = append-nil (named n.GfmTableDelimiterCellValue kids) ∙ row.columns;
           };
+          filled =
+              row_filled node refl (fill_both (space_part text from bare_end) (fill_both bar.fill (fill_both cs.fill (space_part text behind line_end))));
         };
         writes = around_line text ending left old entered all new n.GfmTableRow kids order enters w.around w.writes w.before exits;
       }
@@ -146,6 +151,7 @@ same_row r text line line' node same row = record {
   name = row.name;
   spell = subst (λ (cs : List Cell). SpellCells r text cs (kids_of node)) (ap₂ cells same.1 same.0) row.spell;
   in_row = row.in_row;
+  filled = row.filled;
 }
 
 -- ---- the next line

@@ -1,6 +1,5 @@
 -- A table is written (GFM 4.10).
 use Rattle.std.proofs.Common.{◌≡◌, ℕ, zero, suc, ◌-◌, ◌<◌, ◌≤◌, Bool, List, [], ◌∷◌, Option, None, Some, drop, get_or, length, take, refl, sym, ap, ap₂, subst, ◌∙◌, arith}
-use Rattle.std.proofs.lemmas.Bool.{false≢true}
 use Rattle.parse_tables.proofs.Prelude.{AlignKind, append, AreBody, AreTablesAlike, AreTaken, around, Around, AtEnding, bare, Between, block_codes, block_line}
 use Rattle.parse_tables.proofs.Prelude.{BlockLine, bytes_of, delimiters, End, end_at, end_in, enter_at, exit_at, HoldSame, HoldsSame, InAll, IsHeadNode}
 use Rattle.parse_tables.proofs.Prelude.{IsInOrder, IsOn, IsRowLine, IsWrittenToRest, last_ending_or, line_left, LineEnding, LineRest, named, Nil, Node, one}
@@ -10,14 +9,18 @@ use Rattle.definition_text.specs.BlockLines.{last_ending}
 use Rattle.definition_block.specs.Tree.{rest_line}
 use Rattle.definition_page.specs.Page as page
 use Rattle.engine_events.specs.declared.event.Name.TheVariants as n
+use Rattle.event_grammar.specs.declared.slot.Between.TheVariants.{Lines}
+use Rattle.event_grammar.specs.declared.slot.Form.TheVariants.{Plain}
 use Rattle.parse_laid.specs.Leaves.{AreTable, EndsAt}
 use Rattle.parse_raw.specs.Written.{WritesLeaf}
 use Rattle.parse_raw.proofs.LeafNodes.{rest_within}
+use Rattle.parse_leaves.proofs.Fills.{filled_up}
 use Rattle.parse_leaves.proofs.RowLeaves.{own_size}
 use Rattle.parse_leaves.proofs.TextLeaves.{none_alike}
 use Rattle.parse_tables.proofs.Steps.{IsEntered, IsExited, open_both}
 use Rattle.parse_tables.proofs.BodyWritten.{entered_open, entered_stands, entered_written, same_prefixed, same_taken}
 use Rattle.parse_tables.proofs.DelimiterLines.{line_delimiters, row_delimiters}
+use Rattle.parse_tables.proofs.Fills.{table_fill}
 use Rattle.parse_tables.proofs.RowsWritten.{around_line, lines_both, same_row}
 use Rattle.parse_tables.proofs.TableNodes.{table_definitions, table_spells}
 
@@ -74,6 +77,7 @@ same_head r text line line' ending columns node same head = record {
   are_quiet = head.are_quiet;
   delimiters = head.delimiters;
   delimiters_name = head.delimiters_name;
+  delimiters_filled = head.delimiters_filled;
   on_next = head.on_next;
   aligns = head.aligns;
   definitions = head.definitions;
@@ -143,7 +147,8 @@ module _ {A : Type 0} (r : Reading) (head row : BlockLine) (rows : List BlockLin
           starts = omega arith;
           begins = rest_within text old here left at to_rest;
           ends = ap (λ (e : End). e.index) (sym exits.end ∙ place);
-          filled = λ is. absurd (false≢true is);
+          filled = λ known.
+              filled_up Lines Plain n.GfmTable node refl (table_fill r text h h.ending d.ending columns others hw.node bw.nodes is_head is_body);
         }
 
     by_place : (h d : BlockLine) (others : List BlockLine) (next_lines : List LineRest) (below : LineRest) (after behind : List LineRest)

@@ -7,10 +7,13 @@ use Rattle.definition_text.specs.Columns.{block_codes}
 use Rattle.definition_block.specs.GfmTable.{line_cells}
 use Rattle.definition_page.specs.Read.{Reading}
 use Rattle.engine_events.specs.declared.event.Name.TheVariants as n
+use Rattle.event_grammar.specs.declared.slot.Between.TheVariants.{Lines}
+use Rattle.event_grammar.specs.declared.slot.Form.TheVariants.{Plain}
 use Rattle.event_grammar.specs.InGrammar.{kids_of, node_name}
 use Rattle.event_grammar.specs.Trees.{Node, Nodes, Nil, Cons}
 use Rattle.parse_output.specs.Forest.{append, one}
 use Rattle.parse_output.specs.Written.{IsInOrder}
+use Rattle.parse_slots.specs.Left.{IsFilled}
 use Rattle.parse_laid.specs.Leaves.{AreTaken, IsRowLine}
 use Rattle.parse_laid.specs.Places.{LineRest, Between, Within, InAll, prefixed}
 use Rattle.parse_lines.specs.declared.walk.Walk.{Walk}
@@ -28,6 +31,7 @@ pub record IsRowNode (r : Reading) (text : List ℕ) (line : BlockLine) (node : 
   pub name : node_name node ≡ n.GfmTableRow
   pub spell : SpellCells r text (line_cells line) (kids_of node)
   pub in_row : AreInRow (one node)
+  pub filled : IsFilled Lines Plain node
 
 -- the row of a line is written
 pub record WritesRowNode {A : Type 0} (r : Reading) (text : List ℕ) (line : BlockLine) (ending : Option LineEnding) (left : List LineRest) (old new : Walk A)

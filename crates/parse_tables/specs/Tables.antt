@@ -8,11 +8,14 @@ use Rattle.definition_block.specs.GfmTable.{delimiters}
 use Rattle.definition_page.specs.Read.{Reading}
 use Rattle.engine_events.specs.declared.event.Name.TheVariants as n
 use Rattle.event_check.specs.Align.{value_align}
+use Rattle.event_grammar.specs.declared.slot.Between.TheVariants.{Lines}
+use Rattle.event_grammar.specs.declared.slot.Form.TheVariants.{Plain}
 use Rattle.event_grammar.specs.InGrammar.{kids_of, node_name}
 use Rattle.event_grammar.specs.References.{named}
 use Rattle.event_grammar.specs.Trees.{Node, Nodes, Nil, Cons}
 use Rattle.parse_output.specs.Forest.{append, one}
 use Rattle.parse_output.specs.Written.{IsInOrder}
+use Rattle.parse_slots.specs.Left.{IsFilled}
 use Rattle.parse_laid.specs.Leaves.{AreTaken, IsRowLine}
 use Rattle.parse_laid.specs.Places.{LineRest, Between, Within, InAll, prefixed}
 use Rattle.parse_lines.specs.declared.walk.Walk.{Walk}
@@ -33,6 +36,7 @@ pub record IsHeadNode (r : Reading) (text : List ℕ) (line : BlockLine) (ending
   pub are_quiet : AreQuiet space
   pub delimiters : Node
   pub delimiters_name : node_name delimiters ≡ n.GfmTableDelimiterRow
+  pub delimiters_filled : IsFilled Lines Plain delimiters
   pub on_next : AreOnNextLine text ending (append space (one delimiters)) others
   pub aligns : map value_align (named n.GfmTableDelimiterCellValue (one delimiters)) ≡ columns
   pub definitions : named n.Definition (one delimiters) ≡ []
