@@ -152,7 +152,7 @@ module _ {A : Type 0} (text : List ℕ) where
         starts = white.starts;
         begins = white.begins;
         ends = omega (arith, ap (λ (x : End). x.index) exit.1, whole.on.end);
-        filled = λ known.
+        filled =
             filled_up Lines Plain n.HeadingAtx node refl
             (atx_fill text i j hashes (take m rest) t.nodes cl.nodes (omega (arith, hash_size, size_is, info.some)) t.fill (cl.fill t.fill.rest t.fill.ends));
       })

@@ -225,7 +225,7 @@ module _ {A : Type 0} (text : List ℕ) where
         starts = entered.starts;
         begins = entered.begins;
         ends = index;
-        filled = λ known.
+        filled =
             filled_by Lines Plain n.HeadingSetext [] node refl
             (setext_fill text text_node (written_to b) to quiet u.before u.node refl
             (text_filled Lines n.HeadingSetextText text_node refl refl (t.fill Lines tt)) done.2 u.are_quiet u.is_underline u.filled) refl;

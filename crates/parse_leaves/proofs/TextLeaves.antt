@@ -96,7 +96,7 @@ module _ {A : Type 0} (text : List ℕ) where
         starts = entered.starts;
         begins = entered.begins;
         ends = index;
-        filled = λ known.
+        filled =
             text_filled Lines name (Around (enter_at text name from) ns (exit_at text name to)) refl row_is
             (subst (λ (b : BetweenChildren). Fill b text_row ns text_row) (sym lines) (written.fill Lines tt));
       }

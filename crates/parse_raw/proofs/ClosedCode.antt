@@ -209,7 +209,7 @@ module _ {A : Type 0} (r : Reading) (first : Bool) (text : List ℕ) (top : Bool
       subst (StandsAt text (AtEnding end.beside.ending others)) (sym same_d) cl.stands))
       (ap (λ (s : Standing). s.on) same ∙ kept.0 ∙ on_l, ap (λ (s : Standing). s.outermost) same ∙ kept.1 ∙ open_l)
       end_d (cl.written ∙ ap (λ (s : Standing). end_at s.line_end 0) (sym same_d)) o.starts o.begins
-      (λ is. filled)
+      filled
 
   pub closed_written : (info : List ℕ) (ls : List BlockLine) (here : LineRest) (left : List LineRest) (to : Place) (count : ℕ) (old l x e d : Walk A) → count ≡ length ls
       → StandsAt text (Within here left) (standing old) → IsWrittenToRest old → IsInOrder text old.out

@@ -154,7 +154,7 @@ module _ {A : Type 0} (text : List ℕ) where
         ap (λ (s : Standing). s.on) same_d ∙ all.around.0 ∙ ap (λ (s : Standing). s.on) same,
         ap (λ (s : Standing). s.outermost) same_d ∙ all.around.1 ∙ ap (λ (s : Standing). s.outermost) same,
       )
-      end_d (all.written ∙ ap (λ (k : ℕ). end_at k 0) (sym line_end)) space.starts space.begins (λ is. filled)
+      end_d (all.written ∙ ap (λ (k : ℕ). end_at k 0) (sym line_end)) space.starts space.begins filled
 
   pub code_written : (on : Constructs) (names : Names) (top : Bool) (ls : List BlockLine) (count more : ℕ) (here : LineRest) (left : List LineRest) (to : Place)
       (old a b c e d : Walk A) → count ≡ length ls → more ≡ count - 1 → StandsAt text (Within here left) (standing old)

@@ -79,7 +79,7 @@ module _ {A : Type 0} (text : List ℕ) where
         ap (λ (s : Standing). s.outermost) same_d ∙ all.around.1 ∙ ap (λ (s : Standing). s.outermost) same_b,
       )
       end_d (all.written ∙ ap (λ (k : ℕ). end_at k 0) (sym line_end)) (omega arith) (rest_within text old here left st at)
-      (λ is. filled_by Lines Plain n.HtmlFlow html_row (Around (enter_at text n.HtmlFlow (end_in old.out)) all.nodes (exit_at text n.HtmlFlow (end_in e.out))) refl
+      (filled_by Lines Plain n.HtmlFlow html_row (Around (enter_at text n.HtmlFlow (end_in old.out)) all.nodes (exit_at text n.HtmlFlow (end_in e.out))) refl
       (all.fill html_row html_row (line.fill html_row takes) takes) refl)
 
   pub html_written : (on : Constructs) (names : Names) (top : Bool) (ls : List BlockLine) (count more : ℕ) (here : LineRest) (left : List LineRest) (to : Place)

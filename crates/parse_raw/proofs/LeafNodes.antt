@@ -17,7 +17,7 @@ use Rattle.parse_raw.proofs.Prelude.{AreNext, left_bytes, left_next, replicate, 
 use Rattle.parse_lines.proofs.Columns.{bare_owes_none}
 use Rattle.parse_lines.proofs.Written.{bare_follows, bare_start}
 use Rattle.parse_slots.specs.Left.{IsFilled}
-use Rattle.parse_raw.specs.Written.{SpellsLeaf, has_row}
+use Rattle.parse_raw.specs.Written.{SpellsLeaf}
 
 left_of_bare : (rest : Rest) → left_bytes (bare rest) ≡ bytes_of (bare rest)
 left_of_bare rest = ap (λ (k : ℕ). replicate k space ++ bytes_of (bare rest)) (bare_owes_none rest)
@@ -114,7 +114,7 @@ module _ {A : Type 0} (text : List ℕ) where
       (blocks_of names text top (one (Around (enter_at text name (end_in a.out)) kids (exit_at text name (end_in c.out))))))
       → StandsAt text to (standing d) → HasSameOpen (standing old) (standing d) → written_to d ≡ written_to c → written_to c ≡ end_at d.line_end 0
       → (written_to old).index ≤ (written_to a).index → (written_to a).index ≤ old.line_end
-      → (has_row leaf ≡ true → IsFilled Lines Plain (Around (enter_at text name (end_in a.out)) kids (exit_at text name (end_in c.out))))
+      → IsFilled Lines Plain (Around (enter_at text name (end_in a.out)) kids (exit_at text name (end_in c.out)))
       → WritesLeaf on names text top leaf [] to old d
   leaf_written on names top leaf to old a b c d name kids quiet enters writes exits block other no_data none alike stands kept same at starts begins filled =
       let node = Around (enter_at text name (end_in a.out)) kids (exit_at text name (end_in c.out)) in

@@ -133,4 +133,4 @@ module _ {A : Type 0} (r : Reading) (first : Bool) (text : List ℕ) (fence_name
       subst (StandsAt text (AtEnding (last_ending_or here.beside.ending ls) begins.after)) (sym same_d) o.lines.stands))
       (ap (λ (s : Standing). s.on) same_d ∙ begins.kept.0, ap (λ (s : Standing). s.outermost) same_d ∙ begins.kept.1)
       end_d (o.lines.written ∙ ap (λ (s : Standing). end_at s.line_end 0) (sym same_d)) o.starts o.begins
-      (λ is. filled)
+      filled

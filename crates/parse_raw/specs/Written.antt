@@ -37,14 +37,6 @@ pub record SpellsLeaf (on : Constructs) (names : Names) (text : List ℕ) (top :
   pub blocks : (m m' : Meaning) → AreMeanings on names m m' → AreBlocksAlike m m' (one_block (page.Leaf leaf)) (blocks_of names text top (one node))
   pub definitions : (m m' : Meaning) → AreMeanings on names m m' → AreDefinitionsAlike m m' ds (map (definition_of names text) (named n.Definition (one node)))
 
--- whether the node of a leaf is known to fill its row of the grammar
-abbrev pub has_row : page.PageLeaf → Bool
-has_row page.Break = true
-has_row (page.IndentedCode ls) = true
-has_row (page.FencedCode info closed ls) = true
-has_row (page.Html ls) = true
-has_row leaf = false
-
 -- where a node begins and ends in a text
 abbrev pub node_start : Node → Spot
 node_start (Around enter kids exit) = spot_of enter
@@ -67,4 +59,4 @@ pub record WritesLeaf {A : Type 0} (on : Constructs) (names : Names) (text : Lis
   pub starts : (written_to old).index ≤ (node_start node).index
   pub begins : (node_start node).index ≤ old.line_end
   pub ends : (node_end node).index ≡ new.line_end
-  pub filled : has_row leaf ≡ true → IsFilled Lines Plain node
+  pub filled : IsFilled Lines Plain node

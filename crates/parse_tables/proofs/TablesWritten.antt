@@ -147,7 +147,7 @@ module _ {A : Type 0} (r : Reading) (head row : BlockLine) (rows : List BlockLin
           starts = omega arith;
           begins = rest_within text old here left at to_rest;
           ends = ap (λ (e : End). e.index) (sym exits.end ∙ place);
-          filled = λ known.
+          filled =
               filled_up Lines Plain n.GfmTable node refl (table_fill r text h h.ending d.ending columns others hw.node bw.nodes is_head is_body);
         }
 

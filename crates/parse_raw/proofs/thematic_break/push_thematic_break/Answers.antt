@@ -65,8 +65,7 @@ returns-clause-written g c =
     (stands_here text here laid.0 left laid.1 to (standing old) (standing d) st laid.2.0 laid.2.1 laid.4 same)
     (ap (λ (s : Standing). s.on) same, ap (λ (s : Standing). s.outermost) same) end
     (left_none text _ c.loop-rest.walk none kids.after ∙ ap (λ (k : ℕ). end_at k 0) (sym line_end)) space.starts space.begins
-    (λ row_is.
-    filled_by Lines Plain n.ThematicBreak break_rest
+    (filled_by Lines Plain n.ThematicBreak break_rest
     (Around (enter_at text n.ThematicBreak (end_in a.out)) kids.nodes (exit_at text n.ThematicBreak (end_in c.loop-rest.walk.out))) refl
     (parts_filled text c.as_bytes-rest.result.now c.loop-rest.rest.now b c.loop-rest.walk parts (subst BeginsDark same_bytes is.dark) none) refl))
     c.exit.ensures.exits c.exit.ensures.end c.exit.ensures.stays
