@@ -7,7 +7,7 @@ use Rattle.markdown_options.specs.declared.configuration.ParseOptions.{ParseOpti
 use Rattle.definition_page.specs.Read.{reading}
 use Rattle.definition_page.specs.TextTables.{TextTables}
 use Rattle.event_check.specs.Matches.{MatchesGrammar}
-use Rattle.event_grammar.specs.Trees.{tree}
+use Rattle.event_grammar.specs.Trees.{AreNodes, events_of, tree}
 use Rattle.event_meaning.specs.Spelled.{spelled}
 use Rattle.parse_output.specs.Forest.{bytewise}
 use Rattle.parse_output.specs.Children.{HaveChildren}
@@ -15,8 +15,9 @@ use Rattle.parse_output.specs.Placed.{ArePlaced}
 use Rattle.parse_output.specs.Written.{open_in}
 use Rattle.parse_alike.specs.Spelled.{IsPageOfText}
 use Rattle.parse_open.specs.Texts.{text_blocks}
+use Rattle.parse_open.proofs.FilledBytes.{documents_are_filled}
 use Rattle.parse_open.proofs.Texts.{texts_are_spelled}
-use Rattle.parse_events.specs.Parsed.{AreEventsOf}
+use Rattle.parse_events.specs.Parsed.{AreEventsOf, FillDocument}
 use Rattle.parse_events.specs.Stands.{IsAt}
 use Rattle.parse_events.proofs.NestedLaw.{nested}
 use Rattle.event_tokens.specs.Bytes.{HaveTheirBytes}
@@ -121,3 +122,17 @@ are_events {A} tables options text old w start bytes out es events bytes_are out
           parsed_spelled tables options text (kind_before_text text) (without_mark text) old w start events refl refl st right
           (written_same text bytes out w.out es events bytes_are out_is same written);
     }
+
+-- and it fills the row of the document
+pub events_filled : {A : Type 0} (r : Reading) (text : List ℕ) (front : Nodes) (all : Blocks) (w : Walk A) (bytes : List ℕ) (out : Output A)
+    (es events : List Event) → bytes ≡ text → out ≡ w.out → events ≡ es → HaveChildren es
+    → (IsInOrder bytes out → (end_in out).index ≡ length bytes → bytewise (tree es) ≡ (forest_in bytes out).kids)
+    → Stands r text front (opened all [] []) [] (Between []) w → FillDocument events
+events_filled r text front all w bytes out es events bytes_are out_is same children written st ns nested named =
+    let o = opened all [] [] in
+    let g = forest_in text w.out in
+    let line = line_at text (written_to w).index in
+    let closed : g ≡ growth g.kids [] = ap (growth g.kids) (none_open r text front g.outer st.spells.around) in
+    documents_are_filled r text front all [] g.kids line events ns (subst (λ (x : Growth). Spells r text front o x line) closed st.spells) nested named
+    (subst HaveChildren (sym same) children)
+    (written_same text bytes out w.out es events bytes_are out_is same written st.order (all_written text o w st.at))

@@ -7,6 +7,7 @@ use Rattle.parse_events.proofs.Prelude.{Reading, Row, row_size, row_value, rows_
 use Rattle.parse_events.proofs.Prelude.{true≢false, unread_lines, value_with, Walk, written_to}
 use Rattle.std.proofs.lemmas.List.{drop-drop, drop_more, length-drop, length-take-le, take-append-drop}
 use Rattle.parse_output.proofs.Forests.{append-nil}
+use Rattle.parse_open.specs.Filled.{FillOnPage}
 use Rattle.parse_events.specs.declared.opened.Opened.{Opened as OpenedHere}
 use Rattle.parse_events.specs.Document.{WritesBlocksBy, WritesRows}
 use Rattle.parse_events.proofs.Ahead.{all_ahead, none_ahead, one_ahead}
@@ -17,11 +18,12 @@ over_lines [] ys = refl
 over_lines (x ∷ xs) ys = over_lines xs ys
 
 -- before the first row
-nothing_spelled : (r : Reading) (text : List ℕ) (front : Nodes) (places : List ItemPlace) (line : ℕ)
+nothing_spelled : (r : Reading) (text : List ℕ) (front : Nodes) (places : List ItemPlace) (line : ℕ) → FillOnPage front
     → Spells r text front (opened NoBlock [] places) (growth front []) line
-nothing_spelled r text front places line = record {
+nothing_spelled r text front places line fill = record {
   kids = record { left = Nil; parts = sym (append-nil front); spell = record { blocks = λ m m' means. tt; defined = λ m m' means. tt } };
   around = tt;
+  fill = fill;
 }
 
 module _ {A : Type 0} where
@@ -36,7 +38,7 @@ module _ {A : Type 0} where
     at = inl (start.stands, start.written, tt);
     spells =
         subst (λ (g : Growth). Spells r text start.front (opened NoBlock [] places) g (line_at text (written_to w).index)) (sym start.forest)
-        (nothing_spelled r text start.front places (line_at text (written_to w).index));
+        (nothing_spelled r text start.front places (line_at text (written_to w).index) start.fill);
     begun = λ is. absurd (true≢false (sym is));
     ends = λ none. ap (λ (g : Growth). ends_in_blank g.kids) start.forest ∙ (start.is_front r.tables.names).other;
   }

@@ -2,15 +2,18 @@
 use Rattle.std.proofs.Common.{◌≡◌, ◌⊎◌, inl, inr, ◌≤◌, ◌-◌, ℕ, Bool, true, false, List, [], ◌∷◌, sym, ap, ap₂, ◌∙◌, subst, length, map}
 use Rattle.parse_events.proofs.Prelude.{AreQuiet, around, AtEnding, bare_container, Between, blank_one, Block, Blocks, Container, containers, End, end_at}
 use Rattle.parse_events.proofs.Prelude.{end_in, ends_in_blank, entered, Event, Exits, forest_in, Growth, HasStart, Holds, InContainer, InList, innermost}
-use Rattle.parse_events.proofs.Prelude.{is_in_list, is_item, IsAfterOther, IsBegun, IsFirstOf, IsNamed, IsPastCode, IsStartName, Items, join, level, Level}
+use Rattle.parse_events.proofs.Prelude.{is_in_list, is_item, IsAfterOther, IsBegun, IsNamed, IsOfList, IsPastCode, IsStartName, Items, join, level, Level}
 use Rattle.parse_events.proofs.Prelude.{LevelsGoOn, line_at, Name, named, Nil, NoBlock, Node, node_name, Nodes, one, one_block, opened, Opened, Place, Reading}
 use Rattle.parse_events.proofs.Prelude.{rest_start, Spells, Standing, standing, Stands, StandsAt, true≢false, Walk, with_nodes, Within, within, written_to}
 use Rattle.definition_text.specs.Columns.{Rest}
 use Rattle.engine_events.specs.declared.event.Name.TheVariants as n
 use Rattle.block_starts.specs.View.{rest_of}
+use Rattle.event_grammar.specs.declared.slot.Between.TheVariants.{Lines}
 use Rattle.event_grammar.specs.Checks.{spot_of}
 use Rattle.parse_output.specs.Ends.{exit_at}
 use Rattle.parse_output.specs.Forest.{exited}
+use Rattle.parse_slots.specs.Left.{IsFilled}
+use Rattle.parse_open.specs.Filled.{holder_form}
 use Rattle.parse_open.proofs.Ends.{exited_other}
 use Rattle.parse_events.specs.Stands.{IsWrittenAt}
 use Rattle.parse_events.proofs.Endings.{begun_more, quiet_mute, with_none}
@@ -28,14 +31,15 @@ module _ (r : Reading) (text : List ℕ) (front : Nodes) (go : LevelsGoOn r text
   pub spells_start : (o : Opened) (c : Container) (goes_on : Bool) (enter : Event) (g mid h : Growth) (space : Nodes) (first : Node) (from other : ℕ)
       → IsBegun o ⊎ (space ≡ Nil) → AreQuiet space → mid ≡ with_nodes g space → h ≡ with_nodes (entered mid enter) (one first)
       → is_in_list o.outer ≡ is_item (InContainer c goes_on) → IsNamed (InContainer c goes_on) enter.name
-      → IsFirstOf r text front (InContainer c goes_on) o.kids (innermost g.outer) → (spot_of enter).index ≤ length text → IsStartName (node_name first)
+      → IsOfList (InContainer c goes_on) (innermost g.outer) → (spot_of enter).index ≤ length text → IsStartName (node_name first)
       → named n.Definition (one first) ≡ [] → HasStart r text front (InContainer c goes_on) enter.name NoBlock (one first)
+      → IsFilled Lines (holder_form (InContainer c goes_on)) first
       → line_at text (spot_of enter).index ≡ line_at text from → Spells r text front o g (line_at text from)
       → Spells r text front (within (InContainer c goes_on) o) h (line_at text other)
-  spells_start o c goes_on enter g mid h space first from other nothing quiet white grown stands is first_of fits start none has line spells =
+  spells_start o c goes_on enter g mid h space first from other nothing quiet white grown stands is of_list fits start none has filled line spells =
       let new = within (InContainer c goes_on) o in
       subst (λ (x : Growth). Spells r text front new x (line_at text other)) (sym (grown ∙ ap (λ (x : Growth). with_nodes (entered x enter) (one first)) white)) (
-      go.container o (with_nodes g space) (line_at text other) c goes_on enter first stands is first_of fits start none has (
+      go.container o (with_nodes g space) (line_at text other) c goes_on enter first stands is of_list fits start none has filled (
       subst (λ (k : ℕ). Spells r text front o (with_nodes g space) k) (sym line) (
       spells_space o g space (line_at text from) nothing quiet spells)))
 

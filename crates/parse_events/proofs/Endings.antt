@@ -8,10 +8,13 @@ use Rattle.parse_events.proofs.Prelude.{same_name, Spells, Standing, standing, S
 use Rattle.parse_events.proofs.Prelude.{written_to}
 use Rattle.definition_text.specs.Lines.{ends_line}
 use Rattle.engine_events.specs.declared.event.Name.TheVariants as n
+use Rattle.event_grammar.specs.declared.slot.Between.TheVariants.{Lines}
+use Rattle.event_grammar.specs.declared.slot.Form.TheVariants.{Plain}
 use Rattle.event_grammar.specs.References.{named_in}
 use Rattle.parse_lines.specs.Quiet.{AreOfPrefix, IsVoidOf}
 use Rattle.parse_lines.proofs.Spots.{get_front, get_over}
 use Rattle.parse_output.proofs.Forests.{append-nil}
+use Rattle.parse_slots.proofs.Steps.{filled_by, filled_void}
 use Rattle.parse_events.proofs.LastBlank.{ending_ends}
 use Rattle.parse_raw.proofs.Bytes.{ending_token, line_ending_fits}
 
@@ -30,8 +33,10 @@ prefix_none (Cons node ns) (inr is, more) = ap (λ (xs : List Node). xs ++ named
 
 pub quiet_mute : (ns : Nodes) → AreQuiet ns → AreMute ns
 quiet_mute Nil are = tt
-quiet_mute (Cons node ns) (inl is, more) = (inl is.0, ap (named n.Definition) is.1, quiet_mute ns more)
-quiet_mute (Cons node ns) (inr is, more) = (inr is.0, prefix_none (kids_of node) is.1, quiet_mute ns more)
+quiet_mute (Cons node ns) (inl is, more) =
+    (inl is.0, ap (named n.Definition) is.1, quiet_mute ns more, filled_void Lines Plain n.SpaceOrTab node is.0 is.1 refl)
+quiet_mute (Cons node ns) (inr is, more) =
+    (inr is.0, prefix_none (kids_of node) is.1, quiet_mute ns more, filled_by Lines Plain n.BlockQuotePrefix [] node is.0 is.2 refl)
 
 -- ---- one more block
 

@@ -21,6 +21,10 @@ use Rattle.parse_lines.proofs.Spots.{bytes_after}
 use Rattle.parse_output.specs.Ends.{first_end}
 use Rattle.parse_output.specs.Spots.{next_spot, start}
 use Rattle.parse_laid.specs.Laid.{unread_after}
+use Rattle.event_grammar.specs.declared.slot.Between.TheVariants.{Lines}
+use Rattle.parse_slots.proofs.Steps.{fill_none}
+use Rattle.parse_open.proofs.Filled as filled
+use Rattle.parse_open.proofs.Filled.{StandBetween}
 use Rattle.parse_open.specs.Fronts.{SpellsNothing}
 use Rattle.parse_open.proofs.Fronts.{front_alone, front_ended, front_none, nothing_both, nothing_mark, nothing_mute}
 use Rattle.parse_raw.specs.Laid.{HasFrontmatter, WritesFront, WritesFrontLaid}
@@ -104,6 +108,12 @@ front_is names text bs mark space node (Some e) ns nothing quiet is none are las
     (front_ended names text bs front node e are.0 (nothing_both names text mark space nothing (nothing_mute names text space (quiet_mute space quiet))) is none
     (record { named = are.2; empty = are.3; bytes = are.4 }))
 
+-- it is taken by the row of the document
+ending_between : (text : List ℕ) (ending : Option LineEnding) (ns : Nodes) → AreEnding text n.LineEnding ending ns → StandBetween ns
+ending_between text None ns are = subst StandBetween (sym are) (λ slots takes. fill_none Lines slots)
+ending_between text (Some e) ns are =
+    subst StandBetween (sym are.1) (filled.ending_between text e are.0 (record { named = are.2; empty = are.3; bytes = are.4 }))
+
 -- no line makes no block
 either_cut : (b : Bool) → (if b then cut_into tree.Nil [] else cut_into tree.Nil []) ≡ cut_into tree.Nil []
 either_cut true = refl
@@ -151,6 +161,7 @@ module _ {A : Type 0} where
       record {
         front = nodes;
         nothing = λ names. nothing_mark names text (written_to old) to;
+        fill = filled.mark_fill text (written_to old) to;
         constructs = ap (λ (s : Standing). s.on) same ∙ constructs;
         outside = ap (λ (s : Standing). s.outermost) same ∙ outside;
         left = ap (λ (s : Standing). s.left) same ∙ left;
@@ -169,6 +180,7 @@ module _ {A : Type 0} where
   before_all on text before rest w none was = record {
     front = was.front;
     is_front = λ names. front_none names text (blocks on before rest) was.front (was.nothing names);
+    fill = filled.before_page was.front was.fill;
     constructs = was.constructs;
     outside = was.outside;
     order = was.order;
@@ -196,6 +208,10 @@ module _ {A : Type 0} where
         is_front = λ names.
             front_is names text (blocks on before rest) was.front written.before written.node written.ending written.nodes (was.nothing names) written.are_quiet
             written.is_front written.definitions written.are_ending (λ none. no_blocks on before rest some.others some.found (written.last none));
+        fill =
+            filled.front_fill was.front written.before written.nodes written.node was.fill
+            (filled.mute_between written.before (quiet_mute written.before written.are_quiet)) written.is_front written.filled
+            (ending_between text written.ending written.nodes written.are_ending);
         constructs = written.around.0 ∙ was.constructs;
         outside = written.around.1 ∙ was.outside;
         order = written.writes.order;

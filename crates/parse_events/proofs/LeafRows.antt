@@ -178,7 +178,7 @@ module _ {A : Type 0} (r : Reading) (text : List ℕ) (front : Nodes) where
               let mid = with_nodes g (append written.before (one written.node)) in
               let spelled : Spells r text front more mid (line_at text (node_end written.node).index) =
               spells_leaf r text front go o leaf g mid written.before written.node (written_to old).index (node_end written.node).index bare was.begun written.are_quiet
-              written.spells refl (rest_line_at text here left old (node_start written.node).index at.0 at.1 written.starts written.begins)
+              written.spells written.filled refl (rest_line_at text here left old (node_start written.node).index at.0 at.1 written.starts written.begins)
               (let last = line_in_text text (standing old) at.0.line in let begins = written.begins in omega (arith, last, begins)) refl was.spells in
               let all : forest_in text new.out ≡ with_nodes mid written.behind =
               written.writes.forest ∙ ap (with_nodes g) (sym (append-assoc written.before (one written.node) written.behind))

@@ -6,7 +6,10 @@ use Rattle.parse_events.proofs.Prelude.{leaf_definitions, LeafBlock, LevelsGoOn,
 use Rattle.parse_events.proofs.Prelude.{node_start, Nodes, one, one_block, Opened, opened, Place, read_leaf, Reading, Spells, Standing, standing, Stands, Walk}
 use Rattle.parse_events.proofs.Prelude.{with_nodes, Within, WritesLeaf, WritesToEnd, written_to}
 use Rattle.definition_inline.specs.Definition.{Definition}
+use Rattle.event_grammar.specs.declared.slot.Between.TheVariants.{Lines}
+use Rattle.event_grammar.specs.declared.slot.Form.TheVariants.{Plain}
 use Rattle.parse_raw.specs.Written.{SpellsLeaf}
+use Rattle.parse_slots.specs.Left.{IsFilled}
 use Rattle.parse_events.proofs.Endings.{begun_more, quiet_mute}
 use Rattle.parse_events.proofs.LastBlank.{leaf_ends}
 use Rattle.parse_events.proofs.Lines.{rest_line_at}
@@ -61,15 +64,15 @@ module _ (r : Reading) (text : List ℕ) (front : Nodes) (go : LevelsGoOn r text
   -- a leaf after nodes that spell nothing
   pub spells_leaf : (o : Opened) (leaf : LeafBlock) (g h : Growth) (before : Nodes) (node : Node) (from to : ℕ) → is_in_list o.outer ≡ false → IsBegun o
       → AreQuiet before → SpellsLeaf r.parse.constructs r.tables.names text (next_stands o).top (read_leaf r (next_stands o) leaf) (leaf_definitions leaf) node
-      → h ≡ with_nodes g (append before (one node)) → line_at text (node_start node).index ≡ line_at text from → (node_start node).index ≤ length text
+      → IsFilled Lines Plain node → h ≡ with_nodes g (append before (one node)) → line_at text (node_start node).index ≡ line_at text from → (node_start node).index ≤ length text
       → (node_end node).index ≡ to → Spells r text front o g (line_at text from)
       → Spells r text front (opened (join o.kids (one_block (Leaf leaf))) o.outer o.places) h (line_at text to)
-  spells_leaf o leaf g h before (Around enter kids exit) from to bare begun quiet own grown start within end spells =
+  spells_leaf o leaf g h before (Around enter kids exit) from to bare begun quiet own filled grown start within end spells =
       let more = opened (join o.kids (one_block (Leaf leaf))) o.outer o.places in
       let mid = with_nodes g before in
       subst (λ (x : Growth). Spells r text front more x (line_at text to)) (with_both g before (one (Around enter kids exit)) ∙ sym grown) (
       subst (λ (k : ℕ). Spells r text front more (with_nodes mid (one (Around enter kids exit))) (line_at text k)) end (
-      go.leaf o mid leaf enter exit kids bare (record { is_block = own.is_block; blocks = own.blocks; defined = own.definitions }) within (
+      go.leaf o mid leaf enter exit kids bare (record { is_block = own.is_block; blocks = own.blocks; defined = own.definitions; filled = filled }) within (
       subst (λ (k : ℕ). Spells r text front o mid k) (sym start) (
       go.mute o g (line_at text from) before (quiet_mute before quiet) begun spells))))
 
@@ -89,7 +92,8 @@ module _ {A : Type 0} (r : Reading) (text : List ℕ) (front : Nodes) (go : Leve
               at = inl (written.stands, written.written, λ top. ends_with false o.kids leaf ∙ closed top);
               spells =
                   spells_leaf r text front go o leaf (forest_in text old.out) (forest_in text new.out) written.before written.node (written_to old).index
-                  (written_to new).index bare was.begun written.are_quiet written.spells written.writes.forest
+                  (written_to new).index bare was.begun written.are_quiet written.spells written.filled
+                  written.writes.forest
                   (rest_line_at text here left old (node_start written.node).index at.0 at.1 written.starts written.begins)
                   (let end = line_in_text text (standing old) at.0.line in let begins = written.begins in omega (arith, end, begins))
                   (written.ends ∙ sym (ap (λ (x : End). x.index) written.written))
@@ -125,7 +129,7 @@ module _ {A : Type 0} (r : Reading) (text : List ℕ) (front : Nodes) (go : Leve
                   (subst (λ (t : Bool). SpellsLeaf r.parse.constructs r.tables.names text t (read_leaf r (next_stands o) leaf) (leaf_definitions leaf) written.node) (sym top)
                   (subst (λ (ds : List Definition). SpellsLeaf r.parse.constructs r.tables.names text true (read_leaf r (next_stands o) leaf) ds written.node) (sym none)
                   written.spells))
-                  written.writes.forest
+                  written.filled written.writes.forest
                   (rest_line_at text here left old (node_start written.node).index at.0 at.1 written.starts written.begins)
                   (let end = line_in_text text (standing old) at.0.line in let begins = written.begins in omega (arith, end, begins))
                   written.ends

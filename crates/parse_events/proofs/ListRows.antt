@@ -1,9 +1,9 @@
 -- A parser stands after the start of an item, and of its list if it is the first, if these are written.
 use Rattle.std.proofs.Common.{◌≡◌, ◌⊎◌, inl, inr, ℕ, Bool, true, false, List, [], ◌∷◌, ◌++◌, Option, None, Some, refl, sym, ap, ap₂, ◌∙◌, subst, length, reverse, take}
 use Rattle.parse_events.proofs.Prelude.{after_row, always_go_on, append-nil, around, bare_container, bare_end, beside_in, BlockRow, Blocks, bytes_of}
-use Rattle.parse_events.proofs.Prelude.{ConsBlock, Constructs, Container, End, end_at, ends_in_list, EnterItem, Enters, Err, Footnote, forest_in, GoesOnInLine}
+use Rattle.parse_events.proofs.Prelude.{Constructs, Container, End, end_at, ends_in_list, EnterItem, Enters, Err, Footnote, forest_in, GoesOnInLine}
 use Rattle.parse_events.proofs.Prelude.{Growth, Held, if◌then◌else◌, InContainer, InList, innermost, is_in_line, is_in_list, is_item_kind, is_list, IsBegun}
-use Rattle.parse_events.proofs.Prelude.{IsFirstOf, IsInOrder, IsListed, IsNext, IsParsing, IsWrittenToRest, Item, ItemParts, ItemPlace, KnowsItems, KnowsLists}
+use Rattle.parse_events.proofs.Prelude.{IsInOrder, IsListed, IsNext, IsOfList, IsParsing, IsWrittenToRest, Item, ItemParts, ItemPlace, KnowsItems, KnowsLists}
 use Rattle.parse_events.proofs.Prelude.{level, Level, line_rest, LineRest, list_name, more_if, Name, NoBlock, Nodes, Ok, OnOk, Opened, opened, opened_name}
 use Rattle.parse_events.proofs.Prelude.{OpensIf, Parser, Place, Quote, Reading, Result, standing, Standing, Stands, StandsAt, start_row, Starts, StartsOf}
 use Rattle.parse_events.proofs.Prelude.{true≢false, Walk, which_are_lists, which_go_on, within, Within, WritesStartOf, WritesUpTo, written_to}
@@ -13,7 +13,10 @@ use Rattle.definition_text.specs.Columns.{bare}
 use Rattle.engine_events.specs.declared.event.Name.TheVariants as n
 use Rattle.parse_lines.specs.Ends.{IsWrittenToStart}
 use Rattle.parse_lines.proofs.Starts.{white_quiet}
-use Rattle.parse_open.specs.Open.{in_list, item_begun, next_goes_on, other_places}
+use Rattle.parse_open.specs.Filled.{marker_list}
+use Rattle.parse_open.specs.Open.{first_marker, in_list, item_begun, next_goes_on, other_places}
+use Rattle.parse_open.proofs.Filled.{list_marked}
+use Rattle.parse_open.proofs.Markers.{IsMarkedAlike, marked_alike}
 use Rattle.parse_events.specs.declared.opened.Opened.TheVariants as held
 use Rattle.parse_events.specs.Parsing.{BeginsList, IsListing}
 use Rattle.parse_events.proofs.Kept.{ends_in, items_more, lists_more, reverse_push, stands_there}
@@ -38,15 +41,21 @@ anew : (b : Bool) (o : Opened) → b ≡ false → within InList o ≡ (if b the
 anew true o is = absurd (true≢false is)
 anew false o is = refl
 
--- in a list that has items, no number is asked for
-later_item : (r : Reading) (text : List ℕ) (front : Nodes) (item : ItemParts) (goes_on : Bool) (bs : Blocks) (list : Name) → (bs ≡ NoBlock → ⊥)
-    → IsFirstOf r text front (InContainer (bare_container (Item item)) goes_on) bs list
-later_item r text front item goes_on NoBlock list some = absurd (some refl)
-later_item r text front item goes_on (ConsBlock b bs) list some = tt
+-- an item in a list whose items have its marker
+later_item : (item : ItemParts) (goes_on : Bool) (list : Name) → list ≡ marker_list item.marker → list_name item.number ≡ marker_list item.marker
+    → IsOfList (InContainer (bare_container (Item item)) goes_on) list
+later_item item goes_on list marked alike = (marked ∙ sym alike, marked)
 
-first_item : (r : Reading) (text : List ℕ) (front : Nodes) (item : ItemParts) (goes_on : Bool) (list : Name) → list ≡ list_name item.number
-    → IsFirstOf r text front (InContainer (bare_container (Item item)) goes_on) NoBlock list
-first_item r text front item goes_on list is = is
+-- the first item of a list
+first_item : (item : ItemParts) (goes_on : Bool) (list : Name) → list ≡ list_name item.number → list_name item.number ≡ marker_list item.marker
+    → IsOfList (InContainer (bare_container (Item item)) goes_on) list
+first_item item goes_on list is alike = (is, is ∙ alike)
+
+-- in a list that is open, the items have the marker of the first
+in_list_marked : (b : Bool) (o : Opened) (marker : ℕ) → (b ≡ true → first_marker o.kids ≡ marker)
+    → ((if b then o else within InList o).kids ≡ NoBlock → ⊥) → first_marker (if b then o else within InList o).kids ≡ marker
+in_list_marked true o marker same some = same refl
+in_list_marked false o marker same some = absurd (some refl)
 
 module _ {A : Type 0} where
   -- where the white space ahead ends is told by the line
@@ -63,7 +72,11 @@ module _ {A : Type 0} where
       record {
         listed = listed_already r text front (always_go_on r text front) o outer here left old.walk inside was;
         lists = knows;
-        first_of = λ item goes_on is. later_item r text front item goes_on o.kids (innermost (forest_in text old.walk.out).outer) (was.begun inside);
+        of_list = λ item goes_on is alike same.
+            let list = innermost (forest_in text old.walk.out).outer in
+            later_item item goes_on list
+            (list_marked o.outer list o.kids (forest_in text old.walk.out).kids inside (was.begun inside) was.spells.fill
+            ∙ ap marker_list (same (was.begun inside))) alike;
       }))
 
   -- one begins after white space
@@ -84,18 +97,20 @@ module _ {A : Type 0} where
             let listed : IsListed r text front (within InList o) outer here left entered =
             list_starts r text front (always_go_on r text front) o outer here left number old.walk white entered outside was quiet space_end entered_named end same
             same_end in
-            let first : (item : ItemParts) (goes_on : Bool) → item.number ≡ number
-            → IsFirstOf r text front (InContainer (bare_container (Item item)) goes_on) NoBlock (innermost (forest_in text entered.out).outer) =
-            λ item goes_on is. first_item r text front item goes_on (innermost (forest_in text entered.out).outer) (
-            ap (λ (g : Growth). innermost g.outer) entered_named.forest ∙ ap list_name (sym is)) in
+            let first : (item : ItemParts) (goes_on : Bool) → item.number ≡ number → list_name item.number ≡ marker_list item.marker
+            → ((NoBlock ≡ NoBlock → ⊥) → first_marker NoBlock ≡ item.marker)
+            → IsOfList (InContainer (bare_container (Item item)) goes_on) (innermost (forest_in text entered.out).outer) =
+            λ item goes_on is alike same. first_item item goes_on (innermost (forest_in text entered.out).outer) (
+            ap (λ (g : Growth). innermost g.outer) entered_named.forest ∙ ap list_name (sym is)) alike in
             subst (λ (q : Opened). IsListing r text front q outer here left number new) (anew (is_in_list o.outer) o outside) (
             record {
               listed = subst (λ (w : Walk A). IsListed r text front (within InList o) outer here left w) (sym walk) listed;
               lists =
                   subst (λ (os : List Held). KnowsLists os (level InList o.kids ∷ o.outer)) (sym opens) (
                   lists_more old.open.items list (level InList o.kids) o.outer is_list knows);
-              first_of = subst (λ (w : Walk A). (item : ItemParts) (goes_on : Bool) → item.number ≡ number
-                  → IsFirstOf r text front (InContainer (bare_container (Item item)) goes_on) NoBlock (innermost (forest_in text w.out).outer)) (sym walk) first;
+              of_list = subst (λ (w : Walk A). (item : ItemParts) (goes_on : Bool) → item.number ≡ number → list_name item.number ≡ marker_list item.marker
+                  → ((NoBlock ≡ NoBlock → ⊥) → first_marker NoBlock ≡ item.marker)
+                  → IsOfList (InContainer (bare_container (Item item)) goes_on) (innermost (forest_in text w.out).outer)) (sym walk) first;
             })
         | inr past ↦ absurd past
       ]
@@ -136,10 +151,14 @@ abbrev number_in : BlockRow → Option ℕ
 number_in (EnterItem marker number) = number
 number_in row = None
 
+abbrev marker_in : BlockRow → ℕ
+marker_in (EnterItem marker number) = marker
+marker_in row = 0
+
 item_row : (c : Container) (marker : ℕ) (number : Option ℕ) → EnterItem marker number ≡ start_row c
-    → (item : ItemParts) × (c ≡ Item item) × (item.number ≡ number)
+    → (item : ItemParts) × (c ≡ Item item) × (item.number ≡ number) × (item.marker ≡ marker)
 item_row Quote marker number is = absurd (true≢false (ap is_item_row is))
-item_row (Item item) marker number is = (item, refl, sym (ap number_in is))
+item_row (Item item) marker number is = (item, refl, sym (ap number_in is), sym (ap marker_in is))
 item_row (Footnote label) marker number is = absurd (true≢false (ap is_item_row is))
 
 module _ {A : Type 0} where
@@ -156,7 +175,7 @@ module _ {A : Type 0} where
     written = was.written;
     fits = was.fits;
     bare = was.bare;
-    spells = record { kids = was.spells.kids; around = was.spells.around };
+    spells = record { kids = was.spells.kids; around = was.spells.around; fill = was.spells.fill };
   }
 
   written_before : (o : Opened) (w : Walk A) → (IsWrittenToRest w × IsBegun o) ⊎ ((written_to w ≡ bare_end w) × (o.kids ≡ NoBlock)) → IsWrittenToStart w
@@ -178,9 +197,10 @@ module _ {A : Type 0} where
       → (starts ≡ true → OpensItem place listing new) → Starts r.parse.constructs outer (Item item) (Within here left) to
       → Stands r text front o outer (Within here left) old.walk → inner ≡ Item item ∷ outer → KnowsLists old.open.items o.outer
       → KnowsItems old.items.items (which_go_on o.outer) → reverse old.places.items ≡ o.places
+      → list_name item.number ≡ marker_list item.marker → (is_in_list o.outer ≡ true → first_marker o.kids ≡ item.marker)
       → IsParsing r text front (item_begun (bare_container (Item item)) (in_list o)) inner to new
   item_stands r text front o item outer inner here left to number list old listing new place places starts same name takes begins items_kept places_are starts_of writes
-      opens laid was inside lists items known =
+      opens laid was inside lists items known alike marked =
       let q = in_list o in
       let goes_on = next_goes_on q.places in
       let o2 = opened q.kids q.outer (other_places q.places) in
@@ -196,7 +216,8 @@ module _ {A : Type 0} where
       let written = writes text (Item item) here left to refl listed.stands here_laid (written_before o2 listing.walk listed.written) listed.order in
       let places_same : q.places ≡ reverse old.places.items = in_list_places (is_in_list o.outer) o ∙ sym known in
       let stands : Stands r text front (within h o2) (Item item ∷ outer) (Within there laid.1) new.walk =
-      item_starts r text front (always_go_on r text front) o2 outer item goes_on here there left laid.1 listing.walk new.walk listed (listing_is.first_of item goes_on same)
+      item_starts r text front (always_go_on r text front) o2 outer item goes_on here there left laid.1 listing.walk new.walk listed
+      (listing_is.of_list item goes_on same alike (in_list_marked (is_in_list o.outer) o item.marker marked))
       written.0 written.0.nothing written.1 (subst (λ (x : Place). StandsAt text x (standing new.walk)) laid.6 steps.1) steps.2 steps.3 in
       record {
         stands = stands_there r text front (within h o2) (Item item ∷ outer) inner (Within there laid.1) to new.walk inside laid.6 stands;
@@ -234,7 +255,9 @@ module _ {A : Type 0} where
       let row : start_row (Item item) ≡ EnterItem marker number = sym (next.laid.1 ∙ ap start_row is.1) in
       subst (λ (b : BlockRow). IsParsing r text front (after_row o b) inner to new) row (
       item_stands r text front o item outer inner here left to number list old listing new place places starts is.2 name takes begins items_kept places_are starts_of
-      writes opens laid_here stands inside was.lists was.items was.places)
+      writes opens laid_here stands inside was.lists was.items was.places
+      (subst IsMarkedAlike (sym laid_here.5) (marked_alike r.parse.constructs false laid_here.0.rest laid_here.2 laid_here.4))
+      (λ in_list. next.fits in_list ∙ sym is.3))
 
   -- if its start is written, it is open
   opens_item : (starts : Bool) (place : ItemPlace) (listing started new : Parser A) → started.open.items ≡ listing.open.items

@@ -1,7 +1,7 @@
 -- A walk stands after the start of an item, and of its list if it is the first, if these are written.
 use Rattle.std.proofs.Common.{◌≡◌, ◌⊎◌, inl, inr, ℕ, Bool, true, false, List, ◌∷◌, Option, refl, sym, ap, ◌∙◌, subst, arith}
 use Rattle.parse_events.proofs.Prelude.{around, bare_container, bare_end, Container, End, end_in, enter_at, entered, Enters, forest_in, Growth, InContainer}
-use Rattle.parse_events.proofs.Prelude.{InList, innermost, is_in_list, IsBegun, IsFirstOf, IsListed, IsPrefixOf, IsWrittenToRest, Item, ItemParts, level}
+use Rattle.parse_events.proofs.Prelude.{InList, innermost, is_in_list, IsBegun, IsListed, IsOfList, IsPrefixOf, IsWrittenToRest, Item, ItemParts, level}
 use Rattle.parse_events.proofs.Prelude.{LevelsGoOn, line_at, LineRest, list_name, Nil, NoBlock, Nodes, one, Opened, Reading, Spells, Standing, standing}
 use Rattle.parse_events.proofs.Prelude.{Stands, StandsAt, true≢false, Walk, with_nodes, Within, within, WritesStart, written_to}
 use Rattle.engine_events.specs.declared.event.Name.TheVariants as n
@@ -11,7 +11,7 @@ use Rattle.parse_events.proofs.Endings.{quiet_mute}
 use Rattle.parse_events.proofs.LastBlank.{inside_ends}
 use Rattle.parse_events.proofs.Leaves.{line_in_text}
 use Rattle.parse_events.proofs.Lines.{rest_line_at}
-use Rattle.parse_events.proofs.Starts.{bare_in_line, prefix_defines, prefix_named, prefix_start}
+use Rattle.parse_events.proofs.Starts.{bare_in_line, prefix_defines, prefix_filled, prefix_named, prefix_start}
 
 module _ {A : Type 0} (r : Reading) (text : List ℕ) (front : Nodes) (go : LevelsGoOn r text front) where
   -- a list is the innermost that is open
@@ -78,12 +78,12 @@ module _ {A : Type 0} (r : Reading) (text : List ℕ) (front : Nodes) (go : Leve
   -- an item begins in its list; no white space is written between the start of the list and its first item
   pub item_starts : (o : Opened) (outer : List Container) (item : ItemParts) (goes_on : Bool) (here there : LineRest) (left others : List LineRest)
       (old new : Walk A) → IsListed r text front o outer here left old
-      → IsFirstOf r text front (InContainer (bare_container (Item item)) goes_on) o.kids (innermost (forest_in text old.out).outer)
+      → IsOfList (InContainer (bare_container (Item item)) goes_on) (innermost (forest_in text old.out).outer)
       → (start : WritesStart text n.ListItem (IsPrefixOf text (Item item)) (bare_end old) old.out new.out) → (written_to old ≡ bare_end old → start.space.nodes ≡ Nil)
       → IsWrittenToRest new → StandsAt text (Within there others) (standing new) → around (standing new) ≡ Item item ∷ around (standing old)
       → new.on.now ≡ old.on.now
       → Stands r text front (within (InContainer (bare_container (Item item)) goes_on) o) (Item item ∷ outer) (Within there others) new
-  item_starts o outer item goes_on here there left others old new was first_of start nothing wr st inside on =
+  item_starts o outer item goes_on here there left others old new was of_list start nothing wr st inside on =
       let index : (end_in start.before).index ≡ (bare_end old).index = ap (λ (x : End). x.index) start.begins in
       record {
         constructs = on ∙ was.constructs;
@@ -96,10 +96,11 @@ module _ {A : Type 0} (r : Reading) (text : List ℕ) (front : Nodes) (go : Leve
             (forest_in text start.before) (forest_in text new.out) start.space.nodes start.first (written_to old).index (written_to new).index
             (begun_or_none o start.space.nodes old was.written nothing) start.space.quiet start.space.writes.forest
             (start.writes.forest ∙ ap (λ (g : Growth). with_nodes g (one start.first)) start.enters.forest)
-            was.in_list refl first_of
+            was.in_list refl of_list
             (let most = was.fits in omega (arith, most, index))
             (prefix_named text (Item item) start.first start.is_prefix) (prefix_defines text (Item item) start.first start.is_prefix)
             (prefix_start r text front (Item item) goes_on n.ListItem start.first start.is_prefix)
+            (prefix_filled text (Item item) goes_on start.first start.is_prefix)
             (ap (line_at text) index ∙ was.bare)
             was.spells;
         begun = λ listed none. true≢false (sym listed);

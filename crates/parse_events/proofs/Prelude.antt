@@ -61,7 +61,7 @@ pub use Rattle.parse_open.proofs.Ends.{blank_one}
 pub use Rattle.parse_open.proofs.LineCounts.{lines_are_counted}
 pub use Rattle.parse_open.proofs.Steps.{always_go_on}
 pub use Rattle.parse_open.specs.Fronts.{ends_in_blank, IsFront}
-pub use Rattle.parse_open.specs.Levels.{AreMute, AreOpen, HasStart, holder_standing, innermost, is_item, IsFirstOf, IsNamed, list_name, Spells, standing_at}
+pub use Rattle.parse_open.specs.Levels.{AreMute, AreOpen, HasStart, holder_standing, innermost, is_item, IsNamed, IsOfList, list_name, Spells, standing_at}
 pub use Rattle.parse_open.specs.Lines.{line_at}
 pub use Rattle.parse_open.specs.Open.{after_row, bare_blocks, bare_container, Holder, InContainer, InList, is_in_list, Level, level, Opened, opened, within}
 pub use Rattle.parse_open.specs.Steps.{IsBegun, IsStartName, LevelsGoOn, next_stands}

@@ -2,7 +2,7 @@
 use Rattle.std.proofs.Common.{◌≡◌, inl, inr, ℕ, Bool, true, false, List, [], ◌∷◌, ◌++◌, refl, sym, ap, ◌∙◌, subst, reverse}
 use Rattle.parse_events.proofs.Prelude.{after_row, always_go_on, around, AtEnding, bare_container, beside_in, Between, BlockRow, Blocks, Constructs, Container}
 use Rattle.parse_events.proofs.Prelude.{ends_in_list, EnterFootnote, EnterQuote, Err, Footnote, GoesOnInLine, Held, holder_standing, InContainer, is_in_line}
-use Rattle.parse_events.proofs.Prelude.{is_in_list, is_item, is_list, IsFirstOf, IsNamed, IsNext, IsParsing, Item, ItemPlace, KnowsItems, KnowsLists, level}
+use Rattle.parse_events.proofs.Prelude.{is_in_list, is_item, is_list, IsNamed, IsNext, IsOfList, IsParsing, Item, ItemPlace, KnowsItems, KnowsLists, level}
 use Rattle.parse_events.proofs.Prelude.{Level, line_rest, LineRest, more_if, Name, Nodes, Ok, OnOk, Opened, OpensIf, Parser, Place, Quote, Reading, Result}
 use Rattle.parse_events.proofs.Prelude.{standing, Stands, StandsAt, start_row, Starts, StartsOf, true≢false, Walk, which_go_on, Within, within, WritesStartOf}
 use Rattle.engine_events.specs.declared.event.Name.TheVariants as n
@@ -32,7 +32,7 @@ pub record OpensOne {A : Type 0} (o : Held) (old new : Parser A) : Type 0 where
 record IsOther (r : Reading) (text : List ℕ) (front : Nodes) (c : Container) (o : Held) (name : Name) : Type 0 where
   stands : is_item (InContainer (bare_container c) false) ≡ false
   is : IsNamed (InContainer (bare_container c) false) name
-  first_of : (bs : Blocks) (list : Name) → IsFirstOf r text front (InContainer (bare_container c) false) bs list
+  of_list : (list : Name) → IsOfList (InContainer (bare_container c) false) list
   go_on : holder_goes_on (InContainer (bare_container c) false) ≡ []
   first : (holder_standing (InContainer (bare_container c) false)).first ≡ false
   list : is_list o ≡ false
@@ -108,7 +108,7 @@ module _ {A : Type 0} where
           | inl at ↦
               let written = writes text c here left to kind at.0 steps.0 (inl at.1) walk.order in
               container_starts r text front (always_go_on r text front) o outer c false here there left laid.1 name mid.walk new.walk (none ∙ sym other.stands) other.is
-              (other.first_of o.kids _) walk written.0 written.1 (subst (λ (q : Place). StandsAt text q (standing new.walk)) laid.6 steps.1.1) steps.1.2 steps.1.3
+              (other.of_list _) walk written.0 written.1 (subst (λ (q : Place). StandsAt text q (standing new.walk)) laid.6 steps.1.1) steps.1.2 steps.1.3
           | inr past ↦ absurd past
         ] in
         record {
@@ -132,7 +132,7 @@ module _ {A : Type 0} where
       let laid : Starts r.parse.constructs outer Quote p to = subst (λ (c : Container). Starts r.parse.constructs outer c p to) is next.laid.3 in
       let at = started_on r.parse.constructs outer Quote p to in_line laid in
       started r text front o Quote held.Quote outer inner at.0 at.1 to is_quote n.BlockQuote starts old mid new
-      (record { stands = refl; is = refl; first_of = λ bs list. tt; go_on = refl; first = refl; list = refl }) refl next.fits
+      (record { stands = refl; is = refl; of_list = λ list. tt; go_on = refl; first = refl; list = refl }) refl next.fits
       (next.laid.2 ∙ ap (λ (c : Container). c ∷ outer) is) (subst (λ (q : Place). Starts r.parse.constructs outer Quote q to) at.2 laid)
       (subst (λ (q : Place). IsParsing r text front o outer q old) at.2 was) (lists_left old mid o.outer stays was.lists next.fits) begins writes opens
 
@@ -145,7 +145,7 @@ module _ {A : Type 0} where
       let laid : Starts r.parse.constructs outer (Footnote label) p to = subst (λ (c : Container). Starts r.parse.constructs outer c p to) is next.laid.3 in
       let at = started_on r.parse.constructs outer (Footnote label) p to in_line laid in
       started r text front o (Footnote label) held.Footnote outer inner at.0 at.1 to is_footnote n.GfmFootnoteDefinition starts old mid new
-      (record { stands = refl; is = refl; first_of = λ bs list. tt; go_on = refl; first = refl; list = refl }) refl next.fits
+      (record { stands = refl; is = refl; of_list = λ list. tt; go_on = refl; first = refl; list = refl }) refl next.fits
       (next.laid.2 ∙ ap (λ (c : Container). c ∷ outer) is) (subst (λ (q : Place). Starts r.parse.constructs outer (Footnote label) q to) at.2 laid)
       (subst (λ (q : Place). IsParsing r text front o outer q old) at.2 was) (lists_left old mid o.outer stays was.lists next.fits) begins writes opens
 

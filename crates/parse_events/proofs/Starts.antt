@@ -1,17 +1,24 @@
 -- A walk stands after the start of a container, if that is written.
 use Rattle.std.proofs.Common.{◌≡◌, inl, inr, ◌≤◌, ℕ, Bool, List, [], ◌∷◌, ◌++◌, Option, None, Some, refl, sym, ap, ◌∙◌, arith, drop}
 use Rattle.parse_events.proofs.Prelude.{around, bare_container, bare_end, Container, End, end_in, ending_text, enter_at, Footnote, forest_in, Growth, HasStart}
-use Rattle.parse_events.proofs.Prelude.{if◌then◌else◌, InContainer, innermost, is_in_list, is_item, IsFirstOf, IsNamed, IsPrefixOf, IsStartName}
+use Rattle.parse_events.proofs.Prelude.{if◌then◌else◌, InContainer, innermost, is_in_list, is_item, IsNamed, IsOfList, IsPrefixOf, IsStartName}
 use Rattle.parse_events.proofs.Prelude.{IsWrittenToRest, Item, kids_of, level, LevelsGoOn, line_at, LineRest, Name, named, NoBlock, Node, node_name, Nodes}
 use Rattle.parse_events.proofs.Prelude.{normal_label, one, Opened, Quote, Reading, rest_start, same_name, standing, Stands, StandsAt, true≢false, Walk, whole}
 use Rattle.parse_events.proofs.Prelude.{with_nodes, Within, within, WritesStart, written_to}
 use Rattle.definition_block.specs.ListItem.{number_of}
 use Rattle.engine_events.specs.declared.event.Name.TheVariants as n
+use Rattle.event_grammar.specs.declared.slot.Between.TheVariants.{Lines, Spaces}
+use Rattle.event_grammar.specs.declared.slot.Form.TheVariants.{Ordered, Plain}
+use Rattle.event_grammar.specs.Grammar.{row}
 use Rattle.event_meaning.specs.Blocks.{label_of}
 use Rattle.event_meaning.specs.Children.{child, inside_of, kids_in, text_in}
 use Rattle.parse_lines.proofs.Quiet.{quiet_named}
 use Rattle.parse_lines.proofs.Written.{bare_follows, bare_start}
+use Rattle.parse_lines.specs.Prefixes.{item_form}
 use Rattle.parse_output.proofs.Marks.{same_self}
+use Rattle.parse_slots.specs.Left.{Fill, IsFilled}
+use Rattle.parse_slots.proofs.Steps.{filled_by}
+use Rattle.parse_open.specs.Filled.{holder_form, number_form}
 use Rattle.parse_open.specs.Levels.{HasNumber}
 use Rattle.parse_events.proofs.Containers.{spells_start}
 use Rattle.parse_events.proofs.LastBlank.{inside_ends}
@@ -33,6 +40,17 @@ pub prefix_defines : (text : List ℕ) (c : Container) (first : Node) → IsPref
 prefix_defines text Quote first is = quiet_named n.Definition (one first) refl (inr is, tt)
 prefix_defines text (Item item) first is = is.others n.Definition refl
 prefix_defines text (Footnote label) first is = is.others n.Definition refl
+
+item_prefix_filled : (number : Option ℕ) (first : Node) → node_name first ≡ n.ListItemPrefix
+    → Fill Spaces (row n.ListItemPrefix (item_form number)) (kids_of first) [] → IsFilled Lines (number_form number) first
+item_prefix_filled None first is fill = filled_by Lines Plain n.ListItemPrefix [] first is fill refl
+item_prefix_filled (Some number) first is fill = filled_by Lines Ordered n.ListItemPrefix [] first is fill refl
+
+pub prefix_filled : (text : List ℕ) (c : Container) (goes_on : Bool) (first : Node) → IsPrefixOf text c first
+    → IsFilled Lines (holder_form (InContainer (bare_container c) goes_on)) first
+prefix_filled text Quote goes_on first is = filled_by Lines Plain n.BlockQuotePrefix [] first is.0 is.2 refl
+prefix_filled text (Item item) goes_on first is = item_prefix_filled item.number first is.is_named is.fill
+prefix_filled text (Footnote label) goes_on first is = filled_by Lines Plain n.GfmFootnoteDefinitionPrefix [] first is.is_named is.fill refl
 
 module _ (r : Reading) (text : List ℕ) (front : Nodes) where
   own_number : (number : Option ℕ) (first : Node) → node_name first ≡ n.ListItemPrefix
@@ -68,11 +86,11 @@ module _ {A : Type 0} (text : List ℕ) (here : LineRest) (left : List LineRest)
 module _ {A : Type 0} (r : Reading) (text : List ℕ) (front : Nodes) (go : LevelsGoOn r text front) where
   pub container_starts : (o : Opened) (outer : List Container) (c : Container) (goes_on : Bool) (here there : LineRest) (left others : List LineRest) (name : Name)
       (old new : Walk A) → is_in_list o.outer ≡ is_item (InContainer (bare_container c) goes_on) → IsNamed (InContainer (bare_container c) goes_on) name
-      → IsFirstOf r text front (InContainer (bare_container c) goes_on) o.kids (innermost (forest_in text old.out).outer)
+      → IsOfList (InContainer (bare_container c) goes_on) (innermost (forest_in text old.out).outer)
       → Stands r text front o outer (Within here left) old → WritesStart text name (IsPrefixOf text c) (bare_end old) old.out new.out → IsWrittenToRest new
       → StandsAt text (Within there others) (standing new) → around (standing new) ≡ c ∷ around (standing old) → new.on.now ≡ old.on.now
       → Stands r text front (within (InContainer (bare_container c) goes_on) o) (c ∷ outer) (Within there others) new
-  container_starts o outer c goes_on here there left others name old new stands is first_of was start wr st inside on =
+  container_starts o outer c goes_on here there left others name old new stands is of_list was start wr st inside on =
       elim was.at [
         | inl at ↦
             let bounds = bare_in_line text here left old at.0 at.1 in
@@ -88,10 +106,10 @@ module _ {A : Type 0} (r : Reading) (text : List ℕ) (front : Nodes) (go : Leve
                   (forest_in text start.before) (forest_in text new.out) start.space.nodes start.first (written_to old).index (written_to new).index
                   (inl was.begun) start.space.quiet start.space.writes.forest
                   (start.writes.forest ∙ ap (λ (g : Growth). with_nodes g (one start.first)) start.enters.forest)
-                  stands is first_of
+                  stands is of_list
                   (let most = line_in_text text (standing old) at.0.line in omega (arith, most, index, bounds.1))
                   (prefix_named text c start.first start.is_prefix) (prefix_defines text c start.first start.is_prefix)
-                  (prefix_start r text front c goes_on name start.first start.is_prefix)
+                  (prefix_start r text front c goes_on name start.first start.is_prefix) (prefix_filled text c goes_on start.first start.is_prefix)
                   (ap (line_at text) index ∙ rest_line_at text here left old (bare_end old).index at.0 at.1 bounds.0 bounds.1)
                   was.spells;
               begun = λ listed none. true≢false (sym listed);

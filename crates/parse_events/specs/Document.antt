@@ -25,6 +25,7 @@ use Rattle.parse_laid.specs.Laid.{unread_lines}
 use Rattle.parse_laid.specs.ParserRows.{AreRowsLaid}
 use Rattle.parse_laid.specs.Places.{Place, Between, unread}
 use Rattle.parse_open.specs.Open.{LeadTo, Opened, bare_blocks, opened}
+use Rattle.parse_open.specs.Filled.{FillBefore, FillOnPage}
 use Rattle.parse_open.specs.Fronts.{IsFront, SpellsNothing}
 use Rattle.parse_events.specs.declared.parser.Parser.{Parser}
 use Rattle.parse_events.specs.Parsing.{IsParsing}
@@ -34,6 +35,7 @@ use Rattle.parse_events.specs.Stands.{Stands}
 pub record StandsAfterMark {A : Type 0} (on : Constructs) (text : List ℕ) (before : Kind) (rest : List ℕ) (w : Walk A) : Type 0 where
   pub front : Nodes
   pub nothing : (names : Names) → SpellsNothing names text front
+  pub fill : FillBefore front
   pub constructs : w.on.now ≡ on
   pub outside : (standing w).outermost ≡ []
   pub left : w.left.now ≡ rest
@@ -46,6 +48,7 @@ pub record StandsAfterMark {A : Type 0} (on : Constructs) (text : List ℕ) (bef
 pub record StandsBefore {A : Type 0} (on : Constructs) (text : List ℕ) (before : Kind) (rest : List ℕ) (w : Walk A) : Type 0 where
   pub front : Nodes
   pub is_front : (names : Names) → IsFront names text front (blocks on before rest)
+  pub fill : FillOnPage front
   pub constructs : w.on.now ≡ on
   pub outside : (standing w).outermost ≡ []
   pub order : IsInOrder text w.out

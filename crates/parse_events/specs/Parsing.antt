@@ -3,7 +3,7 @@ use Rattle.std.specs.Prelude.{◌≡◌, ℕ, Bool, true, false, not, if◌then�
 use Rattle.markdown_options.specs.declared.configuration.Constructs.{Constructs}
 use Rattle.markdown_options.specs.declared.container.Item.{Item as ItemParts}
 use Rattle.definition_block.specs.Container.{Container, Quote, Item, Footnote}
-use Rattle.definition_block.specs.Tree.{Block, Blocks, join, one as one_block, is_ending}
+use Rattle.definition_block.specs.Tree.{Block, Blocks, Nil as NoBlock, join, one as one_block, is_ending}
 use Rattle.definition_page.specs.Read.{Reading}
 use Rattle.block_rows.specs.Rows.{BlockRow}
 use Rattle.engine_events.specs.declared.event.Name.TheVariants.{ListItem}
@@ -15,9 +15,10 @@ use Rattle.parse_output.specs.Written.{Exits, IsInOrder, forest_in}
 use Rattle.parse_laid.specs.Begun.{begun, ends_line, is_in_line}
 use Rattle.parse_laid.specs.Laid.{IsRowLaid}
 use Rattle.parse_laid.specs.Places.{LineRest, Place, Between, Within}
-use Rattle.parse_open.specs.Open.{Fits, Holder, InContainer, InList, Level, Opened, after_row, bare_container, in_list, is_in_list, list_end}
+use Rattle.parse_open.specs.Open.{Fits, Holder, InContainer, InList, Level, Opened, after_row, bare_container, first_marker, in_list, is_in_list, list_end}
 use Rattle.parse_open.specs.Open as open_blocks
-use Rattle.parse_open.specs.Levels.{IsFirstOf, innermost, list_name}
+use Rattle.parse_open.specs.Filled.{marker_list}
+use Rattle.parse_open.specs.Levels.{IsOfList, innermost, list_name}
 use Rattle.parse_open.specs.Steps.{next_stands}
 use Rattle.parse_lines.specs.declared.walk.Walk.{Walk}
 use Rattle.parse_lines.specs.Ends.{written_to}
@@ -121,13 +122,14 @@ EndsItem old new =
     → IsAfterItem r text front o within p goes_on old
     → IsParsing r text front (if not goes_on then list_end o.kids o.outer o.places else o) within p new
 
--- A parser stands in a line on which an item comes next, and its list is open, whose first item has a number or none.
+-- A parser stands in a line on which an item comes next, and its list is open. The item has a number or none, as its marker tells.
 pub record IsListing {A : Type 0} (r : Reading) (text : List ℕ) (front : Nodes) (o : Opened) (within : List Container) (here : LineRest) (left : List LineRest)
     (number : Option ℕ) (parser : Parser A) : Type 0 where
   pub listed : IsListed r text front o within here left parser.walk
   pub lists : KnowsLists parser.open.items o.outer
-  pub first_of : (item : ItemParts) (goes_on : Bool) → item.number ≡ number
-      → IsFirstOf r text front (InContainer (bare_container (Item item)) goes_on) o.kids (innermost (forest_in text parser.walk.out).outer)
+  pub of_list : (item : ItemParts) (goes_on : Bool) → item.number ≡ number → list_name item.number ≡ marker_list item.marker
+      → ((o.kids ≡ NoBlock → ⊥) → first_marker o.kids ≡ item.marker)
+      → IsOfList (InContainer (bare_container (Item item)) goes_on) (innermost (forest_in text parser.walk.out).outer)
 
 -- a list is open, in which an item may begin
 abbrev pub BeginsList : {A : Type 0} → OpenedHere → Parser A → Parser A → Type 0

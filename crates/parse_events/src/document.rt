@@ -8,7 +8,7 @@ ghost use Rattle.event_meaning.specs.Spelled.{spelled};
 ghost use Rattle.parse_alike.specs.Spelled.{IsPageOfText};
 ghost use Rattle.text_pieces.specs.Pieces.{piece_lines};
 ghost use Rattle.parse_events.specs.Document.{StandsAfterMark, StandsBefore, WritesBlocks, WritesBlocksBy};
-ghost use Rattle.parse_events.specs.Parsed.{AreEventsOf, IsStateOf};
+ghost use Rattle.parse_events.specs.Parsed.{AreEventsOf, FillDocument, IsStateOf};
 ghost use Rattle.markdown_options.specs.Mdx.{has_mdx};
 ghost use Rattle.markdown_options.specs.Messages.{IsOutOfMemory};
 ghost use Rattle.block_rows.specs.Rows.{rows_of, rows_size, rows_value, value_with};
@@ -135,8 +135,9 @@ fn text_events<'a, T: Tables, A: Allocator + Clone>(
     requires rows { rows_value blocks.now.rows.items (piece_lines blocks.now.pieces.items)
         ≡ value_with (rows_of (text_blocks options.now.constructs value.now)) [] }
     requires enough { rows_size blocks.now.rows.items ≤ length blocks.now.pieces.items }
-    ensures { IfOk result (λ events. let names = T.reference_of tables.now in
+    ensures events { IfOk result (λ events. let names = T.reference_of tables.now in
         AreEventsOf (text_tables names (T.punctuation_of tables.now)) options.now value.now events.items) }
+    ensures filled { IfOk result (λ events. FillDocument events.items) }
 {
     let walk = begin(alloc.clone()?, value, options)?;
     let walk = push_blocks(

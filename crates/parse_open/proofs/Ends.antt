@@ -28,8 +28,8 @@ pub ends_blank_one : (ns : Nodes) (node : Node) → node_name node ≡ n.BlankLi
 ends_blank_one ns node is = ends_after n.BlankLineEnding false ns (one node) ∙ ap (λ (a : Name). same_name a n.BlankLineEnding) is
 
 mute_other : (node : Node) (ns : Nodes) → AreMute (Cons node ns) → same_name (node_name node) n.BlankLineEnding ≡ false
-mute_other node ns (inl is, none, more) = ap (λ (a : Name). same_name a n.BlankLineEnding) is
-mute_other node ns (inr is, none, more) = ap (λ (a : Name). same_name a n.BlankLineEnding) is
+mute_other node ns (inl is, none, more, filled) = ap (λ (a : Name). same_name a n.BlankLineEnding) is
+mute_other node ns (inr is, none, more, filled) = ap (λ (a : Name). same_name a n.BlankLineEnding) is
 
 pub mute_ends : (ms : Nodes) → AreMute ms → ends_in_blank ms ≡ false
 mute_ends Nil are = refl

@@ -38,11 +38,11 @@ named_both name (Cons node ns) ms =
 -- nodes that spell nothing hold no definition
 pub mute_named : (ns : Nodes) → AreMute ns → named n.Definition ns ≡ []
 mute_named Nil are = refl
-mute_named (Cons (Around enter kids exit) ns) (inl is, none, more) =
+mute_named (Cons (Around enter kids exit) ns) (inl is, none, more, filled) =
     ap₂ (λ (b : Bool) (xs : List Node). (if b then Around enter kids exit ∷ named n.Definition kids else named n.Definition kids) ++ xs)
     (ap (λ (a : Name). same_name a n.Definition) is) (mute_named ns more)
     ∙ ap (λ (xs : List Node). xs ++ []) none
-mute_named (Cons (Around enter kids exit) ns) (inr is, none, more) =
+mute_named (Cons (Around enter kids exit) ns) (inr is, none, more, filled) =
     ap₂ (λ (b : Bool) (xs : List Node). (if b then Around enter kids exit ∷ named n.Definition kids else named n.Definition kids) ++ xs)
     (ap (λ (a : Name). same_name a n.Definition) is) (mute_named ns more)
     ∙ ap (λ (xs : List Node). xs ++ []) none
@@ -68,11 +68,11 @@ module _ (names : Names) (text : List ℕ) where
 
   pub mute_blocks : (top : Bool) (ns : Nodes) → AreMute ns → blocks_of names text top ns ≡ page.Nil
   mute_blocks top Nil are = refl
-  mute_blocks top (Cons (Around enter kids exit) ns) (inl is, none, more) =
+  mute_blocks top (Cons (Around enter kids exit) ns) (inl is, none, more, filled) =
       let t = text_of text (Around enter kids exit) in
       ap (λ (a : Name). join (block_of names text top a t kids (blocks_from names text (start_of a) kids)) (blocks_of names text top ns)) is
       ∙ mute_blocks top ns more
-  mute_blocks top (Cons (Around enter kids exit) ns) (inr is, none, more) =
+  mute_blocks top (Cons (Around enter kids exit) ns) (inr is, none, more, filled) =
       let t = text_of text (Around enter kids exit) in
       ap (λ (a : Name). join (block_of names text top a t kids (blocks_from names text (start_of a) kids)) (blocks_of names text top ns)) is
       ∙ mute_blocks top ns more

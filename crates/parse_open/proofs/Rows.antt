@@ -2,7 +2,7 @@
 use Rattle.std.proofs.Common.{◌≡◌, ◌≤◌, ℕ, Bool, true, false, ◌==◌, List, [], ◌∷◌, ◌++◌, refl, sym, ap, subst, ◌∙◌, append_assoc}
 use Rattle.parse_open.proofs.Prelude.{after_endings, append-nil, bare_blocks, Blank, Block, Blocks, Container, Ending, Footnote, group_items, has_gap, Holds}
 use Rattle.parse_open.proofs.Prelude.{if◌then◌else◌, InContainer, InList, is_in_list, Item, ItemParts, Items, join, Leaf, level, Level, list_marker, Opened}
-use Rattle.parse_open.proofs.Prelude.{opened, Place, Quote, spaced_leaf}
+use Rattle.parse_open.proofs.Prelude.{eqb-true, item_marker, opened, Place, Quote, spaced_leaf, true≢false}
 use Rattle.definition_block.specs.Tree.{Nil, Cons, one}
 use Rattle.block_rows.specs.Rows.{BlockRow, Exit, rows_of}
 use Rattle.block_state.proofs.Trees.{join-assoc, join-nil}
@@ -12,7 +12,7 @@ use Rattle.html_looseness.proofs.Ahead.{ahead_of, after_list, before_item_is, li
 use Rattle.html_looseness.proofs.BlockPlaces.{blocks_passed, places_within}
 use Rattle.html_looseness.proofs.ListPlaces.{next_marker}
 use Rattle.parse_open.specs.BlockLaws.{RowsLeadToBlocks}
-use Rattle.parse_open.specs.Open.{within, bare_item, item_begun}
+use Rattle.parse_open.specs.Open.{within, bare_item, first_marker, item_begun}
 use Rattle.parse_open.specs.Open.{container_end}
 use Rattle.parse_open.specs.Open.{list_end, ends_list, LeadTo}
 use Rattle.parse_open.proofs.Bare.{bare_groups, bare_marker}
@@ -32,9 +32,19 @@ LeadOn bs =
 abbrev LeadOutOfList : Blocks → Type 0
 LeadOutOfList bs =
     (items before : Blocks) (outer : List Level) (places : List Place) (rows : List BlockRow) (all : Blocks) → is_in_list outer ≡ false
-    → 1 ≤ list_marker (after_endings (grouped bs))
+    → 1 ≤ list_marker (after_endings (grouped bs)) → first_marker items ≡ list_marker (after_endings (grouped bs))
     → LeadTo (opened (join before (Cons (Items (join items (list_ahead (grouped bs)))) (after_list (grouped bs)))) outer places) rows all
     → LeadTo (opened items (level InList before ∷ outer) (places_within bs ++ places)) (rows_of bs ++ rows) all
+
+-- the first of some items is still the first before more
+first_more : (items more : Blocks) → 1 ≤ first_marker items → first_marker (join items more) ≡ first_marker items
+first_more Nil more some = absurd (no_marker some)
+first_more (Cons b items) more some = refl
+
+-- the marker of a list that begins with an item is the item's
+listed_marker : (t : Bool) (item : Block) (gs : Blocks) → list_marker (after_endings (listed t item gs)) ≡ item_marker item
+listed_marker true item gs = refl
+listed_marker false item gs = refl
 
 -- what leads on from other states, places and rows that are the same
 leads_by : (o p : Opened) (rows others : List BlockRow) (all : Blocks) → o ≡ p → rows ≡ others → LeadTo o rows all → LeadTo p others all
@@ -68,20 +78,32 @@ module _ (item : ItemParts) (kids bs : Blocks) (some : 1 ≤ item.marker) where
   listed_is : all_of ≡ listed goes_on own (grouped bs)
   listed_is = before_item_is (record { marker = item.marker; number = item.number; size = 0 }) (grouped kids) (grouped bs) some
 
+  -- items, and this one: they have its marker
+  abbrev HaveMarker : Blocks → Type 0
+  HaveMarker items = first_marker (join items (one own)) ≡ item.marker
+
+  own_marker : list_marker (after_endings all_of) ≡ item.marker
+  own_marker = ap (λ gs. list_marker (after_endings gs)) listed_is ∙ listed_marker goes_on own (grouped bs)
+
+  -- the items before it have it, too
+  marked_by : (items : Blocks) → 1 ≤ list_marker (after_endings all_of) → first_marker items ≡ list_marker (after_endings all_of) → HaveMarker items
+  marked_by items next same = first_more items (one own) (subst (λ n. 1 ≤ n) (sym same) next) ∙ same ∙ own_marker
+
   list_is : Cons (Items (list_ahead all_of)) (after_list all_of) ≡ all_of
   list_is = ap (λ gs. Cons (Items (list_ahead gs)) (after_list gs)) listed_is ∙ sym listed_is
 
   after_item : (items before : Blocks) (outer : List Level) (places : List Place) (rows : List BlockRow) (all : Blocks) → is_in_list outer ≡ false
-      → LeadOn bs → LeadOutOfList bs → (t : Bool) → goes_on ≡ t
+      → HaveMarker items → LeadOn bs → LeadOutOfList bs → (t : Bool) → goes_on ≡ t
       → LeadTo
       (opened (join before (Cons (Items (join items (list_ahead (listed t own (grouped bs))))) (after_list (listed t own (grouped bs))))) outer places) rows all
       → LeadTo (container_end (grouped kids) (level (InContainer (bare_item item.marker item.number) t) items ∷ level InList before ∷ outer)
       (places_within bs ++ places)) (rows_of bs ++ rows) all
-  after_item items before outer places rows all free on out false is h =
+  after_item items before outer places rows all free own_is on out false is h =
       on (join before (one (Items (join items (one own))))) outer places rows all free
       (subst (λ xs. LeadTo (opened xs outer places) rows all) (sym (join-assoc before (one (Items (join items (one own)))) (grouped bs))) h)
-  after_item items before outer places rows all free on out true is h =
+  after_item items before outer places rows all free own_is on out true is h =
       out (join items (one own)) before outer places rows all free (next_marker item (grouped bs) some is)
+      (own_is ∙ sym (eqb-true (list_marker (after_endings (grouped bs))) item.marker is))
       (subst (λ xs. LeadTo (opened (join before (Cons (Items xs) (after_list (grouped bs)))) outer places) rows all)
       (sym (join-assoc items (one own) (list_ahead (grouped bs)))) h)
 
@@ -93,17 +115,17 @@ module _ (item : ItemParts) (kids bs : Blocks) (some : 1 ≤ item.marker) where
   same_goes_on = ap (λ (m : ℕ). m == item.marker) (sym (bare_marker (group_items bs)) ∙ ap (λ gs. list_marker (after_endings gs)) (bare_groups bs))
 
   item_in_list : LeadOn kids → LeadOn bs → LeadOutOfList bs → (items before : Blocks) (outer : List Level) (places : List Place) (rows : List BlockRow)
-      (all : Blocks) → is_in_list outer ≡ false
+      (all : Blocks) → is_in_list outer ≡ false → HaveMarker items
       → LeadTo (opened (join before (Cons (Items (join items (list_ahead all_of))) (after_list all_of))) outer places) rows all
       → LeadTo (item_begun (bare_item item.marker item.number)
       (opened items (level InList before ∷ outer) (((place ∷ places_within kids) ++ places_within bs) ++ places)))
       (((rows_of kids ++ Exit ∷ []) ++ rows_of bs) ++ rows) all
-  item_in_list inner on out items before outer places rows all free h =
+  item_in_list inner on out items before outer places rows all free own_is h =
       let c = bare_item item.marker item.number in
       let around = λ (t : Bool). level (InContainer c t) items ∷ level InList before ∷ outer in
       let more = λ (gs : Blocks). opened (join before (Cons (Items (join items (list_ahead gs))) (after_list gs))) outer places in
       let begun = in_container kids inner c goes_on items (level InList before ∷ outer) (places_within bs ++ places) (rows_of bs ++ rows) all
-      (after_item items before outer places rows all free on out goes_on refl (subst (λ gs. LeadTo (more gs) rows all) listed_is h)) in
+      (after_item items before outer places rows all free own_is on out goes_on refl (subst (λ gs. LeadTo (more gs) rows all) listed_is h)) in
       leads_by (opened Nil (around goes_on) (places_within kids ++ (places_within bs ++ places)))
       (opened Nil (around place.goes_on) ((places_within kids ++ places_within bs) ++ places)) _ _ all
       (ap (λ t. opened Nil (around t) (places_within kids ++ (places_within bs ++ places))) (sym same_goes_on)
@@ -144,9 +166,9 @@ item_on item kids bs some inner on out before outer places rows all free h =
     let gs = grouped (Cons (Holds (Item item) kids) bs) in
     let around = ((place item kids bs some ∷ places_within kids) ++ places_within bs) ++ places in
     let o = opened before outer around in
-    let first = item_in_list item kids bs some inner on out Nil before outer places rows all free
+    let first = item_in_list item kids bs some inner on out Nil before outer places rows all free refl
     (subst (λ xs. LeadTo (opened (join before xs) outer places) rows all) (sym (list_is item kids bs some)) h) in (
-      tt,
+      (λ listed. absurd (true≢false (sym listed ∙ free))),
       subst (λ t.
           LeadTo (item_begun (bare_item item.marker item.number) (if t then o else within InList o)) (((rows_of kids ++ Exit ∷ []) ++ rows_of bs) ++ rows) all)
           (sym free) first,
@@ -154,11 +176,11 @@ item_on item kids bs some inner on out before outer places rows all free h =
 
 ending_out : (b : Block) (bs : Blocks) → LeadOutOfList bs → (items before : Blocks) (outer : List Level) (places : List Place) (rows : List BlockRow)
     (all : Blocks)
-    → is_in_list outer ≡ false → 1 ≤ list_marker (after_endings (grouped bs))
+    → is_in_list outer ≡ false → 1 ≤ list_marker (after_endings (grouped bs)) → first_marker items ≡ list_marker (after_endings (grouped bs))
     → LeadTo (opened (join before (Cons (Items (join items (Cons b (list_ahead (grouped bs))))) (after_list (grouped bs)))) outer places) rows all
     → LeadTo (opened (join items (one b)) (level InList before ∷ outer) (places_within bs ++ places)) (rows_of bs ++ rows) all
-ending_out b bs out items before outer places rows all free next h =
-    out (join items (one b)) before outer places rows all free next
+ending_out b bs out items before outer places rows all free next same h =
+    out (join items (one b)) before outer places rows all free next (first_more items (one b) (subst (λ n. 1 ≤ n) (sym same) next) ∙ same)
     (subst (λ xs. LeadTo (opened (join before (Cons (Items xs) (after_list (grouped bs)))) outer places) rows all)
     (sym (join-assoc items (one b) (list_ahead (grouped bs)))) h)
 
@@ -182,17 +204,20 @@ mutual
       ((λ _. free), single_on (Blank e) bs (lead_on bs p.1) kids outer places rows all free h)
 
   lead_out : (bs : Blocks) → CanBePrinted bs → LeadOutOfList bs
-  lead_out Nil p items before outer places rows all free next h = absurd (no_marker next)
-  lead_out (Cons (Leaf leaf) bs) p items before outer places rows all free next h = absurd (no_marker next)
-  lead_out (Cons (Holds Quote kids) bs) p items before outer places rows all free next h = absurd (no_marker next)
-  lead_out (Cons (Holds (Item item) kids) bs) p items before outer places rows all free next h =
-      (tt, item_in_list item kids bs p.0.0 (lead_on kids p.0.1) (lead_on bs p.1) (lead_out bs p.1) items before outer places rows all free h)
-  lead_out (Cons (Holds (Footnote label) kids) bs) p items before outer places rows all free next h = absurd (no_marker next)
-  lead_out (Cons (Items inside) bs) p items before outer places rows all free next h = absurd p.0
-  lead_out (Cons (Ending e) bs) p items before outer places rows all free next h =
-      ((λ no. let wrong : true ≡ false = no in absurd (cc)), ending_out (Ending e) bs (lead_out bs p.1) items before outer places rows all free next h)
-  lead_out (Cons (Blank e) bs) p items before outer places rows all free next h =
-      ((λ no. let wrong : true ≡ false = no in absurd (cc)), ending_out (Blank e) bs (lead_out bs p.1) items before outer places rows all free next h)
+  lead_out Nil p items before outer places rows all free next same h = absurd (no_marker next)
+  lead_out (Cons (Leaf leaf) bs) p items before outer places rows all free next same h = absurd (no_marker next)
+  lead_out (Cons (Holds Quote kids) bs) p items before outer places rows all free next same h = absurd (no_marker next)
+  lead_out (Cons (Holds (Item item) kids) bs) p items before outer places rows all free next same h = (
+    (λ listed. same ∙ own_marker item kids bs p.0.0),
+    item_in_list item kids bs p.0.0 (lead_on kids p.0.1) (lead_on bs p.1) (lead_out bs p.1) items before outer places rows all free
+        (marked_by item kids bs p.0.0 items next same) h,
+  )
+  lead_out (Cons (Holds (Footnote label) kids) bs) p items before outer places rows all free next same h = absurd (no_marker next)
+  lead_out (Cons (Items inside) bs) p items before outer places rows all free next same h = absurd p.0
+  lead_out (Cons (Ending e) bs) p items before outer places rows all free next same h =
+      ((λ no. let wrong : true ≡ false = no in absurd (cc)), ending_out (Ending e) bs (lead_out bs p.1) items before outer places rows all free next same h)
+  lead_out (Cons (Blank e) bs) p items before outer places rows all free next same h =
+      ((λ no. let wrong : true ≡ false = no in absurd (cc)), ending_out (Blank e) bs (lead_out bs p.1) items before outer places rows all free next same h)
 
 pub rows_lead : RowsLeadToBlocks
 rows_lead = λ bs p.

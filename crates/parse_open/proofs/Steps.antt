@@ -28,10 +28,13 @@ use Rattle.parse_alike.specs.Page.{AreContainersAlike}
 use Rattle.parse_alike.specs.Targets.{AreLabelsAlike}
 use Rattle.parse_open.specs.Open.{is_list}
 use Rattle.parse_open.proofs.Spread.{spread_blocks_compose}
-use Rattle.parse_open.specs.Levels.{AreAt, AreIn, HasListStart, HasNumber, HasStart, IsFirstOf, IsNamed}
+use Rattle.parse_open.specs.Filled.{FillAt, first_prefix}
+use Rattle.parse_open.specs.Levels.{AreAt, AreIn, HasListStart, HasNumber, HasStart, IsNamed, IsOfList}
 use Rattle.parse_open.specs.Levels.{holder_child, holder_standing, innermost, is_item, list_name, spelled_number, standing_at}
 use Rattle.parse_open.specs.NodeLaws.{LevelsAlwaysGoOn}
 use Rattle.parse_open.specs.Steps.{IsBegun, IsNodeOf, IsStartName, LevelsGoOn}
+use Rattle.parse_open.proofs.Filled as filled
+use Rattle.parse_open.proofs.Filled.{HasItems, blank_between, container_filled, ending_between, list_filled, mute_between}
 use Rattle.parse_open.proofs.Nodes.{SpellMore, begins_more, first_kids, followed_is, from_start, spell_more, spell_mute}
 
 in_container_only : (h : Holder) → (holder_standing h).top ≡ false
@@ -47,11 +50,6 @@ number_more (Holds c kids) bs cs = refl
 number_more (Items items) bs cs = refl
 number_more (Ending ending) bs cs = refl
 number_more (Blank ending) bs cs = refl
-
--- a list that is the innermost has an item that is finished
-abbrev HasItems : Holder → Blocks → Type 0
-HasItems (InContainer c goes_on) bs = Unit {0}
-HasItems InList bs = bs ≡ NoBlock → ⊥
 
 abbrev some_block : Blocks → Bool
 some_block NoBlock = false
@@ -73,8 +71,8 @@ join-none (ConsBlock b bs) = ap (ConsBlock b) (join-none bs)
 -- a node that is no child there
 mute_child : (c : Child) → has c n.SpaceOrTab ≡ false → has c n.BlockQuotePrefix ≡ false → (node : Node) (ns : Nodes) → AreMute (Cons node ns)
     → has c (node_name node) ≡ false
-mute_child c space prefix node ns (inl is, none, more) = ap (has c) is ∙ space
-mute_child c space prefix node ns (inr is, none, more) = ap (has c) is ∙ prefix
+mute_child c space prefix node ns (inl is, none, more, filled) = ap (has c) is ∙ space
+mute_child c space prefix node ns (inr is, none, more, filled) = ap (has c) is ∙ prefix
 
 holder_space : (h : Holder) → has (holder_child h) n.SpaceOrTab ≡ false
 holder_space (InContainer c goes_on) = refl
@@ -85,8 +83,8 @@ holder_prefix (InContainer c goes_on) = refl
 holder_prefix InList = refl
 
 mute_item : (node : Node) (ns : Nodes) → AreMute (Cons node ns) → node_name node ≡ n.ListItem → ⊥
-mute_item node ns (inl is, none, more) item = true≢false (sym (ap (λ (a : Name). same_name a n.ListItem) (sym is ∙ item)))
-mute_item node ns (inr is, none, more) item = true≢false (sym (ap (λ (a : Name). same_name a n.ListItem) (sym is ∙ item)))
+mute_item node ns (inl is, none, more, filled) item = true≢false (sym (ap (λ (a : Name). same_name a n.ListItem) (sym is ∙ item)))
+mute_item node ns (inr is, none, more, filled) item = true≢false (sym (ap (λ (a : Name). same_name a n.ListItem) (sym is ∙ item)))
 
 module _ (text : List ℕ) where
   spread_mute : (h : Holder) (bs : Blocks) (ns ms : Nodes) (line : ℕ) → AreMute ms → AreSpread text (holder_child h) bs ns line
@@ -409,6 +407,12 @@ module _ (r : Reading) (text : List ℕ) (front : Nodes) where
   start_child name (inr (inl is)) = ap (has BlockChild) is
   start_child name (inr (inr is)) = ap (has BlockChild) is
 
+  start_named : (c : Container) (goes_on : Bool) (name : Name) (first : Node) → HasStart r text front (InContainer c goes_on) name NoBlock (one first)
+      → node_name first ≡ first_prefix c
+  start_named Quote goes_on name first start = start
+  start_named (Item item) goes_on name first start = start.0
+  start_named (Footnote label) goes_on name first start = start.0
+
   in_first : (c : Container) (goes_on : Bool) (name : Name) (first : Node) (line : ℕ) → IsStartName (node_name first)
       → named n.Definition (one first) ≡ [] → HasStart r text front (InContainer c goes_on) name NoBlock (one first)
       → AreIn r text front (InContainer c goes_on) name NoBlock (one first) line
@@ -531,22 +535,22 @@ module _ (r : Reading) (text : List ℕ) (front : Nodes) where
       ∙ ap Some has)
 
   list_start_item : (name : Name) (before kids : Blocks) (item : ItemParts) (goes_on : Bool) (enter exit : Event) (ns ms : Nodes) → enter.name ≡ n.ListItem
-      → IsFirstOf r text front (InContainer (Item item) goes_on) before name → HasNumber r text front item.number ns
+      → IsOfList (InContainer (Item item) goes_on) name → HasNumber r text front item.number ns
       → HasListStart r text front name before ms
       → HasListStart r text front name (join before (one_block (Holds (Item item) kids))) (append ms (one (Around enter ns exit)))
-  list_start_item name NoBlock kids item goes_on enter exit ns ms is first has start =
+  list_start_item name NoBlock kids item goes_on enter exit ns ms is of_list has start =
       subst (λ (xs : Nodes). HasListStart r text front name (one_block (Holds (Item item) kids)) (append xs (one (Around enter ns exit)))) (sym start)
-      (is, item_number item.number name enter exit ns first is has)
-  list_start_item name (ConsBlock b bs) kids item goes_on enter exit ns ms is first has start =
+      (is, item_number item.number name enter exit ns of_list.0 is has)
+  list_start_item name (ConsBlock b bs) kids item goes_on enter exit ns ms is of_list has start =
       list_start_more name (ConsBlock b bs) (one_block (Holds (Item item) kids)) ms (one (Around enter ns exit)) (λ none. true≢false (ap some_block none)) start
 
   start_item : (h : Holder) (name : Name) (before kids : Blocks) (item : ItemParts) (goes_on : Bool) (enter exit : Event) (ns ms : Nodes) → is_list h ≡ true
-      → enter.name ≡ n.ListItem → IsFirstOf r text front (InContainer (Item item) goes_on) before name → HasNumber r text front item.number ns
+      → enter.name ≡ n.ListItem → IsOfList (InContainer (Item item) goes_on) name → HasNumber r text front item.number ns
       → is_loose_item text ns ≡ has_gap kids → HasStart r text front h name before ms
       → HasStart r text front h name (join before (one_block (Holds (Item item) kids))) (append ms (one (Around enter ns exit)))
-  start_item (InContainer c g) name before kids item goes_on enter exit ns ms in_list is first has gap start = absurd (true≢false (sym in_list))
-  start_item InList name before kids item goes_on enter exit ns ms in_list is first has gap start = (
-    list_start_item name before kids item goes_on enter exit ns ms is first has start.0,
+  start_item (InContainer c g) name before kids item goes_on enter exit ns ms in_list is of_list has gap start = absurd (true≢false (sym in_list))
+  start_item InList name before kids item goes_on enter exit ns ms in_list is of_list has gap start = (
+    list_start_item name before kids item goes_on enter exit ns ms is of_list has start.0,
     ap (has_loose_item text) (sym (followed_is ms (Around enter ns exit)))
         ∙ spread_blocks_compose.item text before kids (Item item) ms ns enter exit is gap start.1,
   )
@@ -564,25 +568,40 @@ module _ (r : Reading) (text : List ℕ) (front : Nodes) where
   holder_ends : (c : Container) (goes_on : Bool) (levels : List Level) (parts : List Part) (before kids : Blocks) (enter exit : Event) (ns ms : Nodes)
       (line : ℕ)
       → IsNamed (InContainer c goes_on) enter.name → (spot_of enter).index ≤ length text → is_in_list levels ≡ is_item (InContainer c goes_on)
-      → IsFirstOf r text front (InContainer c goes_on) before (innermost parts) → AreIn r text front (InContainer c goes_on) enter.name kids ns line
+      → IsOfList (InContainer c goes_on) (innermost parts) → AreIn r text front (InContainer c goes_on) enter.name kids ns line
       → AreAt r text front levels parts before ms (line_at text (spot_of enter).index)
       → AreAt r text front levels parts (join before (one_block (Holds c kids))) (append ms (one (Around enter ns exit))) (line_at text (spot_of exit).index)
-  holder_ends (Item item) goes_on levels parts before kids enter exit ns ms line is fits stands first own was =
+  holder_ends (Item item) goes_on levels parts before kids enter exit ns ms line is fits stands of_list own was =
       at_more levels parts before (Holds (Item item) kids) ms (one (Around enter ns exit)) (line_at text (spot_of enter).index)
       (line_at text (spot_of exit).index)
       (spell_container (standing_at levels) before kids (Item item) goes_on enter exit ns line is own)
       (λ top. kept_if (ends_unclosed false before) (Read on_page before (Holds (Item item) kids)) refl)
       (λ l others here spread. spread_item l.holder before kids (Item item) enter exit ns ms (ap is_in_list (sym here) ∙ stands) is fits spread)
-      (λ l others here start. start_item l.holder (innermost parts) before kids item goes_on enter exit ns ms (ap is_in_list (sym here) ∙ stands) is first
-      own.start.1 own.spread.apart start)
+      (λ l others here start. start_item l.holder (innermost parts) before kids item goes_on enter exit ns ms (ap is_in_list (sym here) ∙ stands) is
+      of_list own.start.1 own.spread.apart start)
       was
-  holder_ends Quote goes_on levels parts before kids enter exit ns ms line is fits stands first own was =
+  holder_ends Quote goes_on levels parts before kids enter exit ns ms line is fits stands of_list own was =
       at_block levels parts before (Holds Quote kids) ms ns enter exit stands refl (holder_listed (InContainer Quote goes_on) enter.name is refl) fits
       (spell_container (standing_at levels) before kids Quote goes_on enter exit ns line is own) refl was
-  holder_ends (Footnote label) goes_on levels parts before kids enter exit ns ms line is fits stands first own was =
+  holder_ends (Footnote label) goes_on levels parts before kids enter exit ns ms line is fits stands of_list own was =
       at_block levels parts before (Holds (Footnote label) kids) ms ns enter exit stands refl
       (holder_listed (InContainer (Footnote label) goes_on) enter.name is refl) fits
       (spell_container (standing_at levels) before kids (Footnote label) goes_on enter exit ns line is own) refl was
+
+  -- its row is filled, and one more slot of what is around it
+  holder_fills : (c : Container) (goes_on : Bool) (levels : List Level) (name : Name) (before kids : Blocks) (enter exit : Event) (ns ms : Nodes)
+      → IsNamed (InContainer c goes_on) enter.name → is_in_list levels ≡ is_item (InContainer c goes_on) → IsOfList (InContainer c goes_on) name
+      → FillAt (level (InContainer c goes_on) before ∷ levels) enter.name kids ns → FillAt levels name before ms
+      → FillAt levels name (join before (one_block (Holds c kids))) (append ms (one (Around enter ns exit)))
+  holder_fills (Item item) goes_on levels name before kids enter exit ns ms is stands of_list own was =
+      filled.at_item levels name before kids item goes_on ms (Around enter ns exit) stands of_list is
+      (container_filled (Item item) goes_on kids enter exit ns is own) was
+  holder_fills Quote goes_on levels name before kids enter exit ns ms is stands of_list own was =
+      filled.at_block levels name before (join before (one_block (Holds Quote kids))) ms (Around enter ns exit) stands
+      (holder_listed (InContainer Quote goes_on) enter.name is refl) (container_filled Quote goes_on kids enter exit ns is own) was
+  holder_fills (Footnote label) goes_on levels name before kids enter exit ns ms is stands of_list own was =
+      filled.at_block levels name before (join before (one_block (Holds (Footnote label) kids))) ms (Around enter ns exit) stands
+      (holder_listed (InContainer (Footnote label) goes_on) enter.name is refl) (container_filled (Footnote label) goes_on kids enter exit ns is own) was
 
   -- ---- lists
 
@@ -639,9 +658,10 @@ module _ (r : Reading) (text : List ℕ) (front : Nodes) where
       (places : List Place)
       → AreAt r text front (level (InContainer c goes_on) before ∷ levels) parts kids ns (line_at text (spot_of exit).index)
       → AreOpen r text front (level (InContainer c goes_on) before ∷ levels) parts
+      → FillAt (level (InContainer c goes_on) before ∷ levels) (innermost parts) kids ns
       → Spells r text front (opened (join before (one_block (Holds c kids))) levels places) (exited (growth ns parts) exit) (line_at text (spot_of exit).index)
-  container_end_by c goes_on before kids levels [] ns exit places own there = absurd there
-  container_end_by c goes_on before kids levels (part ∷ parts) ns exit places own there =
+  container_end_by c goes_on before kids levels [] ns exit places own there fill = absurd there
+  container_end_by c goes_on before kids levels (part ∷ parts) ns exit places own there fill =
       record {
         kids =
             subst (λ (xs : Nodes).
@@ -650,14 +670,18 @@ module _ (r : Reading) (text : List ℕ) (front : Nodes) where
             (holder_ends c goes_on levels parts before kids part.enter exit ns part.before
             (line_at text (spot_of exit).index) there.0 there.1 there.2 there.3 own there.4);
         around = there.5;
+        fill =
+            subst (λ (xs : Nodes). FillAt levels (innermost parts) (join before (one_block (Holds c kids))) (append part.before xs))
+            (sym (named_whole (InContainer c goes_on) part.enter exit ns there.0))
+            (holder_fills c goes_on levels (innermost parts) before kids part.enter exit ns part.before there.0 there.2 there.3 fill there.6);
       }
 
   list_end_by : (before kids : Blocks) (levels : List Level) (parts : List Part) (ns : Nodes) (exit : Event) (places : List Place) → (kids ≡ NoBlock → ⊥)
       → AreAt r text front (level InList before ∷ levels) parts kids ns (line_at text (spot_of exit).index)
-      → AreOpen r text front (level InList before ∷ levels) parts
+      → AreOpen r text front (level InList before ∷ levels) parts → FillAt (level InList before ∷ levels) (innermost parts) kids ns
       → Spells r text front (opened (join before (one_block (Items kids))) levels places) (exited (growth ns parts) exit) (line_at text (spot_of exit).index)
-  list_end_by before kids levels [] ns exit places some own there = absurd there
-  list_end_by before kids levels (part ∷ parts) ns exit places some own there =
+  list_end_by before kids levels [] ns exit places some own there fill = absurd there
+  list_end_by before kids levels (part ∷ parts) ns exit places some own there fill =
       record {
         kids =
             subst (λ (xs : Nodes).
@@ -666,6 +690,11 @@ module _ (r : Reading) (text : List ℕ) (front : Nodes) where
             (at_block levels parts before (Items kids) part.before ns part.enter exit there.2 refl (holder_listed InList part.enter.name there.0 refl) there.1
             (spell_list (standing_at levels) before kids part.enter exit ns (line_at text (spot_of exit).index) there.0 some own) refl there.4);
         around = there.5;
+        fill =
+            subst (λ (xs : Nodes). FillAt levels (innermost parts) (join before (one_block (Items kids))) (append part.before xs))
+            (sym (named_whole InList part.enter exit ns there.0))
+            (filled.at_block levels (innermost parts) before (join before (one_block (Items kids))) part.before (Around part.enter ns exit) there.2
+            (holder_listed InList part.enter.name there.0 refl) (list_filled kids part.enter exit ns there.0 some fill) there.6);
       }
 
   ending_top : (bs : Blocks) (e : LineEnding) → ends_unclosed false bs ≡ false
@@ -680,6 +709,10 @@ module _ (r : Reading) (text : List ℕ) (front : Nodes) where
     mute = λ o g line ns are begun was. record {
       kids = at_mute o.outer g.outer o.kids g.kids ns line are (λ l others here. items_by l.holder o (ap is_in_list here) begun) was.kids;
       around = was.around;
+      fill =
+          subst (λ (bs : Blocks). FillAt o.outer (innermost g.outer) bs (append g.kids ns)) (join-none o.kids)
+          (filled.at_between o.outer (innermost g.outer) o.kids NoBlock g.kids ns (λ l others here. items_by l.holder o (ap is_in_list here) begun)
+          (mute_between ns are) was.fill);
     };
     ending = λ o g line e node is closed begun was. record {
       kids =
@@ -687,16 +720,21 @@ module _ (r : Reading) (text : List ℕ) (front : Nodes) where
           (λ standing. spell_ending standing o.kids e node is) (λ top. ending_top o.kids e (closed top))
           (λ l others here. items_by l.holder o (ap is_in_list here) begun) was.kids;
       around = was.around;
+      fill =
+          filled.at_between o.outer (innermost g.outer) o.kids (one_block (Ending (Some e))) g.kids (one node)
+          (λ l others here. items_by l.holder o (ap is_in_list here) begun) (ending_between text e node is) was.fill;
     };
     in_code = λ o g line other e outside unclosed was. record {
       kids =
           at_nothing o.outer g.outer o.kids (Ending (Some e)) g.kids line other outside refl
           (ap (λ (u : Bool). after_unclosed u (Read on_page o.kids (Ending (Some e)))) unclosed) was.kids;
       around = was.around;
+      fill = filled.at_nothing o.outer (innermost g.outer) o.kids (join o.kids (one_block (Ending (Some e)))) g.kids outside was.fill;
     };
     no_ending = λ o g line other outside was. record {
       kids = at_nothing o.outer g.outer o.kids (Ending None) g.kids line other outside refl (kept_if (ends_unclosed false o.kids) page.Nil refl) was.kids;
       around = was.around;
+      fill = filled.at_nothing o.outer (innermost g.outer) o.kids (join o.kids (one_block (Ending None))) g.kids outside was.fill;
     };
     blank = λ o g line e node is begun was. record {
       kids =
@@ -705,34 +743,45 @@ module _ (r : Reading) (text : List ℕ) (front : Nodes) where
           (λ top. kept_if (ends_unclosed false o.kids) (Read on_page o.kids (Blank (Some e))) refl)
           (λ l others here. items_by l.holder o (ap is_in_list here) begun) was.kids;
       around = was.around;
+      fill =
+          filled.at_between o.outer (innermost g.outer) o.kids (one_block (Blank (Some e))) g.kids (one node)
+          (λ l others here. items_by l.holder o (ap is_in_list here) begun) (blank_between text e node is) was.fill;
     };
     no_blank = λ o g line other outside was. record {
       kids = at_nothing o.outer g.outer o.kids (Blank None) g.kids line other outside refl (kept_if (ends_unclosed false o.kids) page.Nil refl) was.kids;
       around = was.around;
+      fill = filled.at_nothing o.outer (innermost g.outer) o.kids (join o.kids (one_block (Blank None))) g.kids outside was.fill;
     };
     leaf = λ o g leaf enter exit kids bare own fits was. record {
       kids =
           at_block o.outer g.outer o.kids (Leaf leaf) g.kids kids enter exit bare refl own.is_block fits
           (spell_leaf (standing_at o.outer) o.kids leaf (Around enter kids exit) own) (kept_leaf o.kids leaf) was.kids;
       around = was.around;
+      fill =
+          filled.at_block o.outer (innermost g.outer) o.kids (join o.kids (one_block (Leaf leaf))) g.kids (Around enter kids exit) bare own.is_block own.filled
+          was.fill;
     };
-    container = λ o g line c goes_on enter first stands is first_of fits start none has was. record {
+    container = λ o g line c goes_on enter first stands is of_list fits start none has fill was. record {
       kids = in_first c goes_on enter.name first line start none has;
-      around = (is, fits, stands, first_of, was.kids, was.around);
+      around = (is, fits, stands, of_list, was.kids, was.around, was.fill);
+      fill = filled.in_first c goes_on enter.name first is (start_named c goes_on enter.name first has) fill;
     };
     list = λ o g line number enter bare is fits was. record {
       kids = in_list_first enter.name line;
-      around = ((number, is), fits, bare, tt, was.kids, was.around);
+      around = ((number, is), fits, bare, tt, was.kids, was.around, was.fill);
+      fill = filled.in_list_first enter.name;
     };
     container_ends = λ o g c goes_on before levels exit is was.
         container_end_by c goes_on before o.kids levels g.outer g.kids exit o.places
         (subst (λ (ls : List Level). AreAt r text front ls g.outer o.kids g.kids (line_at text (spot_of exit).index)) is was.kids)
-        (subst (λ (ls : List Level). AreOpen r text front ls g.outer) is was.around);
+        (subst (λ (ls : List Level). AreOpen r text front ls g.outer) is was.around)
+        (subst (λ (ls : List Level). FillAt ls (innermost g.outer) o.kids g.kids) is was.fill);
     list_ends = λ o g before items item levels exit is last was.
         list_end_by before o.kids levels g.outer g.kids exit o.places
         (λ none. joined_some items item (sym last ∙ none))
         (subst (λ (ls : List Level). AreAt r text front ls g.outer o.kids g.kids (line_at text (spot_of exit).index)) is was.kids)
-        (subst (λ (ls : List Level). AreOpen r text front ls g.outer) is was.around);
+        (subst (λ (ls : List Level). AreOpen r text front ls g.outer) is was.around)
+        (subst (λ (ls : List Level). FillAt ls (innermost g.outer) o.kids g.kids) is was.fill);
   }
 
 pub always_go_on : LevelsAlwaysGoOn

@@ -20,10 +20,14 @@ use Rattle.event_meaning.specs.Blocks as spelled
 use Rattle.event_meaning.specs.Blocks.{blocks_of, footnote_label}
 use Rattle.event_meaning.specs.Children.{kids_in, text_in}
 use Rattle.event_meaning.specs.Spelled.{definition_of}
+use Rattle.event_grammar.specs.declared.slot.Between.TheVariants.{Lines}
+use Rattle.event_grammar.specs.declared.slot.Form.TheVariants.{Plain}
 use Rattle.parse_output.specs.Forest.{append}
+use Rattle.parse_slots.specs.Left.{IsFilled}
 use Rattle.parse_alike.specs.Meanings.{AreMeanings}
 use Rattle.parse_alike.specs.Page.{AreBlocksAlike}
 use Rattle.parse_alike.specs.Targets.{AreDefinitionsAlike, AreLabelsAlike}
+use Rattle.parse_open.specs.Filled.{FillAt, marker_list}
 use Rattle.parse_open.specs.Lines.{AreSpread, line_at}
 use Rattle.parse_open.specs.Open.{Holder, InContainer, InList, Level, Opened, is_in_list}
 
@@ -62,15 +66,22 @@ is_item (InContainer (Item item) goes_on) = true
 is_item (InContainer (Footnote label) goes_on) = false
 is_item InList = false
 
+-- an item has a number if its list is ordered, and a marker by which lists of this name are told
+abbrev pub IsOfList : Holder → Name → Type 0
+IsOfList (InContainer (Item item) goes_on) list = (list ≡ list_name item.number) × (list ≡ marker_list item.marker)
+IsOfList holder list = Unit {0}
+
 -- nodes begin with one of a name
 abbrev pub BeginWith : Name → Nodes → Type 0
 BeginWith name Nil = ⊥
 BeginWith name (Cons node ns) = node_name node ≡ name
 
--- Nodes that spell nothing among blocks: white space and prefixes of quotes, which hold no definition.
+-- Nodes that spell nothing among blocks: white space and prefixes of quotes, which hold no definition and fill their rows.
 abbrev pub AreMute : Nodes → Type 0
 AreMute Nil = Unit {0}
-AreMute (Cons node ns) = ((node_name node ≡ n.SpaceOrTab) ⊎ (node_name node ≡ n.BlockQuotePrefix)) × (named n.Definition (kids_of node) ≡ []) × AreMute ns
+AreMute (Cons node ns) =
+    ((node_name node ≡ n.SpaceOrTab) ⊎ (node_name node ≡ n.BlockQuotePrefix)) × (named n.Definition (kids_of node) ≡ []) × AreMute ns
+    × IsFilled Lines Plain node
 
 -- the name of the innermost that is open
 abbrev pub innermost : List Part → Name
@@ -125,11 +136,6 @@ module _ (r : Reading) (text : List ℕ) (front : Nodes) where
   AreAt [] parts bs ns line = AreOnPage bs ns
   AreAt (l ∷ levels) parts bs ns line = AreIn l.holder (innermost parts) bs ns line
 
-  -- the first item of a list has a number if the list is ordered
-  abbrev pub IsFirstOf : Holder → tree.Blocks → Name → Type 0
-  IsFirstOf (InContainer (Item item) goes_on) tree.Nil list = list ≡ list_name item.number
-  IsFirstOf holder before list = Unit {0}
-
   -- what is open, and what is written before it in what is around it
   abbrev pub AreOpen : List Level → List Part → Type 0
   AreOpen [] [] = Unit {0}
@@ -137,9 +143,11 @@ module _ (r : Reading) (text : List ℕ) (front : Nodes) where
   AreOpen (l ∷ levels) [] = ⊥
   AreOpen (l ∷ levels) (part ∷ parts) =
       IsNamed l.holder part.enter.name × ((spot_of part.enter).index ≤ length text) × (is_in_list levels ≡ is_item l.holder)
-      × IsFirstOf l.holder l.before (innermost parts) × AreAt levels parts l.before part.before (line_at text (spot_of part.enter).index) × AreOpen levels parts
+      × IsOfList l.holder (innermost parts) × AreAt levels parts l.before part.before (line_at text (spot_of part.enter).index) × AreOpen levels parts
+      × FillAt levels (innermost parts) l.before part.before
 
-  -- a growth of nodes spells what is open after some rows, where so many lines ended
+  -- a growth of nodes spells what is open after some rows, where so many lines ended, and fills its rows of the grammar up to there
   pub record Spells (o : Opened) (g : Growth) (line : ℕ) : Type 0 where
     pub kids : AreAt o.outer g.outer o.kids g.kids line
     pub around : AreOpen o.outer g.outer
+    pub fill : FillAt o.outer (innermost g.outer) o.kids g.kids

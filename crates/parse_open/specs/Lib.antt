@@ -1,5 +1,6 @@
 pub mod Open
 pub mod Lines
+pub mod Filled
 pub mod BlockLaws
 pub mod Levels
 pub mod Steps

@@ -1,6 +1,7 @@
 -- What is open in a document after some of its rows, and the blocks that are finished (CommonMark 5).
 use Rattle.std.specs.Prelude.{◌≡◌, ℕ, Bool, true, false, not, if◌then◌else◌, List, [], ◌∷◌, Option}
 use Rattle.definition_block.specs.Container.{Container, Quote, Item, Footnote}
+use Rattle.definition_block.specs.Lists.{item_marker}
 use Rattle.definition_block.specs.Tree.{Block, Leaf, Holds, Items, Ending, Blank, Blocks, Nil, Cons, join, one, is_ending}
 use Rattle.block_rows.specs.Rows.{BlockRow, Single, EnterQuote, EnterItem, EnterFootnote, Exit, spaced_leaf}
 use Rattle.html_looseness.specs.declared.loose.Place.{Place}
@@ -98,11 +99,16 @@ after_row o (EnterItem marker number) = item_begun (bare_item marker number) (in
 after_row o (EnterFootnote label) = within (InContainer (Footnote label) false) o
 after_row o Exit = container_end o.kids o.outer o.places
 
--- whether a row may come next: in a list there are only items and endings, and lists end before anything else does
+-- the marker of the first of these items, or 0
+abbrev pub first_marker : Blocks → ℕ
+first_marker Nil = 0
+first_marker (Cons b bs) = item_marker b
+
+-- Whether a row may come next: in a list there are only endings, and items with the marker of the first. Lists end before anything else does.
 abbrev pub Fits : Opened → BlockRow → Type 0
 Fits o (Single b) = is_ending b ≡ false → is_in_list o.outer ≡ false
 Fits o EnterQuote = is_in_list o.outer ≡ false
-Fits o (EnterItem marker number) = Unit {0}
+Fits o (EnterItem marker number) = is_in_list o.outer ≡ true → first_marker o.kids ≡ marker
 Fits o (EnterFootnote label) = is_in_list o.outer ≡ false
 Fits o Exit = is_in_list o.outer ≡ false
 

@@ -12,6 +12,8 @@ use Rattle.definition_block.specs.Tree.{LeafBlock, Block, Leaf, Holds, Items, En
 use Rattle.definition_page.specs.InlinePieces.{Meaning}
 use Rattle.definition_page.specs.Page as page
 use Rattle.definition_page.specs.Read.{Reading, Standing, read_leaf}
+use Rattle.event_grammar.specs.declared.slot.Between.TheVariants.{Lines}
+use Rattle.event_grammar.specs.declared.slot.Form.TheVariants.{Plain}
 use Rattle.event_grammar.specs.Checks.{spot_of}
 use Rattle.event_grammar.specs.Grammar.{block_names}
 use Rattle.event_grammar.specs.InGrammar.{kids_of, node_name}
@@ -21,13 +23,15 @@ use Rattle.event_meaning.specs.Blocks.{blocks_of, one as one_page_block}
 use Rattle.event_meaning.specs.Children.{text_of}
 use Rattle.event_meaning.specs.Spelled.{definition_of}
 use Rattle.parse_output.specs.Forest.{entered, exited, one, with_nodes}
+use Rattle.parse_slots.specs.Left.{IsFilled}
 use Rattle.parse_alike.specs.Composed.{ends_unclosed, standing_after}
 use Rattle.parse_alike.specs.Meanings.{AreMeanings}
 use Rattle.parse_alike.specs.Page.{AreBlocksAlike}
 use Rattle.parse_alike.specs.Targets.{AreDefinitionsAlike}
+use Rattle.parse_open.specs.Filled.{holder_form}
 use Rattle.parse_open.specs.Lines.{line_at}
 use Rattle.parse_open.specs.Open.{InContainer, InList, Level, Opened, is_in_list, level, opened, within}
-use Rattle.parse_open.specs.Levels.{AreMute, HasStart, IsFirstOf, IsNamed, Spells, innermost, is_item, list_name, standing_at}
+use Rattle.parse_open.specs.Levels.{AreMute, HasStart, IsNamed, IsOfList, Spells, innermost, is_item, list_name, standing_at}
 
 -- the ending of a line, by a name
 pub record IsEndingNode (text : List ℕ) (name : Name) (ending : LineEnding) (node : Node) : Type 0 where
@@ -48,13 +52,14 @@ abbrev pub IsStartName : Name → Type 0
 IsStartName name = (name ≡ n.BlockQuotePrefix) ⊎ (name ≡ n.ListItemPrefix) ⊎ (name ≡ n.GfmFootnoteDefinitionPrefix)
 
 module _ (r : Reading) (text : List ℕ) (front : Nodes) where
-  -- a node spells a leaf that stands here, and its definitions
+  -- a node spells a leaf that stands here, and its definitions, and fills its row
   pub record IsNodeOf (standing : Standing) (leaf : LeafBlock) (node : Node) : Type 0 where
     pub is_block : is_listed block_names (node_name node) ≡ true
     pub blocks : (m m' : Meaning) → AreMeanings r.parse.constructs r.tables.names m m'
         → AreBlocksAlike m m' (one_page_block (page.Leaf (read_leaf r standing leaf))) (blocks_of r.tables.names text standing.top (one node))
     pub defined : (m m' : Meaning) → AreMeanings r.parse.constructs r.tables.names m m'
         → AreDefinitionsAlike m m' (leaf_definitions leaf) (map (definition_of r.tables.names text) (named n.Definition (one node)))
+    pub filled : IsFilled Lines Plain node
 
   -- what is written spells what is open, after one more row or a part of its nodes
   pub record LevelsGoOn : Type 0 where
@@ -83,8 +88,9 @@ module _ (r : Reading) (text : List ℕ) (front : Nodes) where
     -- a container begins with its prefix, a list with nothing
     pub container : (o : Opened) (g : Growth) (line : ℕ) (c : Container) (goes_on : Bool) (enter : Event) (first : Node)
         → is_in_list o.outer ≡ is_item (InContainer c goes_on) → IsNamed (InContainer c goes_on) enter.name
-        → IsFirstOf r text front (InContainer c goes_on) o.kids (innermost g.outer) → (spot_of enter).index ≤ length text → IsStartName (node_name first)
+        → IsOfList (InContainer c goes_on) (innermost g.outer) → (spot_of enter).index ≤ length text → IsStartName (node_name first)
         → named n.Definition (one first) ≡ [] → HasStart r text front (InContainer c goes_on) enter.name NoBlock (one first)
+        → IsFilled Lines (holder_form (InContainer c goes_on)) first
         → Spells r text front o g (line_at text (spot_of enter).index)
         → Spells r text front (within (InContainer c goes_on) o) (with_nodes (entered g enter) (one first)) line
     pub list : (o : Opened) (g : Growth) (line : ℕ) (number : Option ℕ) (enter : Event) → is_in_list o.outer ≡ false → enter.name ≡ list_name number

@@ -3,7 +3,7 @@
 
 ghost use Rattle.parse_open.specs.BlockLaws.{BareBlocksReadTheSame, RowsLeadToBlocks};
 ghost use Rattle.parse_open.specs.Lines.{LinesAreCounted, SpreadBlocksCompose};
-ghost use Rattle.parse_open.specs.NodeLaws.{LevelsAlwaysGoOn, PagesAreSpelled};
+ghost use Rattle.parse_open.specs.NodeLaws.{DocumentsAreFilled, LevelsAlwaysGoOn, PagesAreSpelled};
 ghost use Rattle.parse_open.specs.Texts.{TextsAreSpelled};
 
 /// The rows of blocks lead to the blocks, put into lists.
@@ -35,6 +35,11 @@ pub fn levels_law()
 /// Where nothing is open after all rows of a document, its nodes spell the page of its blocks.
 pub fn pages_law()
     ensures { PagesAreSpelled }
+{}
+
+/// Where nothing is open after all rows of a document, its nodes fill the row of the document.
+pub fn filled_law()
+    ensures { DocumentsAreFilled }
 {}
 
 /// Where nothing is open after all rows of a text, events in the grammar that have its nodes spell

@@ -12,7 +12,7 @@ text_events-requires-clause-rows g c =
     ∙ ap₂ (λ (before : Kind) (rest : List ℕ). value_with (rows_of (blocks c.args.options.now.constructs before rest)) []) mark.ensures.kind mark.ensures.text
 
 pub returns-clause-events : goal.returns-clause-events
-returns-clause-events g c = c.in_ok-events.ensures
+returns-clause-events g c = c.in_ok-events.ensures.events
 
 pub returns-clause-state : goal.returns-clause-state
 returns-clause-state g c =
