@@ -104,9 +104,9 @@ SHARED = {
     "laws_endings/PrintedTable.antt": "gfm_table",
     "laws_footnotes/Footnotes.antt": "gfm_footnote_definition",
     "laws_footnotes/footnotes.rt": "gfm_footnote_definition",
-    "tests_texts/hard_break.rt": "hard_break_escape hard_break_trailing",
-    "tests_texts/list.rt": "list_item",
-    "tests_texts/raw_html.rt": "html_text",
+    "tests_rows/hard_break.rows": "hard_break_escape hard_break_trailing",
+    "tests_rows/list.rows": "list_item",
+    "tests_rows/raw_html.rows": "html_text",
     "state_gfm/GfmTaskListItemCheck.antt": "gfm_task_list_item",
     "state_gfm/gfm_task_list_item_check.rt": "gfm_task_list_item",
     "state_labels/Destination.antt": "label_end",
@@ -192,15 +192,15 @@ def snake_case(name):
 def stem_of(file):
     """The name of a file or a folder of proofs in snake case. Lemmas on a construct have its name."""
     stem, ending = os.path.splitext(file)
-    return stem if ending == ".rt" or not ending else snake_case(stem).removesuffix("_lemmas")
+    return stem if ending in (".rt", ".rows") or not ending else snake_case(stem).removesuffix("_lemmas")
 
 
 def files_of(crate):
-    """The files of a crate, of folders of its code too, and the folders of its proofs: the part of the crate, and the path."""
-    for part in ("src", "specs", "proofs"):
+    """The files of a crate, of folders of its code and rows too, and the folders of its proofs: the part of the crate, and the path."""
+    for part in ("src", "specs", "proofs", "data"):
         for name in names_in(f"crates/{crate}/{part}"):
             path = f"crates/{crate}/{part}/{name}"
-            below = names_in(path) if part == "src" else []
+            below = names_in(path) if part in ("src", "data") else []
             yield from ((part, f"{path}/{it}") for it in below)
             if not below:
                 yield part, path

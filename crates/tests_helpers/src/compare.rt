@@ -1,7 +1,5 @@
 //! Texts and their HTML, compared.
-ghost use Rattle.std.specs.Prelude.{◌≡◌, ◌↔◌, true, IfOk, None};
-ghost use Rattle.std.specs.List.{All};
-ghost use Rattle.tests_helpers.specs.Compare.{HasPage};
+ghost use Rattle.std.specs.Prelude.{◌≡◌, ◌↔◌, true, IfOk};
 ghost use Rattle.markdown_options.specs.Mdx.{HasNoMdx};
 ghost use Rattle.markdown_definition.specs.Html.{html};
 ghost use Rattle.markdown_tables.specs.Builtin.{builtin_tables};
@@ -16,29 +14,10 @@ use markdown::{
 };
 use std::alloc::Global;
 
-/// The first text whose page isn't the one beside it: by either call, in heaps of every size, or where a
-/// request for memory, a read or a write fails. Or the first that breaks a law: isn't safe under safe options, or isn't
-/// that of the text quoted, listed, escaped or with other line endings.
-pub fn first_wrong<'a>(
-    alloc: Global,
-    rows: &[(&'a str, &str)],
-    options: &Options,
-) -> Result<Option<&'a str>, RunError>
-    requires { HasNoMdx options.now }
-    ensures { IfOk result (λ found. found ≡ None → All (HasPage options.now) rows.now) }
-{
-    for row in rows {
-        let (text, want) = *row;
-        if !is_right(alloc, text, want, options)? {
-            return Ok(Some(text));
-        }
-    }
-    Ok(None)
-}
-
-/// Whether a text's page is this one, by either call, in heaps of every size and where a request for
-/// memory, a read or a write fails, and keeps the laws. Then it is the page of the definition.
-fn is_right(alloc: Global, text: &str, want: &str, options: &Options) -> Result<bool, RunError>
+/// Whether a text's page is this one, by either call, in heaps of every size, and where a request for memory, a read or a write
+/// fails; and whether it is safe under safe options, and keeps the laws of pages: that of the text quoted, listed, escaped and with
+/// other line endings. Then it is the page of the definition.
+pub fn is_right(alloc: Global, text: &str, want: &str, options: &Options) -> Result<bool, RunError>
     requires { HasNoMdx options.now }
     ensures { IfOk result (λ right. right ≡ true → html builtin_tables text.now options.now ≡ want.now) }
 {

@@ -31,41 +31,21 @@ pub fn broken_law(
     Ok(None)
 }
 
-/// The first of these texts that breaks a law where both constructs of footnotes are off, and frontmatter, with task list items as
-/// the options have them and without, so that texts are quoted and listed, too.
-pub fn first_unlawful<'a>(
-    alloc: Global,
-    rows: &[(&'a str, &str)],
-    options: Options,
-) -> Result<Option<&'a str>, RunError>
+/// Whether a text keeps the laws where both constructs of footnotes are off, and frontmatter, with task list items as the options
+/// have them and without, so that texts are quoted and listed, too.
+pub fn is_lawful(alloc: Global, text: &str, options: Options) -> Result<bool, RunError>
     requires { HasNoMdx options }
 {
     let mut options = options;
     options.parse.constructs.gfm_footnote_definition = false;
     options.parse.constructs.gfm_label_start_footnote = false;
     options.parse.constructs.frontmatter = false;
-    let broken = first_broken(alloc, rows, &options)?;
+    let broken = broken_law(alloc, text, &options)?;
     if broken.is_some() || !options.parse.constructs.gfm_task_list_item {
-        return Ok(broken);
+        return Ok(broken.is_none());
     }
     options.parse.constructs.gfm_task_list_item = false;
-    first_broken(alloc, rows, &options)
-}
-
-/// The first of these texts that breaks a law.
-fn first_broken<'a>(
-    alloc: Global,
-    rows: &[(&'a str, &str)],
-    options: &Options,
-) -> Result<Option<&'a str>, RunError>
-    requires { HasNoMdx options.now }
-{
-    for (text, _) in rows {
-        if broken_law(alloc, text, options)?.is_some() {
-            return Ok(Some(text));
-        }
-    }
-    Ok(None)
+    Ok(broken_law(alloc, text, &options)?.is_none())
 }
 
 /// Whether the pages of a text quoted once and twice are quotes of its page, where it is quotable.

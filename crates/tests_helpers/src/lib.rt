@@ -5,11 +5,9 @@ mod compare;
 mod failures;
 mod heaps;
 mod laws;
-mod pages;
 mod refusals;
 mod short;
 
-pub use compare::{first_wrong, is_same_by_default, runs_to};
-pub use laws::{broken_law, first_unlawful, is_listed};
-pub use pages::rows_of;
+pub use compare::{is_right, is_same_by_default, runs_to};
+pub use laws::{broken_law, is_lawful, is_listed};
 pub use short::Short;

@@ -2,8 +2,8 @@
 use crate::asserts::assert_so;
 use markdown::RunError;
 use std::alloc::Global;
-use tests_helpers::first_wrong;
-use tests_texts::OptionSet;
+use tests_helpers::is_right;
+use tests_options::OptionSet;
 
 /// How deep the texts are.
 const DEPTH: usize = 1000;
@@ -11,7 +11,7 @@ const DEPTH: usize = 1000;
 /// Whether a text has this page, in heaps of every size too, and keeps the laws of pages.
 fn is_page(alloc: Global, text: &str, want: &str, options: OptionSet) -> Result<bool, RunError> {
     let options = options.options(alloc);
-    Ok(first_wrong(alloc, &[(text, want)], &options)?.is_none())
+    is_right(alloc, text, want, &options)
 }
 
 /// Whether these words, so many times, are one paragraph that is printed as it is.

@@ -3,7 +3,7 @@ use crate::asserts::assert_so;
 use markdown::{Builtin, RunError, Watched, run};
 use std::alloc::Global;
 use tests_helpers::Short;
-use tests_texts::OptionSet;
+use tests_options::OptionSet;
 
 /// A text.
 const TEXT: &[u8] = b"# a & b\n\nc";

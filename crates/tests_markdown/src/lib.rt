@@ -19,5 +19,3 @@ mod programs;
 mod references;
 #[cfg(test)]
 mod run;
-#[cfg(test)]
-mod tables;

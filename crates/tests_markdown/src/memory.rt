@@ -3,7 +3,7 @@ use crate::asserts::assert_so;
 use linked_list_allocator::LocalHeap;
 use markdown::{fits, to_html_with_options};
 use std::alloc::{AllocError, Global};
-use tests_texts::OptionSet;
+use tests_options::OptionSet;
 
 /// Whether a text has this page, with every construct off, in a heap of a size.
 fn is_page_in(alloc: Global, size: usize, text: &str, want: &str) -> Result<bool, AllocError> {

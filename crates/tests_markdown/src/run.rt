@@ -4,7 +4,7 @@ ghost use Rattle.markdown_options.specs.Mdx.{HasNoMdx};
 use crate::asserts::assert_so;
 use markdown::{Builtin, LineEnding, Options, RunError, Watched, run};
 use std::alloc::Global;
-use tests_texts::OptionSet;
+use tests_options::OptionSet;
 
 /// Whether a page of one line gets no ending, whatever ending the options name.
 fn ends_as_the_text(alloc: Global) -> Result<bool, RunError> {

@@ -8,7 +8,7 @@ use inline_parser::{Room, RowRoom, content_start, inline_rows};
 use inline_rows::InlineRow;
 use markdown_options::{Constructs, ParseOptions};
 use std::alloc::{AllocError, Global};
-use tests_texts::Names;
+use tests_options::Names;
 
 /// The kind and the text of the literal that a line begins with, and what follows it.
 fn first(line: &str) -> Option<(LiteralKind, &str, &str)> {

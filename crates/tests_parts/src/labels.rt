@@ -3,35 +3,10 @@ use crate::asserts::{assert_no_fault, assert_so};
 use inline_labels::{LabelTable, normalize_label};
 use std::alloc::{AllocError, Global};
 
-/// Labels, and what each is matched as.
-const NORMAL: &[(&str, &str)] = &[
-    ("ẞ", "ss"),
-    ("ΑΓΩ", "αγω"),
-    ("ﬁ\u{149}", "fi\u{2bc}n"),
-    (" \tFoo\r\n\t  bAr \n", "foo bar"),
-    ("a\u{a0}b", "a\u{a0}b"),
-    ("\\[", "\\["),
-    (" \r\n", ""),
-];
-
 /// Whether bytes are matched as a text, in a string that had another text before.
 fn is_matched_as(normal: &mut String, label: &[u8], text: &str) -> Result<bool, AllocError> {
     normalize_label(normal, label)?;
     Ok(normal.as_str() == text)
-}
-
-/// The first of these labels that is matched as another text.
-fn first_other(
-    alloc: Global,
-    cases: &[(&'static str, &str)],
-) -> Result<Option<&'static str>, AllocError> {
-    let mut normal = String::new(alloc);
-    for (label, text) in cases {
-        if !is_matched_as(&mut normal, label.as_bytes(), text)? {
-            return Ok(Some(label));
-        }
-    }
-    Ok(None)
 }
 
 /// Labels in the order in which they come, and whether each is new.
@@ -76,9 +51,9 @@ fn first_other_found(
     Ok(None)
 }
 
-/// Whether bytes that are no text are matched with U+FFFD in their place.
+/// Whether bytes that are no text are matched with U+FFFD in their place, in a string that had a text before.
 fn matches_other_bytes(alloc: Global) -> Result<bool, AllocError> {
-    let mut normal = String::new(alloc);
+    let mut normal = String::from_str(alloc, "c")?;
     is_matched_as(&mut normal, b"A\xff \xe2\x82B", "a\u{fffd} \u{fffd}b")
 }
 
@@ -97,7 +72,6 @@ fn first_other_in_tables(alloc: Global) -> Result<Option<&'static str>, AllocErr
 
 #[test]
 fn labels(rt: HostRuntime) {
-    assert_no_fault(&rt, "NORMAL", first_other(rt.alloc(), NORMAL));
     assert_so(
         &rt,
         "bytes that are no text",

@@ -5,7 +5,7 @@ use inline_constructs::searches::Searches;
 use inline_leaves::leaf::{Leaf, LeafPart};
 use markdown_options::{Constructs, LineEnding, ParseOptions};
 use std::alloc::{AllocError, Global};
-use tests_texts::Names;
+use tests_options::Names;
 
 /// Default options, but with math: a single dollar may open it or not.
 fn with_math(single_dollar: bool) -> ParseOptions {

@@ -4,8 +4,6 @@
 #[cfg(test)]
 mod asserts;
 #[cfg(test)]
-mod escape;
-#[cfg(test)]
 mod footnotes;
 #[cfg(test)]
 mod gfm_autolink_literal;
@@ -23,8 +21,6 @@ mod options;
 mod references;
 #[cfg(test)]
 mod runs;
-#[cfg(test)]
-mod safe_page;
 #[cfg(test)]
 mod spans;
 #[cfg(test)]

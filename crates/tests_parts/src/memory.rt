@@ -12,7 +12,7 @@ use inline_references::parse::parse;
 use markdown_options::Message;
 use std::alloc::{AllocError, Global};
 use tests_memory::{Outcome, Refusing};
-use tests_texts::Names;
+use tests_options::Names;
 
 /// How many requests a call may take.
 const MOST: u64 = 64;

@@ -1,0 +1,91 @@
+//! Texts of all pages that follow each other: their page, and the one by way of their events.
+ghost use Rattle.markdown_options.specs.Mdx.{HasNoMdx};
+
+use crate::rows::Row;
+use markdown_options::{Message, Options};
+use std::alloc::{AllocError, Global};
+use std::io::{self, ErrorKind};
+use tests_event_helpers::{Wrong, wrong_of};
+use tests_options::OptionSet;
+
+/// How far behind a text those are that follow it, in the list of all texts, and what stands between. The numbers have no common
+/// factor, so that texts of all tables meet.
+const STEPS: &[(usize, &str)] = &[
+    (1, "\n"),
+    (7, "\n"),
+    (61, "\n"),
+    (131, "\n"),
+    (283, "\n"),
+    (503, "\n"),
+    (3, ""),
+    (97, ""),
+    (211, ""),
+    (401, ""),
+    (29, "\n\n"),
+    (353, "\n\n"),
+];
+
+/// Prints which texts of these files have another page by way of their events if one follows the other, by options with a name.
+/// Returns how many texts there are.
+pub(crate) fn print_pairs(
+    rt: &(impl AllocGlobal + Print),
+    files: &str,
+    name: &str,
+) -> io::Result<usize> {
+    let set = OptionSet::named(name).ok_or(ErrorKind::InvalidData)?;
+    let texts = all_texts(rt.alloc(), files)?;
+    let options = set.options(rt.alloc());
+    for (step, between) in STEPS {
+        for (place, first) in texts.iter().enumerate() {
+            let second = second_of(&texts, place, *step);
+            let wrong = wrong_pair(rt.alloc(), first, between, second, &options);
+            if !matches!(wrong, Ok(None)) {
+                println!(rt; "pairs by {name}, {first:?}, {between:?}, {second:?}: {wrong:?}")?;
+            }
+        }
+    }
+    Ok(texts.len())
+}
+
+/// The texts of these files that have pages.
+fn all_texts<'a>(alloc: Global, files: &'a str) -> Result<Vec<&'a str>, AllocError> {
+    let mut texts = Vec::new(alloc);
+    for file in files.split("\n@file ").skip(1) {
+        if file.starts_with("pages ") || file.starts_with("examples ") {
+            add_texts(&mut texts, file)?;
+        }
+    }
+    Ok(texts)
+}
+
+/// Adds the texts of a file.
+fn add_texts<'a>(texts: &mut Vec<&'a str>, file: &'a str) -> Result<(), AllocError> {
+    for source in file.split("\n@row").skip(1) {
+        if let Some(row) = Row::read(source) {
+            texts.push(row.text)?;
+        }
+    }
+    Ok(())
+}
+
+/// The text so far behind one in the list of all texts, whose end its start follows.
+fn second_of<'a>(texts: &[&'a str], place: usize, step: usize) -> &'a str {
+    let next = place.saturating_add(step) % texts.len().max(1);
+    texts.get(next).copied().unwrap_or("")
+}
+
+/// What is wrong with the events of a text with another after it, and something between.
+fn wrong_pair(
+    alloc: Global,
+    first: &str,
+    between: &str,
+    second: &str,
+    options: &Options,
+) -> Result<Option<Wrong>, Message>
+    requires { HasNoMdx options.now }
+{
+    let mut text = String::from_str(alloc, first)?;
+    text.push_str(between)?;
+    text.push_str(second)?;
+    wrong_of(alloc, &text, options)
+}
