@@ -29,11 +29,7 @@ pub enum Wrong {
 }
 
 /// What is wrong with the events of a text, if something is.
-pub fn wrong_of(
-    alloc: Global,
-    text: &str,
-    options: &Options,
-) -> Result<Option<Wrong>, Message>
+pub fn wrong_of(alloc: Global, text: &str, options: &Options) -> Result<Option<Wrong>, Message>
     requires { HasNoMdx options.now }
 {
     if text.len() > SIZE_MAX {

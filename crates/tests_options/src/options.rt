@@ -76,7 +76,10 @@ const NAMED: &[(&str, OptionSet)] = &[
     ("Leaves", OptionSet::Leaves),
     ("MathAlone", OptionSet::MathAlone),
     ("Blocks", OptionSet::Blocks),
-    ("BlocksWithoutDefinitions", OptionSet::BlocksWithoutDefinitions),
+    (
+        "BlocksWithoutDefinitions",
+        OptionSet::BlocksWithoutDefinitions,
+    ),
     ("BlocksAndFrontmatter", OptionSet::BlocksAndFrontmatter),
     ("BlocksAndMath", OptionSet::BlocksAndMath),
     ("BlocksAndRawHtml", OptionSet::BlocksAndRawHtml),
@@ -84,7 +87,10 @@ const NAMED: &[(&str, OptionSet)] = &[
     ("CommonMark", OptionSet::CommonMark),
     ("Standard", OptionSet::Standard),
     ("CommonMarkAndTables", OptionSet::CommonMarkAndTables),
-    ("CommonMarkAndFrontmatter", OptionSet::CommonMarkAndFrontmatter),
+    (
+        "CommonMarkAndFrontmatter",
+        OptionSet::CommonMarkAndFrontmatter,
+    ),
     ("Mark", OptionSet::Mark),
     ("Extended", OptionSet::Extended),
     ("Extensions", OptionSet::Extensions),

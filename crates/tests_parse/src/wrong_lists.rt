@@ -1,8 +1,8 @@
 //! Lists that say something wrong of a text, though they are in the grammar and print its page.
 use crate::asserts::assert_no_fault;
-use tests_event_helpers::wrong_token;
 use std::alloc::Global;
 use std::io::{self, ErrorKind};
+use tests_event_helpers::wrong_token;
 use tests_lists::{Names, events_of};
 
 /// Texts, and wrong lists of their events.

@@ -23,7 +23,11 @@ pub(crate) fn fault_of(
         "Mended" => mended::is_stable(alloc, &text),
         _ => false,
     };
-    if right { Ok(None) } else { said(alloc, "wrong") }
+    if right {
+        Ok(None)
+    } else {
+        said(alloc, "wrong")
+    }
 }
 
 /// Whether the events of a text are right.

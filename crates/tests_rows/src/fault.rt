@@ -1,8 +1,6 @@
 //! What is wrong with a row.
 use crate::rows::Row;
-use crate::{
-    deep, formatted, found, labels, listed, made, mended, names, pages, program, texts,
-};
+use crate::{deep, formatted, found, labels, listed, made, mended, names, pages, program, texts};
 use std::alloc::{AllocError, Global};
 use std::rt::Files;
 use tests_options::OptionSet;

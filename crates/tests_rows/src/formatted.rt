@@ -86,12 +86,7 @@ fn fault_by(
 }
 
 /// What a text is formatted to.
-fn formatted(
-    alloc: Global,
-    text: &str,
-    style: &Style,
-    options: &Options,
-) -> Result<String, Message>
+fn formatted(alloc: Global, text: &str, style: &Style, options: &Options) -> Result<String, Message>
     requires { HasNoMdx options.now }
 {
     if !fits(text) {

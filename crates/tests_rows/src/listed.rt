@@ -18,7 +18,10 @@ pub(crate) fn fault_of(
 {
     match is_listed(alloc, row.text, options) {
         Ok(listed) if listed == (row.wanted == "yes") => Ok(None),
-        Ok(_) => said(alloc, "a list can stand for it and shouldn't, or the other way round"),
+        Ok(_) => said(
+            alloc,
+            "a list can stand for it and shouldn't, or the other way round",
+        ),
         Err(_) => said(alloc, "an error"),
     }
 }

@@ -35,10 +35,7 @@ fn made(alloc: Global, tool: &str, text: &str) -> Result<String, Message> {
 }
 
 /// What is wrong with whether a page is safe, of which `yes` or `no` is wanted.
-pub(crate) fn fault_of_safety(
-    alloc: Global,
-    row: Row<'_>,
-) -> Result<Option<String>, AllocError> {
+pub(crate) fn fault_of_safety(alloc: Global, row: Row<'_>) -> Result<Option<String>, AllocError> {
     let safe = is_safe_page(alloc, row.text)?;
     if safe == (row.wanted == "yes") {
         Ok(None)

@@ -6,6 +6,7 @@ mod deep;
 mod fault;
 mod formatted;
 mod found;
+mod joined;
 mod labels;
 mod listed;
 mod made;
@@ -18,6 +19,7 @@ mod rows;
 mod texts;
 
 use fault::fault_of;
+use joined::{print_apart, print_joined};
 use pairs::print_pairs;
 use rows::{Row, Table, add_decoded, rows_of};
 use std::fs;
@@ -40,7 +42,7 @@ fn add_file(rt: &(impl AllocGlobal + Files), files: &mut String, line: &str) -> 
     files.push_str("\n@file ")?;
     files.push_str(line)?;
     files.push('\n')?;
-    if kind == "pairs" {
+    if matches!(kind, "pairs" | "joined" | "beside") {
         return Ok(());
     }
     let path = format!(in rt.alloc(); "{name}.rows")?;
@@ -57,10 +59,10 @@ fn print_files(rt: &(impl AllocGlobal + Files + Print), files: &str) -> io::Resu
     for file in files.split("\n@file ").skip(1) {
         let (line, tables) = file.split_once('\n').ok_or(ErrorKind::InvalidData)?;
         let (kind, name) = line.split_once(' ').ok_or(ErrorKind::InvalidData)?;
-        let count = if kind == "pairs" {
-            print_pairs(rt, files, name)?
-        } else {
-            print_tables(rt, kind, name, tables)?
+        let count = match kind {
+            "pairs" => print_pairs(rt, files, name)?,
+            "joined" | "beside" => print_joined(rt, kind, files, name)?,
+            _ => print_tables(rt, kind, name, tables)?,
         };
         println!(rt; "{kind} {name} {count}")?;
     }
@@ -80,6 +82,9 @@ fn print_tables(
         let rows = rows_of(rt.alloc(), table)?.ok_or(ErrorKind::InvalidData)?;
         for way in table.ways.split(' ') {
             print_rows(rt, kind, file, table, way, &rows)?;
+            if kind == "pages" {
+                print_apart(rt, way, &rows, &rows)?;
+            }
         }
         count = count.saturating_add(rows.len());
     }
@@ -98,7 +103,10 @@ fn print_rows(
     for (place, row) in rows.iter().enumerate() {
         if let Some(fault) = fault_of(rt, kind, table.name, way, *row)? {
             let number = place.saturating_add(1);
-            println!(rt; "{file} {} by {way}, row {number}, {:?}: {fault}", table.name, row.text)?;
+            println!(rt;
+                "{file} {} by {way}, row {number}, {:?}: {fault}",
+                table.name, row.text
+            )?;
         }
     }
     Ok(())

@@ -1,9 +1,10 @@
 //! Texts of all pages that follow each other: their page, and the one by way of their events.
 ghost use Rattle.markdown_options.specs.Mdx.{HasNoMdx};
 
+use crate::joined::rows_in;
 use crate::rows::Row;
 use markdown_options::{Message, Options};
-use std::alloc::{AllocError, Global};
+use std::alloc::Global;
 use std::io::{self, ErrorKind};
 use tests_event_helpers::{Wrong, wrong_of};
 use tests_options::OptionSet;
@@ -33,45 +34,25 @@ pub(crate) fn print_pairs(
     name: &str,
 ) -> io::Result<usize> {
     let set = OptionSet::named(name).ok_or(ErrorKind::InvalidData)?;
-    let texts = all_texts(rt.alloc(), files)?;
+    let rows = rows_in(rt.alloc(), files, &["pages", "examples"], "")?;
     let options = set.options(rt.alloc());
     for (step, between) in STEPS {
-        for (place, first) in texts.iter().enumerate() {
-            let second = second_of(&texts, place, *step);
+        for (place, row) in rows.iter().enumerate() {
+            let first = row.text;
+            let second = second_of(&rows, place, *step);
             let wrong = wrong_pair(rt.alloc(), first, between, second, &options);
             if !matches!(wrong, Ok(None)) {
                 println!(rt; "pairs by {name}, {first:?}, {between:?}, {second:?}: {wrong:?}")?;
             }
         }
     }
-    Ok(texts.len())
-}
-
-/// The texts of these files that have pages.
-fn all_texts<'a>(alloc: Global, files: &'a str) -> Result<Vec<&'a str>, AllocError> {
-    let mut texts = Vec::new(alloc);
-    for file in files.split("\n@file ").skip(1) {
-        if file.starts_with("pages ") || file.starts_with("examples ") {
-            add_texts(&mut texts, file)?;
-        }
-    }
-    Ok(texts)
-}
-
-/// Adds the texts of a file.
-fn add_texts<'a>(texts: &mut Vec<&'a str>, file: &'a str) -> Result<(), AllocError> {
-    for source in file.split("\n@row").skip(1) {
-        if let Some(row) = Row::read(source) {
-            texts.push(row.text)?;
-        }
-    }
-    Ok(())
+    Ok(rows.len())
 }
 
 /// The text so far behind one in the list of all texts, whose end its start follows.
-fn second_of<'a>(texts: &[&'a str], place: usize, step: usize) -> &'a str {
-    let next = place.saturating_add(step) % texts.len().max(1);
-    texts.get(next).copied().unwrap_or("")
+fn second_of<'a>(rows: &[Row<'a>], place: usize, step: usize) -> &'a str {
+    let next = place.saturating_add(step) % rows.len().max(1);
+    rows.get(next).map_or("", |row| row.text)
 }
 
 /// What is wrong with the events of a text with another after it, and something between.
