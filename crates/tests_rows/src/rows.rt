@@ -91,11 +91,12 @@ fn add_pictured(files: &mut String, text: &str) -> Result<(), AllocError> {
 
 /// The control character or the space that a picture stands for (U+2400 to U+2421), or the character itself.
 fn of_picture(character: char) -> char {
-    match character {
-        '\u{2400}'..='\u{2420}' => char::from_u32(u32::from(character) - 0x2400).unwrap_or(
-            character,
-        ),
-        '\u{2421}' => '\u{7F}',
-        _ => character,
+    let code = u32::from(character);
+    if code == 0x2421 {
+        '\u{7F}'
+    } else if code >= 0x2400 && code <= 0x2420 {
+        char::from_u32(code - 0x2400).unwrap_or(character)
+    } else {
+        character
     }
 }
