@@ -14,7 +14,7 @@ use Rattle.definition_inline.specs.GfmLabelStartFootnote.{called_label, call_or_
 use Rattle.definition_inline.specs.Attention.{run_at}
 use Rattle.definition_inline.specs.Spans.{Token, Item, Delimiters, with_spans}
 use Rattle.definition_inline.specs.Scan.{InlineContext, leaf_here, leaf_tokens, LabelStart, LinkStart, ImageStart, label_start_at, formed_part}
-use Rattle.definition_inline.specs.Scan.{formed_at, Text, text, reading, scan, whole_text, spans_from, without_indent}
+use Rattle.definition_inline.specs.Scan.{formed_at, inlines_from, Text, text, reading, scan, whole_text, spans_from, without_indent}
 use Rattle.definition_inline.proofs.ScanHolds.{where_gives, where_always, Keeps, text_holds}
 use Rattle.laws_inline.specs.Occurs.{has}
 use Rattle.laws_inline.specs.References.{is_undefined, leads_nowhere, ReferencesAreDefined}
@@ -139,8 +139,13 @@ module _ (context : InlineContext) where
       spans_lack LeadsOut (whole_text (scan context 0 (reading (text [] false) []) content)).tokens
       (text_holds context AnyCodes AnyStart Sound keeps content tt)
 
-pub references_are_defined : ReferencesAreDefined
-references_are_defined context content =
+-- of a content that begins anywhere
+pub references_are_defined_from : (context : InlineContext) (content : List InlineCode)
+    → has (leads_nowhere context.is_defined context.is_footnote) (inlines_from context content) ≡ false
+references_are_defined_from context content =
     let is_out : Inline → Bool = leads_nowhere context.is_defined context.is_footnote in
     linked_lacks is_out (alone context.is_defined context.is_footnote) (λ kind target kids others h keeps. h) context.options.constructs
-    (spans_from context (without_indent content)) (spans_lead context (without_indent content))
+    (spans_from context content) (spans_lead context content)
+
+pub references_are_defined : ReferencesAreDefined
+references_are_defined context content = references_are_defined_from context (without_indent content)

@@ -1,0 +1,2 @@
+//! Lists of events that match the grammar, from what is known of their nodes.
+#![tactic(auto)]

@@ -1,0 +1,4 @@
+pub mod Leads
+pub mod Sound
+pub mod Cells
+pub mod Laws
