@@ -1,25 +1,41 @@
--- After all rows of a text, its events spell its page.
-use Rattle.std.proofs.Common.{◌≡◌, inl, inr, ℕ, List, [], ◌∷◌, refl, sym, ap, ap₂, ◌∙◌, subst, arith, length}
-use Rattle.parse_events.proofs.Prelude.{AreOpen, bare_blocks, Between, Blocks, blocks, document_targets, End, end_in, Event, forest_in, group_items, growth}
+-- After all rows of a text, its events are in the grammar and spell its page.
+use Rattle.std.proofs.Common.{◌≡◌, ◌<◌, inl, inr, ℕ, List, [], ◌∷◌, true, refl, sym, ap, ◌∙◌, subst, arith, get_or, length}
+use Rattle.std.specs.Str.{IsUtf8}
+use Rattle.parse_events.proofs.Prelude.{AreOpen, bare_blocks, Between, document_targets, End, end_in, Event, forest_in, group_items, growth}
 use Rattle.parse_events.proofs.Prelude.{Growth, IsFront, IsInOrder, joined, Kind, kind_before_text, line_at, lines, lines_joined, Nodes, Opened, opened}
 use Rattle.parse_events.proofs.Prelude.{Output, Part, Reading, Spells, Stands, StandsBefore, TextLine, unmatched, unread, Walk, without_mark, written_to}
 use Rattle.markdown_options.specs.declared.configuration.ParseOptions.{ParseOptions}
 use Rattle.definition_page.specs.Read.{reading}
 use Rattle.definition_page.specs.TextTables.{TextTables}
 use Rattle.event_check.specs.Matches.{MatchesGrammar}
+use Rattle.event_grammar.specs.declared.slot.Between.TheVariants.{Lines}
+use Rattle.event_grammar.specs.Grammar.{document_row}
+use Rattle.event_grammar.specs.InGrammar.{PlacesFit}
+use Rattle.event_grammar.specs.Points.{spot}
 use Rattle.event_grammar.specs.Trees.{AreNodes, events_of, tree}
-use Rattle.event_meaning.specs.Spelled.{spelled}
+use Rattle.event_meaning.specs.Spelled.{page_of, spelled}
 use Rattle.parse_output.specs.Forest.{bytewise}
 use Rattle.parse_output.specs.Children.{HaveChildren}
 use Rattle.parse_output.specs.Placed.{ArePlaced}
 use Rattle.parse_output.specs.Written.{open_in}
+use Rattle.parse_slots.specs.Left.{ends, left_by}
+use Rattle.parse_references.specs.Sound.{AreSound}
+use Rattle.parse_leading.proofs.Agree.{documents_agree}
+use Rattle.parse_leading.proofs.Documents.{documents_lead_on}
+use Rattle.parse_matches.specs.Laws.{BeginWhole}
+use Rattle.parse_matches.proofs.Law.{met_grammar_matches}
 use Rattle.parse_alike.specs.Spelled.{IsPageOfText}
 use Rattle.parse_open.specs.Texts.{text_blocks}
-use Rattle.parse_open.proofs.FilledBytes.{documents_are_filled}
+use Rattle.parse_open.proofs.FilledBytes.{documents_are_filled, tree_is}
+use Rattle.parse_open.proofs.SoundBytes.{documents_are_sound}
 use Rattle.parse_open.proofs.Texts.{texts_are_spelled}
-use Rattle.parse_events.specs.Parsed.{AreEventsOf, FillDocument}
+use Rattle.parse_events.specs.Nested.{IsNested}
+use Rattle.parse_events.specs.Parsed.{AreEventsOf}
 use Rattle.parse_events.specs.Stands.{IsAt}
+use Rattle.parse_events.specs.WellPlaced.{AreWellPlaced}
+use Rattle.parse_events.proofs.Bytewise.{spells_the_same}
 use Rattle.parse_events.proofs.NestedLaw.{nested}
+use Rattle.parse_events.proofs.PlacesFit.{all_whole, places_fit}
 use Rattle.event_tokens.specs.Bytes.{HaveTheirBytes}
 
 -- ---- the end of the text
@@ -43,42 +59,93 @@ all_written text o w at =
       | inr past ↦ absurd past
     ]
 
--- ---- the page
+-- ---- the nodes of the text
 
 none_open : (r : Reading) (text : List ℕ) (front : Nodes) (parts : List Part) → AreOpen r text front [] parts → parts ≡ []
 none_open r text front [] are = refl
 none_open r text front (part ∷ parts) are = absurd are
 
-text_spelled : {A : Type 0} (tables : TextTables) (options : ParseOptions) (text : List ℕ) (front : Nodes) (w : Walk A) (events : List Event)
-    → IsFront tables.names text front (text_blocks options text)
-    → Stands (reading tables options (document_targets (text_blocks options text))) text front
-    (opened (group_items (bare_blocks (text_blocks options text))) [] []) [] (Between []) w
-    → MatchesGrammar tables.names text events → bytewise (tree events) ≡ (forest_in text w.out).kids
-    → IsPageOfText tables options text (spelled tables.names events text)
-text_spelled tables options text front w events is st right same =
-    let r = reading tables options (document_targets (text_blocks options text)) in
-    let o = opened (group_items (bare_blocks (text_blocks options text))) [] [] in
-    let g = forest_in text w.out in
-    let line = line_at text (written_to w).index in
-    let closed : g ≡ growth g.kids [] = ap (growth g.kids) (none_open r text front g.outer st.spells.around) in
-    texts_are_spelled tables options text front g.kids line events is (subst (λ (x : Growth). Spells r text front o x line) closed st.spells) (st.ends refl) right
-    same
+-- nested events are those of the nodes of their tree
+tree_nodes : (events : List Event) (are : IsNested events) → tree events ≡ are.nodes
+tree_nodes events are = ap tree are.each ∙ tree_is are.nodes are.named
 
--- a text that is parsed: of its rest after the byte order mark all rows are written
-parsed_spelled : {A : Type 0} (tables : TextTables) (options : ParseOptions) (text : List ℕ) (before : Kind) (rest : List ℕ) (old w : Walk A)
-    (start : StandsBefore options.constructs text before rest old) (events : List Event) → before ≡ kind_before_text text → rest ≡ without_mark text
-    → Stands (reading tables options (document_targets (blocks options.constructs before rest))) text start.front
-    (opened (group_items (bare_blocks (blocks options.constructs before rest))) [] []) [] (Between []) w
-    → MatchesGrammar tables.names text events
-    → (IsInOrder text w.out → (end_in w.out).index ≡ length text → bytewise (tree events) ≡ (forest_in text w.out).kids)
-    → IsPageOfText tables options text (spelled tables.names events text)
-parsed_spelled tables options text before rest old w start events kind is st right written =
-    let same : blocks options.constructs before rest ≡ text_blocks options text = ap₂ (blocks options.constructs) kind is in
-    text_spelled tables options text start.front w events
-    (subst (λ (bs : Blocks). IsFront tables.names text start.front bs) same (start.is_front tables.names))
-    (subst
-    (λ (bs : Blocks). Stands (reading tables options (document_targets bs)) text start.front (opened (group_items (bare_blocks bs)) [] []) [] (Between []) w) same st)
-    right (written st.order (all_written text (opened (group_items (bare_blocks (blocks options.constructs before rest))) [] []) w st.at))
+module _ (tables : TextTables) (options : ParseOptions) (text : List ℕ) where
+  -- how the text is read, and what is open after all of its rows: nothing
+  abbrev pub text_reading : Reading
+  text_reading = reading tables options (document_targets (text_blocks options text))
+
+  abbrev pub all_rows : Opened
+  all_rows = opened (group_items (bare_blocks (text_blocks options text))) [] []
+
+  -- A walk stands after all rows of the text, and these events have its nodes.
+  pub record AreOfText {A : Type 0} (w : Walk A) (events : List Event) : Type 0 where
+    pub front : Nodes
+    pub is_front : IsFront tables.names text front (text_blocks options text)
+    pub stands : Stands text_reading text front all_rows [] (Between []) w
+    pub nested : IsNested events
+    pub children : HaveChildren events
+    pub same : bytewise (tree events) ≡ (forest_in text w.out).kids
+
+  module _ {A : Type 0} (w : Walk A) (events : List Event) (are : AreOfText w events) where
+    abbrev kids : Nodes
+    kids = (forest_in text w.out).kids
+
+    abbrev line : ℕ
+    line = line_at text (written_to w).index
+
+    abbrev nodes : Nodes
+    nodes = are.nested.nodes
+
+    all_spelled : Spells text_reading text are.front all_rows (growth kids []) line
+    all_spelled =
+        let g = forest_in text w.out in
+        let closed : g ≡ growth g.kids [] = ap (growth g.kids) (none_open text_reading text are.front g.outer are.stands.spells.around) in
+        subst (λ (x : Growth). Spells text_reading text are.front all_rows x line) closed are.stands.spells
+
+    -- they fill the row of the document
+    pub nodes_filled : (ns : Nodes) → events ≡ events_of ns → AreNodes ns → ends (left_by Lines document_row ns) ≡ true
+    nodes_filled ns nested named =
+        documents_are_filled text_reading text are.front (group_items (bare_blocks (text_blocks options text))) [] kids line events ns all_spelled nested named
+        are.children are.same
+
+    -- they are sound
+    pub nodes_sound : AreSound tables.names text nodes
+    nodes_sound =
+        documents_are_sound text_reading text are.front (group_items (bare_blocks (text_blocks options text))) [] kids line events nodes are.is_front.sound
+        all_spelled are.nested.each are.nested.named are.children are.same
+
+    -- they spell the page of the text
+    pub nodes_spelled : PlacesFit text (spot 0 0) events → IsPageOfText tables options text (page_of tables.names text nodes)
+    nodes_spelled places =
+        subst (IsPageOfText tables options text)
+        (ap (page_of tables.names text) (sym are.same ∙ ap bytewise (tree_nodes events are.nested))
+        ∙ spells_the_same tables.names text nodes are.nested.named (subst HaveChildren are.nested.each are.children)
+        (subst (PlacesFit text (spot 0 0)) are.nested.each places))
+        (texts_are_spelled tables options text are.front kids line are.is_front all_spelled (are.stands.ends refl))
+
+    -- the list of events matches the grammar
+    pub nodes_match : ((k : ℕ) → get_or text k 0 < 256) → PlacesFit text (spot 0 0) events → BeginWhole events → HaveTheirBytes text events
+        → MatchesGrammar tables.names text events
+    nodes_match bytes places whole tokens =
+        let page = nodes_spelled places in
+        let filled = nodes_filled nodes are.nested.each are.nested.named in
+        met_grammar_matches tables.names text events (
+        record {
+          nodes = nodes;
+          nested = are.nested.each;
+          paired = are.nested.named;
+          filled = filled;
+          tokens = tokens;
+          whole = whole;
+          sound = nodes_sound;
+          leads = documents_lead_on tables options text nodes page filled nodes_sound;
+          cells = documents_agree tables options text nodes bytes page filled;
+          places = places;
+        })
+
+    pub events_spelled : PlacesFit text (spot 0 0) events → IsPageOfText tables options text (spelled tables.names events text)
+    events_spelled places =
+        subst (IsPageOfText tables options text) (sym (ap (page_of tables.names text) (tree_nodes events are.nested))) (nodes_spelled places)
 
 -- what is said of an output and of its text is said of others that are the same
 written_same : {A : Type 0} (text bytes : List ℕ) (out own : Output A) (es events : List Event) → bytes ≡ text → out ≡ own → events ≡ es
@@ -100,39 +167,44 @@ tokens_same {A} text bytes out own es events bytes_are out_is same written order
     (subst (λ (bs : List ℕ). IsInOrder bs out → (end_in out).index ≡ length bs → HaveTheirBytes bs es) bytes_are written) in
     subst (HaveTheirBytes text) (sym same) (all order end)
 
--- what is finished of a walk after the rows of a text is the list of its events
-pub are_events : {A : Type 0} (tables : TextTables) (options : ParseOptions) (text : List ℕ) (old w : Walk A)
+-- ---- the events of the text
+
+-- what is finished of a walk after the rows of a text has its nodes
+pub are_of_text : {A : Type 0} (tables : TextTables) (options : ParseOptions) (text : List ℕ) (old w : Walk A)
     (start : StandsBefore options.constructs text (kind_before_text text) (without_mark text) old) (bytes : List ℕ) (out : Output A) (es events : List Event)
-    → bytes ≡ text → out ≡ w.out → events ≡ es → open_in w.out ≡ [] → ArePlaced bytes es → HaveChildren es → unmatched es ≡ open_in out
+    → bytes ≡ text → out ≡ w.out → events ≡ es → open_in w.out ≡ [] → HaveChildren es → unmatched es ≡ open_in out
     → (IsInOrder bytes out → (end_in out).index ≡ length bytes → bytewise (tree es) ≡ (forest_in bytes out).kids)
-    → (IsInOrder bytes out → (end_in out).index ≡ length bytes → HaveTheirBytes bytes es) → MatchesGrammar tables.names text events
-    → Stands (reading tables options (document_targets (text_blocks options text))) text start.front
-    (opened (group_items (bare_blocks (text_blocks options text))) [] []) [] (Between []) w
-    → AreEventsOf tables options text events
-are_events {A} tables options text old w start bytes out es events bytes_are out_is same none placed children matched written tokens right st =
+    → Stands (text_reading tables options text) text start.front (all_rows tables options text) [] (Between []) w
+    → AreOfText tables options text w events
+are_of_text {A} tables options text old w start bytes out es events bytes_are out_is same none children matched written st =
     record {
-      placed = subst (λ (bs : List ℕ). ArePlaced bs events) bytes_are (subst (λ (xs : List Event). ArePlaced bytes xs) (sym same) placed);
+      front = start.front;
+      is_front = start.is_front tables.names;
+      stands = st;
       nested = nested events (ap unmatched same ∙ matched ∙ ap (λ (o : Output A). open_in o) out_is ∙ none);
       children = subst HaveChildren (sym same) children;
-      tokens =
-          tokens_same text bytes out w.out es events bytes_are out_is same tokens st.order
-          (all_written text (opened (group_items (bare_blocks (text_blocks options text))) [] []) w st.at);
-      grammar = right;
-      spelled =
-          parsed_spelled tables options text (kind_before_text text) (without_mark text) old w start events refl refl st right
-          (written_same text bytes out w.out es events bytes_are out_is same written);
+      same =
+          written_same text bytes out w.out es events bytes_are out_is same written st.order
+          (all_written text (all_rows tables options text) w st.at);
     }
 
--- and it fills the row of the document
-pub events_filled : {A : Type 0} (r : Reading) (text : List ℕ) (front : Nodes) (all : Blocks) (w : Walk A) (bytes : List ℕ) (out : Output A)
-    (es events : List Event) → bytes ≡ text → out ≡ w.out → events ≡ es → HaveChildren es
-    → (IsInOrder bytes out → (end_in out).index ≡ length bytes → bytewise (tree es) ≡ (forest_in bytes out).kids)
-    → Stands r text front (opened all [] []) [] (Between []) w → FillDocument events
-events_filled r text front all w bytes out es events bytes_are out_is same children written st ns nested named =
-    let o = opened all [] [] in
-    let g = forest_in text w.out in
-    let line = line_at text (written_to w).index in
-    let closed : g ≡ growth g.kids [] = ap (growth g.kids) (none_open r text front g.outer st.spells.around) in
-    documents_are_filled r text front all [] g.kids line events ns (subst (λ (x : Growth). Spells r text front o x line) closed st.spells) nested named
-    (subst HaveChildren (sym same) children)
-    (written_same text bytes out w.out es events bytes_are out_is same written st.order (all_written text o w st.at))
+-- and is the list of its events
+pub are_events : {A : Type 0} (tables : TextTables) (options : ParseOptions) (text : List ℕ) (w : Walk A) (bytes : List ℕ) (out : Output A)
+    (es events : List Event) → bytes ≡ text → out ≡ w.out → events ≡ es → ArePlaced bytes es
+    → (IsInOrder bytes out → (end_in out).index ≡ length bytes → HaveTheirBytes bytes es) → AreOfText tables options text w events
+    → ((k : ℕ) → get_or text k 0 < 256) → IsUtf8 text → AreWellPlaced text events → AreEventsOf tables options text events
+are_events tables options text w bytes out es events bytes_are out_is same placed tokens are numbers utf8 well =
+    let own_placed : ArePlaced text events =
+    subst (λ (bs : List ℕ). ArePlaced bs events) bytes_are (subst (λ (xs : List Event). ArePlaced bytes xs) (sym same) placed) in
+    let own_tokens : HaveTheirBytes text events =
+    tokens_same text bytes out w.out es events bytes_are out_is same tokens are.stands.order
+    (all_written text (all_rows tables options text) w are.stands.at) in
+    let places = places_fit text utf8 events own_placed well in
+    record {
+      placed = own_placed;
+      nested = are.nested;
+      children = are.children;
+      tokens = own_tokens;
+      grammar = nodes_match tables options text w events are numbers places (all_whole text events well) own_tokens;
+      spelled = events_spelled tables options text w events are places;
+    }

@@ -1,8 +1,8 @@
 -- A parser stands in the line on which a row begins.
-use Rattle.std.proofs.Common.{◌≡◌, ◌<◌, ◌≤◌, ℕ, Bool, true, false, List, [], ◌∷◌, Option, refl, sym, ap, ◌∙◌, subst, arith, map}
-use Rattle.parse_events.proofs.Prelude.{always_go_on, around, AtEnding, bare_container, begun, BlockRow, Container, containers, ends_line, EndsInLine, Err}
-use Rattle.parse_events.proofs.Prelude.{GoesOn, GoesOnInLine, HasSameOpen, is_in_line, IsLineBegun, IsNext, IsParsing, IsRowLaid, Level, LineEnding, LineRest}
-use Rattle.parse_events.proofs.Prelude.{lines_may_be_begun, Nodes, Ok, OnOk, Opened, Parser, Place, Reading, Result, standing, Stands, true≢false, WritesLine}
+use Rattle.std.proofs.Common.{◌≡◌, Bool, true, false, List, [], ◌∷◌, Option, sym, ap, ◌∙◌, subst, map}
+use Rattle.parse_events.proofs.Prelude.{always_go_on, AtEnding, bare_container, begun, BlockRow, Container, containers, ends_line, EndsInLine, Err}
+use Rattle.parse_events.proofs.Prelude.{GoesOn, GoesOnInLine, HasSameOpen, is_in_line, IsLineBegun, IsNext, IsRowLaid, Level, LineEnding, LineRest}
+use Rattle.parse_events.proofs.Prelude.{lines_may_be_begun, Ok, OnOk, Opened, Parser, Place, Reading, Result, standing, true≢false, WritesLine}
 use Rattle.parse_events.specs.Parsing.{BeginsRow}
 use Rattle.parse_events.proofs.Kept.{KeepsOpen, parsing_kept}
 use Rattle.parse_events.proofs.Lines.{begun_stands}

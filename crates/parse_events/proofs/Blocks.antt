@@ -1,5 +1,5 @@
 -- A parser writes the blocks of a text row by row: from before the first to the end.
-use Rattle.std.proofs.Common.{◌≡◌, inl, ◌<◌, ◌≤◌, ◌+◌, ◌-◌, ℕ, true, false, List, [], ◌∷◌, ◌++◌, refl, sym, ap, ◌∙◌, subst, arith, drop, get_or, length, map, reverse, take}
+use Rattle.std.proofs.Common.{◌≡◌, inl, ◌<◌, ◌≤◌, ◌+◌, ◌-◌, ℕ, List, [], ◌∷◌, ◌++◌, refl, sym, ap, ◌∙◌, subst, arith, drop, get_or, length, map, reverse, take}
 use Rattle.parse_events.proofs.Prelude.{after_row, AreAhead, AreLinesOf, bare_blocks, Between, BlockLine, BlockRow, Blocks, blocks, Container, ends_in_blank}
 use Rattle.parse_events.proofs.Prelude.{GoesOn, group_items, growth, Growth, is_list, IsAmongRows, IsNew, IsNext, IsPrintableRow, ItemPlace, Kind, length-map}
 use Rattle.parse_events.proofs.Prelude.{line_at, map-append, Nil, NoBlock, Nodes, Opened, opened, Parser, Piece, piece_line, piece_lines, Place, places_of}
@@ -21,7 +21,7 @@ over_lines (x ∷ xs) ys = over_lines xs ys
 nothing_spelled : (r : Reading) (text : List ℕ) (front : Nodes) (places : List ItemPlace) (line : ℕ) → FillOnPage front
     → Spells r text front (opened NoBlock [] places) (growth front []) line
 nothing_spelled r text front places line fill = record {
-  kids = record { left = Nil; parts = sym (append-nil front); spell = record { blocks = λ m m' means. tt; defined = λ m m' means. tt } };
+  kids = record { left = Nil; parts = sym (append-nil front); spell = record { blocks = λ m m' means. tt; defined = λ m m' means. tt; sound = tt } };
   around = tt;
   fill = fill;
 }

@@ -13,6 +13,7 @@ use Rattle.event_grammar.specs.Checks.{spot_of}
 use Rattle.parse_output.specs.Ends.{exit_at}
 use Rattle.parse_output.specs.Forest.{exited}
 use Rattle.parse_slots.specs.Left.{IsFilled}
+use Rattle.parse_references.specs.Sound.{IsSound}
 use Rattle.parse_open.specs.Filled.{holder_form}
 use Rattle.parse_open.proofs.Ends.{exited_other}
 use Rattle.parse_events.specs.Stands.{IsWrittenAt}
@@ -33,13 +34,13 @@ module _ (r : Reading) (text : List ℕ) (front : Nodes) (go : LevelsGoOn r text
       → is_in_list o.outer ≡ is_item (InContainer c goes_on) → IsNamed (InContainer c goes_on) enter.name
       → IsOfList (InContainer c goes_on) (innermost g.outer) → (spot_of enter).index ≤ length text → IsStartName (node_name first)
       → named n.Definition (one first) ≡ [] → HasStart r text front (InContainer c goes_on) enter.name NoBlock (one first)
-      → IsFilled Lines (holder_form (InContainer c goes_on)) first
+      → IsFilled Lines (holder_form (InContainer c goes_on)) first → IsSound r.tables.names text first
       → line_at text (spot_of enter).index ≡ line_at text from → Spells r text front o g (line_at text from)
       → Spells r text front (within (InContainer c goes_on) o) h (line_at text other)
-  spells_start o c goes_on enter g mid h space first from other nothing quiet white grown stands is of_list fits start none has filled line spells =
+  spells_start o c goes_on enter g mid h space first from other nothing quiet white grown stands is of_list fits start none has filled sound line spells =
       let new = within (InContainer c goes_on) o in
       subst (λ (x : Growth). Spells r text front new x (line_at text other)) (sym (grown ∙ ap (λ (x : Growth). with_nodes (entered x enter) (one first)) white)) (
-      go.container o (with_nodes g space) (line_at text other) c goes_on enter first stands is of_list fits start none has filled (
+      go.container o (with_nodes g space) (line_at text other) c goes_on enter first stands is of_list fits start none has filled sound (
       subst (λ (k : ℕ). Spells r text front o (with_nodes g space) k) (sym line) (
       spells_space o g space (line_at text from) nothing quiet spells)))
 

@@ -1,9 +1,9 @@
 -- A parser stands after the ending of a line or a blank line, if that is written.
-use Rattle.std.proofs.Common.{◌≡◌, inl, inr, ℕ, true, false, List, [], Option, None, Some, refl, sym, ap, ◌∙◌, subst, reverse}
-use Rattle.parse_events.proofs.Prelude.{after_row, always_go_on, AreEnding, around, AtEnding, Between, Blank, blank_one, Block, BlockRow, Constructs}
-use Rattle.parse_events.proofs.Prelude.{Container, End, end_at, Ending, EndsLine, Err, forest_in, GoesOn, GoesOnInLine, HasSameOpen, is_ending, is_in_line}
-use Rattle.parse_events.proofs.Prelude.{IsInLine, IsNext, IsParsing, IsPastCode, join, LevelsGoOn, line_after, line_at, LineEnding, LineRest, lines, Nodes, Ok}
-use Rattle.parse_events.proofs.Prelude.{one_block, OnOk, Opened, opened, Parser, Place, Reading, Result, Single, Spells, Standing, standing, Stands, StandsAt}
+use Rattle.std.proofs.Common.{◌≡◌, inl, inr, ℕ, true, false, List, [], Option, None, Some, refl, sym, ap, ◌∙◌, subst}
+use Rattle.parse_events.proofs.Prelude.{after_row, always_go_on, AreEnding, around, AtEnding, Between, Blank, blank_one, Constructs}
+use Rattle.parse_events.proofs.Prelude.{Container, End, Ending, EndsLine, Err, forest_in, GoesOn, GoesOnInLine, HasSameOpen}
+use Rattle.parse_events.proofs.Prelude.{IsInLine, IsParsing, IsPastCode, join, LevelsGoOn, line_after, line_at, LineEnding, LineRest, lines, Nodes, Ok}
+use Rattle.parse_events.proofs.Prelude.{one_block, OnOk, Opened, opened, Parser, Place, Reading, Result, Single, Standing, standing, Stands}
 use Rattle.parse_events.proofs.Prelude.{true≢false, unread, void_nodes, Walk, Within, WritesEnding, written_to}
 use Rattle.markdown_options.specs.declared.beside.Kind.TheVariants.{Whitespace}
 use Rattle.engine_events.specs.declared.event.Name.TheVariants as n

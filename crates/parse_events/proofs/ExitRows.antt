@@ -1,10 +1,10 @@
 -- A parser stands after the end of a container, and of a list after its last item, if these are written.
-use Rattle.std.proofs.Common.{◌≡◌, ◌<◌, inl, inr, ℕ, Bool, true, false, List, [], ◌∷◌, ◌++◌, Option, refl, sym, ap, ◌∙◌, subst, length, reverse, map}
-use Rattle.parse_events.proofs.Prelude.{after_row, always_go_on, AreOpen, around, AtEnding, bare_container, Between, Block, BlockRow, Blocks, Constructs}
+use Rattle.std.proofs.Common.{◌≡◌, ◌<◌, ℕ, Bool, true, false, List, [], ◌∷◌, ◌++◌, refl, sym, ap, ◌∙◌, subst, length, reverse, map}
+use Rattle.parse_events.proofs.Prelude.{always_go_on, AreOpen, around, AtEnding, bare_container, Between, Blocks, Constructs}
 use Rattle.parse_events.proofs.Prelude.{Container, container_view, containers, end_in, Err, Exit, Exits, Footnote, forest_in, GoesOnInLine, Held, Holder}
-use Rattle.parse_events.proofs.Prelude.{holder_containers, Holds, if◌then◌else◌, InContainer, InList, is_ending, is_in_line, is_in_list, is_item, is_item_kind}
-use Rattle.parse_events.proofs.Prelude.{is_list, IsInOrder, IsNext, IsParsing, Item, ItemParts, ItemPlace, Items, join, KnowsItems, KnowsLists, level, Level}
-use Rattle.parse_events.proofs.Prelude.{LineRest, next_stands, NoBlock, Nodes, Ok, one_block, OnOk, opened, Opened, opened_name, Output, Parser, Part, Place}
+use Rattle.parse_events.proofs.Prelude.{holder_containers, Holds, if◌then◌else◌, InContainer, InList, is_in_line, is_in_list, is_item, is_item_kind}
+use Rattle.parse_events.proofs.Prelude.{IsInOrder, IsNext, IsParsing, Item, ItemParts, ItemPlace, Items, join, KnowsItems, KnowsLists, level, Level}
+use Rattle.parse_events.proofs.Prelude.{Nodes, Ok, one_block, OnOk, opened, Opened, opened_name, Output, Parser, Part, Place}
 use Rattle.parse_events.proofs.Prelude.{Quote, Reading, Result, Standing, standing, standing_after, standing_at, Stands, StandsAt, StandsInEnd, true≢false}
 use Rattle.parse_events.proofs.Prelude.{Walk, which_go_on, Within, written_to}
 use Rattle.std.specs.Prelude.{not, IfOk}
@@ -15,9 +15,9 @@ use Rattle.parse_lines.specs.Steps.{IsSameLine as IsSameStanding}
 use Rattle.parse_laid.specs.Places.{Stops}
 use Rattle.parse_open.specs.Open.{container_end, list_end}
 use Rattle.parse_open.specs.Open as open_blocks
-use Rattle.parse_events.specs.Parsing.{Closes, EndsItem, IsAfterItem, item_goes_on}
+use Rattle.parse_events.specs.Parsing.{Closes, EndsItem, item_goes_on}
 use Rattle.parse_events.proofs.Containers.{IsSameLine, container_ends, list_ends}
-use Rattle.parse_events.proofs.Kept.{first_over, items_last, items_less, lists_less, no_items, none_held, some_held, stands_there}
+use Rattle.parse_events.proofs.Kept.{first_over, items_last, items_less, lists_less, no_items, none_held, some_held}
 
 -- ---- what is the innermost
 

@@ -1,5 +1,5 @@
 -- Lines at the front of a text are the lines of their bytes, and frontmatter is such lines (CommonMark 2.1).
-use Rattle.std.proofs.Common.{◌≡◌, inl, inr, ◌<◌, ◌≤◌, ◌+◌, ◌-◌, ℕ, Bool, false, List, [], ◌∷◌, ◌++◌, Option, None, Some, eqb, refl, sym, ap, ap₂, ◌∙◌, arith, length, drop, length-append, append_assoc}
+use Rattle.std.proofs.Common.{◌≡◌, inl, inr, ◌<◌, ◌≤◌, ◌+◌, ℕ, Bool, false, List, [], ◌∷◌, ◌++◌, Option, None, Some, eqb, refl, sym, ap, ap₂, ◌∙◌, arith, length, drop, length-append, append_assoc}
 use Rattle.parse_events.proofs.Prelude.{after_frontmatter, after_return, cases_Bool, cond-false, cond-true, Constructs, ending_text, flat_map-append}
 use Rattle.parse_events.proofs.Prelude.{in_first_line, joined, lines, lines_joined, text_line, TextLine}
 use Rattle.markdown_options.specs.declared.line_ending.LineEnding.TheVariants.{CarriageReturnLineFeed, CarriageReturn, LineFeed}

@@ -22,6 +22,8 @@ use Rattle.parse_output.specs.Ends.{first_end}
 use Rattle.parse_output.specs.Spots.{next_spot, start}
 use Rattle.parse_laid.specs.Laid.{unread_after}
 use Rattle.event_grammar.specs.declared.slot.Between.TheVariants.{Lines}
+use Rattle.event_grammar.specs.declared.slot.Form.TheVariants.{Plain}
+use Rattle.parse_slots.specs.Left.{IsFilled}
 use Rattle.parse_slots.proofs.Steps.{fill_none}
 use Rattle.parse_open.proofs.Filled as filled
 use Rattle.parse_open.proofs.Filled.{StandBetween}
@@ -93,20 +95,21 @@ none_after g ns is = ap (λ (x : Growth). with_nodes x ns) is
 
 front_is : (names : Names) (text : List ℕ) (bs : Blocks) (mark space : Nodes) (node : Node) (ending : Option LineEnding) (ns : Nodes)
     → SpellsNothing names text mark → AreQuiet space → node_name node ≡ n.Frontmatter → named n.Definition (one node) ≡ []
-    → AreEnding text n.LineEnding ending ns → (ending ≡ None → bs ≡ tree.Nil) → IsFront names text (append mark (append space (append (one node) ns))) bs
-front_is names text bs mark space node None ns nothing quiet is none are last =
+    → IsFilled Lines Plain node → AreEnding text n.LineEnding ending ns → (ending ≡ None → bs ≡ tree.Nil) → IsFront names text (append mark (append space (append (one node) ns))) bs
+front_is names text bs mark space node None ns nothing quiet is none fills are last =
     let front = append mark space in
     let nodes : append mark (append space (append (one node) ns)) ≡ append front (one node) =
     ap (λ (xs : Nodes). append mark (append space (append (one node) xs))) are ∙ sym (append-assoc mark space (one node)) in
     subst (λ (xs : Nodes). IsFront names text xs bs) (sym nodes)
-    (front_alone names text bs front node (nothing_both names text mark space nothing (nothing_mute names text space (quiet_mute space quiet))) is none (last refl))
-front_is names text bs mark space node (Some e) ns nothing quiet is none are last =
+    (front_alone names text bs front node (nothing_both names text mark space nothing (nothing_mute names text space (quiet_mute space quiet))) is none fills
+    (last refl))
+front_is names text bs mark space node (Some e) ns nothing quiet is none fills are last =
     let front = append mark space in
     let nodes : append mark (append space (append (one node) ns)) ≡ append front (append (one node) (one are.0)) =
     ap (λ (xs : Nodes). append mark (append space (append (one node) xs))) are.1 ∙ sym (append-assoc mark space (append (one node) (one are.0))) in
     subst (λ (xs : Nodes). IsFront names text xs bs) (sym nodes)
     (front_ended names text bs front node e are.0 (nothing_both names text mark space nothing (nothing_mute names text space (quiet_mute space quiet))) is none
-    (record { named = are.2; empty = are.3; bytes = are.4 }))
+    fills (record { named = are.2; empty = are.3; bytes = are.4 }))
 
 -- it is taken by the row of the document
 ending_between : (text : List ℕ) (ending : Option LineEnding) (ns : Nodes) → AreEnding text n.LineEnding ending ns → StandBetween ns
@@ -207,7 +210,7 @@ module _ {A : Type 0} where
         front = append was.front nodes;
         is_front = λ names.
             front_is names text (blocks on before rest) was.front written.before written.node written.ending written.nodes (was.nothing names) written.are_quiet
-            written.is_front written.definitions written.are_ending (λ none. no_blocks on before rest some.others some.found (written.last none));
+            written.is_front written.definitions written.filled written.are_ending (λ none. no_blocks on before rest some.others some.found (written.last none));
         fill =
             filled.front_fill was.front written.before written.nodes written.node was.fill
             (filled.mute_between written.before (quiet_mute written.before written.are_quiet)) written.is_front written.filled

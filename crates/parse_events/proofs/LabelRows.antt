@@ -1,7 +1,7 @@
 -- The labels of rows, and those of the blocks that they are the rows of.
-use Rattle.std.proofs.Common.{◌≡◌, ℕ, zero, suc, List, [], ◌∷◌, ◌++◌, Bool, true, false, Option, None, Some, refl, sym, ap, ap₂, ◌∙◌, map}
+use Rattle.std.proofs.Common.{◌≡◌, List, [], ◌∷◌, ◌++◌, Option, None, Some, refl, sym, ap, ap₂, ◌∙◌, map}
 use Rattle.std.specs.List.{flat_map}
-use Rattle.parse_events.proofs.Prelude.{append-nil, BlockLine, BlockRow, Code, Container, defined_in, definition_value, Exit, flat_map-append, Footnote}
+use Rattle.parse_events.proofs.Prelude.{append-nil, BlockLine, BlockRow, Container, defined_in, definition_value, Exit, flat_map-append, Footnote}
 use Rattle.parse_events.proofs.Prelude.{HasLabels, Item, map-append, normal_label, normal_labels, own_label, Quote, row_definitions, rows_of, Single}
 use Rattle.parse_events.proofs.Prelude.{start_row}
 use Rattle.definition_inline.specs.Definition.{Definition}

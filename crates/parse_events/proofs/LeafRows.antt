@@ -2,12 +2,12 @@
 use Rattle.std.proofs.Common.{◌≡◌, ◌<◌, inl, inr, ℕ, Bool, true, false, List, [], ◌∷◌, ◌++◌, Option, Some, None, refl, sym, ap, ◌∙◌, subst, arith, drop, length, map, reverse, take}
 use Rattle.parse_events.proofs.Prelude.{after_row, always_go_on, append, append-assoc, around, AtEnding, bare_container, Between, BlockLine, BlockRow, Break}
 use Rattle.parse_events.proofs.Prelude.{bytes_of, Constructs, Container, containers, Definition, definition_on, definition_value, End, ends_in_blank}
-use Rattle.parse_events.proofs.Prelude.{ends_in_list, ends_line, EnterFootnote, EnterItem, EnterQuote, Exit, FencedCode, first_codes, Footnote, forest_in}
+use Rattle.parse_events.proofs.Prelude.{ends_in_list, ends_line, FencedCode, first_codes, Footnote, forest_in}
 use Rattle.parse_events.proofs.Prelude.{GoesOnInLine, Growth, Heading, Held, Holder, holder_containers, holder_standing, Html, InContainer, IndentedCode}
-use Rattle.parse_events.proofs.Prelude.{InList, is_in_line, is_in_list, is_unclosed, IsNext, IsParsing, IsRowLaid, IsWrittenLaid, Item, ItemPlace, join}
+use Rattle.parse_events.proofs.Prelude.{InList, is_in_list, is_unclosed, IsParsing, IsRowLaid, IsWrittenLaid, Item, ItemPlace, join}
 use Rattle.parse_events.proofs.Prelude.{KnowsItems, KnowsLists, Leaf, leaf_definitions, LeafBlock, length-map, length-reverse, Level, line_at, LineEnding}
 use Rattle.parse_events.proofs.Prelude.{LineRest, lines_are_counted, next_stands, node_end, node_start, Nodes, one, one_block, Opened, opened, own_lines}
-use Rattle.parse_events.proofs.Prelude.{Paragraph, Parser, Place, Quote, read_leaf, Reading, Row, row_size, row_value, Single, Spells, standing, Standing}
+use Rattle.parse_events.proofs.Prelude.{Paragraph, Parser, Place, Quote, read_leaf, Reading, Row, row_size, row_value, Single, Spells, standing}
 use Rattle.parse_events.proofs.Prelude.{standing_at, Stands, StandsAt, Table, true≢false, Walk, which_go_on, with_nodes, Within, WritesLeaf, WritesRow}
 use Rattle.parse_events.proofs.Prelude.{WritesToEnd, written_to}
 use Rattle.definition_text.specs.BlockLines.{last_ending, last_ending_or}
@@ -15,8 +15,8 @@ use Rattle.definition_inline.specs.Definition.{Definition as LinkDefinition}
 use Rattle.definition_page.specs.Read.{Standing as BlockStanding}
 use Rattle.block_rows.specs.declared.row.Row.TheVariants as row
 use Rattle.text_pieces.specs.Pieces.{whole_lines}
-use Rattle.parse_leaves.specs.Definition.{IsOnOneLine, WritesDefinition, WritesReadDefinition}
-use Rattle.parse_raw.specs.Laid.{WritesReadInside, WritesReadToEnd, WritesReadUnclosed}
+use Rattle.parse_leaves.specs.Definition.{IsOnOneLine, WritesReadDefinition}
+use Rattle.parse_raw.specs.Laid.{WritesReadUnclosed}
 use Rattle.parse_raw.specs.Reads.{WritesReadLeaf}
 use Rattle.parse_leaves.proofs.RowLeaves.{all_taken}
 use Rattle.parse_laid.specs.Leaves.{IsLeafLaid}

@@ -72,7 +72,7 @@ module _ (r : Reading) (text : List ℕ) (front : Nodes) (go : LevelsGoOn r text
       let mid = with_nodes g before in
       subst (λ (x : Growth). Spells r text front more x (line_at text to)) (with_both g before (one (Around enter kids exit)) ∙ sym grown) (
       subst (λ (k : ℕ). Spells r text front more (with_nodes mid (one (Around enter kids exit))) (line_at text k)) end (
-      go.leaf o mid leaf enter exit kids bare (record { is_block = own.is_block; blocks = own.blocks; defined = own.definitions; filled = filled }) within (
+      go.leaf o mid leaf enter exit kids bare (record { is_block = own.is_block; blocks = own.blocks; defined = own.definitions; filled = filled; sound = own.sound }) within (
       subst (λ (k : ℕ). Spells r text front o mid k) (sym start) (
       go.mute o g (line_at text from) before (quiet_mute before quiet) begun spells))))
 

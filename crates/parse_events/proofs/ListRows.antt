@@ -1,12 +1,12 @@
 -- A parser stands after the start of an item, and of its list if it is the first, if these are written.
 use Rattle.std.proofs.Common.{◌≡◌, ◌⊎◌, inl, inr, ℕ, Bool, true, false, List, [], ◌∷◌, ◌++◌, Option, None, Some, refl, sym, ap, ap₂, ◌∙◌, subst, length, reverse, take}
-use Rattle.parse_events.proofs.Prelude.{after_row, always_go_on, append-nil, around, bare_container, bare_end, beside_in, BlockRow, Blocks, bytes_of}
-use Rattle.parse_events.proofs.Prelude.{Constructs, Container, End, end_at, ends_in_list, EnterItem, Enters, Err, Footnote, forest_in, GoesOnInLine}
-use Rattle.parse_events.proofs.Prelude.{Growth, Held, if◌then◌else◌, InContainer, InList, innermost, is_in_line, is_in_list, is_item_kind, is_list, IsBegun}
-use Rattle.parse_events.proofs.Prelude.{IsInOrder, IsListed, IsNext, IsOfList, IsParsing, IsWrittenToRest, Item, ItemParts, ItemPlace, KnowsItems, KnowsLists}
-use Rattle.parse_events.proofs.Prelude.{level, Level, line_rest, LineRest, list_name, more_if, Name, NoBlock, Nodes, Ok, OnOk, Opened, opened, opened_name}
+use Rattle.parse_events.proofs.Prelude.{after_row, always_go_on, append-nil, around, bare_container, bare_end, beside_in, BlockRow, bytes_of}
+use Rattle.parse_events.proofs.Prelude.{Constructs, Container, end_at, ends_in_list, EnterItem, Enters, Err, Footnote, forest_in, GoesOnInLine}
+use Rattle.parse_events.proofs.Prelude.{Growth, Held, if◌then◌else◌, InContainer, InList, innermost, is_in_list, is_item_kind, is_list, IsBegun}
+use Rattle.parse_events.proofs.Prelude.{IsInOrder, IsListed, IsOfList, IsParsing, IsWrittenToRest, Item, ItemParts, ItemPlace, KnowsItems, KnowsLists}
+use Rattle.parse_events.proofs.Prelude.{level, line_rest, LineRest, list_name, more_if, Name, NoBlock, Nodes, Ok, OnOk, Opened, opened, opened_name}
 use Rattle.parse_events.proofs.Prelude.{OpensIf, Parser, Place, Quote, Reading, Result, standing, Standing, Stands, StandsAt, start_row, Starts, StartsOf}
-use Rattle.parse_events.proofs.Prelude.{true≢false, Walk, which_are_lists, which_go_on, within, Within, WritesStartOf, WritesUpTo, written_to}
+use Rattle.parse_events.proofs.Prelude.{true≢false, Walk, which_go_on, within, Within, WritesStartOf, WritesUpTo, written_to}
 use Rattle.std.specs.Prelude.{◌+◌, ◌-◌, MatchOption}
 use Rattle.std.specs.Option.{UnwrapsOrElse, option_to_list}
 use Rattle.definition_text.specs.Columns.{bare}

@@ -11,7 +11,7 @@ use Rattle.parse_events.proofs.Endings.{quiet_mute}
 use Rattle.parse_events.proofs.LastBlank.{inside_ends}
 use Rattle.parse_events.proofs.Leaves.{line_in_text}
 use Rattle.parse_events.proofs.Lines.{rest_line_at}
-use Rattle.parse_events.proofs.Starts.{bare_in_line, prefix_defines, prefix_filled, prefix_named, prefix_start}
+use Rattle.parse_events.proofs.Starts.{bare_in_line, prefix_defines, prefix_filled, prefix_named, prefix_sound, prefix_start}
 
 module _ {A : Type 0} (r : Reading) (text : List ℕ) (front : Nodes) (go : LevelsGoOn r text front) where
   -- a list is the innermost that is open
@@ -101,6 +101,7 @@ module _ {A : Type 0} (r : Reading) (text : List ℕ) (front : Nodes) (go : Leve
             (prefix_named text (Item item) start.first start.is_prefix) (prefix_defines text (Item item) start.first start.is_prefix)
             (prefix_start r text front (Item item) goes_on n.ListItem start.first start.is_prefix)
             (prefix_filled text (Item item) goes_on start.first start.is_prefix)
+            (prefix_sound r.tables.names text (Item item) start.first start.is_prefix)
             (ap (line_at text) index ∙ was.bare)
             was.spells;
         begun = λ listed none. true≢false (sym listed);

@@ -1,8 +1,8 @@
 -- The lines that a row takes, alone and before others.
-use Rattle.std.proofs.Common.{◌≡◌, ◌+◌, ℕ, true, false, List, [], ◌∷◌, ◌++◌, refl, sym, ap, ◌∙◌, subst, arith, length, take}
+use Rattle.std.proofs.Common.{◌≡◌, ℕ, true, false, List, [], ◌∷◌, ◌++◌, refl, sym, ap, ◌∙◌, subst, arith, length, take}
 use Rattle.std.proofs.Math.Seq.{take-length}
 use Rattle.std.proofs.lemmas.List.{take-append-le}
-use Rattle.parse_events.proofs.Prelude.{AreLinesOf, BlockLine, definition_on, definition_value, EnterFootnote, FencedCode, Heading, Html, IndentedCode}
+use Rattle.parse_events.proofs.Prelude.{AreLinesOf, BlockLine, definition_on, definition_value, FencedCode, Heading, Html, IndentedCode}
 use Rattle.parse_events.proofs.Prelude.{IsPrintableRow, Leaf, own_lines, Paragraph, Row, row_size, row_value, Single, Table}
 use Rattle.text_pieces.specs.ParagraphLines.{AreLines}
 use Rattle.inline_content.specs.Lines.{AreContentLines}

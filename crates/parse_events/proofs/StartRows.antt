@@ -1,8 +1,8 @@
 -- A parser stands after the start of a container, if that is written.
 use Rattle.std.proofs.Common.{◌≡◌, inl, inr, ℕ, Bool, true, false, List, [], ◌∷◌, ◌++◌, refl, sym, ap, ◌∙◌, subst, reverse}
-use Rattle.parse_events.proofs.Prelude.{after_row, always_go_on, around, AtEnding, bare_container, beside_in, Between, BlockRow, Blocks, Constructs, Container}
+use Rattle.parse_events.proofs.Prelude.{always_go_on, around, AtEnding, bare_container, beside_in, Between, BlockRow, Constructs, Container}
 use Rattle.parse_events.proofs.Prelude.{ends_in_list, EnterFootnote, EnterQuote, Err, Footnote, GoesOnInLine, Held, holder_standing, InContainer, is_in_line}
-use Rattle.parse_events.proofs.Prelude.{is_in_list, is_item, is_list, IsNamed, IsNext, IsOfList, IsParsing, Item, ItemPlace, KnowsItems, KnowsLists, level}
+use Rattle.parse_events.proofs.Prelude.{is_in_list, is_item, is_list, IsNamed, IsOfList, IsParsing, Item, ItemPlace, KnowsItems, KnowsLists, level}
 use Rattle.parse_events.proofs.Prelude.{Level, line_rest, LineRest, more_if, Name, Nodes, Ok, OnOk, Opened, OpensIf, Parser, Place, Quote, Reading, Result}
 use Rattle.parse_events.proofs.Prelude.{standing, Stands, StandsAt, start_row, Starts, StartsOf, true≢false, Walk, which_go_on, Within, within, WritesStartOf}
 use Rattle.engine_events.specs.declared.event.Name.TheVariants as n

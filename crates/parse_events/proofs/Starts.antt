@@ -6,6 +6,7 @@ use Rattle.parse_events.proofs.Prelude.{IsWrittenToRest, Item, kids_of, level, L
 use Rattle.parse_events.proofs.Prelude.{normal_label, one, Opened, Quote, Reading, rest_start, same_name, standing, Stands, StandsAt, true≢false, Walk, whole}
 use Rattle.parse_events.proofs.Prelude.{with_nodes, Within, within, WritesStart, written_to}
 use Rattle.definition_block.specs.ListItem.{number_of}
+use Rattle.definition_inline.specs.CharacterReference.{Names}
 use Rattle.engine_events.specs.declared.event.Name.TheVariants as n
 use Rattle.event_grammar.specs.declared.slot.Between.TheVariants.{Lines, Spaces}
 use Rattle.event_grammar.specs.declared.slot.Form.TheVariants.{Ordered, Plain}
@@ -14,12 +15,15 @@ use Rattle.event_meaning.specs.Blocks.{label_of}
 use Rattle.event_meaning.specs.Children.{child, inside_of, kids_in, text_in}
 use Rattle.parse_lines.proofs.Quiet.{quiet_named}
 use Rattle.parse_lines.proofs.Written.{bare_follows, bare_start}
-use Rattle.parse_lines.specs.Prefixes.{item_form}
+use Rattle.parse_lines.specs.Prefixes.{footnote_names, item_form, item_names}
 use Rattle.parse_output.proofs.Marks.{same_self}
 use Rattle.parse_slots.specs.Left.{Fill, IsFilled}
 use Rattle.parse_slots.proofs.Steps.{filled_by}
+use Rattle.parse_references.specs.Sound.{IsSound}
+use Rattle.parse_references.proofs.Sound.{sound_filled}
 use Rattle.parse_open.specs.Filled.{holder_form, number_form}
 use Rattle.parse_open.specs.Levels.{HasNumber}
+use Rattle.parse_open.proofs.Sound.{others_sound}
 use Rattle.parse_events.proofs.Containers.{spells_start}
 use Rattle.parse_events.proofs.LastBlank.{inside_ends}
 use Rattle.parse_events.proofs.Leaves.{line_in_text}
@@ -51,6 +55,13 @@ pub prefix_filled : (text : List ℕ) (c : Container) (goes_on : Bool) (first : 
 prefix_filled text Quote goes_on first is = filled_by Lines Plain n.BlockQuotePrefix [] first is.0 is.2 refl
 prefix_filled text (Item item) goes_on first is = item_prefix_filled item.number first is.is_named is.fill
 prefix_filled text (Footnote label) goes_on first is = filled_by Lines Plain n.GfmFootnoteDefinitionPrefix [] first is.is_named is.fill refl
+
+-- it holds no reference, call or heading
+pub prefix_sound : (names : Names) (text : List ℕ) (c : Container) (first : Node) → IsPrefixOf text c first → IsSound names text first
+prefix_sound names text Quote first is =
+    sound_filled names text 2 Lines Plain n.BlockQuotePrefix first is.0 refl (filled_by Lines Plain n.BlockQuotePrefix [] first is.0 is.2 refl)
+prefix_sound names text (Item item) first is = others_sound names text item_names first refl is.others
+prefix_sound names text (Footnote label) first is = others_sound names text footnote_names first refl is.others
 
 module _ (r : Reading) (text : List ℕ) (front : Nodes) where
   own_number : (number : Option ℕ) (first : Node) → node_name first ≡ n.ListItemPrefix
@@ -110,6 +121,7 @@ module _ {A : Type 0} (r : Reading) (text : List ℕ) (front : Nodes) (go : Leve
                   (let most = line_in_text text (standing old) at.0.line in omega (arith, most, index, bounds.1))
                   (prefix_named text c start.first start.is_prefix) (prefix_defines text c start.first start.is_prefix)
                   (prefix_start r text front c goes_on name start.first start.is_prefix) (prefix_filled text c goes_on start.first start.is_prefix)
+                  (prefix_sound r.tables.names text c start.first start.is_prefix)
                   (ap (line_at text) index ∙ rest_line_at text here left old (bare_end old).index at.0 at.1 bounds.0 bounds.1)
                   was.spells;
               begun = λ listed none. true≢false (sym listed);

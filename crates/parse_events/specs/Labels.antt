@@ -7,7 +7,7 @@ use Rattle.definition_text.specs.Lines.{kind_before_text, without_mark}
 use Rattle.definition_inline.specs.Definition.{Definition}
 use Rattle.definition_inline.specs.LabelMatch.{normal_label}
 use Rattle.definition_inline.specs.Targets.{labels_of}
-use Rattle.definition_block.specs.Blocks.{Block, Leaf, Holds, Items, Blocks, Nil, Cons}
+use Rattle.definition_block.specs.Blocks.{Block, Holds, Items, Blocks, Nil, Cons}
 use Rattle.definition_block.specs.Definitions.{container_footnotes, document_definitions}
 use Rattle.definition_block.specs.Tree.{blocks}
 use Rattle.block_rows.specs.Rows.{BlockRow, EnterFootnote, row_definitions}

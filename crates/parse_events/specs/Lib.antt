@@ -8,3 +8,4 @@ pub mod Stands
 pub mod Parsing
 pub mod Document
 pub mod Parsed
+pub mod WellPlaced

@@ -22,10 +22,10 @@ ghost use Rattle.parse_events.specs.Labels.{begun_in, defined_in, definition_lab
 ghost use Rattle.parse_events.specs.State.{IsReadBy, definitions_of, footnotes_of};
 ghost use Rattle.event_tokens.specs.Bytes.{HaveTheirBytes};
 
-use crate::in_grammar::in_grammar;
 use crate::labels::Labels;
 use crate::parser::Parser;
 use crate::state::ParseState;
+use crate::well_placed::well_placed;
 use block_parser::{BlockRows, block_rows};
 use block_rows::Row;
 use block_starts::frontmatter::without_frontmatter;
@@ -52,8 +52,9 @@ pub const SIZE_MAX: usize = usize::MAX / 8;
 /// is spaces and tabs, data ends no line, the value of an escape is punctuation. The table is in
 /// `event_tokens`. If its name can hold no other, it has at least a byte, or a column of a tab.
 ///
-/// The list is checked against the grammar of events before it is returned. If it had a fault, the call
-/// would fail with `out of memory`; no text is known where it has.
+/// Before the list is returned, each event is looked at: whether its place is between characters, and, if
+/// it is a line ending or an item's number, whether it begins at a byte. If one had no such place, the
+/// call would fail with `out of memory`; no text is known where one hasn't.
 pub fn parse<'a, T: Tables, A: Allocator + Clone>(
     alloc: A,
     value: &'a str,
@@ -140,16 +141,9 @@ fn text_events<'a, T: Tables, A: Allocator + Clone>(
     ensures filled { IfOk result (λ events. FillDocument events.items) }
 {
     let walk = begin(alloc.clone()?, value, options)?;
-    let walk = push_blocks(
-        alloc.clone()?,
-        walk,
-        options,
-        tables,
-        &blocks.rows,
-        &blocks.pieces,
-    )?;
+    let walk = push_blocks(alloc, walk, options, tables, &blocks.rows, &blocks.pieces)?;
     let written = walk.into_output().finish(value.as_bytes())?;
-    let events = in_grammar(alloc, written, value, tables)?;
+    let events = well_placed(written, value)?;
     Ok(events)
 }
 

@@ -2,11 +2,11 @@
 #![tactic(auto)]
 
 pub mod document;
-pub mod in_grammar;
 pub mod labels;
 pub mod opened;
 pub mod parser;
 pub mod state;
+pub mod well_placed;
 
 pub use document::{SIZE_MAX, parse};
 pub use state::ParseState;

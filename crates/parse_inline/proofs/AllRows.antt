@@ -27,6 +27,7 @@ use Rattle.event_grammar.specs.Grammar.{text_row}
 use Rattle.parse_slots.specs.Left.{MayEndLines}
 use Rattle.parse_slots.proofs.Steps.{may_space}
 use Rattle.parse_slots.proofs.Voids.{void_between}
+use Rattle.parse_references.proofs.Sound.{void_sound}
 use Rattle.parse_inline.specs.declared.opened.Open as opened
 use Rattle.parse_inline.proofs.Calls.{DoesText, texting}
 use Rattle.parse_inline.proofs.Holes.{filled_whole, linkable_steps}
@@ -218,7 +219,7 @@ all_written s first held old new size d is does =
     (plain_void s.text n.SpaceOrTab (end_in old.out) (end_after (end_in old.out) (length d.left)) refl refl)
     (λ around may.
     void_between around text_row n.SpaceOrTab s.text (end_in old.out) (end_after (end_in old.out) (length d.left)) refl refl (may_space around d.left may)
-    refl) in
+    refl) (void_sound s.context.names s.text n.SpaceOrTab (end_in old.out) (end_after (end_in old.out) (length d.left)) refl) in
     record {
       nodes = all.nodes;
       writes = subst (λ bs. WritesInContent s.text bs all.nodes [] s.stop first new) (sym (all.both ∙ append-nil all.front)) all.writes;
@@ -226,6 +227,7 @@ all_written s first held old new size d is does =
           subst (λ is. ArePartsAlike m m' is (inlines_of s.context.names s.text false all.nodes)) (append_none s.is) (all.spells m m' meant);
       plain = all.plain;
       fill = λ around may. all.fill around (subst (MayEndLines around) (all.both ∙ append-nil all.front) may);
+      sound = all.sound;
     }
 
 -- nothing is left of a list after its end

@@ -10,14 +10,16 @@ use Rattle.parse_inline.proofs.Prelude.{plain_both, plain_none, plain_one, same_
 use Rattle.parse_inline.proofs.Prelude.{token, token_text, void_nodes, void_one, Walk, WritesFront, WritesInLine}
 use Rattle.engine_events.specs.declared.event.Name.TheVariants as n
 use Rattle.definition_inline.specs.Inline.{Autolink}
-use Rattle.event_grammar.specs.declared.slot.Between.TheVariants.{Spaces}
+use Rattle.event_grammar.specs.declared.slot.Between.{Between}
+use Rattle.event_grammar.specs.declared.slot.Between.TheVariants.{Lines, Spaces}
 use Rattle.event_grammar.specs.declared.slot.Child.TheVariants.{Either}
 use Rattle.event_grammar.specs.declared.slot.Form.TheVariants.{Plain}
 use Rattle.event_grammar.specs.declared.slot.Slot.{Slot}
 use Rattle.event_grammar.specs.declared.slot.Slot.TheVariants.{One}
 use Rattle.event_grammar.specs.Grammar.{one as one_slot, row, text_row}
-use Rattle.parse_slots.specs.Left.{Fill}
+use Rattle.parse_slots.specs.Left.{Fill, IsFilled}
 use Rattle.parse_slots.proofs.Steps.{fill_both, fill_taken, filled_in_line}
+use Rattle.parse_references.proofs.Sound.{sound_filled, sound_one}
 use Rattle.parse_strings.proofs.Fills.{token_taken}
 use Rattle.parse_lines.proofs.InLine.{lines_around, lines_both}
 use Rattle.parse_inline.specs.Leaves.{address_name}
@@ -118,6 +120,8 @@ module _ {A : Type 0} (names : Names) (text : List ℕ) (stop : Stop) where
       let all = lines_both text b c e (60 ∷ []) (address ++ 62 ∷ []) line _ _
       (subst (λ ns. WritesInLine text (60 ∷ []) ns ((address ++ 62 ∷ []) ++ line) b c) one_m m) later in
       let node = Around (enter_at text n.Autolink (end_in a.out)) kids (exit_at text n.Autolink (end_in e.out)) in
+      let filled : (around : Between) → IsFilled around Plain node =
+      λ around. filled_in_line around Plain n.Autolink [] node refl refl refl (address_fill text email i j k (length address)) refl in
       record {
         nodes = one node;
         writes = ahead.lifts (one node) f same (lines_around text a b e f n.Autolink (in_angles address) line kids entered all x refl);
@@ -126,7 +130,6 @@ module _ {A : Type 0} (names : Names) (text : List ℕ) (stop : Stop) where
         spells = λ linked may.
             autolink_spells names text linked email address i j k (end_in a.out) (end_in e.out)
             (token_text text (address_name email) j address (62 ∷ line) (next_here text (address ++ 62 ∷ line) c at_value whole_c));
-        fill = λ around may.
-            fill_taken around text_row n.Autolink Plain text_row node refl refl
-            (filled_in_line around Plain n.Autolink [] node refl refl refl (address_fill text email i j k (length address)) refl);
+        fill = λ around may. fill_taken around text_row n.Autolink Plain text_row node refl refl (filled around);
+        sound = sound_one names text node (sound_filled names text 2 Lines Plain n.Autolink node refl refl (filled Lines));
       }

@@ -26,8 +26,9 @@ use Rattle.event_grammar.specs.declared.slot.Between.{Between}
 use Rattle.event_grammar.specs.declared.slot.Between.TheVariants.{Lines}
 use Rattle.event_grammar.specs.declared.slot.Form.TheVariants.{Plain}
 use Rattle.event_grammar.specs.Grammar.{row, text_row}
-use Rattle.parse_slots.specs.Left.{Fill}
+use Rattle.parse_slots.specs.Left.{Fill, IsFilled, MayEndLines}
 use Rattle.parse_slots.proofs.Steps.{fill_both, fill_taken, filled_void, may_both, may_lines}
+use Rattle.parse_references.proofs.Sound.{sound_filled, sound_one}
 use Rattle.parse_lines.proofs.Quiet.{quiet_fill}
 use Rattle.parse_strings.proofs.Fills.{token_taken}
 use Rattle.parse_output.specs.Children.{may_hold}
@@ -192,6 +193,11 @@ module _ {A : Type 0} (names : Names) (text : List ℕ) (stop : Stop) where
       let inner = contents_both text stop c d e value (93 ∷ []) content ns (one u_node) v.writes u.writes in
       let kids_written = contents_both text stop b c e (91 ∷ []) (value ++ 93 ∷ []) content (one t_node) (append ns (one u_node)) t.writes inner in
       let node = Around (enter_at text n.GfmTaskListItemCheck (end_in a.out)) kids (exit_at text n.GfmTaskListItemCheck (end_in e.out)) in
+      let filled : (around : Between) → MayEndLines around value → IsFilled around Plain node =
+      λ around inside.
+      filled_around around Plain n.GfmTaskListItemCheck (row n.GfmTaskListItemCheck Plain) [] value node refl refl refl refl inside
+      (fill_both (token_taken around (row n.GfmTaskListItemCheck Plain) n.GfmTaskListItemMarker value_slots text (end_in b.out).index 1 refl refl)
+      (fill_both (v.fill around inside) (token_taken around bracket_slots n.GfmTaskListItemMarker [] text (end_in d.out).index 1 refl refl))) refl in
       record {
         nodes = one node;
         writes = contents_around text stop a b e f n.GfmTaskListItemCheck front content kids entered kids_written exited refl;
@@ -202,11 +208,9 @@ module _ {A : Type 0} (names : Names) (text : List ℕ) (stop : Stop) where
             (plain_both ns (one u_node) (plain_both (one v.node) v.quiet v.plain (plain_quiet v.quiet v.are_quiet)) (plain_one u_node refl plain_none)));
         spells = λ linked may. ap (λ t. leaves (TaskCheck t ∷ [])) (checked_is done v.node u_node v.quiet v.named v.are_quiet refl);
         fill = λ around may.
-            let inside = (may_both around value (93 ∷ []) (may_both around (91 ∷ []) (value ++ 93 ∷ []) may).1).0 in
             fill_taken around text_row n.GfmTaskListItemCheck Plain text_row node refl refl
-            (filled_around around Plain n.GfmTaskListItemCheck (row n.GfmTaskListItemCheck Plain) [] value node refl refl refl refl inside
-            (fill_both (token_taken around (row n.GfmTaskListItemCheck Plain) n.GfmTaskListItemMarker value_slots text (end_in b.out).index 1 refl refl)
-            (fill_both (v.fill around inside) (token_taken around bracket_slots n.GfmTaskListItemMarker [] text (end_in d.out).index 1 refl refl))) refl);
+            (filled around (may_both around value (93 ∷ []) (may_both around (91 ∷ []) (value ++ 93 ∷ []) may).1).0);
+        sound = sound_one names text node (sound_filled names text 2 Lines Plain n.GfmTaskListItemCheck node refl refl (filled Lines tt));
       }
 
 -- ---- where a check is
@@ -351,6 +355,7 @@ module _ {A : Type 0} (names : Names) (text : List ℕ) (stop : Stop) where
               (leaf_alike m m' (TaskCheck done) (leaves (TaskCheck done ∷ [])) refl);
           plain = here.plain;
           fill = here.fill;
+          sound = here.sound;
         },
         here.whole,
       )

@@ -9,6 +9,7 @@ use Rattle.parse_inline.proofs.Prelude.{text_of, text_part, text_within, unwrap_
 use Rattle.std.proofs.Common.{true}
 use Rattle.std.specs.Char.{is_ascii_alphanumeric, is_ascii_punctuation}
 use Rattle.std.specs.List.{list_all}
+use Rattle.std.specs.Prelude.{is_some}
 use Rattle.std.proofs.lemmas.Bool.{and_parts}
 use Rattle.std.proofs.lemmas.List.Folds.{list_all-append}
 use Rattle.std.proofs.Math.Seq.{take-suc}
@@ -20,7 +21,7 @@ use Rattle.definition_inline.specs.Inline as inline
 use Rattle.definition_inline.specs.Inline.{Character}
 use Rattle.event_meaning.specs.Strings.{string_part}
 use Rattle.event_meaning.specs.Texts as texts
-use Rattle.parse_strings.specs.References.{AreMarks, is_semicolon, marked_text}
+use Rattle.parse_strings.specs.References.{AreMarks, is_semicolon, marked_decodes, marked_text}
 use Rattle.parse_strings.specs.Strings.{WritesNodeIn}
 use Rattle.parse_strings.proofs.Texts.{marked}
 use Rattle.inline_references.proofs.Written.{read_is_written}
@@ -29,6 +30,7 @@ use Rattle.parse_written.specs.Leaves.{IsReference}
 use Rattle.event_grammar.specs.declared.slot.Form.TheVariants.{Plain}
 use Rattle.event_grammar.specs.Grammar.{text_row}
 use Rattle.parse_slots.proofs.Steps.{fill_none, fill_taken}
+use Rattle.parse_references.proofs.Sound.{sound_one}
 use Rattle.parse_inline.proofs.Fronts.{fronts_both, leaves_of_front}
 use Rattle.parse_inline.proofs.LeavesAlike.{leaf_alike}
 
@@ -62,6 +64,7 @@ module _ (names : Names) (text : List ℕ) where
           node_spells linked n.CharacterEscape w.node w.named
           ∙ ap (λ (xs : List ℕ). texts.append (leaves (map Escape xs)) inline.Nil) (string_spells n.CharacterEscape w.node (byte ∷ []) w.named w.spells);
       fill = λ around may. fill_taken around text_row n.CharacterEscape Plain text_row w.node w.named refl (w.filled around);
+      sound = sound_one names text w.node w.sound;
     }
 
     pub reference_front : (a b : Walk A) (front string content : List ℕ) → WritesNodeIn names text n.CharacterReference front string content stop a b
@@ -75,6 +78,7 @@ module _ (names : Names) (text : List ℕ) where
           node_spells linked n.CharacterReference w.node w.named
           ∙ ap (λ t. leaves (Character t ∷ [])) (string_spells n.CharacterReference w.node string w.named w.spells);
       fill = λ around may. fill_taken around text_row n.CharacterReference Plain text_row w.node w.named refl (w.filled around);
+      sound = sound_one names text w.node w.sound;
     }
 
     pub no_escapes : (a : Walk A) (front content : List ℕ) → StandsInContent text (escaped front ++ content) stop a → IsWhole a
@@ -86,6 +90,7 @@ module _ (names : Names) (text : List ℕ) where
       plain = plain_none;
       spells = λ linked may. refl;
       fill = λ around may. fill_none around text_row;
+      sound = tt;
     }
 
     pub escapes_more : (a b c : Walk A) (front content : List ℕ) (done next : ℕ) → done < length front → next ≡ done + 1 → list_all is_ascii_punctuation front ≡ true
@@ -125,7 +130,8 @@ module _ (names : Names) (text : List ℕ) where
         → (position_or_len is_semicolon bytes < length bytes → size ≡ position_or_len is_semicolon bytes + 1)
         → StandsInContent text bytes stop a → IsWhole a
         → ((marks value after content : List ℕ) (first : ℕ) → bytes ≡ 38 ∷ (marks ++ first ∷ after) → AreMarks marks first → 0 < length value
-        → length value ≤ 31 → list_all is_ascii_alphanumeric value ≡ true → size ≡ length marks + length value + 2 → list_any ends_line (38 ∷ (marks ++ (value ++ 59 ∷ []))) ≡ false
+        → length value ≤ 31 → list_all is_ascii_alphanumeric value ≡ true → marked_decodes names marks value ≡ true
+        → size ≡ length marks + length value + 2 → list_any ends_line (38 ∷ (marks ++ (value ++ 59 ∷ []))) ≡ false
         → StandsInContent text ((38 ∷ (marks ++ (value ++ 59 ∷ []))) ++ content) stop a → IsWhole a
         → WritesNodeIn names text n.CharacterReference (38 ∷ (marks ++ (value ++ 59 ∷ []))) (marked_text names marks value) content stop a b)
         → WritesLeaves names text bytes Anywhere (Character printed ∷ []) to stop a b
@@ -158,8 +164,10 @@ module _ (names : Names) (text : List ℕ) where
         parts_here
         ∙ ap (λ xs. 38 ∷ xs) (append_assoc marks (value ++ 59 ∷ []) after ∙ ap (λ xs. marks ++ m.first ∷ xs) (append_assoc m.more (59 ∷ []) after)) in
         let dark : list_any ends_line whole_front ≡ false = ap (list_any ends_line) (sym m.whole) ∙ no_ends front m.dark in
+        let known : is_some (reference_text names form.name) ≡ true =
+        ap (λ (others : Names). is_some (reference_text others form.name)) (sym by) ∙ ap is_some form.known in
         let w =
-        written marks value (m.more ++ 59 ∷ after) after m.first tail m.are (omega arith) m.most m.all size_is dark
+        written marks value (m.more ++ 59 ∷ after) after m.first tail m.are (omega arith) m.most m.all (m.decodes known) size_is dark
         (subst (λ xs. StandsInContent text xs stop a) parts_here st) whole in
         let printed_is : marked_text names marks value ≡ printed =
         sym m.text ∙ ap (λ (others : Names). unwrap_or (reference_text others form.name) []) (sym by) ∙ ap (λ o. unwrap_or o []) form.known in

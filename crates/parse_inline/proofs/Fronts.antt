@@ -15,6 +15,7 @@ use Rattle.definition_inline.specs.Inline as inline
 use Rattle.event_meaning.specs.Texts as texts
 use Rattle.event_grammar.specs.Grammar.{text_row}
 use Rattle.parse_slots.proofs.Steps.{fill_both, may_both}
+use Rattle.parse_references.proofs.Sound.{sound_around, sound_both, sound_one}
 use Rattle.parse_strings.proofs.Fills.{token_taken}
 use Rattle.parse_inline.proofs.Fills.{IsTextToken}
 use Rattle.parse_inline.proofs.LeavesAlike.{inlines_append}
@@ -76,6 +77,7 @@ module _ {A : Type 0} (names : Names) (text : List ℕ) (stop : Stop) where
         ∙ ap₂ texts.append (first.spells linked may) (second.spells linked may)
         ∙ sym (leaves_append ls ks);
     fill = λ around may. let both = may_both around front after may in fill_both (first.fill around both.0) (second.fill around both.1);
+    sound = sound_both names text first.nodes second.nodes first.sound second.sound;
   }
 
   -- so they are the first of the bytes that are ahead
@@ -94,6 +96,7 @@ module _ {A : Type 0} (names : Names) (text : List ℕ) (stop : Stop) where
     plain = writes.plain;
     spells = λ linked may m m'. subst (ArePartsAlike m m' (leaves parts)) (sym (writes.spells linked may)) (alike m m');
     fill = writes.fill;
+    sound = writes.sound;
   }
 
   -- a token of some bytes
@@ -134,4 +137,5 @@ module _ {A : Type 0} (names : Names) (text : List ℕ) (stop : Stop) where
         plain = plain_one node unsought plain_none;
         spells = λ linked may. void_spells names text linked name front node refl refl t.read ∙ spells linked may;
         fill = λ around may. token_taken around text_row name text_row text (end_in a.out).index (length front) known.taken known.void;
+        sound = sound_one names text node (sound_around names text node known.unasked tt);
       }

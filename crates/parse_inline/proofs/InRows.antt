@@ -32,6 +32,8 @@ use Rattle.parse_inline.specs.Leaves.{MayBeIn}
 use Rattle.parse_inline.specs.Leaving.{sequence_name}
 use Rattle.event_grammar.specs.declared.slot.Child.TheVariants.{TextPart}
 use Rattle.parse_slots.proofs.Voids.{data_fill}
+use Rattle.parse_references.specs.Sound.{AreSound}
+use Rattle.parse_references.proofs.Sound.{data_sound}
 use Rattle.parse_inline.specs.Texts.{FillsText}
 use Rattle.parse_inline.proofs.Sequences.{sequence_may, sequence_some}
 use Rattle.parse_inline.proofs.Calls.{DoesData, writing_data}
@@ -71,15 +73,17 @@ module _ {A : Type 0} (s : Setting) (first : Walk A) where
     pub more_row : (js : Inlines) (ns : Nodes) (front after : List ℕ) → found.after ≡ laid_levels st.levels
         → filled (map hole_of st.levels) (append st.kids js) found.left ≡ s.is → AreLinkable (links st.levels) found.left → st.left ≡ front ++ after
         → WritesInContent s.text front ns after s.stop old new → IsWhole new → AreBytesAt after found.next
-        → AreAlike s.context s.text (in_link (links st.levels)) js ns → ArePlain ns → FillsText front ns → IsInRows s first others held new
-    more_row js ns front after open_same tree linkable both writes whole codes alike plain fill = record {
+        → AreAlike s.context s.text (in_link (links st.levels)) js ns → ArePlain ns → FillsText front ns → AreSound s.context.names s.text ns
+        → IsInRows s first others held new
+    more_row js ns front after open_same tree linkable both writes whole codes alike plain fill sound = record {
       levels = st.levels;
       kids = append st.kids js;
       left = after;
       place = found.next;
       steps = found.left;
       held = st.held;
-      written = more_written s.context s.text s.stop s.bytes first st.levels st.kids js st.left front after old new ns st.written both writes alike plain fill;
+      written = more_written s.context s.text s.stop s.bytes first st.levels st.kids js st.left front after old new ns st.written both writes alike plain fill
+          sound;
       stands = onward old new st.left front after st.place found.next st.stands both writes.stands whole writes.place codes;
       tree = tree;
       linkable = linkable;
@@ -90,11 +94,13 @@ module _ {A : Type 0} (s : Setting) (first : Walk A) where
     -- leaves
     pub leaves_row : (ls : List InlineLeaf) (ns : Nodes) (front after : List ℕ) → found.after ≡ laid_levels st.levels → AreHeld ls st.steps found.left
         → st.left ≡ front ++ after → WritesInContent s.text front ns after s.stop old new → IsWhole new → AreBytesAt after found.next
-        → AreAlike s.context s.text (in_link (links st.levels)) (leaves ls) ns → ArePlain ns → FillsText front ns → IsInRows s first others held new
-    leaves_row ls ns front after open_same own both writes whole codes alike plain fill =
+        → AreAlike s.context s.text (in_link (links st.levels)) (leaves ls) ns → ArePlain ns → FillsText front ns → AreSound s.context.names s.text ns
+        → IsInRows s first others held new
+    leaves_row ls ns front after open_same own both writes whole codes alike plain fill sound =
         more_row (leaves ls) ns front after open_same
         (sym (filled_held ls (map hole_of st.levels) st.kids found.left) ∙ ap (filled (map hole_of st.levels) st.kids) (sym own) ∙ st.tree)
         (linkable_held ls (links st.levels) found.left (subst (AreLinkable (links st.levels)) own st.linkable)) both writes whole codes alike plain fill
+        sound
 
     -- bytes of text
     pub data_row : (text : List ℕ) → found.after ≡ laid_levels st.levels → IsData text st.place found.next → AreHeld (map inline.Data text) st.steps found.left
@@ -115,13 +121,14 @@ module _ {A : Type 0} (s : Setting) (first : Walk A) where
         (data_alike m m' text))
         (data_plain s.text (end_in old.out) (end_after (end_in old.out) (length text)))
         (λ around may. data_fill around TextPart [] s.text (end_in old.out) (end_after (end_in old.out) (length text)) refl)
+        (data_sound s.context.names s.text (end_in old.out) (end_after (end_in old.out) (length text)))
 
     -- what a construct writes
     pub written_row : (ls : List InlineLeaf) (MayBe : Bool → Type 0) → found.after ≡ laid_levels st.levels → AreHeld ls st.steps found.left
         → WritesLeaves s.context.names s.text st.left MayBe ls found.next s.stop old new → MayBe (in_link (links st.levels)) → IsInRows s first others held new
     written_row ls MayBe open_same own w may =
         leaves_row ls w.nodes w.front w.after open_same own w.parts w.writes w.whole w.left (λ m m' meant. w.spells (in_link (links st.levels)) may m m')
-        w.plain w.fill
+        w.plain w.fill w.sound
 
   -- ---- rows of text
 
@@ -171,7 +178,7 @@ module _ {A : Type 0} (s : Setting) (first : Walk A) where
       more_row (rows.Call label) others held old new st (part (inline.Call (content_codes label.now))) w.nodes w.front w.after f.here.0
       (ap (filled (map hole_of st.levels) st.kids) (sym f.own) ∙ st.tree) (subst (AreLinkable (links st.levels)) f.own st.linkable) w.both w.writes w.whole
       w.left
-      (λ m m' meant. w.spells (in_link (links st.levels)) m m') w.plain w.fill
+      (λ m m' meant. w.spells (in_link (links st.levels)) m m') w.plain w.fill w.sound
 
   -- ---- starts
 

@@ -7,6 +7,7 @@ use Rattle.parse_inline.proofs.Prelude.{label_text, Link, linked_name, LinkedKin
 use Rattle.parse_inline.proofs.Prelude.{option_or, own, own_in, part, Reference, Resource, same_name, same_words_are_alike, SpellsTarget, string_of, Target}
 use Rattle.parse_inline.proofs.Prelude.{target_of, text_names, text_within}
 use Rattle.std.specs.Prelude.{is_some}
+use Rattle.std.proofs.lemmas.Bool.{true≢false}
 use Rattle.std.specs.Option.{option_map}
 use Rattle.engine_events.specs.declared.event.Name.TheVariants as n
 use Rattle.definition_inline.specs.Inline as inline
@@ -24,6 +25,9 @@ use Rattle.event_grammar.specs.Grammar.{one as one_slot, row, text_row}
 use Rattle.event_grammar.specs.Slots.{take_child}
 use Rattle.parse_slots.specs.Left.{Fill, IsFilled, MayEndLines, took}
 use Rattle.parse_slots.proofs.Steps.{fill_both, fill_taken}
+use Rattle.parse_references.specs.Leads.{AreBare, IsBare, IsWithout}
+use Rattle.parse_references.specs.Sound.{AreSound, IsSound, asked_names}
+use Rattle.parse_references.proofs.Sound.{sound_around, sound_one, without_is_sound}
 use Rattle.parse_links.specs.Tails.{FillsTail, tail_slots, title_string}
 use Rattle.parse_strings.specs.Plain.{tail_names}
 use Rattle.parse_alike.specs.Strings.{IsOfBytes, rewritten, rewritten_title}
@@ -49,6 +53,10 @@ pub record IsLabel (l : Label) : Type 0 where
   pub first : ArePlain (one l.first)
   pub last : ArePlain (one l.last)
   pub kids : ArePlain l.kids
+  pub first_bare : IsBare l.first
+  pub last_bare : IsBare l.last
+  pub first_unasked : IsWithout asked_names l.first
+  pub last_unasked : IsWithout asked_names l.last
 
 module _ (text : List ℕ) where
   abbrev pub own_node : Label → Node
@@ -98,6 +106,14 @@ module _ (text : List ℕ) where
       definitions = none_named n.Definition refl refl is.first.definitions is.kids.definitions is.last.definitions none.definitions;
       columns = none_named n.GfmTableDelimiterCellValue refl refl is.first.columns is.kids.columns is.last.columns none.columns;
     }
+
+    -- a label with a sound text is sound
+    pub label_sound : (names : Names) → AreSound names text l.kids → IsSound names text (label_node l)
+    label_sound names sound =
+        sound_around names text (label_node l) refl (
+          without_is_sound names text l.first is.first_unasked,
+          (sound_around names text (own_node l) refl sound, (without_is_sound names text l.last is.last_unasked, tt)),
+        )
 
     -- ---- what it spells
 
@@ -202,6 +218,15 @@ module _ (text : List ℕ) where
     linked_plain Image from to none =
         plain_media (enter_at text n.Image from) (exit_at text n.Image to) (Cons (label_node l) ns) refl refl refl (no_other none)
 
+    pub linked_sound : (names : Names) (kind : LinkedKind) (from to : End) → AreSound names text l.kids → AreSound names text ns
+        → AreSound names text (linked_nodes kind from to)
+    linked_sound names Link from to sound tail =
+        let node = Around (enter_at text n.Link from) (Cons (label_node l) ns) (exit_at text n.Link to) in
+        sound_one names text node (sound_around names text node refl (label_sound names sound, tail))
+    linked_sound names Image from to sound tail =
+        let node = Around (enter_at text n.Image from) (Cons (label_node l) ns) (exit_at text n.Image to) in
+        sound_one names text node (sound_around names text node refl (label_sound names sound, tail))
+
 -- a call, behind whose label nothing is
 module _ (text : List ℕ) (l : Label) (is : IsLabel l) where
   abbrev pub call_nodes : End → End → Nodes
@@ -215,6 +240,20 @@ module _ (text : List ℕ) (l : Label) (is : IsLabel l) where
   call_plain from to =
       plain_media (enter_at text n.GfmFootnoteCall from) (exit_at text n.GfmFootnoteCall to) (one (label_node text l)) refl refl refl
       (no_other text l is Nil (record { definitions = refl; columns = refl }))
+
+  -- its label is a string
+  pub call_sound : (names : Names) (from to : End) → AreBare l.kids → AreSound names text l.kids → AreSound names text (call_nodes from to)
+  call_sound names from to bare sound = (
+    (
+      record {
+        call = λ same. ((refl, (is.first_bare, ((refl, bare), (is.last_bare, tt)))), tt);
+        reference = λ same. absurd (true≢false (ap (same_name n.GfmFootnoteCall) same));
+        heading = λ same. absurd (true≢false (ap (same_name n.GfmFootnoteCall) same));
+      },
+      (label_sound text l is Nil names sound, tt),
+    ),
+    tt,
+  )
 
 -- ---- the rows of the grammar
 

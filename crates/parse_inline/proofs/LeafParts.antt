@@ -12,6 +12,7 @@ use Rattle.event_grammar.specs.declared.slot.Child.TheVariants.{TextPart}
 use Rattle.event_grammar.specs.Grammar.{text_row}
 use Rattle.parse_slots.proofs.Steps.{fill_none}
 use Rattle.parse_slots.proofs.Voids.{data_fill}
+use Rattle.parse_references.proofs.Sound.{data_sound}
 use Rattle.parse_lines.specs.Content.{HasBytes}
 use Rattle.parse_lines.proofs.Bytes.{has_kind}
 use Rattle.parse_lines.proofs.Bytes.{dark_line as none_ends}
@@ -127,7 +128,7 @@ literal_of_kind Www name listed =
       no_data = refl;
       no_prefix = refl;
       unsought = refl;
-      token = record { taken = refl; void = refl };
+      token = record { taken = refl; void = refl; unasked = refl };
       spells = λ names text front linked is. outside inline.Www front linked is;
     })
     (λ none. absurd (true≢false (sym none))) listed
@@ -137,7 +138,7 @@ literal_of_kind Email name listed =
       no_data = refl;
       no_prefix = refl;
       unsought = refl;
-      token = record { taken = refl; void = refl };
+      token = record { taken = refl; void = refl; unasked = refl };
       spells = λ names text front linked is. outside inline.Email front linked is;
     })
     (λ none. absurd (true≢false (sym none))) listed
@@ -147,7 +148,7 @@ literal_of_kind Protocol name listed =
       no_data = refl;
       no_prefix = refl;
       unsought = refl;
-      token = record { taken = refl; void = refl };
+      token = record { taken = refl; void = refl; unasked = refl };
       spells = λ names text front linked is. outside inline.Protocol front linked is;
     })
     (one_of (LiteralName Protocol) n.GfmAutolinkLiteralXmpp (n.GfmAutolinkLiteralProtocol ∷ []) name
@@ -155,7 +156,7 @@ literal_of_kind Protocol name listed =
       no_data = refl;
       no_prefix = refl;
       unsought = refl;
-      token = record { taken = refl; void = refl };
+      token = record { taken = refl; void = refl; unasked = refl };
       spells = λ names text front linked is. outside inline.Protocol front linked is;
     })
     (one_of (LiteralName Protocol) n.GfmAutolinkLiteralProtocol [] name
@@ -163,7 +164,7 @@ literal_of_kind Protocol name listed =
       no_data = refl;
       no_prefix = refl;
       unsought = refl;
-      token = record { taken = refl; void = refl };
+      token = record { taken = refl; void = refl; unasked = refl };
       spells = λ names text front linked is. outside inline.Protocol front linked is;
     })
     (λ none. absurd (true≢false (sym none))))) listed
@@ -239,6 +240,7 @@ module _ {A : Type 0} (names : Names) (text bytes : List ℕ) (from to : List In
         whole = ap (λ (e : End). e.owed) w.end ∙ still_whole (end_in a.out) (length front) whole;
         plain = data_plain text (end_in a.out) (end_after (end_in a.out) (length front));
         fill = λ around may. data_fill around TextPart [] text (end_in a.out) (end_after (end_in a.out) (length front)) refl;
+        sound = data_sound names text (end_in a.out) (end_after (end_in a.out) (length front));
         spells = λ linked may. data_spells names text linked stop a front content here dark whole;
       })
       (map Data front) (λ m m'. data_alike m m' front)
@@ -283,7 +285,7 @@ module _ {A : Type 0} (names : Names) (text bytes : List ℕ) (from to : List In
   escaped_break_part is same written =
       token_part n.HardBreakEscape (92 ∷ []) Anywhere inline.EscapedBreak is
       (λ m m'. leaf_alike m m' inline.EscapedBreak (leaves (inline.EscapedBreak ∷ [])) refl) refl refl
-      refl (record { taken = refl; void = refl }) refl (λ linked may. refl) same written
+      refl (record { taken = refl; void = refl; unasked = refl }) refl (λ linked may. refl) same written
 
   pub break_part : (size : ℕ) → size ≡ indent bytes → AreAllSpaces from to → standing b ≡ standing a → WritesNext text n.HardBreakTrailing size a b
       → WritesLeaves names text bytes Anywhere (inline.TrailingBreak ∷ []) to stop a b
@@ -299,7 +301,7 @@ module _ {A : Type 0} (names : Names) (text bytes : List ℕ) (from to : List In
       (sym (indent_parts bytes))
       (break_bytes_law bytes from to at all)
       (token_front names text stop a b n.HardBreakTrailing front (bare bytes) size Anywhere (inline.TrailingBreak ∷ []) (is ∙ indent_size bytes) some
-      (indent_dark bytes) refl refl refl (record { taken = refl; void = refl }) may
+      (indent_dark bytes) refl refl refl (record { taken = refl; void = refl; unasked = refl }) may
       (λ linked may. refl) (subst (λ xs. StandsInContent text xs stop a) (sym (indent_parts bytes)) st) whole same written)
       (λ m m'. leaf_alike m m' inline.TrailingBreak (leaves (inline.TrailingBreak ∷ [])) refl)
 
@@ -357,4 +359,5 @@ module _ {A : Type 0} (names : Names) (text bytes : List ℕ) (from to : List In
     plain = plain_none;
     spells = λ linked may m m'. refl;
     fill = λ around may. fill_none around text_row;
+    sound = tt;
   }

@@ -19,15 +19,20 @@ use Rattle.parse_output.specs.Forest as forest
 use Rattle.parse_alike.specs.Inline.{IsPartAlike}
 use Rattle.parse_alike.proofs.Composed.{alike_parts_compose}
 use Rattle.parse_inline.specs.Rows.{Inside, EntersFrame}
+use Rattle.event_grammar.specs.declared.slot.Form.TheVariants.{Plain}
 use Rattle.event_grammar.specs.Grammar.{text_row}
 use Rattle.parse_slots.proofs.Steps.{fill_both, fill_none, may_both}
+use Rattle.parse_references.specs.Sound.{AreSound, asked_names}
+use Rattle.parse_references.proofs.Rows.{is_bare, is_without}
+use Rattle.parse_references.proofs.Sound.{sound_both}
 use Rattle.parse_inline.specs.Texts.{FillsText}
 use Rattle.parse_inline.proofs.Kids.{moved}
-use Rattle.parse_inline.proofs.Labels.{label_form, label_node, linked_fill, linked_label, linked_nodes, linked_plain, linked_spelled, own_node, target_alike}
+use Rattle.parse_inline.proofs.Labels.{label_form, label_node, linked_fill, linked_label, linked_nodes, linked_plain, linked_sound, linked_spelled, own_node}
+use Rattle.parse_inline.proofs.Labels.{target_alike}
 use Rattle.parse_inline.proofs.Plain.{HaveNoOther}
 use Rattle.parse_inline.proofs.LabelWritten.{labelled}
 use Rattle.parse_inline.proofs.LeavesAlike.{append_none, inlines_append}
-use Rattle.parse_inline.proofs.Spans.{span_fill, span_nodes, span_plain, span_spelled, text_nodes}
+use Rattle.parse_inline.proofs.Spans.{span_fill, span_nodes, span_plain, span_sound, span_spelled, text_nodes}
 
 -- ---- names
 
@@ -50,6 +55,14 @@ mark_no_text Image = refl
 mark_no_label : (kind : LinkedKind) → same_name (mark_name kind) n.Label ≡ false
 mark_no_label Link = refl
 mark_no_label Image = refl
+
+mark_bare : (kind : LinkedKind) → is_bare 2 Plain (mark_name kind) ≡ true
+mark_bare Link = refl
+mark_bare Image = refl
+
+mark_unasked : (kind : LinkedKind) → is_without asked_names 2 Plain (mark_name kind) ≡ true
+mark_unasked Link = refl
+mark_unasked Image = refl
 
 -- no definition is where a link leads
 no_definition : (context : InlineContext) (text : List ℕ) (target : Target) (own_codes : List Code) (ns : Nodes) → SpellsTarget context text target own_codes ns
@@ -88,12 +101,14 @@ module _ {A : Type 0} (context : InlineContext) (text : List ℕ) (stop : Stop) 
     spells = λ m m' meant. refl;
     plain = plain_none;
     fill = λ around may. fill_none around text_row;
+    sound = tt;
   }
 
   pub more_parts : (linked : Bool) (is js : Inlines) (bytes content front after : List ℕ) (old mid new : Walk A) (ns : Nodes)
       → WritesParts context text linked is bytes content stop old mid → content ≡ front ++ after → WritesInContent text front ns after stop mid new
-      → AreAlike context text linked js ns → ArePlain ns → FillsText front ns → WritesParts context text linked (append is js) bytes after stop old new
-  more_parts linked is js bytes content front after old mid new ns p both writes alike plain fill = record {
+      → AreAlike context text linked js ns → ArePlain ns → FillsText front ns → AreSound context.names text ns
+      → WritesParts context text linked (append is js) bytes after stop old new
+  more_parts linked is js bytes content front after old mid new ns p both writes alike plain fill sound = record {
     front = p.front ++ front;
     both = p.both ∙ ap (λ c. p.front ++ c) both ∙ sym (append_assoc p.front front after);
     nodes = forest.append p.nodes ns;
@@ -106,6 +121,7 @@ module _ {A : Type 0} (context : InlineContext) (text : List ℕ) (stop : Stop) 
         (p.spells m m' meant) (alike m m' meant));
     plain = plain_both p.nodes ns p.plain plain;
     fill = λ around may. let each = may_both around p.front front may in fill_both (p.fill around each.0) (fill around each.1);
+    sound = sound_both context.names text p.nodes ns p.sound sound;
   }
 
   module _ (bytes : List ℕ) (first : Walk A) where
@@ -115,12 +131,13 @@ module _ {A : Type 0} (context : InlineContext) (text : List ℕ) (stop : Stop) 
     -- more in the innermost that is open
     pub more_written : (levels : List Level) (kids js : Inlines) (content front after : List ℕ) (w new : Walk A) (ns : Nodes) → Written levels kids content w
         → content ≡ front ++ after → WritesInContent text front ns after stop w new → AreAlike context text (in_link (links levels)) js ns → ArePlain ns
-        → FillsText front ns → Written levels (append kids js) after new
-    more_written _ _ js _ front after _ new ns (Outside kids content w p) both writes alike plain fill =
-        Outside (append kids js) after new (more_parts false kids js bytes content front after first w new ns p both writes alike plain fill)
-    more_written _ _ js _ front after _ new ns (Inside l ls kids enter here content outside inside w outer enters p) both writes alike plain fill =
+        → FillsText front ns → AreSound context.names text ns → Written levels (append kids js) after new
+    more_written _ _ js _ front after _ new ns (Outside kids content w p) both writes alike plain fill sound =
+        Outside (append kids js) after new (more_parts false kids js bytes content front after first w new ns p both writes alike plain fill sound)
+    more_written _ _ js _ front after _ new ns (Inside l ls kids enter here content outside inside w outer enters p) both writes alike plain fill
+        sound =
         Inside l ls (append kids js) enter here after outside inside new outer enters
-        (more_parts (in_link (links (l ∷ ls))) kids js here content front after inside w new ns p both writes alike plain fill)
+        (more_parts (in_link (links (l ∷ ls))) kids js here content front after inside w new ns p both writes alike plain fill sound)
 
     -- one more is open
     pub enter_written : (frame : Frame) (levels : List Level) (kids : Inlines) (content front after : List ℕ) (w new : Walk A) → Written levels kids content w
@@ -213,6 +230,9 @@ module _ {A : Type 0} (context : InlineContext) (text : List ℕ) (stop : Stop) 
         (end_after (end_in leaves.inner.out) (length front)) p.nodes
         (moved (end_in enters.outer.out).index (end_in enters.outer.out).owed (length it.front) begins)
         (moved (end_in leaves.inner.out).index (end_in leaves.inner.out).owed (length front) some) own_may (p.fill around own_may))
+        (span_sound context.names text s (end_in it.outside.out) (end_in leaves.outer.out) (end_in enters.outer.out)
+        (end_after (end_in enters.outer.out) (length it.front)) (end_in enters.inner.out) (end_in w.out) (end_in leaves.inner.out)
+        (end_after (end_in leaves.inner.out) (length front)) p.nodes p.sound)
 
     -- a link or an image is over
     pub leave_linked_written : HaveTextsOfBytes context.names → (kind : LinkedKind) (target : Target) (within at to : List InlineCode) (before : Inlines)
@@ -230,7 +250,8 @@ module _ {A : Type 0} (context : InlineContext) (text : List ℕ) (stop : Stop) 
         let rest : it.here ≡ p.front ++ 93 ∷ behind = p.both ∙ ap (λ c. p.front ++ c) leaves.bracket in
         let (l, is, label, own_words, same, label_fills) =
         labelled text stop (linked_name kind) (mark_name kind) it.front it.here p.front behind p.nodes it.outside it.inside w leaves.ended (mark_no_text kind)
-        (mark_no_label kind) rest enters (subst (λ c. WritesInContent text p.front p.nodes c stop it.inside w) leaves.bracket p.writes) p.plain leaves.label in
+        (mark_no_label kind) (mark_bare kind) (mark_unasked kind) rest enters
+        (subst (λ c. WritesInContent text p.front p.nodes c stop it.inside w) leaves.bracket p.writes) p.plain leaves.label in
         let all : it.front ++ it.here ≡ (((it.front ++ p.front) ++ 93 ∷ []) ++ front) ++ after =
         ap (λ c. it.front ++ c) rest ∙ sym (append_assoc it.front p.front (93 ∷ behind)) ∙ sym (append_assoc (it.front ++ p.front) (93 ∷ []) behind)
         ∙ ap (λ c. ((it.front ++ p.front) ++ 93 ∷ []) ++ c) leaves.tail.both ∙ sym (append_assoc ((it.front ++ p.front) ++ 93 ∷ []) front after) in
@@ -272,3 +293,5 @@ module _ {A : Type 0} (context : InlineContext) (text : List ℕ) (stop : Stop) 
         let own_may = (may_both around it.front p.front (may_both around (it.front ++ p.front) (93 ∷ []) parts.0).0).1 in
         linked_fill around p.front text l is (end_in it.outside.out) (end_in leaves.last.out) own_may leaves.tail.nodes kind
         (label_fills around (label_form kind) (linked_label kind) own_may (p.fill around own_may)) (leaves.tail.fill around parts.1))
+        (linked_sound text l is leaves.tail.nodes context.names kind (end_in it.outside.out) (end_in leaves.last.out)
+        (subst (AreSound context.names text) (sym same) p.sound) leaves.tail.sound)

@@ -20,7 +20,9 @@ use Rattle.event_grammar.specs.Grammar.{text_row}
 use Rattle.parse_slots.specs.Left.{Fill, TakesNoBetween}
 use Rattle.parse_slots.proofs.Steps.{fill_both, may_both, may_lines}
 use Rattle.parse_slots.proofs.Voids.{void_between}
+use Rattle.parse_references.proofs.Sound.{sound_both, void_sound}
 use Rattle.parse_lines.proofs.Quiet.{ending_fill}
+use Rattle.parse_strings.proofs.SoundNodes.{ending_sound}
 use Rattle.parse_strings.proofs.Texts.{white_dark}
 use Rattle.parse_inline.proofs.Fills.{text_between}
 use Rattle.parse_inline.proofs.Fronts.{WritesNext, quiet_spells, void_spells, white_spells}
@@ -151,4 +153,8 @@ module _ {A : Type 0} (text : List ℕ) (stop : Stop) where
             (fill_both (void_between Lines text_row n.SpaceOrTab text a_end b_end refl refl refl refl)
             (fill_both (ending_between b c ending rest ended text_row text_between)
             (void_between Lines text_row n.SpaceOrTab text c_end d_end refl refl refl refl)));
+        sound =
+            sound_both names text v (append ending_nodes u) (void_sound names text n.SpaceOrTab a_end b_end refl)
+            (sound_both names text ending_nodes u (ending_sound names text ended.node ended.quiet ended.named ended.empty ended.are_quiet)
+            (void_sound names text n.SpaceOrTab c_end d_end refl));
       }

@@ -1,11 +1,13 @@
 -- What is looked for in events that are written around nodes.
 use Rattle.std.proofs.Common.{◌≡◌, ◌&&◌, ℕ, true, false, List, [], ◌∷◌, Option, None, Some, cond, refl, sym, ap, subst, ◌∙◌}
 use Rattle.parse_inline.proofs.Prelude.{append-nil, ArePlain, Around, cond-false, cut, End, enter_at, exit_at, is_listed, Name, named, named_in, Node, Nodes}
-use Rattle.parse_inline.proofs.Prelude.{one, option_or, own, own_in, plain_one, same_name, sought_names}
+use Rattle.parse_inline.proofs.Prelude.{Names, one, option_or, own, own_in, plain_one, same_name, sought_names}
 use Rattle.engine_events.specs.declared.event.Event.{Event}
 use Rattle.engine_events.specs.declared.event.Name.TheVariants as n
 use Rattle.event_grammar.specs.References.{media_names}
 use Rattle.parse_output.specs.Forest.{is_nil}
+use Rattle.parse_references.specs.Sound.{AreSound, asked_names}
+use Rattle.parse_references.proofs.Sound.{sound_around, sound_one}
 
 or_none : {B : Type 0} (o : Option B) → option_or o None ≡ o
 or_none None = refl
@@ -51,3 +53,12 @@ pub plain_event : (text : List ℕ) (name : Name) (from to : End) (kids : Nodes)
 plain_event text name from to kids other no_data p =
     subst ArePlain (sym (cut_one (enter_at text name from) (exit_at text name to) kids no_data))
     (plain_one (Around (enter_at text name from) kids (exit_at text name to)) other p)
+
+-- and around sound ones
+pub sound_event : (names : Names) (text : List ℕ) (name : Name) (from to : End) (kids : Nodes) → is_listed asked_names name ≡ false
+    → same_name name n.Data ≡ false → AreSound names text kids
+    → AreSound names text (cut (Around (enter_at text name from) kids (exit_at text name to)))
+sound_event names text name from to kids unasked no_data sound =
+    let node = Around (enter_at text name from) kids (exit_at text name to) in
+    subst (AreSound names text) (sym (cut_one (enter_at text name from) (exit_at text name to) kids no_data))
+    (sound_one names text node (sound_around names text node unasked sound))

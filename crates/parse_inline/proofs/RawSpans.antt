@@ -18,12 +18,16 @@ use Rattle.definition_inline.specs.CodeText.{code_text}
 use Rattle.definition_inline.specs.Inline as inline
 use Rattle.parse_rows.specs.Bytes.{IsRawInBytes}
 use Rattle.event_grammar.specs.declared.slot.Between.{Between}
+use Rattle.event_grammar.specs.declared.slot.Between.TheVariants.{Lines}
 use Rattle.event_grammar.specs.declared.slot.Form.TheVariants.{Plain}
 use Rattle.event_grammar.specs.declared.slot.Slot.{Slot}
 use Rattle.event_grammar.specs.Grammar.{many, one as one_slot, one_line_names, row, text_row}
 use Rattle.event_grammar.specs.Slots.{may_end, take_child}
-use Rattle.parse_slots.specs.Left.{Fill, MayEndLines, TakesNoBetween, took}
+use Rattle.parse_slots.specs.Left.{IsFilled, MayEndLines, TakesNoBetween, took}
 use Rattle.parse_slots.proofs.Steps.{fill_both, fill_taken, may_both}
+use Rattle.parse_references.specs.Sound.{asked_names}
+use Rattle.parse_references.proofs.Rows.{is_without}
+use Rattle.parse_references.proofs.Sound.{sound_filled, sound_one}
 use Rattle.parse_strings.proofs.Fills.{token_taken}
 use Rattle.parse_inline.specs.Lines.{FillsLines, are_raw_names, is_raw_marker, raw_leaf}
 use Rattle.parse_inline.proofs.Fills.{filled_around}
@@ -76,20 +80,19 @@ record HasRawRow (text sequence chunk : Name) : Type 0 where
   takes_chunk : take_child (raw_slots sequence chunk) chunk ≡ Some (took Plain (raw_slots sequence chunk))
   takes_last : take_child (raw_slots sequence chunk) sequence ≡ Some (took Plain [])
   between : TakesNoBetween (raw_slots sequence chunk)
+  unasked : is_without asked_names 2 Plain text ≡ true
 
-raw_fill : (around : Between) (name sequence chunk : Name) (bytes text : List ℕ) (i j size last_size : ℕ) (ns : Nodes) (from to : End)
+raw_filled : (around : Between) (name sequence chunk : Name) (bytes text : List ℕ) (i j size last_size : ℕ) (ns : Nodes) (from to : End)
     → HasRawRow name sequence chunk → FillsLines chunk bytes ns → MayEndLines around bytes
-    → Fill around text_row
-    (one (Around (enter_at text name from) (append (one (token text sequence i size)) (append ns (one (token text sequence j last_size))))
-    (exit_at text name to))) text_row
-raw_fill around name sequence chunk bytes text i j size last_size ns from to has lines may =
+    → IsFilled around Plain
+    (Around (enter_at text name from) (append (one (token text sequence i size)) (append ns (one (token text sequence j last_size)))) (exit_at text name to))
+raw_filled around name sequence chunk bytes text i j size last_size ns from to has lines may =
     let slots = raw_slots sequence chunk in
     let kids = append (one (token text sequence i size)) (append ns (one (token text sequence j last_size))) in
     let node = Around (enter_at text name from) kids (exit_at text name to) in
-    fill_taken around text_row name Plain text_row node refl has.taken
-    (filled_around around Plain name (one_slot sequence ∷ slots) [] bytes node refl has.row_is refl has.lines may
+    filled_around around Plain name (one_slot sequence ∷ slots) [] bytes node refl has.row_is refl has.lines may
     (fill_both (token_taken around (one_slot sequence ∷ slots) sequence slots text i size has.takes_first has.void)
-    (fill_both (lines around slots has.takes_chunk has.between may) (token_taken around slots sequence [] text j last_size has.takes_last has.void))) refl)
+    (fill_both (lines around slots has.takes_chunk has.between may) (token_taken around slots sequence [] text j last_size has.takes_last has.void))) refl
 
 -- what is known of them
 record RawNames (marker : ℕ) (text sequence chunk : Name) : Type 0 where
@@ -121,6 +124,7 @@ raw_names marker text sequence chunk are =
         takes_chunk = refl;
         takes_last = refl;
         between = record { space = refl; ending = refl; blank = refl; quote = refl };
+        unasked = refl;
       };
       text_data = refl;
       text_prefix = refl;
@@ -144,6 +148,7 @@ raw_names marker text sequence chunk are =
         takes_chunk = refl;
         takes_last = refl;
         between = record { space = refl; ending = refl; blank = refl; quote = refl };
+        unasked = refl;
       };
       text_data = refl;
       text_prefix = refl;
@@ -314,6 +319,9 @@ module _ {A : Type 0} (names : Names) (text : List ℕ) (stop : Stop) where
       let all : bytes ≡ front ++ after = parts ∙ ap (λ xs. opening ++ xs) joined ∙ sym (append_assoc opening (inner ++ closing) after) in
       let entered_here = line_enters text stop a b name (front ++ after) (subst (λ xs. StandsInContent text xs stop a) all st) same_b enters in
       let node = Around (enter_at text name (end_in a.out)) kids (exit_at text name (end_in e.out)) in
+      let filled : (around : Between) → MayEndLines around inner → IsFilled around Plain node =
+      λ around. raw_filled around name sequence chunk inner text (end_in b.out).index (end_in d.out).index (length opening) (length closing) w.nodes
+      (end_in a.out) (end_in e.out) known.has_row w.fill in
       let read : code_of names text sequence kids ≡ printed =
       code_between names text (line_names chunk) sequence t_node u_node w.nodes w.named known.sequence_other refl refl
       ∙ ap without_padding (w.code refl known.chunks)
@@ -339,6 +347,7 @@ module _ {A : Type 0} (names : Names) (text : List ℕ) (stop : Stop) where
             (sym (known.spells names text linked (end_in a.out) (end_in e.out) kids ∙ ap (λ p. leaves (raw_leaf name p ∷ [])) read))
             (known.alike m m' printed);
         fill = λ around may.
-            raw_fill around name sequence chunk inner text (end_in b.out).index (end_in d.out).index (length opening) (length closing) w.nodes (end_in a.out)
-            (end_in e.out) known.has_row w.fill (may_both around inner closing (may_both around opening (inner ++ closing) may).1).0;
+            fill_taken around text_row name Plain text_row node refl known.has_row.taken
+            (filled around (may_both around inner closing (may_both around opening (inner ++ closing) may).1).0);
+        sound = sound_one names text node (sound_filled names text 2 Lines Plain name node refl known.has_row.unasked (filled Lines tt));
       }

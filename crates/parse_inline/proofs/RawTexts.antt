@@ -11,11 +11,14 @@ use Rattle.engine_events.specs.declared.event.Name.TheVariants as n
 use Rattle.definition_text.specs.Content.{at_line_start}
 use Rattle.event_meaning.specs.Texts as texts
 use Rattle.parse_lines.specs.InContent.{ends_at_start}
+use Rattle.event_grammar.specs.declared.slot.Between.{Between}
+use Rattle.event_grammar.specs.declared.slot.Between.TheVariants.{Lines}
 use Rattle.event_grammar.specs.declared.slot.Form.TheVariants.{Plain}
 use Rattle.event_grammar.specs.declared.slot.Slot.{Slot}
 use Rattle.event_grammar.specs.Grammar.{many, text_row}
-use Rattle.parse_slots.specs.Left.{MayEndLines, TakesNoBetween}
+use Rattle.parse_slots.specs.Left.{IsFilled, MayEndLines, TakesNoBetween}
 use Rattle.parse_slots.proofs.Steps.{fill_both, fill_none, fill_taken, may_both}
+use Rattle.parse_references.proofs.Sound.{sound_filled, sound_one}
 use Rattle.parse_inline.proofs.Fills.{filled_around}
 use Rattle.parse_inline.proofs.Kids.{code_append, html_append, named_both}
 use Rattle.parse_inline.proofs.LeavesAlike.{append_append, append_none}
@@ -135,13 +138,15 @@ module _ {A : Type 0} (names : Names) (text : List ℕ) where
       let node = Around (enter_at text n.HtmlText (end_in a.out)) w.nodes (exit_at text n.HtmlText (end_in c.out)) in
       let all = contents_around text stop a b c d n.HtmlText bytes content w.nodes entered w.writes exited refl in
       let whole_b : IsWhole b = ap (λ (e : End). e.owed) entered.end ∙ whole in
+      let filled : (around : Between) → MayEndLines around bytes → IsFilled around Plain node =
+      λ around may.
+      filled_around around Plain n.HtmlText html_row html_row bytes node refl refl refl refl may (w.fill around html_row refl html_between may) refl in
       record {
         nodes = one node;
         writes = all;
         whole = written_whole text bytes content (one node) stop a d all whole (ap (ends_at_start false) closed ∙ dark_end front 62 refl refl);
         plain = plain_one node refl w.plain;
         spells = λ linked may. append_none (html_parts names text w.nodes) ∙ w.html refl refl whole_b;
-        fill = λ around may.
-            fill_taken around text_row n.HtmlText Plain text_row node refl refl
-            (filled_around around Plain n.HtmlText html_row html_row bytes node refl refl refl refl may (w.fill around html_row refl html_between may) refl);
+        fill = λ around may. fill_taken around text_row n.HtmlText Plain text_row node refl refl (filled around may);
+        sound = sound_one names text node (sound_filled names text 2 Lines Plain n.HtmlText node refl refl (filled Lines tt));
       }

@@ -14,9 +14,11 @@ use Rattle.event_grammar.specs.Slots.{may_end, take_child}
 use Rattle.parse_slots.specs.Left.{Fill, MayEndLines, took}
 use Rattle.parse_slots.proofs.Steps.{fill_both, fill_taken}
 use Rattle.parse_slots.proofs.Voids.{void_taken}
+use Rattle.parse_references.specs.Sound.{AreSound, asked_names}
+use Rattle.parse_references.proofs.Sound.{sound_both, void_sound}
 use Rattle.parse_output.proofs.Forests.{append-assoc}
 use Rattle.parse_inline.proofs.Fills.{filled_around}
-use Rattle.parse_inline.proofs.Plain.{cut_one, plain_event}
+use Rattle.parse_inline.proofs.Plain.{cut_one, plain_event, sound_event}
 
 module _ (text : List ℕ) where
   -- the text of a span, as an event
@@ -83,18 +85,19 @@ module _ (names : Names) (text : List ℕ) where
 record IsUnsought (name : Name) : Type 0 where
   other : is_listed sought_names name ≡ false
   no_data : same_name name n.Data ≡ false
+  unasked : is_listed asked_names name ≡ false
 
 unsought_sequence : (s : Span) → IsUnsought (sequence_name s)
-unsought_sequence span.Emphasis = record { other = refl; no_data = refl }
-unsought_sequence other = record { other = refl; no_data = refl }
+unsought_sequence span.Emphasis = record { other = refl; no_data = refl; unasked = refl }
+unsought_sequence other = record { other = refl; no_data = refl; unasked = refl }
 
 unsought_text : (s : Span) → IsUnsought (text_name s)
-unsought_text span.Emphasis = record { other = refl; no_data = refl }
-unsought_text other = record { other = refl; no_data = refl }
+unsought_text span.Emphasis = record { other = refl; no_data = refl; unasked = refl }
+unsought_text other = record { other = refl; no_data = refl; unasked = refl }
 
 unsought_span : (s : Span) → IsUnsought (span_name s)
-unsought_span span.Emphasis = record { other = refl; no_data = refl }
-unsought_span other = record { other = refl; no_data = refl }
+unsought_span span.Emphasis = record { other = refl; no_data = refl; unasked = refl }
+unsought_span other = record { other = refl; no_data = refl; unasked = refl }
 
 pub span_plain : (text : List ℕ) (s : Span) (from to a b c d e f : End) (kids : Nodes) → ArePlain kids
     → ArePlain (span_nodes text s from (inside_span text s a b c kids d e f) to)
@@ -109,6 +112,22 @@ span_plain text s from to a b c d e f kids p =
     (plain_both first (text_nodes text s c kids d) (plain_void text (sequence_name s) a b sequence.other sequence.no_data)
     (plain_event text (text_name s) c d kids own.other own.no_data p))
     (plain_void text (sequence_name s) e f sequence.other sequence.no_data))
+
+-- ---- sound nodes
+
+pub span_sound : (names : Names) (text : List ℕ) (s : Span) (from to a b c d e f : End) (kids : Nodes) → AreSound names text kids
+    → AreSound names text (span_nodes text s from (inside_span text s a b c kids d e f) to)
+span_sound names text s from to a b c d e f kids sound =
+    let sequence = (unsought_sequence s).unasked in
+    let own = unsought_text s in
+    let whole = unsought_span s in
+    let first = void_nodes text (sequence_name s) a b in
+    let last = void_nodes text (sequence_name s) e f in
+    sound_event names text (span_name s) from to (inside_span text s a b c kids d e f) whole.unasked whole.no_data
+    (sound_both names text (append first (text_nodes text s c kids d)) last
+    (sound_both names text first (text_nodes text s c kids d) (void_sound names text (sequence_name s) a b sequence)
+    (sound_event names text (text_name s) c d kids own.unasked own.no_data sound))
+    (void_sound names text (sequence_name s) e f sequence))
 
 -- ---- the rows of the grammar
 

@@ -14,6 +14,7 @@ use Rattle.event_grammar.specs.Trees.{Nodes}
 use Rattle.event_meaning.specs.Texts.{inlines_of, leaves}
 use Rattle.parse_lines.specs.declared.walk.Walk.{Walk}
 use Rattle.parse_lines.specs.InContent.{IsWhole, Stop, WritesInContent}
+use Rattle.parse_references.specs.Sound.{AreSound}
 use Rattle.parse_strings.specs.Plain.{ArePlain}
 use Rattle.inline_leaves.specs.Leaves.{parts_of}
 use Rattle.inline_leaves.specs.declared.leaf.LiteralKind.{LiteralKind}
@@ -68,6 +69,7 @@ pub record WritesFront {A : Type 0} (names : Names) (text front content : List �
   pub plain : ArePlain nodes
   pub spells : (linked : Bool) → MayBe linked → inlines_of names text linked nodes ≡ leaves ls
   pub fill : FillsText front nodes
+  pub sound : AreSound names text nodes
 
 -- nodes are written for the first of these bytes, the others are ahead, and the nodes spell these leaves in a text in which they may be
 pub record WritesLeaves {A : Type 0} (names : Names) (text bytes : List ℕ) (MayBe : Bool → Type 0) (ls : List InlineLeaf) (to : List InlineCode) (stop : Stop)
@@ -82,6 +84,7 @@ pub record WritesLeaves {A : Type 0} (names : Names) (text bytes : List ℕ) (Ma
   pub plain : ArePlain nodes
   pub spells : (linked : Bool) → MayBe linked → (m m' : Meaning) → ArePartsAlike m m' (leaves ls) (inlines_of names text linked nodes)
   pub fill : FillsText front nodes
+  pub sound : AreSound names text nodes
 
 -- a construct is written
 abbrev pub WritesPart : {A : Type 0} → Names → List ℕ → List ℕ → LeafPart → List InlineCode → Stop → Walk A → Walk A → Type 0

@@ -12,6 +12,7 @@ use Rattle.event_meaning.specs.Texts.{inlines_of}
 use Rattle.parse_lines.specs.declared.walk.Walk.{Walk}
 use Rattle.parse_lines.specs.InContent.{IsWhole, StandsInContent, Stop, WritesInContent}
 use Rattle.parse_slots.specs.Left.{Fill, MayEndLines}
+use Rattle.parse_references.specs.Sound.{AreSound}
 use Rattle.parse_strings.specs.Plain.{ArePlain}
 use Rattle.parse_alike.specs.Inline.{ArePartsAlike}
 pub use Rattle.parse_alike.specs.Meanings.{AreMeanings}
@@ -29,6 +30,7 @@ pub record WritesText {A : Type 0} (on : Constructs) (names : Names) (text front
   pub spells : (m m' : Meaning) → AreMeanings on names m m' → ArePartsAlike m m' is (inlines_of names text false nodes)
   pub plain : ArePlain nodes
   pub fill : FillsText front nodes
+  pub sound : AreSound names text nodes
 
 -- a walk stands in a text: these bytes of the content are ahead, which are at a place of it
 pub record StandsInText {A : Type 0} (text content bytes : List ℕ) (at : List InlineCode) (stop : Stop) (w : Walk A) : Type 0 where

@@ -1,22 +1,28 @@
 -- A heading by `#`, as it is written (CommonMark 4.2).
-use Rattle.std.proofs.Common.{◌≡◌, ℕ, ◌<◌, ◌≤◌, Bool, false, List, [], ◌∷◌, ◌++◌, None, refl, sym, ap, ◌∙◌, subst, length, replicate, take, drop, arith}
+use Rattle.std.proofs.Common.{◌≡◌, ℕ, ◌<◌, ◌≤◌, Bool, true, false, ◌&&◌, nat_le, List, [], ◌∷◌, ◌++◌, None, refl, sym, ap, ◌∙◌, subst, length, replicate, take, drop, arith}
 use Rattle.parse_leaves.proofs.Prelude.{append, AreMeanings, AreNext, ArePartsAlike, around, Around, around_on, AtEnding, bare, bare_end, BlockLine, bytes_of}
 use Rattle.parse_leaves.proofs.Prelude.{Constructs, End, end_at, end_in, enter_at, EnterCall, entered_on, exit_at, ExitCall, heading_atx, indent, Inlines}
 use Rattle.parse_leaves.proofs.Prelude.{is_tab_column, IsInOrder, IsOnLine, IsWrittenToRest, length-take-le, line_left, LineRest, list_any, Meaning, named}
 use Rattle.parse_leaves.proofs.Prelude.{Names, next_parts, Nodes, number_sign, on_end, on_line_both, one, own_lines, Piece, piece_line, Place, read_text}
-use Rattle.parse_leaves.proofs.Prelude.{Reading, rest_of, run, some_on, spaced_line, SpellsLeaf, Standing, standing, StandsAt, tab_column, text_in}
-use Rattle.parse_leaves.proofs.Prelude.{text_within, ToCall, token_text, TokenCall, tokens, Walk, white_ahead, Within, writes_both, WritesClosing}
+use Rattle.parse_leaves.proofs.Prelude.{Name, Reading, rest_of, run, same_name, some_on, spaced_line, SpellsLeaf, Standing, standing, StandsAt, tab_column, text_in}
+use Rattle.parse_leaves.proofs.Prelude.{text_within, ToCall, token_text, TokenCall, tokens, true≢false, Walk, white_ahead, Within, writes_both, WritesClosing}
 use Rattle.parse_leaves.proofs.Prelude.{WritesHeadingText, WritesLeaf, WritesOnLine, written_to, ◌==◌}
 use Rattle.std.proofs.Math.Seq.{drop-append_seam}
 use Rattle.std.proofs.lemmas.List.Sums.{prefix_len-le-length}
 use Rattle.engine_events.specs.declared.event.Name.TheVariants as n
 use Rattle.definition_page.specs.Page as page
-use Rattle.event_grammar.specs.declared.slot.Between.TheVariants.{Lines}
+use Rattle.event_grammar.specs.declared.slot.Between.TheVariants.{Lines, Spaces}
 use Rattle.event_grammar.specs.declared.slot.Form.TheVariants.{Plain}
 use Rattle.parse_laid.specs.Leaves.{IsAtxLaid}
 use Rattle.std.specs.Prelude.{codes}
+use Rattle.event_grammar.specs.declared.slot.Slot.{Slot}
+use Rattle.event_grammar.specs.Facts.{is_size}
+use Rattle.event_grammar.specs.Grammar.{opt}
+use Rattle.parse_references.specs.Sound.{AreSound, IsRank}
+use Rattle.parse_references.proofs.Sound.{sound_both, sound_fill}
+use Rattle.parse_links.specs.Tails.{FillsTo, MayEnd}
 use Rattle.parse_lines.proofs.Runs.{run_fits}
-use Rattle.parse_leaves.specs.Atx.{EndsHeading}
+use Rattle.parse_leaves.specs.Atx.{EndsHeading, TakesClosing}
 use Rattle.parse_leaves.proofs.AtxLists.{atx_front, atx_on, text_bytes}
 use Rattle.parse_leaves.proofs.AtxParts.{hash_named, hash_within, space_within}
 use Rattle.parse_leaves.proofs.Fills.{atx_fill, filled_up}
@@ -28,6 +34,24 @@ sequence_size : (text : List ℕ) (index : ℕ) (front line : List ℕ) (ms : No
     → text_in text n.HeadingAtxSequence (append (tokens text n.HeadingAtxSequence index front) ms) ≡ front
 sequence_size text index [] line ms some next = absurd (omega (arith, some))
 sequence_size text index (b ∷ bs) line ms some next = token_text text n.HeadingAtxSequence index (b ∷ bs) line next
+
+module _ (names : Names) (text : List ℕ) where
+  -- the first sequence is a rank
+  sequence_rank : (index : ℕ) (front line : List ℕ) (ms : Nodes) → 0 < length front → AreNext text (end_at index 0) (front ++ line)
+      → is_size 6 front ≡ true → IsRank names text (append (tokens text n.HeadingAtxSequence index front) ms)
+  sequence_rank index [] line ms some next size = absurd (omega (arith, some))
+  sequence_rank index (b ∷ bs) line ms some next size =
+      (λ same. ap (is_size 6) (token_text text n.HeadingAtxSequence index (b ∷ bs) line next) ∙ size, λ other. absurd (true≢false other))
+
+  tokens_sound : (name : Name) (index : ℕ) (front : List ℕ) → AreSound names text (tokens text name index front)
+  tokens_sound name index [] = tt
+  tokens_sound name index (b ∷ bs) = ((record { call = λ same. tt; reference = λ same. tt; heading = λ same. tt }, tt), tt)
+
+  -- what follows the text is sound, by its row
+  closing_sound : (ns : Nodes) → ((slots : List Slot) → TakesClosing slots → FillsTo slots MayEnd Spaces ns) → AreSound names text ns
+  closing_sound ns fills =
+      let slots = opt n.HeadingAtxSequence ∷ [] in
+      let up = fills slots (record { sequence = refl; space = refl; may = refl }) in sound_fill names text 2 Spaces slots up.rest ns refl up.fill up.ends
 
 first_codes : List BlockLine → List ℕ
 first_codes [] = []
@@ -45,9 +69,9 @@ module _ (on : Constructs) (names : Names) (text : List ℕ) (top : Bool) (rank 
 
   pub atx_spells : (start end : End) → 0 < length hashes → AreNext text (end_at i 0) (hashes ++ line) → rank ≡ length hashes
       → ((m m' : Meaning) → AreMeanings on names m m' → ArePartsAlike m m' is (text_within names text false (append inner last)))
-      → named n.Definition inner ≡ [] → named n.Definition last ≡ []
+      → named n.Definition inner ≡ [] → named n.Definition last ≡ [] → is_size 6 hashes ≡ true → AreSound names text inner → AreSound names text last
       → SpellsLeaf on names text top (page.Heading rank is) [] (Around (enter_at text n.HeadingAtx start) atx_kids (exit_at text n.HeadingAtx end))
-  atx_spells start end some next size spells none_inner none_last =
+  atx_spells start end some next size spells none_inner none_last sized sound_inner sound_last =
       let rank_is : rank ≡ length (text_in text n.HeadingAtxSequence atx_kids) =
       size ∙ sym (ap length (sequence_size text i hashes line (append (tokens text n.SpaceOrTab j white) (append inner last)) some next)) in
       let within : text_within names text false atx_kids ≡ text_within names text false (append inner last) =
@@ -60,6 +84,17 @@ module _ (on : Constructs) (names : Names) (text : List ℕ) (top : Bool) (rank 
         is_block = refl;
         blocks = λ m m' means. ((rank_is, subst (ArePartsAlike m m' is) (sym within) (spells m m' means)), tt);
         definitions = λ m m' means. none_alike m m' names text (named n.Definition atx_kids) none;
+        sound = (
+          record {
+            call = λ same. absurd (true≢false (ap (same_name n.HeadingAtx) same));
+            reference = λ same. absurd (true≢false (ap (same_name n.HeadingAtx) same));
+            heading = λ same. sequence_rank names text i hashes line (append (tokens text n.SpaceOrTab j white) (append inner last)) some next sized;
+          },
+          sound_both names text (tokens text n.HeadingAtxSequence i hashes) (append (tokens text n.SpaceOrTab j white) (append inner last))
+              (tokens_sound names text n.HeadingAtxSequence i hashes)
+              (sound_both names text (tokens text n.SpaceOrTab j white) (append inner last) (tokens_sound names text n.SpaceOrTab j white)
+              (sound_both names text inner last sound_inner sound_last)),
+        );
       }
 
 module _ {A : Type 0} (text : List ℕ) where
@@ -142,7 +177,8 @@ module _ {A : Type 0} (text : List ℕ) where
         spells =
             atx_spells on names text top rank is i j hashes (take m rest) (drop size bytes) t.nodes cl.nodes from last
             (omega (arith, hash_size, size_is, info.some)) (next_parts text b bytes size on_b.before) (omega (arith, is_size, hash_size))
-            (λ m m' means. t.spells cl.nodes (cl.none names) m m' means) t.definitions cl.definitions;
+            (λ m m' means. t.spells cl.nodes (cl.none names) m m' means) t.definitions cl.definitions
+            (ap (λ (x : ℕ). nat_le 1 x && nat_le x 6) (hash_size ∙ size_is) ∙ info.sized) t.sound (closing_sound names text cl.nodes cl.fill);
         writes = writes_both text old.out a.out new.out white.quiet.nodes (one node) white.quiet.writes whole.writes;
         stands = whole.on.at;
         around =

@@ -87,6 +87,7 @@ atx_front bs =
 pub record IsAtxOf (bs : List ℕ) (found : Atx) : Type 0 where
   pub rank : found.rank ≡ run number_sign bs
   pub some : 0 < run number_sign bs
+  pub sized : (leb 1 (run number_sign bs) && leb (run number_sign bs) 6) ≡ true
   pub content : found.content ≡ without_closing (trim (drop (run number_sign bs) bs))
 
 none_atx : (found : Atx) → None ≡ Some found → ⊥
@@ -98,6 +99,11 @@ some_atx a b h = cc
 some_rank : (k : ℕ) (p q : Bool) → (leb 1 k && p && q) ≡ true → 0 < k
 some_rank zero p q h = absurd (true≢false (sym h))
 some_rank (suc k) p q h = omega arith
+
+both_first : (p q s : Bool) → (p && q && s) ≡ true → (p && q) ≡ true
+both_first true true s h = refl
+both_first true false s h = absurd (true≢false (sym h))
+both_first false q s h = absurd (true≢false (sym h))
 
 pub atx_on : (on : Constructs) (rest : Rest) (found : Atx) → heading_atx on rest ≡ Some found → IsAtxOf (bytes_of (bare rest)) found
 atx_on on rest found is =
@@ -115,6 +121,7 @@ atx_on on rest found is =
                 record {
                   rank = ap (λ (a : Atx). a.rank) (sym same);
                   some = some_rank rank (leb rank 6) (begins_apart (after_run number_sign bs)) good;
+                  sized = both_first (leb 1 rank) (leb rank 6) (begins_apart (after_run number_sign bs)) good;
                   content = ap (λ (a : Atx). a.content) (sym same);
                 }
             | inr bad ↦ absurd (none_atx found (sym (cond-false test (Some here) None bad) ∙ of))

@@ -20,6 +20,7 @@ use Rattle.event_grammar.specs.declared.slot.Form.TheVariants.{Plain}
 use Rattle.event_grammar.specs.Grammar.{opt}
 use Rattle.parse_output.proofs.Written.{writes_none}
 use Rattle.parse_slots.proofs.Steps.{fill_none, fill_taken}
+use Rattle.parse_references.proofs.Sound.{asks_nothing}
 use Rattle.parse_lines.specs.Content.{BeginsLineHere}
 use Rattle.parse_lines.proofs.Ahead.{next_after}
 use Rattle.parse_lines.proofs.Parts.{part_begins, same_line}
@@ -119,6 +120,7 @@ module _ {A : Type 0} (text : List ℕ) (ending : Option LineEnding) (left : Lis
         subst (λ is. ArePartsAlike m m' is (text_within r.tables.names text false others)) (sym (empty_text r piece none empty)) no;
     definitions = refl;
     fill = record { rest = atx_rest; fill = fill_none Spaces atx_rest; ends = record { sequence = refl; space = refl; may = refl } };
+    sound = tt;
   }
 
   pub heading_text : (r : Reading) (piece : Piece) (old mid new : Walk A) → piece.owed ≡ 0 → list_any is_tab_column piece.text.now ≡ false
@@ -171,4 +173,5 @@ module _ {A : Type 0} (text : List ℕ) (ending : Option LineEnding) (left : Lis
               (t.fill Spaces (ap₂ (λ (k : ℕ) bs. list_any ends_line (drop k bs)) begins.0 (sym is_content) ∙ dark)));
           ends = record { sequence = refl; space = refl; may = refl };
         };
+        sound = ((asks_nothing r.tables.names text n.HeadingAtxText t.nodes refl, t.sound), tt);
       }

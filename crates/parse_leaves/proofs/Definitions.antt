@@ -52,6 +52,8 @@ use Rattle.parse_lines.proofs.InContent.{line_exits, no_more}
 use Rattle.parse_strings.proofs.Texts.{white_last}
 use Rattle.parse_links.specs.Definition.{FillsDefinition, IsDefinition, SpellsDefinition, WritesParts, place_of}
 use Rattle.parse_links.specs.Tails.{title_string}
+use Rattle.parse_references.specs.Sound.{AreSound}
+use Rattle.parse_references.proofs.Sound.{asks_nothing}
 use Rattle.parse_leaves.specs.Definition.{IsOnOneLine, WritesDefinition, WritesReadDefinition}
 use Rattle.parse_leaves.proofs.Entered.{white_entered}
 use Rattle.parse_leaves.proofs.Fills.{filled_up}
@@ -93,15 +95,16 @@ module _ (on : Constructs) (names : Names) (text : List ℕ) (d : Definition) (n
       (subst IsOfBytes place_is (spells.place.destination_bytes texts))
       (subst IsOfBytes (title_same on names m m' means d.title) (spells.place.end.title_bytes texts)) alike)
 
-  pub definition_spells : (top : Bool) → HaveTextsOfBytes names
+  pub definition_spells : (top : Bool) → HaveTextsOfBytes names → AreSound names text ns
       → SpellsLeaf on names text top page.Definition (definition d.label d.destination d.title [] ∷ []) node
-  definition_spells top texts = record {
+  definition_spells top texts sound = record {
     is_block = refl;
     blocks = λ m m' means. (tt, tt);
     definitions = λ m m' means.
         let only : named n.Definition (one node) ≡ node ∷ [] = ap (λ (xs : List Node). (node ∷ xs) ++ []) spells.place.end.definitions in
         subst (λ xs. AreDefinitionsAlike m m' (definition d.label d.destination d.title [] ∷ []) (map (definition_of names text) xs)) (sym only)
         (definition_alike texts m m' means, tt);
+    sound = (asks_nothing names text n.Definition ns refl, sound);
   }
 
 -- ---- codes
@@ -328,7 +331,7 @@ module _ {A : Type 0} (text : List ℕ) where
       → WritesInLine text front (void_nodes text n.SpaceOrTab (end_in s.out) (end_after (end_in s.out) white)) line s t)
       → standing a ≡ standing t → ((line : List ℕ) → StandsInLine text line t → EntersInLine text n.Definition line t a)
       → ((d : Definition) (stop : Stop) → IsDefinition (content_codes rest) d → StandsInContent text rest stop a → IsWhole a
-      → WritesParts text rest (SpellsDefinition on names text d) FillsDefinition stop a b)
+      → WritesParts names text rest (SpellsDefinition on names text d) FillsDefinition stop a b)
       → standing c ≡ standing b → ((line : List ℕ) → StandsInLine text line b → ExitsInLine text n.Definition line b c)
       → standing e ≡ standing c
       → ((front line : List ℕ) → size ≡ length front → same_name n.SpaceOrTab n.BlockQuotePrefix ≡ false → StandsInLine text (front ++ line) c → HasBytes text n.SpaceOrTab size c
@@ -387,7 +390,7 @@ module _ {A : Type 0} (text : List ℕ) where
         before = entered.before;
         are_quiet = entered.are_quiet;
         node = Around (enter_at text n.Definition from) parts.nodes (exit_at text n.Definition to_end);
-        spells = definition_spells on names text d parts.nodes from to_end parts.spells top texts;
+        spells = definition_spells on names text d parts.nodes from to_end parts.spells top texts parts.sound;
         behind = behind;
         is_quiet_behind = void_quiet text (end_in c.out) (end_after (end_in c.out) size);
         writes =

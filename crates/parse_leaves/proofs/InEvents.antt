@@ -40,4 +40,5 @@ text_in_event r name content is old b c new other same_b enters writes same end 
         ap (λ (s : Standing). s.on) same ∙ written.writes.around.0 ∙ entered.around.0,
         ap (λ (s : Standing). s.outermost) same ∙ written.writes.around.1 ∙ entered.around.1,
       );
+      sound = written.sound;
     }

@@ -7,6 +7,8 @@ use Rattle.parse_inline.specs.Texts.{FillsText}
 use Rattle.parse_lines.specs.InContent.{WritesInContent}
 use Rattle.parse_lines.proofs.InContent.{contents_both}
 use Rattle.parse_strings.proofs.PlainNodes.{plain_both, plain_quiet}
+use Rattle.parse_strings.proofs.SoundNodes.{quiet_sound}
+use Rattle.parse_references.proofs.Sound.{sound_both}
 use Rattle.parse_alike.proofs.Composed.{alike_parts_compose}
 use Rattle.parse_leaves.proofs.Spelled.{after_quiet, inlines_append}
 
@@ -23,6 +25,7 @@ module _ {A : Type 0} (on : Constructs) (names : Names) (text : List ℕ) (stop 
     spells = λ m m' means. subst (ArePartsAlike m m' is) (sym (after_quiet names text false ns second.nodes quiet)) (second.spells m m' means);
     plain = plain_both ns second.nodes (plain_quiet ns quiet) second.plain;
     fill = λ around may. let both = may_both around front after may in fill_both (fill around both.0) (second.fill around both.1);
+    sound = sound_both names text ns second.nodes (quiet_sound names text ns quiet) second.sound;
   }
 
   -- some of a text, and then all that is left of it
@@ -39,4 +42,5 @@ module _ {A : Type 0} (on : Constructs) (names : Names) (text : List ℕ) (stop 
         (first.spells m m' means) (second.spells m m' means));
     plain = plain_both first.nodes second.nodes first.plain second.plain;
     fill = λ around may. let both = may_both around front after may in fill_both (first.fill around both.0) (second.fill around both.1);
+    sound = sound_both names text first.nodes second.nodes first.sound second.sound;
   }

@@ -27,7 +27,11 @@ use Rattle.event_meaning.specs.Blocks.{underline_rank}
 use Rattle.event_meaning.specs.Children.{child, inside_of}
 use Rattle.parse_laid.specs.Leaves.{IsSetextLaid}
 use Rattle.parse_laid.specs.Places.{InAll, IsOn}
+use Rattle.parse_slots.specs.Left.{IsFilled}
 use Rattle.parse_slots.proofs.Steps.{filled_by}
+use Rattle.parse_references.specs.Sound.{AreSound}
+use Rattle.parse_references.proofs.Sound.{asks_nothing, sound_both, sound_filled, sound_one, void_sound}
+use Rattle.parse_strings.proofs.SoundNodes.{quiet_sound}
 use Rattle.parse_lines.specs.Ends.{WritesNextLine, line_after}
 use Rattle.parse_lines.specs.Steps.{PassesLine}
 use Rattle.parse_raw.proofs.Nodes.{child_append, quiet_definitions, void_cases}
@@ -129,8 +133,9 @@ module _ (on : Constructs) (names : Names) (text : List ℕ) (top : Bool) (rank 
       → (if eqb (get_or (text_in text n.HeadingSetextUnderlineSequence (kids_of under)) 0 0) 45 then 2 else 1) ≡ rank
       → named n.Definition (one under) ≡ [] → ArePlain ns
       → ((m m' : Meaning) → AreMeanings on names m m' → ArePartsAlike m m' is (inlines_of names text false ns))
+      → IsFilled Lines Plain under → AreSound names text ns
       → SpellsLeaf on names text top (page.Heading rank is) [] (Around (enter_at text n.HeadingSetext start) kids (exit_at text n.HeadingSetext end))
-  setext_spells start end are_quiet are_before is_under is_rank none plain spells =
+  setext_spells start end are_quiet are_before is_under is_rank none plain spells filled sound =
       let void = void_nodes text n.LineEnding from to in
       let void_child : child n.HeadingSetextUnderline void ≡ None =
       void_cases (λ ms. child n.HeadingSetextUnderline ms ≡ None) text n.LineEnding from to refl (λ h. refl) (λ h. refl) in
@@ -150,12 +155,17 @@ module _ (on : Constructs) (names : Names) (text : List ℕ) (top : Bool) (rank 
       let others : named n.Definition (append (append void quiet) (append before (one under))) ≡ [] =
       named_both n.Definition (append void quiet) (append before (one under))
       ∙ ap (λ ds. ds ++ named n.Definition (append before (one under))) middle ∙ end_named in
+      let sound_end = sound_both names text before (one under) (quiet_sound names text before are_before)
+      (sound_one names text under (sound_filled names text 2 Lines Plain n.HeadingSetextUnderline under is_under refl filled)) in
+      let sound_others = sound_both names text (append void quiet) (append before (one under))
+      (sound_both names text void quiet (void_sound names text n.LineEnding from to refl) (quiet_sound names text quiet are_quiet)) sound_end in
       record {
         is_block = refl;
         blocks = λ m m' means. ((rank_is, spells m m' means), tt);
         definitions = λ m m' means.
             none_alike m m' names text (named n.Definition kids)
             (ap (λ ds. ds ++ named n.Definition (append (append void quiet) (append before (one under)))) plain.definitions ∙ others);
+        sound = (asks_nothing names text n.HeadingSetext kids refl, ((asks_nothing names text n.HeadingSetextText ns refl, sound), sound_others));
       }
 
 -- ---- the whole
@@ -212,7 +222,7 @@ module _ {A : Type 0} (text : List ℕ) where
         node = node;
         spells =
             setext_spells on names text top rank is t.nodes quiet u.before u.node (written_to b) to t.from t.to from last done.2 u.are_quiet u.is_underline
-            (ap (λ k. if eqb k 45 then 2 else 1) u.marker ∙ rank_found.1) u.definitions t.plain t.spells;
+            (ap (λ k. if eqb k 45 then 2 else 1) u.marker ∙ rank_found.1) u.definitions t.plain t.spells u.filled t.sound;
         writes =
             writes_both text old.out entered.space new.out entered.before (one node) entered.writes
             (subst (Writes text entered.space new.out) (cut_one text n.HeadingSetext from last kids refl)

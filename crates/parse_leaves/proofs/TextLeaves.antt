@@ -17,6 +17,8 @@ use Rattle.event_grammar.specs.declared.slot.Form.TheVariants.{Plain}
 use Rattle.event_grammar.specs.Checks.{one_line}
 use Rattle.event_grammar.specs.Grammar.{row, text_row}
 use Rattle.parse_slots.specs.Left.{Fill}
+use Rattle.parse_references.specs.Sound.{AreSound}
+use Rattle.parse_references.proofs.Sound.{asks_nothing}
 use Rattle.parse_laid.specs.Leaves.{AreText}
 use Rattle.parse_leaves.proofs.Fills.{text_filled}
 use Rattle.parse_leaves.proofs.Lines.{text_begins}
@@ -33,12 +35,13 @@ none_alike m m' names text ds none = subst (λ (xs : List Node). AreDefinitionsA
 
 -- a paragraph spells its text
 pub paragraph_spells : (on : Constructs) (names : Names) (text : List ℕ) (top : Bool) (is : Inlines) (ns : Nodes) (from to : End) → ArePlain ns
-    → ((m m' : Meaning) → AreMeanings on names m m' → ArePartsAlike m m' is (inlines_of names text false ns))
+    → ((m m' : Meaning) → AreMeanings on names m m' → ArePartsAlike m m' is (inlines_of names text false ns)) → AreSound names text ns
     → SpellsLeaf on names text top (page.Paragraph is) [] (Around (enter_at text n.Paragraph from) ns (exit_at text n.Paragraph to))
-paragraph_spells on names text top is ns from to plain spells = record {
+paragraph_spells on names text top is ns from to plain spells sound = record {
   is_block = refl;
   blocks = λ m m' means. (spells m m' means, tt);
   definitions = λ m m' means. none_alike m m' names text (named n.Definition ns) plain.definitions;
+  sound = (asks_nothing names text n.Paragraph ns refl, sound);
 }
 
 pub open_both : (a b c : Standing) → HasSameOpen a b → HasSameOpen b c → HasSameOpen a c
@@ -67,7 +70,7 @@ module _ {A : Type 0} (text : List ℕ) where
       → standing new ≡ standing b
       → written_to new ≡ written_to b
       → ((ns : Nodes) (from to : End) → ArePlain ns
-      → ((m m' : Meaning) → AreMeanings on names m m' → ArePartsAlike m m' is (inlines_of names text false ns))
+      → ((m m' : Meaning) → AreMeanings on names m m' → ArePartsAlike m m' is (inlines_of names text false ns)) → AreSound names text ns
       → SpellsLeaf on names text top leaf [] (Around (enter_at text name from) ns (exit_at text name to)))
       → row name Plain ≡ text_row → one_line Lines name ≡ Lines
       → WritesLeaf on names text top leaf [] stop.place old new
@@ -82,7 +85,7 @@ module _ {A : Type 0} (text : List ℕ) where
         before = entered.before;
         are_quiet = entered.are_quiet;
         node = Around (enter_at text name from) ns (exit_at text name to);
-        spells = spells ns from to written.plain written.spells;
+        spells = spells ns from to written.plain written.spells written.sound;
         writes =
             writes_both text old.out entered.space new.out entered.before (one (Around (enter_at text name from) ns (exit_at text name to))) entered.writes
             (subst (Writes text entered.space new.out) (cut_one text name from to ns other)
@@ -122,4 +125,4 @@ module _ {A : Type 0} (text : List ℕ) where
       subst (λ p. WritesLeaf on names text top (page.Paragraph is) [] p old new) to_is
       (leaf_around on names top (page.Paragraph is) n.Paragraph (content_text ls) is stop old a b new refl refl entered.2
       (writes text stop entered.2.stands entered.2.white) exits same end
-      (λ ns from end plain spells. paragraph_spells on names text top is ns from end plain spells) refl refl)
+      (λ ns from end plain spells sound. paragraph_spells on names text top is ns from end plain spells sound) refl refl)

@@ -20,6 +20,7 @@ use Rattle.event_grammar.specs.Trees.{Nodes}
 use Rattle.event_meaning.specs.Texts.{text_within}
 use Rattle.parse_output.specs.Forest.{append}
 use Rattle.parse_slots.specs.Left.{took}
+use Rattle.parse_references.specs.Sound.{AreSound}
 use Rattle.parse_alike.specs.Inline.{ArePartsAlike}
 use Rattle.parse_laid.specs.Places.{LineRest}
 use Rattle.parse_lines.specs.declared.walk.Walk.{Walk}
@@ -46,6 +47,7 @@ pub record WritesHeadingText {A : Type 0} (on : Constructs) (names : Names) (tex
       → ArePartsAlike m m' is (text_within names text false (append nodes others))
   pub definitions : named n.Definition nodes ≡ []
   pub fill : FillsTo atx_rest TakesClosing Spaces nodes
+  pub sound : AreSound names text nodes
 
 -- spaces and tabs, a run of `#`, and again spaces and tabs: what may follow the text
 abbrev pub EndsHeading : List ℕ → Type 0

@@ -28,6 +28,7 @@ use Rattle.parse_output.specs.declared.output.Output.{Output}
 use Rattle.parse_output.specs.Written.{Enters, IsInOrder, Writes, end_in}
 use Rattle.parse_alike.specs.Inline.{ArePartsAlike}
 use Rattle.parse_slots.specs.Left.{IsFilled}
+use Rattle.parse_references.specs.Sound.{AreSound}
 use Rattle.parse_laid.specs.Leaves.{AreTaken}
 use Rattle.parse_laid.specs.Places.{LineRest, Between, Within, AtEnding}
 use Rattle.parse_lines.specs.declared.walk.Walk.{Walk}
@@ -77,6 +78,7 @@ pub record WritesTextIn {A : Type 0} (on : Constructs) (names : Names) (text : L
   pub whole : (end_in new.out).owed ≡ 0
   pub index : (end_in new.out).index + stop.behind ≡ new.line_end
   pub around : HasSameOpen (standing old) (standing new)
+  pub sound : AreSound names text nodes
 
 -- from a walk that stands in a content it is written so
 abbrev pub WritesContentIn : {A : Type 0} → Reading → Name → List ℕ → Inlines → Walk A → Walk A → Type 0

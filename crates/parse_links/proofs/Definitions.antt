@@ -18,12 +18,15 @@ use Rattle.event_grammar.specs.Grammar.{one as one_slot, opt, row}
 use Rattle.event_grammar.specs.References.{label_text}
 use Rattle.parse_alike.specs.LabelMatch.{HaveSameWords}
 use Rattle.parse_slots.proofs.Steps.{fill_both, fill_none, fill_taken, filled_void, may_both}
+use Rattle.parse_references.proofs.Sound.{sound_both, sound_one}
+use Rattle.parse_strings.proofs.SoundNodes.{empty_sound}
 use Rattle.parse_links.specs.Definition.{end_slots, FillsDefinition, FillsEnd, FillsPlace, IsDefinition, place_of, place_slots, place_within}
 use Rattle.parse_links.specs.Definition.{SpellsDefinition}
 use Rattle.parse_links.proofs.Children.{child_after, child_here, child_next, none_named, quoted_child, quoted_definitions, quoted_string, raw_definitions, raw_string}
 use Rattle.parse_links.proofs.Children.{token_definitions}
 use Rattle.parse_links.proofs.Fills.{definition_label, definition_place, definition_title, marked_filled, place_filled, place_renamed}
 use Rattle.parse_links.proofs.Found.{named_around}
+use Rattle.parse_links.proofs.Sound.{marked_sound, place_sound, white_sound}
 use Rattle.parse_links.proofs.Written.{WritesToken}
 
 -- ---- codes
@@ -222,7 +225,7 @@ has_string on names text string (Some node) some holds = record { node = node; i
 module _ {A : Type 0} (text : List ℕ) (stop : Stop) (on : Constructs) (names : Names) where
   -- no title
   pub no_title : (a : Walk A) (content : List ℕ) (title : Option (List Code)) → title ≡ None → next_line (content_codes content) ≡ Some []
-      → StandsInContent text content stop a → IsWhole a → WritesParts text content (SpellsEnd on names text title) FillsEnd stop a a
+      → StandsInContent text content stop a → IsWhole a → WritesParts names text content (SpellsEnd on names text title) FillsEnd stop a a
   no_title a content title none ends st whole = record {
     front = [];
     after = content;
@@ -237,6 +240,7 @@ module _ {A : Type 0} (text : List ℕ) (stop : Stop) (on : Constructs) (names :
       definitions = refl;
     };
     fill = λ around may. record { rest = end_slots; fill = fill_none around end_slots; ends = refl };
+    sound = tt;
   }
 
   -- a title after white space
@@ -244,7 +248,7 @@ module _ {A : Type 0} (text : List ℕ) (stop : Stop) (on : Constructs) (names :
       → WritesWhite text content rest stop a b → rest ≡ front ++ after
       → WritesQuoted on names text n.DefinitionTitle n.DefinitionTitleMarker n.DefinitionTitleString string front after stop b c
       → content_codes string ≡ read → title ≡ Some read → next_line (content_codes after) ≡ Some []
-      → WritesParts text content (SpellsEnd on names text title) FillsEnd stop a c
+      → WritesParts names text content (SpellsEnd on names text title) FillsEnd stop a c
   title_in a b c content rest front after string title read bytes white parts w read_is some ends =
       let ns = white.nodes in
       let node = w.node in
@@ -283,6 +287,11 @@ module _ {A : Type 0} (text : List ℕ) (stop : Stop) (on : Constructs) (names :
                   node definition_title w.is (λ none. refl) (w.lines around both.1)));
               ends = refl;
             };
+        sound =
+            sound_both names text ns (one node) (white_sound names text white)
+            (sound_one names text node
+            (marked_sound on names text n.DefinitionTitle n.DefinitionTitleMarker n.DefinitionTitleString (opt n.DefinitionTitleString) string node
+            definition_title w.is));
       }
 
   -- what the destination among its nodes spells
@@ -340,8 +349,8 @@ module _ {A : Type 0} (text : List ℕ) (stop : Stop) (on : Constructs) (names :
   -- a destination, and what is behind it
   pub target_in : (q : PlaceNames) (a b c : Walk A) (content front after string : List ℕ) (read : List Code) (title : Option (List Code)) → AreOfDefinition q
       → AreBytes string → content ≡ front ++ after → WritesDestination on names text q string front after stop a b → content_codes string ≡ read
-      → WritesParts text after (SpellsEnd on names text title) FillsEnd stop b c
-      → WritesParts text content (SpellsPlace on names text read title) FillsPlace stop a c
+      → WritesParts names text after (SpellsEnd on names text title) FillsEnd stop b c
+      → WritesParts names text content (SpellsPlace on names text read title) FillsPlace stop a c
   target_in q a b c content front after string read title are bytes parts w read_is end =
       let is = place_spells q string front after a b end.nodes are w in
       let titled_is : child n.DefinitionTitle (append (one w.node) end.nodes) ≡ child n.DefinitionTitle end.nodes =
@@ -376,6 +385,12 @@ module _ {A : Type 0} (text : List ℕ) (stop : Stop) (on : Constructs) (names :
                   more.fill;
               ends = more.ends;
             };
+        sound =
+            sound_both names text (one w.node) end.nodes
+            (sound_one names text w.node
+            (place_sound on names text q string w.node w.inner
+            (place_renamed are.destination are.literal are.marker are.raw are.string definition_place) w.named w.kids w.is))
+            end.sound;
       }
 
   -- a label, a colon, white space, and what is behind
@@ -383,8 +398,8 @@ module _ {A : Type 0} (text : List ℕ) (stop : Stop) (on : Constructs) (names :
       → 0 < length string → content_codes string ≡ found.label
       → WritesQuoted on names text n.DefinitionLabel n.DefinitionLabelMarker n.DefinitionLabelString string front (58 ∷ inside) stop a b
       → WritesToken text stop n.DefinitionMarker (58 ∷ []) inside b c → WritesWhite text inside rest stop c d
-      → WritesParts text rest (SpellsPlace on names text found.destination found.title) FillsPlace stop d e
-      → WritesParts text content (SpellsDefinition on names text found) FillsDefinition stop a e
+      → WritesParts names text rest (SpellsPlace on names text found.destination found.title) FillsPlace stop d e
+      → WritesParts names text content (SpellsDefinition on names text found) FillsDefinition stop a e
   definition_in a b c d e content front inside rest string found parts some label_is w colon white place =
       let label = w.node in
       let tail = append white.nodes place.nodes in
@@ -457,4 +472,12 @@ module _ {A : Type 0} (text : List ℕ) (stop : Stop) (on : Constructs) (names :
                   behind_fill.fill));
               ends = behind_fill.ends;
             };
+        sound =
+            sound_both names text (one label) more
+            (sound_one names text label
+            (marked_sound on names text n.DefinitionLabel n.DefinitionLabelMarker n.DefinitionLabelString (one_slot n.DefinitionLabelString) string label
+            definition_label w.is))
+            (sound_both names text (one colon.node) tail
+            (sound_one names text colon.node (empty_sound names text colon.node n.DefinitionMarker colon.void.0 colon.void.1 refl))
+            (sound_both names text white.nodes place.nodes (white_sound names text white) place.sound));
       }

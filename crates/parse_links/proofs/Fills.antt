@@ -13,6 +13,7 @@ use Rattle.event_grammar.specs.Grammar.{one as one_slot, one_line_names, opt, ro
 use Rattle.event_grammar.specs.Slots.{may_end, take_child}
 use Rattle.event_grammar.specs.Void.{is_empty}
 use Rattle.parse_slots.specs.Left.{Fill, IsFilled, MayEndLines, took}
+use Rattle.parse_references.specs.Sound.{asked_names}
 use Rattle.parse_slots.proofs.Steps.{fill_both, fill_taken, filled_by, filled_in_line, filled_void}
 use Rattle.parse_links.proofs.Prelude.{append, Constructs, ends_line, Holds, is_listed, IsInner, IsQuoted, IsRaw, IsStringNode, IsVoidOf, kids_of, list_any}
 use Rattle.parse_links.proofs.Prelude.{Name, Names, Node, node_name, Nodes, one, PlaceNames, some_nodes}
@@ -31,6 +32,7 @@ may_in Lines name bytes other may =
 pub record HasStringRow (name : Name) : Type 0 where
   pub row_is : row name Plain ≡ string_row
   pub lines : is_listed one_line_names name ≡ false
+  pub unasked : is_listed asked_names name ≡ false
 
 abbrev pub last_slot : Name → List Slot
 last_slot marker = one_slot marker ∷ []
@@ -44,6 +46,8 @@ pub record HasMarkedRow (outer marker string : Name) (slot : Slot) : Type 0 wher
   pub takes_first : take_child (one_slot marker ∷ slot ∷ last_slot marker) marker ≡ Some (took Plain (slot ∷ last_slot marker))
   pub takes_held : take_child (slot ∷ last_slot marker) string ≡ Some (took Plain (last_slot marker))
   pub takes_last : take_child (last_slot marker) marker ≡ Some (took Plain [])
+  pub unasked : is_listed asked_names outer ≡ false
+  pub unasked_marker : is_listed asked_names marker ≡ false
 
 -- the string may be left out
 abbrev pub MayBeEmpty : Name → Slot → Type 0
@@ -55,6 +59,7 @@ pub record HasBareRow (outer string : Name) : Type 0 where
   pub lines : is_listed one_line_names outer ≡ false
   pub held : HasStringRow string
   pub takes : take_child (one_slot string ∷ []) string ≡ Some (took Plain [])
+  pub unasked : is_listed asked_names outer ≡ false
 
 abbrev pub destination_slots : Name → Name → List Slot
 destination_slots literal raw = One (Either literal raw) ∷ []
@@ -68,6 +73,7 @@ pub record HasPlaceRow (outer literal marker raw string : Name) : Type 0 where
   pub in_brackets : HasMarkedRow literal marker string (opt string)
   pub may_be_empty : MayBeEmpty marker (opt string)
   pub bare : HasBareRow raw string
+  pub unasked : is_listed asked_names outer ≡ false
 
 -- by names that are the same
 pub place_renamed : {outer literal marker raw string o l m r s : Name} → outer ≡ o → literal ≡ l → marker ≡ m → raw ≡ r → string ≡ s → HasPlaceRow o l m r s
@@ -153,18 +159,20 @@ module _ (on : Constructs) (names : Names) (text : List ℕ) where
 
 -- ---- their names
 
-string_row_by : (name : Name) → row name Plain ≡ string_row → is_listed one_line_names name ≡ false → HasStringRow name
-string_row_by name is lines = record { row_is = is; lines = lines }
+string_row_by : (name : Name) → row name Plain ≡ string_row → is_listed one_line_names name ≡ false → is_listed asked_names name ≡ false → HasStringRow name
+string_row_by name is lines unasked = record { row_is = is; lines = lines; unasked = unasked }
 
 pub definition_label : HasMarkedRow n.DefinitionLabel n.DefinitionLabelMarker n.DefinitionLabelString (one_slot n.DefinitionLabelString)
 definition_label = record {
   row_is = refl;
   lines = refl;
   void = refl;
-  held = string_row_by n.DefinitionLabelString refl refl;
+  held = string_row_by n.DefinitionLabelString refl refl refl;
   takes_first = refl;
   takes_held = refl;
   takes_last = refl;
+  unasked = refl;
+  unasked_marker = refl;
 }
 
 pub definition_title : HasMarkedRow n.DefinitionTitle n.DefinitionTitleMarker n.DefinitionTitleString (opt n.DefinitionTitleString)
@@ -172,10 +180,12 @@ definition_title = record {
   row_is = refl;
   lines = refl;
   void = refl;
-  held = string_row_by n.DefinitionTitleString refl refl;
+  held = string_row_by n.DefinitionTitleString refl refl refl;
   takes_first = refl;
   takes_held = refl;
   takes_last = refl;
+  unasked = refl;
+  unasked_marker = refl;
 }
 
 definition_brackets : HasMarkedRow n.DefinitionDestinationLiteral n.DefinitionDestinationLiteralMarker n.DefinitionDestinationString
@@ -184,10 +194,12 @@ definition_brackets = record {
   row_is = refl;
   lines = refl;
   void = refl;
-  held = string_row_by n.DefinitionDestinationString refl refl;
+  held = string_row_by n.DefinitionDestinationString refl refl refl;
   takes_first = refl;
   takes_held = refl;
   takes_last = refl;
+  unasked = refl;
+  unasked_marker = refl;
 }
 
 pub definition_place : HasPlaceRow n.DefinitionDestination n.DefinitionDestinationLiteral n.DefinitionDestinationLiteralMarker n.DefinitionDestinationRaw
@@ -199,7 +211,8 @@ definition_place = record {
   takes_raw = refl;
   in_brackets = definition_brackets;
   may_be_empty = refl;
-  bare = record { row_is = refl; lines = refl; held = string_row_by n.DefinitionDestinationString refl refl; takes = refl };
+  bare = record { row_is = refl; lines = refl; held = string_row_by n.DefinitionDestinationString refl refl refl; takes = refl; unasked = refl };
+  unasked = refl;
 }
 
 pub resource_title : HasMarkedRow n.ResourceTitle n.ResourceTitleMarker n.ResourceTitleString (opt n.ResourceTitleString)
@@ -207,10 +220,12 @@ resource_title = record {
   row_is = refl;
   lines = refl;
   void = refl;
-  held = string_row_by n.ResourceTitleString refl refl;
+  held = string_row_by n.ResourceTitleString refl refl refl;
   takes_first = refl;
   takes_held = refl;
   takes_last = refl;
+  unasked = refl;
+  unasked_marker = refl;
 }
 
 resource_brackets : HasMarkedRow n.ResourceDestinationLiteral n.ResourceDestinationLiteralMarker n.ResourceDestinationString (opt n.ResourceDestinationString)
@@ -218,10 +233,12 @@ resource_brackets = record {
   row_is = refl;
   lines = refl;
   void = refl;
-  held = string_row_by n.ResourceDestinationString refl refl;
+  held = string_row_by n.ResourceDestinationString refl refl refl;
   takes_first = refl;
   takes_held = refl;
   takes_last = refl;
+  unasked = refl;
+  unasked_marker = refl;
 }
 
 pub resource_place : HasPlaceRow n.ResourceDestination n.ResourceDestinationLiteral n.ResourceDestinationLiteralMarker n.ResourceDestinationRaw
@@ -233,7 +250,8 @@ resource_place = record {
   takes_raw = refl;
   in_brackets = resource_brackets;
   may_be_empty = refl;
-  bare = record { row_is = refl; lines = refl; held = string_row_by n.ResourceDestinationString refl refl; takes = refl };
+  bare = record { row_is = refl; lines = refl; held = string_row_by n.ResourceDestinationString refl refl refl; takes = refl; unasked = refl };
+  unasked = refl;
 }
 
 pub reference : HasMarkedRow n.Reference n.ReferenceMarker n.ReferenceString (opt n.ReferenceString)
@@ -241,8 +259,10 @@ reference = record {
   row_is = refl;
   lines = refl;
   void = refl;
-  held = string_row_by n.ReferenceString refl refl;
+  held = string_row_by n.ReferenceString refl refl refl;
   takes_first = refl;
   takes_held = refl;
   takes_last = refl;
+  unasked = refl;
+  unasked_marker = refl;
 }

@@ -1,5 +1,6 @@
 mod Prelude
 pub mod Fills
+pub mod Sound
 pub mod Written
 pub mod Places
 pub mod Found

@@ -2,9 +2,9 @@
 use Rattle.parse_links.proofs.Prelude.{after_part, after_white, and_parts, append, ArePlain, Around, begins_ascii, begins_with_space, boundary_after_byte}
 use Rattle.parse_links.proofs.Prelude.{bytes_text, cases_Bool, Code, cond-false, cond-true, Constructs, content_codes, contents_both, contents_none}
 use Rattle.parse_links.proofs.Prelude.{destination_at, End, end_in, enter_at, EntersInContent, eqb-false, eqb-true, exit_at, ExitsInContent, from_some}
-use Rattle.parse_links.proofs.Prelude.{inside_of, is_ascii_byte, is_eol, is_listed, IsCharBoundary, IsInner, IsOfBytes, IsUtf8, IsWhole, line_bytes, list_all}
-use Rattle.parse_links.proofs.Prelude.{list_any, lt-ltb, ltb-true, Name, named, named_both, Names, Nil, Node, Nodes, none-some, one, option_or, or_left, own}
-use Rattle.parse_links.proofs.Prelude.{own_both, Part, PlaceNames, plain_both, plain_code, resource_inside, same_name, SpellsTarget, SpellsTitle}
+use Rattle.parse_links.proofs.Prelude.{inside_of, is_ascii_byte, is_eol, is_listed, IsCharBoundary, IsInner, IsOfBytes, IsUtf8, IsVoidOf, IsWhole, line_bytes}
+use Rattle.parse_links.proofs.Prelude.{list_all, list_any, lt-ltb, ltb-true, Name, named, named_both, Names, Nil, Node, Nodes, none-some, one, option_or}
+use Rattle.parse_links.proofs.Prelude.{or_left, own, own_both, Part, PlaceNames, plain_both, plain_code, resource_inside, same_name, SpellsTarget, SpellsTitle}
 use Rattle.parse_links.proofs.Prelude.{StandsInContent, Stop, string_of, string_of_bytes, string_text, tail_names, title_at, title_string, Walk}
 use Rattle.parse_links.proofs.Prelude.{WritesDestination, WritesInContent, WritesQuoted, WritesTail, WritesWhite}
 use Rattle.std.proofs.Common.{◌≡◌, ◌⊎◌, ℕ, ◌+◌, ◌-◌, ◌*◌, ◌^◌, ◌<◌, Bool, true, false, ◌&&◌, ◌||◌, eqb, ltb, List, [], ◌∷◌, ◌++◌, Option, None, Some, inl}
@@ -20,10 +20,14 @@ use Rattle.event_grammar.specs.declared.slot.Slot.{Slot}
 use Rattle.event_grammar.specs.Checks.{one_line}
 use Rattle.event_grammar.specs.Grammar.{one as one_slot, opt, row}
 use Rattle.parse_slots.proofs.Steps.{fill_both, fill_none, fill_taken, filled_by, filled_void, may_both}
+use Rattle.parse_references.specs.Sound.{AreSound}
+use Rattle.parse_references.proofs.Sound.{sound_around, sound_both, sound_one}
+use Rattle.parse_strings.proofs.SoundNodes.{empty_sound}
 use Rattle.parse_links.specs.Tails.{FillsTail, FillsTarget, FillsTitle, SpellsResource, tail_slots, target_slots, title_slots, WritesPlace}
 use Rattle.parse_links.proofs.Fills.{marked_filled, may_in, place_filled, place_renamed, resource_place, resource_title}
 use Rattle.parse_links.proofs.Found.{FindsString, IsStringName, IsUnsought, own_around, own_found, named_around, void_plain, finds_around, finds_before}
 use Rattle.parse_links.proofs.Found.{finds_quoted, finds_raw, held_spells}
+use Rattle.parse_links.proofs.Sound.{marked_sound, place_sound, white_sound}
 use Rattle.parse_links.proofs.Written.{WritesToken, around_in}
 use Rattle.parse_links.proofs.Marks.{PlaceBytes, title_marks}
 
@@ -275,7 +279,7 @@ module _ {A : Type 0} (text : List ℕ) (stop : Stop) (on : Constructs) (names :
   pub title_tail : (a b c : Walk A) (content front after rest string : List ℕ) (read left : List Code) → IsOfBytes string → content ≡ front ++ after
       → WritesQuoted on names text n.ResourceTitle n.ResourceTitleMarker n.ResourceTitleString string front after stop a b
       → WritesWhite text after rest stop b c → content_codes rest ≡ left → content_codes string ≡ read
-      → WritesTail text content (SpellsTitle on names text read) FillsTitle left stop a c
+      → WritesTail names text content (SpellsTitle on names text read) FillsTitle left stop a c
   title_tail a b c content front after rest string read left bytes parts w white left_is read_is =
       let quoted =
       finds_quoted on names text n.ResourceTitle n.ResourceTitleMarker n.ResourceTitleString string w.node
@@ -312,6 +316,12 @@ module _ {A : Type 0} (text : List ℕ) (stop : Stop) (on : Constructs) (names :
                   (white.fill around last_slots both.1 (record { space = refl; ending = refl; blank = refl; quote = refl }));
               ends = refl;
             };
+        sound =
+            sound_both names text (one w.node) white.nodes
+            (sound_one names text w.node
+            (marked_sound on names text n.ResourceTitle n.ResourceTitleMarker n.ResourceTitleString (opt n.ResourceTitleString) string w.node
+            resource_title w.is))
+            (white_sound names text white);
       }
 
   -- a destination, and white space
@@ -342,12 +352,18 @@ module _ {A : Type 0} (text : List ℕ) (stop : Stop) (on : Constructs) (names :
             (place_filled on names text around q string w.node w.inner
             (place_renamed are.destination are.literal are.marker are.raw are.string resource_place) w.named w.kids w.is w.dark))
             (white.fill around title_slots both.1 (record { space = refl; ending = refl; blank = refl; quote = refl }));
+        sound =
+            sound_both names text (one w.node) white.nodes
+            (sound_one names text w.node
+            (place_sound on names text q string w.node w.inner
+            (place_renamed are.destination are.literal are.marker are.raw are.string resource_place) w.named w.kids w.is))
+            (white_sound names text white);
       }
 
   -- without a title
   pub target_none : (a b : Walk A) (place : Part) (content rest : List ℕ) (r : LinkResource) (left : List Code)
       → WritesPlace on names text place content rest stop a b → after_white place.rest ≡ left → r.destination ≡ place.text → r.title ≡ None
-      → WritesTail text content (SpellsTarget on names text r) FillsTarget left stop a b
+      → WritesTail names text content (SpellsTarget on names text r) FillsTarget left stop a b
   target_none a b place content rest r left w left_is read_is none = record {
     front = w.front;
     after = rest;
@@ -365,12 +381,13 @@ module _ {A : Type 0} (text : List ℕ) (stop : Stop) (on : Constructs) (names :
       columns = w.columns;
     };
     fill = λ around may. record { rest = title_slots; fill = w.fill around may; ends = refl };
+    sound = w.sound;
   }
 
   -- and a title
   pub target_title : (a b c : Walk A) (place : Part) (content rest : List ℕ) (r : LinkResource) (read left : List Code)
-      → WritesPlace on names text place content rest stop a b → WritesTail text rest (SpellsTitle on names text read) FillsTitle left stop b c
-      → r.destination ≡ place.text → r.title ≡ Some read → WritesTail text content (SpellsTarget on names text r) FillsTarget left stop a c
+      → WritesPlace on names text place content rest stop a b → WritesTail names text rest (SpellsTitle on names text read) FillsTitle left stop b c
+      → r.destination ≡ place.text → r.title ≡ Some read → WritesTail names text content (SpellsTarget on names text r) FillsTarget left stop a c
   target_title a b c place content rest r read left w title read_is some = record {
     front = w.front ++ title.front;
     after = title.after;
@@ -401,6 +418,7 @@ module _ {A : Type 0} (text : List ℕ) (stop : Stop) (on : Constructs) (names :
         let both = may_both around w.front title.front may in
         let more = title.fill around both.1 in
         record { rest = more.rest; fill = fill_both (w.fill around both.0) more.fill; ends = more.ends };
+    sound = sound_both names text w.nodes title.nodes w.sound title.sound;
   }
     where
       or_nothing : (o : Option Node) → option_or o None ≡ o
@@ -409,7 +427,7 @@ module _ {A : Type 0} (text : List ℕ) (stop : Stop) (on : Constructs) (names :
 
   -- nothing between the parentheses
   pub target_nothing : (a : Walk A) (content : List ℕ) (r : LinkResource) → r.destination ≡ [] → r.title ≡ None → content_codes content ≡ 41 ∷ r.rest
-      → StandsInContent text content stop a → IsWhole a → WritesTail text content (SpellsTarget on names text r) FillsTarget (41 ∷ r.rest) stop a a
+      → StandsInContent text content stop a → IsWhole a → WritesTail names text content (SpellsTarget on names text r) FillsTarget (41 ∷ r.rest) stop a a
   target_nothing a content r destination none codes st whole = record {
     front = [];
     after = content;
@@ -427,6 +445,7 @@ module _ {A : Type 0} (text : List ℕ) (stop : Stop) (on : Constructs) (names :
       columns = refl;
     };
     fill = λ around may. record { rest = target_slots; fill = fill_none around target_slots; ends = refl };
+    sound = tt;
   }
 
   -- ---- the resource
@@ -434,10 +453,10 @@ module _ {A : Type 0} (text : List ℕ) (stop : Stop) (on : Constructs) (names :
   -- a resource between its parentheses
   pub resource_tail : (a b c d e f g : Walk A) (content inside : List ℕ) (others : List ℕ) (r : LinkResource) → content ≡ 40 ∷ others
       → EntersInContent text n.Resource content stop a b → WritesToken text stop n.ResourceMarker (40 ∷ []) others b c
-      → WritesWhite text others inside stop c d → (tail : WritesTail text inside (SpellsTarget on names text r) FillsTarget (41 ∷ r.rest) stop d e)
+      → WritesWhite text others inside stop c d → (tail : WritesTail names text inside (SpellsTarget on names text r) FillsTarget (41 ∷ r.rest) stop d e)
       → (last : List ℕ)
       → tail.after ≡ 41 ∷ last → WritesToken text stop n.ResourceMarker (41 ∷ []) last e f → content_codes last ≡ r.rest
-      → ExitsInContent text n.Resource last stop f g → WritesTail text content (SpellsResource on names text r) FillsTail r.rest stop a g
+      → ExitsInContent text n.Resource last stop f g → WritesTail names text content (SpellsResource on names text r) FillsTail r.rest stop a g
   resource_tail a b c d e f g content inside others r is enters first white tail last closes closed codes exits =
       let before = append (one first.node) white.nodes in
       let after = one closed.node in
@@ -460,6 +479,8 @@ module _ {A : Type 0} (text : List ℕ) (stop : Stop) (on : Constructs) (names :
       let marker_is : IsUnsought n.ResourceMarker = record { media = refl; sought = refl; tail = refl; definition = refl; column = refl } in
       let one_is = plain_both (one first.node) white.nodes (void_plain first.node n.ResourceMarker marker_is first.void) white.plain in
       let two_is = void_plain closed.node n.ResourceMarker marker_is closed.void in
+      let marker_sound : (marker : Node) → IsVoidOf n.ResourceMarker marker → AreSound names text (one marker) =
+      λ marker void. sound_one names text marker (empty_sound names text marker n.ResourceMarker void.0 void.1 refl) in
       let found : (name : Name) → is_listed tail_names name ≡ true → same_name n.Resource name ≡ false → own name (one node) ≡ own name tail.nodes =
       λ name listed other. own_around node name refl other ∙ wrapped_own name before tail.nodes after listed one_is two_is in
       record {
@@ -506,4 +527,10 @@ module _ {A : Type 0} (text : List ℕ) (stop : Stop) (on : Constructs) (names :
                   refl);
               ends = refl;
             };
+        sound =
+            sound_one names text node
+            (sound_around names text node refl
+            (sound_both names text before (append tail.nodes after)
+            (sound_both names text (one first.node) white.nodes (marker_sound first.node first.void) (white_sound names text white))
+            (sound_both names text tail.nodes after tail.sound (marker_sound closed.node closed.void))));
       }

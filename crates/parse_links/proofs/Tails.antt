@@ -12,8 +12,10 @@ use Rattle.event_grammar.specs.declared.slot.Form.TheVariants.{Plain}
 use Rattle.event_grammar.specs.Grammar.{opt}
 use Rattle.parse_slots.proofs.Steps.{fill_none, fill_taken}
 use Rattle.parse_links.specs.Tails.{FillsTail, HasLabel, IsShortcut, SpellsReference, tail_slots}
+use Rattle.parse_references.proofs.Sound.{sound_one}
 use Rattle.parse_links.proofs.Fills.{marked_filled, reference}
 use Rattle.parse_links.proofs.Found.{IsStringName, IsUnsought, finds_quoted}
+use Rattle.parse_links.proofs.Sound.{marked_sound}
 
 pub left_mark : IsMark 91
 left_mark = record { ascii = omega arith; dark = refl }
@@ -75,11 +77,11 @@ held_label on names text (Some label) string None has holds = absurd (omega (ari
 held_label on names text (Some label) string (Some node) has holds = (node, refl, ap words (sym has.0) ∙ holds.words)
 
 module _ {A : Type 0} (text : List ℕ) (stop : Stop) where
-  pub no_reference : (a : Walk A) (content : List ℕ) → IsShortcut content → StandsInContent text content stop a → IsWhole a
-      → WritesTail text content (SpellsReference text (label_at (content_codes content))) FillsTail
+  pub no_reference : (names : Names) (a : Walk A) (content : List ℕ) → IsShortcut content → StandsInContent text content stop a → IsWhole a
+      → WritesTail names text content (SpellsReference text (label_at (content_codes content))) FillsTail
       (after_reference (label_at (content_codes content)) (content_codes content))
       stop a a
-  no_reference a content is st whole = record {
+  no_reference names a content is st whole = record {
     front = [];
     after = content;
     parts = refl;
@@ -89,13 +91,14 @@ module _ {A : Type 0} (text : List ℕ) (stop : Stop) where
     whole = whole;
     spells = record { is_none = refl; string = subst (λ l. HasLabel text l None) (sym is.label) refl; definitions = refl; columns = refl };
     fill = λ around may. record { rest = tail_slots; fill = fill_none around tail_slots; ends = refl };
+    sound = tt;
   }
 
   module _ (on : Constructs) (names : Names) where
     pub reference_tail : (a b : Walk A) (content front after string : List ℕ) (label : Option Part) (left : List Code) → content ≡ front ++ after
         → content_codes after ≡ left → HasCodes label string
         → WritesQuoted on names text n.Reference n.ReferenceMarker n.ReferenceString string front after stop a b
-        → WritesTail text content (SpellsReference text label) FillsTail left stop a b
+        → WritesTail names text content (SpellsReference text label) FillsTail left stop a b
     reference_tail a b content front after string label left parts rest has w =
         let finds = finds_quoted on names text n.Reference n.ReferenceMarker n.ReferenceString string w.node outer_is marker_is reference_is w.is in
         record {
@@ -119,6 +122,9 @@ module _ {A : Type 0} (text : List ℕ) (stop : Stop) where
                 (λ none. refl) (w.lines around may));
             ends = refl;
           };
+          sound =
+              sound_one names text w.node
+              (marked_sound on names text n.Reference n.ReferenceMarker n.ReferenceString (opt n.ReferenceString) string w.node reference w.is);
         }
 
 -- a label of some codes has some bytes

@@ -113,6 +113,7 @@ module _ {A : Type 0} (text : List ℕ) (stop : Stop) where
             plain = w.plain;
             fill = w.fill;
             words = same_text_words false string (flat_text text w.nodes) has.same ∙ ap (λ xs. words (content_codes xs)) (sym label);
+            sound = w.sound;
           };
           writes =
               subst (λ ns. WritesInContent text string ns content stop a d) (cut_own (enter_at text name from) (exit_at text name to) w.nodes own.other)

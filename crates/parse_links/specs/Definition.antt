@@ -23,6 +23,7 @@ use Rattle.parse_alike.specs.Strings.{HaveTextsOfBytes, IsOfBytes}
 use Rattle.parse_lines.specs.declared.walk.Walk.{Walk}
 use Rattle.parse_lines.specs.InContent.{IsWhole, Stop, WritesInContent}
 use Rattle.parse_slots.specs.Left.{MayEndLines}
+use Rattle.parse_references.specs.Sound.{AreSound}
 use Rattle.parse_links.specs.Tails.{FillsTo, MayEnd, title_string}
 
 -- codes that begin with a label are a definition, and no line follows it
@@ -60,8 +61,8 @@ abbrev pub FillsDefinition : Between → Nodes → Type 0
 FillsDefinition = FillsTo (row n.Definition Plain) MayEnd
 
 -- nodes are written that spell something and fill slots, up to white space at the end of a definition
-pub record WritesParts {A : Type 0} (text content : List ℕ) (Spells : Nodes → Type 0) (Fills : Between → Nodes → Type 0) (stop : Stop) (old new : Walk A)
-    : Type 0 where
+pub record WritesParts {A : Type 0} (names : Names) (text content : List ℕ) (Spells : Nodes → Type 0) (Fills : Between → Nodes → Type 0) (stop : Stop)
+    (old new : Walk A) : Type 0 where
   pub front : List ℕ
   pub after : List ℕ
   pub parts : content ≡ front ++ after
@@ -71,6 +72,7 @@ pub record WritesParts {A : Type 0} (text content : List ℕ) (Spells : Nodes �
   pub whole : IsWhole new
   pub spells : Spells nodes
   pub fill : (around : Between) → MayEndLines around front → Fills around nodes
+  pub sound : AreSound names text nodes
 
 module _ (on : Constructs) (names : Names) (text : List ℕ) where
   -- what the nodes in a destination spell, with brackets or without

@@ -16,6 +16,7 @@ use Rattle.event_meaning.specs.Strings.{string_of}
 use Rattle.parse_output.specs.Forest.{append, one}
 use Rattle.parse_alike.specs.LabelMatch.{HaveSameWords}
 use Rattle.parse_slots.specs.Left.{Fill, MayEndLines}
+use Rattle.parse_references.specs.Sound.{AreSound}
 use Rattle.parse_lines.specs.declared.walk.Walk.{Walk}
 use Rattle.parse_lines.specs.InContent.{IsWhole, Stop, WritesInContent}
 use Rattle.parse_lines.specs.Quiet.{IsVoidOf}
@@ -49,6 +50,7 @@ pub record IsStringNode (on : Constructs) (names : Names) (text : List ℕ) (nam
   pub plain : ArePlain (kids_of node)
   pub fill : (around : Between) → MayEndLines around string → Fill around string_row (kids_of node) string_row
   pub words : HaveSameWords (content_codes string) (content_codes (label_text text node))
+  pub sound : AreSound names text (kids_of node)
 
 -- an empty string has no node
 abbrev pub Holds : Constructs → Names → List ℕ → Name → List ℕ → Option Node → Type 0

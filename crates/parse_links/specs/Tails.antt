@@ -28,6 +28,7 @@ use Rattle.parse_alike.specs.Strings.{HaveTextsOfBytes, IsOfBytes}
 use Rattle.parse_lines.specs.declared.walk.Walk.{Walk}
 use Rattle.parse_lines.specs.InContent.{IsWhole, Stop, WritesInContent}
 use Rattle.parse_slots.specs.Left.{Fill, MayEndLines, took}
+use Rattle.parse_references.specs.Sound.{AreSound}
 
 -- the text of a title; no title has an empty one
 abbrev pub title_string : Constructs → Names → Option (List Code) → List ℕ
@@ -116,8 +117,8 @@ FillsTitle = FillsTo title_slots MayClose
 -- ---- what is written
 
 -- nodes are written that spell something and fill slots, up to what has these codes
-pub record WritesTail {A : Type 0} (text content : List ℕ) (Spells : Nodes → Type 0) (Fills : Between → Nodes → Type 0) (left : List Code) (stop : Stop)
-    (old new : Walk A) : Type 0 where
+pub record WritesTail {A : Type 0} (names : Names) (text content : List ℕ) (Spells : Nodes → Type 0) (Fills : Between → Nodes → Type 0) (left : List Code)
+    (stop : Stop) (old new : Walk A) : Type 0 where
   pub front : List ℕ
   pub after : List ℕ
   pub parts : content ≡ front ++ after
@@ -127,6 +128,7 @@ pub record WritesTail {A : Type 0} (text content : List ℕ) (Spells : Nodes →
   pub whole : IsWhole new
   pub spells : Spells nodes
   pub fill : (around : Between) → MayEndLines around front → Fills around nodes
+  pub sound : AreSound names text nodes
 
 -- two brackets come first
 abbrev pub is_collapsed : List ℕ → Bool
@@ -166,3 +168,4 @@ pub record WritesPlace {A : Type 0} (on : Constructs) (names : Names) (text : Li
   pub definitions : named n.Definition nodes ≡ []
   pub columns : named n.GfmTableDelimiterCellValue nodes ≡ []
   pub fill : (around : Between) → MayEndLines around front → Fill around target_slots nodes title_slots
+  pub sound : AreSound names text nodes

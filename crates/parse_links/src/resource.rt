@@ -40,8 +40,8 @@ pub fn push_resource<T: Tables, A: Allocator>(
     ensures open { OnOk result (still_open walk.new ≡ still_open walk.old) }
     ensures written { OnOk result ((bytes : List ℕ) (stop : Stop) → Some (resource_of found.now) ≡ resource_at (content_codes text.now)
         → StandsInContent bytes text.now stop walk.old → IsWhole walk.old
-        → let Spells = SpellsResource on.now (T.reference_of tables.now) bytes (resource_of found.now) in
-        WritesTail bytes text.now Spells FillsTail (content_codes found.now.rest.now) stop walk.old walk.new) }
+        → let names = T.reference_of tables.now in let Spells = SpellsResource on.now names bytes (resource_of found.now) in
+        WritesTail names bytes text.now Spells FillsTail (content_codes found.now.rest.now) stop walk.old walk.new) }
 {
     walk.enter(Name::Resource)?;
     walk.text(Name::ResourceMarker, 1)?;
@@ -66,8 +66,8 @@ fn push_inside<T: Tables, A: Allocator>(
     ensures open { OnOk result (still_open walk.new ≡ still_open walk.old) }
     ensures written { OnOk result ((bytes : List ℕ) (stop : Stop) → Some (resource_of found.now) ≡ resource_inside (content_codes text.now)
         → StandsInContent bytes text.now stop walk.old → IsWhole walk.old
-        → let Spells = SpellsTarget on.now (T.reference_of tables.now) bytes (resource_of found.now) in
-        WritesTail bytes text.now Spells FillsTarget (right_parenthesis ∷ content_codes found.now.rest.now) stop walk.old walk.new) }
+        → let names = T.reference_of tables.now in let Spells = SpellsTarget on.now names bytes (resource_of found.now) in
+        WritesTail names bytes text.now Spells FillsTarget (right_parenthesis ∷ content_codes found.now.rest.now) stop walk.old walk.new) }
 {
     if first(text.as_bytes()) == b')' {
         return Ok(());
@@ -90,8 +90,8 @@ fn push_target<T: Tables, A: Allocator>(
     ensures open { OnOk result (still_open walk.new ≡ still_open walk.old) }
     ensures written { OnOk result ((bytes : List ℕ) (place : Part) (stop : Stop) → destination_at (Some 32) (content_codes text.now) ≡ Some place
         → Some (resource_of found.now) ≡ after_destination place → StandsInContent bytes text.now stop walk.old → IsWhole walk.old
-        → let Spells = SpellsTarget on.now (T.reference_of tables.now) bytes (resource_of found.now) in
-        WritesTail bytes text.now Spells FillsTarget (right_parenthesis ∷ content_codes found.now.rest.now) stop walk.old walk.new) }
+        → let names = T.reference_of tables.now in let Spells = SpellsTarget on.now names bytes (resource_of found.now) in
+        WritesTail names bytes text.now Spells FillsTarget (right_parenthesis ∷ content_codes found.now.rest.now) stop walk.old walk.new) }
 {
     let rest = push_place(walk, on, tables, text, found.destination)?;
     match found.title {
@@ -134,8 +134,8 @@ fn push_title<T: Tables, A: Allocator>(
     ensures open { OnOk result (still_open walk.new ≡ still_open walk.old) }
     ensures written { OnOk result ((bytes : List ℕ) (read : Part) (stop : Stop) → title_at (content_codes text.now) ≡ Some read
         → content_codes title.now ≡ read.text → StandsInContent bytes text.now stop walk.old → IsWhole walk.old
-        → let Spells = SpellsTitle on.now (T.reference_of tables.now) bytes read.text in
-        WritesTail bytes text.now Spells FillsTitle (after_white read.rest) stop walk.old walk.new) }
+        → let names = T.reference_of tables.now in let Spells = SpellsTitle on.now names bytes read.text in
+        WritesTail names bytes text.now Spells FillsTitle (after_white read.rest) stop walk.old walk.new) }
 {
     let size = title.len().saturating_add(2);
     push_quoted(walk, on, tables, &RESOURCE.title, up_to(text, size))?;

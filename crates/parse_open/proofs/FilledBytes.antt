@@ -110,10 +110,10 @@ data_same around (Many c ∷ []) enter exit kids others ns index count data_row 
 
 -- each may be entered where it is
 abbrev mutual
-  IsHeld : List Mark → Node → Type 0
+  pub IsHeld : List Mark → Node → Type 0
   IsHeld marks (Around enter kids exit) = (may_enter marks enter.name ≡ true) × AreHeld (Entered enter.name ∷ marks) kids
 
-  AreHeld : List Mark → Nodes → Type 0
+  pub AreHeld : List Mark → Nodes → Type 0
   AreHeld marks Nil = Unit {0}
   AreHeld marks (Cons node ns) = IsHeld marks node × AreHeld marks ns
 
@@ -214,14 +214,14 @@ grown_over (Cons (Around enter kids exit) ns) k before outer es =
     ∙ grown_over ns k.1 (followed_by before (Around enter kids exit)) outer es
     ∙ ap (λ (ms : Nodes). grown_by (growth ms outer) es) (joined_next before (Around enter kids exit) ns)
 
-tree_is : (ns : Nodes) → AreNodes ns → tree (events_of ns) ≡ ns
+pub tree_is : (ns : Nodes) → AreNodes ns → tree (events_of ns) ≡ ns
 tree_is ns k =
     ap tree (sym (append-nil (events_of ns)))
     ∙ ap (λ (g : Growth). g.kids) (grown_over ns k Nil [] [])
 
 -- ---- the document
 
-all_held : (ns : Nodes) → AreNodes ns → HaveChildren (events_of ns) → AreHeld [] ns
+pub all_held : (ns : Nodes) → AreNodes ns → HaveChildren (events_of ns) → AreHeld [] ns
 all_held ns k children =
     (held_over ns k [] [] (subst (λ (es : List Event). HaveChildren es) (sym (append-nil (events_of ns))) children)).0
 

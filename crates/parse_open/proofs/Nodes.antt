@@ -10,6 +10,9 @@ use Rattle.definition_page.specs.Page as page
 use Rattle.event_grammar.specs.References.{named_in}
 use Rattle.event_meaning.specs.Blocks.{join}
 use Rattle.parse_output.proofs.Marks.{same_self}
+use Rattle.parse_references.specs.Sound.{AreSound}
+use Rattle.parse_references.proofs.Sound.{sound_both}
+use Rattle.parse_open.proofs.Sound.{mute_sound}
 
 pub join-nil : (bs : page.Blocks) → join bs page.Nil ≡ bs
 join-nil page.Nil = refl
@@ -102,6 +105,7 @@ module _ (r : Reading) (text : List ℕ) (front : Nodes) where
             (sym (named_both n.Definition ns ms ∙ ap (λ (xs : List Node). named n.Definition ns ++ xs) (mute_named ms are)
             ∙ append-nil (named n.Definition ns)))
             (spell.defined m m' means);
+        sound = sound_both names text ns ms spell.sound (mute_sound names text ms are);
       }
 
   -- nodes spell one more block
@@ -110,6 +114,7 @@ module _ (r : Reading) (text : List ℕ) (front : Nodes) where
         → AreBlocksAlike m m' more (blocks_of r.tables.names text standing.top ms)
     pub defined : (m m' : Meaning) → AreMeanings r.parse.constructs r.tables.names m m'
         → AreDefinitionsAlike m m' (definitions (tree.one b)) (map (definition_of r.tables.names text) (named n.Definition ms))
+    pub sound : AreSound r.tables.names text ms
 
   pub spell_more : (standing : Standing) (bs : tree.Blocks) (b : tree.Block) (more : page.Blocks) (ns ms : Nodes)
       → read_blocks r standing (tree.join bs (tree.one b)) ≡ join (read_blocks r standing bs) more → SpellMore standing b more ms
@@ -131,4 +136,5 @@ module _ (r : Reading) (text : List ℕ) (front : Nodes) where
             alike_blocks_compose.defined m m' (definitions bs) (map define (named n.Definition ns)) (definitions (tree.one b))
             (map define (named n.Definition ms))
             (spell.defined m m' means) (own.defined m m' means)));
+        sound = sound_both names text ns ms spell.sound own.sound;
       }

@@ -35,6 +35,9 @@ use Rattle.parse_open.specs.NodeLaws.{LevelsAlwaysGoOn}
 use Rattle.parse_open.specs.Steps.{IsBegun, IsNodeOf, IsStartName, LevelsGoOn}
 use Rattle.parse_open.proofs.Filled as filled
 use Rattle.parse_open.proofs.Filled.{HasItems, blank_between, container_filled, ending_between, list_filled, mute_between}
+use Rattle.parse_references.specs.Sound.{IsSound}
+use Rattle.parse_references.proofs.Sound.{sound_one}
+use Rattle.parse_open.proofs.Sound.{ending_sound, holder_sound}
 use Rattle.parse_open.proofs.Nodes.{SpellMore, begins_more, first_kids, followed_is, from_start, spell_more, spell_mute}
 
 in_container_only : (h : Holder) → (holder_standing h).top ≡ false
@@ -247,6 +250,7 @@ module _ (r : Reading) (text : List ℕ) (front : Nodes) where
         blocks = λ m m' means.
             subst (AreBlocksAlike m m' (page.Cons (page.Ending e) page.Nil)) (sym (ending_blocks standing.top e node is)) (refl, tt);
         defined = λ m m' means. none_defined (Ending (Some e)) (one node) refl (ending_named n.LineEnding e node refl is) m m';
+        sound = ending_sound r.tables.names text n.LineEnding e node refl is;
       }
 
   spell_blank : (standing : Standing) (bs : Blocks) (e : LineEnding) (node : Node) → IsEndingNode text n.BlankLineEnding e node
@@ -256,6 +260,7 @@ module _ (r : Reading) (text : List ℕ) (front : Nodes) where
         blocks = λ m m' means.
             subst (AreBlocksAlike m m' (page.Cons (page.Blank e) page.Nil)) (sym (blank_blocks standing.top e node is)) (tt, tt);
         defined = λ m m' means. none_defined (Blank (Some e)) (one node) refl (ending_named n.BlankLineEnding e node refl is) m m';
+        sound = ending_sound r.tables.names text n.BlankLineEnding e node refl is;
       }
 
   ending_child : (h : Holder) → has (holder_child h) n.LineEnding ≡ false
@@ -318,7 +323,7 @@ module _ (r : Reading) (text : List ℕ) (front : Nodes) where
             subst (Spell r text front on_page (join bs (one_block b))) (append-none was.left) (
             spell_more r text front on_page bs b page.Nil was.left Nil
             (alike_blocks_compose.read_top r on_page bs (one_block b) refl ∙ ap (spelled.join (read_blocks r on_page bs)) nothing)
-            (record { blocks = λ m m' means. tt; defined = λ m m' means. none_defined b Nil none refl m m' }) was.spell);
+            (record { blocks = λ m m' means. tt; defined = λ m m' means. none_defined b Nil none refl m m'; sound = tt }) was.spell);
       }
   at_nothing (l ∷ levels) parts bs b ns line other outside none nothing was = absurd (true≢false (ap some_level outside))
 
@@ -357,6 +362,7 @@ module _ (r : Reading) (text : List ℕ) (front : Nodes) where
         defined = λ m m' means.
             subst (λ (ds : List Definition). AreDefinitionsAlike m m' ds (map (definition_of r.tables.names text) (named n.Definition (one node))))
             (sym (append-nil (leaf_definitions leaf))) (own.defined m m' means);
+        sound = sound_one r.tables.names text node own.sound;
       }
 
   -- a block that is no item, where no list is the innermost
@@ -414,15 +420,16 @@ module _ (r : Reading) (text : List ℕ) (front : Nodes) where
   start_named (Footnote label) goes_on name first start = start.0
 
   in_first : (c : Container) (goes_on : Bool) (name : Name) (first : Node) (line : ℕ) → IsStartName (node_name first)
-      → named n.Definition (one first) ≡ [] → HasStart r text front (InContainer c goes_on) name NoBlock (one first)
+      → named n.Definition (one first) ≡ [] → HasStart r text front (InContainer c goes_on) name NoBlock (one first) → IsSound r.tables.names text first
       → AreIn r text front (InContainer c goes_on) name NoBlock (one first) line
-  in_first c goes_on name first line is none start =
+  in_first c goes_on name first line is none start sound =
       record {
         spell =
             record {
               blocks = λ m m' means. subst (AreBlocksAlike m m' page.Nil) (sym (start_blocks (standing_in c).top first is)) tt;
               defined = λ m m' means.
                   subst (λ (xs : List Node). AreDefinitionsAlike m m' [] (map (definition_of r.tables.names text) xs)) (sym none) tt;
+              sound = sound_one r.tables.names text first sound;
             };
         spread =
             spread_blocks_compose.quiet text BlockChild NoBlock Nil line first (start_child (node_name first) is)
@@ -433,7 +440,7 @@ module _ (r : Reading) (text : List ℕ) (front : Nodes) where
   in_list_first : (name : Name) (line : ℕ) → AreIn r text front InList name NoBlock Nil line
   in_list_first name line =
       record {
-        spell = record { blocks = λ m m' means. tt; defined = λ m m' means. tt };
+        spell = record { blocks = λ m m' means. tt; defined = λ m m' means. tt; sound = tt };
         spread = spread_blocks_compose.none text (Only n.ListItem) line;
         start = (refl, refl);
       }
@@ -520,6 +527,7 @@ module _ (r : Reading) (text : List ℕ) (front : Nodes) where
             (sym (append-nil (definitions kids))) (
             subst (λ (xs : List Node). AreDefinitionsAlike m m' (definitions kids) (map (definition_of r.tables.names text) xs))
             (sym (holder_defined (InContainer c goes_on) enter exit ns is)) (own.spell.defined m m' means));
+        sound = holder_sound r.tables.names text (InContainer c goes_on) enter exit ns is own.spell.sound;
       }
 
   -- ---- an item ends in its list
@@ -646,6 +654,7 @@ module _ (r : Reading) (text : List ℕ) (front : Nodes) where
             (sym (append-nil (definitions items))) (
             subst (λ (xs : List Node). AreDefinitionsAlike m m' (definitions items) (map (definition_of r.tables.names text) xs))
             (sym (holder_defined InList enter exit ns is)) (own.spell.defined m m' means));
+        sound = holder_sound r.tables.names text InList enter exit ns is own.spell.sound;
       }
 
   joined_some : (bs : Blocks) (b : Block) → join bs (one_block b) ≡ NoBlock → ⊥
@@ -761,8 +770,8 @@ module _ (r : Reading) (text : List ℕ) (front : Nodes) where
           filled.at_block o.outer (innermost g.outer) o.kids (join o.kids (one_block (Leaf leaf))) g.kids (Around enter kids exit) bare own.is_block own.filled
           was.fill;
     };
-    container = λ o g line c goes_on enter first stands is of_list fits start none has fill was. record {
-      kids = in_first c goes_on enter.name first line start none has;
+    container = λ o g line c goes_on enter first stands is of_list fits start none has fill sound was. record {
+      kids = in_first c goes_on enter.name first line start none has sound;
       around = (is, fits, stands, of_list, was.kids, was.around, was.fill);
       fill = filled.in_first c goes_on enter.name first is (start_named c goes_on enter.name first has) fill;
     };

@@ -1,11 +1,10 @@
--- The events of a text spell its page.
-use Rattle.std.proofs.Common.{◌≡◌, ℕ, false, List, [], refl, sym, ◌∙◌, subst}
+-- The nodes of a text spell its page.
+use Rattle.std.proofs.Common.{◌≡◌, ℕ, false, List, [], refl, sym, ◌∙◌}
 use Rattle.parse_open.proofs.Prelude.{AreMeanings, bare_blocks, document_targets, ends_blank, ends_in_blank, group_items, growth, IsFront, IsSpelledPage}
 use Rattle.parse_open.proofs.Prelude.{Nodes, opened, ParseOptions, reading, Spells, TextTables}
 use Rattle.definition_page.specs.Page as page
 use Rattle.event_meaning.specs.Spelled.{page_of}
 use Rattle.parse_alike.specs.Spelled.{IsPageOfText, meaning_read, meaning_spelled}
-use Rattle.parse_bytewise.proofs.Events.{events_spell_the_same}
 use Rattle.parse_open.proofs.BareRead.{bare_blocks_read}
 use Rattle.parse_open.specs.Texts.{TextsAreSpelled, text_blocks}
 use Rattle.parse_open.proofs.Page.{pages_are_spelled}
@@ -33,6 +32,4 @@ module _ (tables : TextTables) (options : ParseOptions) (text : List ℕ) where
       }
 
 pub texts_are_spelled : TextsAreSpelled
-texts_are_spelled = λ tables options text front ns line events is spells ends right same.
-    subst (IsPageOfText tables options text) (sym (events_spell_the_same tables.names text events ns right same))
-    (nodes_spelled tables options text front ns line is spells ends)
+texts_are_spelled = λ tables options text front ns line is spells ends. nodes_spelled tables options text front ns line is spells ends

@@ -13,6 +13,7 @@ use Rattle.event_grammar.specs.References.{named}
 use Rattle.event_grammar.specs.Trees.{Nodes}
 use Rattle.event_meaning.specs.Blocks.{blocks_of}
 use Rattle.event_meaning.specs.Children.{ends_in}
+use Rattle.parse_references.specs.Sound.{AreSound}
 use Rattle.parse_alike.specs.Meanings.{AreMeanings}
 use Rattle.parse_alike.specs.Page.{AreBlocksAlike, AreAlikeAfterFront}
 use Rattle.parse_alike.specs.Targets.{AreDefinitionsAlike}
@@ -26,6 +27,7 @@ pub record SpellsNothing (names : Names) (text : List ℕ) (ns : Nodes) : Type 0
   pub blocks : blocks_of names text true ns ≡ page.Nil
   pub none : named n.Definition ns ≡ []
   pub other : ends_in_blank ns ≡ false
+  pub sound : AreSound names text ns
 
 -- What is in front of these blocks spells nothing, as a byte order mark does, or frontmatter with the ending of its last line. Where that line has no ending,
 -- there are no blocks. No definition is among these nodes, and no ending of a blank line is the last of them.
@@ -35,6 +37,7 @@ pub record IsFront (names : Names) (text : List ℕ) (front : Nodes) (bs : tree.
       ⊎ ((blocks_of names text true front ≡ page.Cons (page.Leaf page.Definition) page.Nil) × (bs ≡ tree.Nil)))
   pub none : named n.Definition front ≡ []
   pub other : ends_in_blank front ≡ false
+  pub sound : AreSound names text front
 
 -- A page that is spelled is alike to that of these blocks, in blocks and definitions.
 pub record IsSpelledPage (tables : TextTables) (options : ParseOptions) (text : List ℕ) (bs : tree.Blocks) (spelled : page.Page) : Type 0 where

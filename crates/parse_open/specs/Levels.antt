@@ -24,6 +24,7 @@ use Rattle.event_grammar.specs.declared.slot.Between.TheVariants.{Lines}
 use Rattle.event_grammar.specs.declared.slot.Form.TheVariants.{Plain}
 use Rattle.parse_output.specs.Forest.{append}
 use Rattle.parse_slots.specs.Left.{IsFilled}
+use Rattle.parse_references.specs.Sound.{AreSound}
 use Rattle.parse_alike.specs.Meanings.{AreMeanings}
 use Rattle.parse_alike.specs.Page.{AreBlocksAlike}
 use Rattle.parse_alike.specs.Targets.{AreDefinitionsAlike, AreLabelsAlike}
@@ -90,12 +91,13 @@ innermost (part ∷ parts) = part.enter.name
 
 -- A text is read so. In front of the blocks of the document are these nodes: a byte order mark, frontmatter.
 module _ (r : Reading) (text : List ℕ) (front : Nodes) where
-  -- nodes spell blocks that are alike to these, and their definitions
+  -- nodes spell blocks that are alike to these, and their definitions, and are sound
   pub record Spell (standing : Standing) (bs : tree.Blocks) (ns : Nodes) : Type 0 where
     pub blocks : (m m' : Meaning) → AreMeanings r.parse.constructs r.tables.names m m'
         → AreBlocksAlike m m' (read_blocks r standing bs) (blocks_of r.tables.names text standing.top ns)
     pub defined : (m m' : Meaning) → AreMeanings r.parse.constructs r.tables.names m m'
         → AreDefinitionsAlike m m' (definitions bs) (map (definition_of r.tables.names text) (named n.Definition ns))
+    pub sound : AreSound r.tables.names text ns
 
   -- the number of a list, by the name of its event
   abbrev pub spelled_number : Name → Nodes → Option ℕ

@@ -15,6 +15,7 @@ use Rattle.html_looseness.specs.declared.loose.Place.{Place}
 use Rattle.parse_output.specs.Children.{HaveChildren}
 use Rattle.parse_output.specs.Forest.{bytewise}
 use Rattle.parse_slots.specs.Left.{ends, left_by}
+use Rattle.parse_references.specs.Sound.{AreSound}
 use Rattle.parse_open.specs.Open.{bare_blocks, opened}
 use Rattle.parse_open.specs.Fronts.{IsFront, IsSpelledPage}
 use Rattle.parse_open.specs.Levels.{Spells}
@@ -38,3 +39,11 @@ DocumentsAreFilled =
     (r : Reading) (text : List ℕ) (front : Nodes) (bs : Blocks) (places : List Place) (kids : Nodes) (line : ℕ) (events : List Event) (ns : Nodes)
     → Spells r text front (opened bs [] places) (growth kids []) line → events ≡ events_of ns → AreNodes ns → HaveChildren events
     → bytewise (tree events) ≡ kids → ends (left_by Lines document_row ns) ≡ true
+
+-- Where nothing is open after all rows of a document, and what is in front of its blocks is sound, all of its nodes are. So are those of a list of events that
+-- has these nodes with their data cut into bytes.
+abbrev pub DocumentsAreSound : Type 0
+DocumentsAreSound =
+    (r : Reading) (text : List ℕ) (front : Nodes) (bs : Blocks) (places : List Place) (kids : Nodes) (line : ℕ) (events : List Event) (ns : Nodes)
+    → AreSound r.tables.names text front → Spells r text front (opened bs [] places) (growth kids []) line → events ≡ events_of ns → AreNodes ns
+    → HaveChildren events → bytewise (tree events) ≡ kids → AreSound r.tables.names text ns

@@ -24,6 +24,7 @@ use Rattle.event_meaning.specs.Children.{text_of}
 use Rattle.event_meaning.specs.Spelled.{definition_of}
 use Rattle.parse_output.specs.Forest.{entered, exited, one, with_nodes}
 use Rattle.parse_slots.specs.Left.{IsFilled}
+use Rattle.parse_references.specs.Sound.{IsSound}
 use Rattle.parse_alike.specs.Composed.{ends_unclosed, standing_after}
 use Rattle.parse_alike.specs.Meanings.{AreMeanings}
 use Rattle.parse_alike.specs.Page.{AreBlocksAlike}
@@ -52,7 +53,7 @@ abbrev pub IsStartName : Name → Type 0
 IsStartName name = (name ≡ n.BlockQuotePrefix) ⊎ (name ≡ n.ListItemPrefix) ⊎ (name ≡ n.GfmFootnoteDefinitionPrefix)
 
 module _ (r : Reading) (text : List ℕ) (front : Nodes) where
-  -- a node spells a leaf that stands here, and its definitions, and fills its row
+  -- a node spells a leaf that stands here, and its definitions, fills its row and is sound
   pub record IsNodeOf (standing : Standing) (leaf : LeafBlock) (node : Node) : Type 0 where
     pub is_block : is_listed block_names (node_name node) ≡ true
     pub blocks : (m m' : Meaning) → AreMeanings r.parse.constructs r.tables.names m m'
@@ -60,6 +61,7 @@ module _ (r : Reading) (text : List ℕ) (front : Nodes) where
     pub defined : (m m' : Meaning) → AreMeanings r.parse.constructs r.tables.names m m'
         → AreDefinitionsAlike m m' (leaf_definitions leaf) (map (definition_of r.tables.names text) (named n.Definition (one node)))
     pub filled : IsFilled Lines Plain node
+    pub sound : IsSound r.tables.names text node
 
   -- what is written spells what is open, after one more row or a part of its nodes
   pub record LevelsGoOn : Type 0 where
@@ -90,7 +92,7 @@ module _ (r : Reading) (text : List ℕ) (front : Nodes) where
         → is_in_list o.outer ≡ is_item (InContainer c goes_on) → IsNamed (InContainer c goes_on) enter.name
         → IsOfList (InContainer c goes_on) (innermost g.outer) → (spot_of enter).index ≤ length text → IsStartName (node_name first)
         → named n.Definition (one first) ≡ [] → HasStart r text front (InContainer c goes_on) enter.name NoBlock (one first)
-        → IsFilled Lines (holder_form (InContainer c goes_on)) first
+        → IsFilled Lines (holder_form (InContainer c goes_on)) first → IsSound r.tables.names text first
         → Spells r text front o g (line_at text (spot_of enter).index)
         → Spells r text front (within (InContainer c goes_on) o) (with_nodes (entered g enter) (one first)) line
     pub list : (o : Opened) (g : Growth) (line : ℕ) (number : Option ℕ) (enter : Event) → is_in_list o.outer ≡ false → enter.name ≡ list_name number

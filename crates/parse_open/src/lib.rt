@@ -3,7 +3,7 @@
 
 ghost use Rattle.parse_open.specs.BlockLaws.{BareBlocksReadTheSame, RowsLeadToBlocks};
 ghost use Rattle.parse_open.specs.Lines.{LinesAreCounted, SpreadBlocksCompose};
-ghost use Rattle.parse_open.specs.NodeLaws.{DocumentsAreFilled, LevelsAlwaysGoOn, PagesAreSpelled};
+ghost use Rattle.parse_open.specs.NodeLaws.{DocumentsAreFilled, DocumentsAreSound, LevelsAlwaysGoOn, PagesAreSpelled};
 ghost use Rattle.parse_open.specs.Texts.{TextsAreSpelled};
 
 /// The rows of blocks lead to the blocks, put into lists.
@@ -42,8 +42,12 @@ pub fn filled_law()
     ensures { DocumentsAreFilled }
 {}
 
-/// Where nothing is open after all rows of a text, events in the grammar that have its nodes spell
-/// the page of the text.
+/// Where nothing is open after all rows of a document, its nodes are as the grammar asks.
+pub fn sound_law()
+    ensures { DocumentsAreSound }
+{}
+
+/// Where nothing is open after all rows of a text, its nodes spell the page of the text.
 #[tactic(auto, using(crate::proofs::Texts::texts_are_spelled))]
 pub fn texts_law()
     ensures { TextsAreSpelled }

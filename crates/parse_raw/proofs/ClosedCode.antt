@@ -21,6 +21,8 @@ use Rattle.event_grammar.specs.Slots.{may_end, take_child}
 use Rattle.event_meaning.specs.Blocks.{code_fenced_of, math_flow_of}
 use Rattle.parse_slots.specs.Left.{Fill, IsFilled, took}
 use Rattle.parse_slots.proofs.Steps.{fill_both, fill_taken, filled_by}
+use Rattle.parse_references.specs.Sound.{AreSound, IsSound, asked_names}
+use Rattle.parse_references.proofs.Sound.{sound_around, sound_fill}
 use Rattle.parse_lines.proofs.Quiet.{quiet_fill}
 use Rattle.parse_laid.specs.Leaves.{IsClosedLaid}
 use Rattle.parse_laid.specs.Places.{IsOn}
@@ -92,6 +94,16 @@ block_filled false node first others rest named kids first_is filled fill may =
     filled_by Lines Plain n.CodeFenced rest node named
     (subst (λ (ns : Nodes). Fill Lines (row n.CodeFenced Plain) ns rest) (sym kids)
     (fill_both (fill_taken Lines (row n.CodeFenced Plain) n.CodeFencedFence Plain (chunk_slots false) first first_is refl filled) fill)) may
+
+-- where its fence is sound, it is: no string follows that fence
+pub block_sound : (names : Names) (text : List ℕ) (math : Bool) (node first : Node) (others : Nodes) (rest : List Slot) → node_name node ≡ block_name math
+    → kids_of node ≡ Cons first others → IsSound names text first → Fill Lines (chunk_slots math) others rest → may_end rest ≡ true → IsSound names text node
+block_sound names text true node first others rest named kids sound fill may =
+    sound_around names text node (ap (is_listed asked_names) named)
+    (subst (AreSound names text) (sym kids) (sound, sound_fill names text 2 Lines (chunk_slots true) rest others refl fill may))
+block_sound names text false node first others rest named kids sound fill may =
+    sound_around names text node (ap (is_listed asked_names) named)
+    (subst (AreSound names text) (sym kids) (sound, sound_fill names text 2 Lines (chunk_slots false) rest others refl fill may))
 
 module _ (names : Names) (text : List ℕ) (top : Bool) where
   abbrev pub leaf_of : Bool → Nodes → page.PageLeaf
@@ -195,9 +207,8 @@ module _ {A : Type 0} (r : Reading) (first : Bool) (text : List ℕ) (top : Bool
       let inner_fill : Fill Lines slots inner slots =
       fill_both (o.lines.fill slots has.chunks)
       (fill_both (passed.fill slots between) (quiet_fill slots cl.quiet.nodes between.space between.quote cl.quiet.quiet)) in
-      let filled =
-      block_filled o.math node o.node (append inner (one cl.node)) [] block.0 refl o.named_so o.filled
-      (fill_both inner_fill (fill_taken Lines slots (fence_name o.math) Closing [] cl.node cl.named_so has.closing cl.filled)) refl in
+      let others_fill = fill_both inner_fill (fill_taken Lines slots (fence_name o.math) Closing [] cl.node cl.named_so has.closing cl.filled) in
+      let filled = block_filled o.math node o.node (append inner (one cl.node)) [] block.0 refl o.named_so o.filled others_fill refl in
       leaf_written text r.parse.constructs r.tables.names top (read_leaf r (record { top = top; first = first }) (FencedCode info true ls)) to old o.space o.entered e d
       fence_names.block kids o.quiet o.enters kids_writes exited block.1 block.2 block.3 none
       (λ m m'. block_alike r.tables.names text top m m' o.math fence_names.block kids (end_in o.space.out) (end_in e.out)
@@ -209,7 +220,7 @@ module _ {A : Type 0} (r : Reading) (first : Bool) (text : List ℕ) (top : Bool
       subst (StandsAt text (AtEnding end.beside.ending others)) (sym same_d) cl.stands))
       (ap (λ (s : Standing). s.on) same ∙ kept.0 ∙ on_l, ap (λ (s : Standing). s.outermost) same ∙ kept.1 ∙ open_l)
       end_d (cl.written ∙ ap (λ (s : Standing). end_at s.line_end 0) (sym same_d)) o.starts o.begins
-      filled
+      filled (block_sound r.tables.names text o.math node o.node (append inner (one cl.node)) [] block.0 refl o.sound others_fill refl)
 
   pub closed_written : (info : List ℕ) (ls : List BlockLine) (here : LineRest) (left : List LineRest) (to : Place) (count : ℕ) (old l x e d : Walk A) → count ≡ length ls
       → StandsAt text (Within here left) (standing old) → IsWrittenToRest old → IsInOrder text old.out

@@ -15,6 +15,7 @@ use Rattle.event_grammar.specs.declared.slot.Form.TheVariants.{Plain}
 use Rattle.event_grammar.specs.declared.slot.Slot.{Slot}
 use Rattle.event_grammar.specs.Grammar.{many, row}
 use Rattle.parse_slots.proofs.Steps.{filled_by}
+use Rattle.parse_references.proofs.Sound.{sound_filled}
 use Rattle.parse_raw.specs.RawLines.{TakesChunks}
 use Rattle.parse_alike.specs.BlockLines.{AreCodeLinesAlike}
 use Rattle.parse_laid.specs.Leaves.{AreCode, IsCodeLine}
@@ -155,6 +156,7 @@ module _ {A : Type 0} (text : List ℕ) where
         ap (λ (s : Standing). s.outermost) same_d ∙ all.around.1 ∙ ap (λ (s : Standing). s.outermost) same,
       )
       end_d (all.written ∙ ap (λ (k : ℕ). end_at k 0) (sym line_end)) space.starts space.begins filled
+      (sound_filled names text 2 Lines Plain n.CodeIndented node refl refl filled)
 
   pub code_written : (on : Constructs) (names : Names) (top : Bool) (ls : List BlockLine) (count more : ℕ) (here : LineRest) (left : List LineRest) (to : Place)
       (old a b c e d : Walk A) → count ≡ length ls → more ≡ count - 1 → StandsAt text (Within here left) (standing old)

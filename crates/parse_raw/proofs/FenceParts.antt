@@ -19,13 +19,14 @@ use Rattle.event_grammar.specs.declared.slot.Slot.{Slot}
 use Rattle.event_grammar.specs.Slots.{take_child}
 use Rattle.parse_slots.specs.Left.{took}
 use Rattle.parse_slots.proofs.Steps.{fill_both, fill_none}
+use Rattle.parse_references.proofs.Sound.{sound_both}
 use Rattle.text_bytes.proofs.Ascii.{boundary_after, boundary_before, space_ascii}
 use Rattle.parse_lines.proofs.Bytes.{whole_between}
 use Rattle.parse_raw.specs.FenceParts.{after_string}
 use Rattle.parse_raw.proofs.FenceRows.{FillsToken, part_fill}
 use Rattle.parse_raw.proofs.Bytes.{suffix_passes}
 use Rattle.parse_raw.proofs.LeafNodes.{line_in_text}
-use Rattle.parse_raw.proofs.Nodes.{child_append, raw_append, raw_none, raw_void, void_cases}
+use Rattle.parse_raw.proofs.Nodes.{child_append, raw_append, raw_none, raw_void, sound_void, void_cases}
 use Rattle.parse_raw.proofs.Tokens.{index_follows}
 
 or_false : (t : Bool) → (t || false) ≡ t
@@ -128,6 +129,7 @@ module _ {A : Type 0} (names : Names) where
     around = (refl, refl);
     before = before;
     fill = fill_none Spaces slots;
+    sound = tt;
   }
 
   -- parts without an info, and then others
@@ -146,6 +148,7 @@ module _ {A : Type 0} (names : Names) where
         around = (two.around.0 ∙ one.around.0, two.around.1 ∙ one.around.1);
         before = two.before;
         fill = fill_both one.fill two.fill;
+        sound = sound_both names text one.nodes two.nodes one.sound two.sound;
       }
 
   -- an info, and then parts without one
@@ -162,6 +165,7 @@ module _ {A : Type 0} (names : Names) where
         around = (two.around.0 ∙ one.around.0, two.around.1 ∙ one.around.1);
         before = two.before;
         fill = fill_both one.fill two.fill;
+        sound = sound_both names text one.nodes two.nodes one.sound two.sound;
       }
 
   -- an event that holds no other
@@ -207,6 +211,7 @@ module _ {A : Type 0} (names : Names) where
           dark = (dark_both front rest before.dark).1;
         };
         fill = fills text (end_in a.out);
+        sound = sound_void names text name (end_in a.out) to raw.no_data;
       }
 
   -- all that is left
@@ -238,6 +243,7 @@ module _ {A : Type 0} (names : Names) where
         around = done.around;
         before = done.before;
         fill = part_fill names text on n.CodeFencedFenceInfo slots more string done.nodes (λ some. takes) done.is_part;
+        sound = done.sound;
       }
 
   pub other_part : (on : Constructs) (name : Name) (slots more : List Slot) (string rest : List ℕ) (a b : Walk A) → same_name name n.CodeFencedFenceInfo ≡ false
@@ -255,4 +261,5 @@ module _ {A : Type 0} (names : Names) where
         around = done.around;
         before = done.before;
         fill = part_fill names text on name slots more string done.nodes takes done.is_part;
+        sound = done.sound;
       }

@@ -28,7 +28,7 @@ use Rattle.parse_slots.specs.Left.{Fill, IsFilled, took}
 use Rattle.parse_slots.proofs.Steps.{filled_by}
 use Rattle.parse_raw.specs.FenceParts.{after_string, BeginsBare, fence_slots, info_size, info_slots, IsPartName, meta_slots}
 use Rattle.parse_raw.proofs.FenceParts.{dark_both, info_part, other_part, parts_after, parts_both, parts_none, token_part, white_boundary, word_boundary, word_same}
-use Rattle.parse_raw.proofs.FenceRows.{info_stops, meta_takes, space_fills}
+use Rattle.parse_raw.proofs.FenceRows.{info_stops, meta_takes, space_fills, string_holds}
 use Rattle.parse_raw.proofs.Nodes.{raw_none}
 
 in_line : (bs : List ℕ) → list_any ends_line bs ≡ false → IsInLine bs
@@ -53,7 +53,7 @@ module _ {A : Type 0} (on : Constructs) (names : Names) (text rest : List ℕ) (
   pub part_none : (string : List ℕ) (w : Walk A) → true ≡ (length string == 0) → IsBefore text ending left (string ++ rest) w
       → WritesPart on names text ending left name string rest w w
   part_none [] w is before =
-      record { nodes = Nil; is_part = refl; writes = writes_none text w.out before.order; raw = raw_none; around = (refl, refl); before = before }
+      record { nodes = Nil; is_part = refl; writes = writes_none text w.out before.order; raw = raw_none; around = (refl, refl); before = before; sound = tt }
   part_none (b ∷ bs) w is before = absurd (grind (arith, nat_tests))
 
   -- a string in an event
@@ -109,6 +109,7 @@ module _ {A : Type 0} (on : Constructs) (names : Names) (text rest : List ℕ) (
           end = omega (arith, ap (λ (e : End). e.index) end_d, ends.3, line_end);
           dark = (dark_both string rest before.dark).1;
         };
+        sound = ((string_holds names text name done.nodes part.row_is, done.sound), tt);
       }
 
 -- ---- the info

@@ -107,4 +107,5 @@ module _ {A : Type 0} (on : Constructs) (names : Names) (fence_names : FenceName
         mark = ap (is_among (fence_marks math)) facts.own ∙ facts.mark;
         some = facts.some;
         filled = opened.filled;
+        sound = opened.sound;
       }

@@ -14,6 +14,7 @@ use Rattle.event_grammar.specs.declared.slot.Slot.{Slot}
 use Rattle.event_grammar.specs.Grammar.{many}
 use Rattle.parse_lines.proofs.Quiet.{quiet_none}
 use Rattle.parse_slots.proofs.Steps.{filled_by}
+use Rattle.parse_references.proofs.Sound.{sound_filled}
 use Rattle.parse_raw.proofs.Prelude.{Around, end_in, enter_at, exit_at}
 use Rattle.parse_raw.specs.RawLines.{TakesChunks}
 use Rattle.parse_raw.proofs.LeafNodes.{leaf_written, rest_within}
@@ -72,6 +73,8 @@ module _ {A : Type 0} (text : List ℕ) where
       ) in
       let line_end = ap (λ (s : Standing). s.line_end) same_d in
       let takes : TakesChunks n.HtmlFlowData html_row = record { chunk = refl; between = record { space = refl; ending = refl; blank = refl; quote = refl } } in
+      let node = Around (enter_at text n.HtmlFlow (end_in old.out)) all.nodes (exit_at text n.HtmlFlow (end_in e.out)) in
+      let filled = filled_by Lines Plain n.HtmlFlow html_row node refl (all.fill html_row html_row (line.fill html_row takes) takes) refl in
       leaf_written text on names top (page.Html ls) to old old b e d n.HtmlFlow all.nodes (quiet_none text old.out order) enters all.writes
       (exits all.writes.order) refl refl refl all.raw.definitions (λ m m'. (alike, tt))
       (subst (λ (p : Place). StandsAt text p (standing d)) (sym ends.2) (subst (StandsAt text (AtEnding (last_ending (first ∷ others)) ends.0)) (sym same_d) all.stands)) (
@@ -79,8 +82,7 @@ module _ {A : Type 0} (text : List ℕ) where
         ap (λ (s : Standing). s.outermost) same_d ∙ all.around.1 ∙ ap (λ (s : Standing). s.outermost) same_b,
       )
       end_d (all.written ∙ ap (λ (k : ℕ). end_at k 0) (sym line_end)) (omega arith) (rest_within text old here left st at)
-      (filled_by Lines Plain n.HtmlFlow html_row (Around (enter_at text n.HtmlFlow (end_in old.out)) all.nodes (exit_at text n.HtmlFlow (end_in e.out))) refl
-      (all.fill html_row html_row (line.fill html_row takes) takes) refl)
+      filled (sound_filled names text 2 Lines Plain n.HtmlFlow node refl refl filled)
 
   pub html_written : (on : Constructs) (names : Names) (top : Bool) (ls : List BlockLine) (count more : ℕ) (here : LineRest) (left : List LineRest) (to : Place)
       (old b c e d : Walk A) → count ≡ length ls → more ≡ count - 1 → StandsAt text (Within here left) (standing old) → IsWrittenToRest old

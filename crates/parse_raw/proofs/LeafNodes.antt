@@ -17,6 +17,7 @@ use Rattle.parse_raw.proofs.Prelude.{AreNext, left_bytes, left_next, replicate, 
 use Rattle.parse_lines.proofs.Columns.{bare_owes_none}
 use Rattle.parse_lines.proofs.Written.{bare_follows, bare_start}
 use Rattle.parse_slots.specs.Left.{IsFilled}
+use Rattle.parse_references.specs.Sound.{IsSound}
 use Rattle.parse_raw.specs.Written.{SpellsLeaf}
 
 left_of_bare : (rest : Rest) → left_bytes (bare rest) ≡ bytes_of (bare rest)
@@ -42,8 +43,9 @@ line_in_text text s line =
 pub spelled : (text : List ℕ) (on : Constructs) (names : Names) (top : Bool) (leaf : page.PageLeaf) (name : Name) (kids : Nodes) (from to : End)
     → is_listed block_names name ≡ true → same_name name n.Definition ≡ false → named n.Definition kids ≡ []
     → ((m m' : Meaning) → AreBlocksAlike m m' (one_block (page.Leaf leaf)) (blocks_of names text top (one (Around (enter_at text name from) kids (exit_at text name to)))))
+    → IsSound names text (Around (enter_at text name from) kids (exit_at text name to))
     → SpellsLeaf on names text top leaf [] (Around (enter_at text name from) kids (exit_at text name to))
-spelled text on names top leaf name kids from to block other none alike =
+spelled text on names top leaf name kids from to block other none alike sound =
     let node = Around (enter_at text name from) kids (exit_at text name to) in
     let nothing : named n.Definition (one node) ≡ [] =
     ap (λ (ns : List Node). ns ++ []) (cond-false (same_name name n.Definition) (node ∷ named n.Definition kids) (named n.Definition kids) other ∙ none) in
@@ -51,6 +53,7 @@ spelled text on names top leaf name kids from to block other none alike =
       is_block = block;
       blocks = λ m m' are. alike m m';
       definitions = λ m m' are. subst (λ (ns : List Node). AreDefinitionsAlike m m' [] (map (definition_of names text) ns)) (sym nothing) tt;
+      sound = sound;
     }
 
 -- a node that isn't data stays as it is
@@ -115,8 +118,9 @@ module _ {A : Type 0} (text : List ℕ) where
       → StandsAt text to (standing d) → HasSameOpen (standing old) (standing d) → written_to d ≡ written_to c → written_to c ≡ end_at d.line_end 0
       → (written_to old).index ≤ (written_to a).index → (written_to a).index ≤ old.line_end
       → IsFilled Lines Plain (Around (enter_at text name (end_in a.out)) kids (exit_at text name (end_in c.out)))
+      → IsSound names text (Around (enter_at text name (end_in a.out)) kids (exit_at text name (end_in c.out)))
       → WritesLeaf on names text top leaf [] to old d
-  leaf_written on names top leaf to old a b c d name kids quiet enters writes exits block other no_data none alike stands kept same at starts begins filled =
+  leaf_written on names top leaf to old a b c d name kids quiet enters writes exits block other no_data none alike stands kept same at starts begins filled sound =
       let node = Around (enter_at text name (end_in a.out)) kids (exit_at text name (end_in c.out)) in
       let whole = cut_one text name (end_in a.out) (end_in c.out) kids no_data in
       let around = subst (Writes text a.out d.out) whole (writes_around text a.out b.out c.out d.out name kids enters writes exits) in
@@ -124,7 +128,7 @@ module _ {A : Type 0} (text : List ℕ) where
         before = quiet.nodes;
         are_quiet = quiet.quiet;
         node = node;
-        spells = spelled text on names top leaf name kids (end_in a.out) (end_in c.out) block other none alike;
+        spells = spelled text on names top leaf name kids (end_in a.out) (end_in c.out) block other none alike sound;
         writes = writes_both text old.out a.out d.out quiet.nodes (one node) quiet.writes around;
         stands = stands;
         around = kept;

@@ -4,8 +4,10 @@ use Rattle.parse_raw.proofs.Prelude.{after_child, append, AreRaw, Around, before
 use Rattle.parse_raw.proofs.Prelude.{enter_at, exit_at, kids_of, Name, named, Nil, Node, node_name, Nodes, one, raw_part, raw_parts, RawPart, same_end}
 use Rattle.parse_raw.proofs.Prelude.{same_name, void_nodes}
 use Rattle.engine_events.specs.declared.event.Name.TheVariants as n
+use Rattle.definition_inline.specs.CharacterReference.{Names}
 use Rattle.event_grammar.specs.References.{named_in}
 use Rattle.parse_lines.specs.Quiet.{AreOfPrefix, AreQuiet, IsQuiet}
+use Rattle.parse_references.specs.Sound.{AreSound}
 pub use Rattle.parse_raw.specs.RawLines.{IsRawName}
 
 -- ---- one after another
@@ -85,6 +87,13 @@ raw_void text name from to is =
       code = cond-false (same_name name n.CodeFencedFence) _ _ is.no_code;
       math = cond-false (same_name name n.MathFlowFence) _ _ is.no_math;
     })
+
+-- nothing more is asked of it
+pub sound_void : (names : Names) (text : List ℕ) (name : Name) (from to : End) → same_name name n.Data ≡ false
+    → AreSound names text (void_nodes text name from to)
+sound_void names text name from to other =
+    void_cases (AreSound names text) text name from to other (λ h. tt)
+    (λ h. ((record { call = λ same. tt; reference = λ same. tt; heading = λ same. tt }, tt), tt))
 
 void_definition : (node : Node) (name : Name) → node_name node ≡ name → kids_of node ≡ Nil → same_name name n.Definition ≡ false → named_in n.Definition node ≡ []
 void_definition (Around enter kids exit) name is none other =

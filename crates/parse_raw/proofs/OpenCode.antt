@@ -11,7 +11,7 @@ use Rattle.engine_events.specs.declared.event.Name.TheVariants as n
 use Rattle.definition_text.specs.BlockLines.{block_line}
 use Rattle.definition_page.specs.Page as page
 use Rattle.parse_laid.specs.Leaves.{IsUnclosedLaid}
-use Rattle.parse_raw.proofs.ClosedCode.{block_alike, block_filled, block_is, block_row, chunk_slots, ending_some, found_of, info_found, leaf_of}
+use Rattle.parse_raw.proofs.ClosedCode.{block_alike, block_filled, block_is, block_row, block_sound, chunk_slots, ending_some, found_of, info_found, leaf_of}
 use Rattle.parse_raw.proofs.ClosingFence.{chunk_same}
 use Rattle.parse_raw.proofs.FencedCode.{open_leaf}
 use Rattle.parse_raw.proofs.LeafNodes.{leaf_written}
@@ -120,9 +120,8 @@ module _ {A : Type 0} (r : Reading) (first : Bool) (text : List ℕ) (fence_name
       let leaf = read_leaf r (record { top = false; first = first }) (FencedCode info false ls) in
       let node = Around (enter_at text fence_names.block (end_in o.space.out)) kids (exit_at text fence_names.block (end_in l.out)) in
       let has = block_row o.math in
-      let filled =
-      block_filled o.math node o.node o.lines.nodes (chunk_slots o.math) block.0 refl o.named_so o.filled
-      (o.lines.fill (chunk_slots o.math) has.chunks) has.ends in
+      let lines_fill = o.lines.fill (chunk_slots o.math) has.chunks in
+      let filled = block_filled o.math node o.node o.lines.nodes (chunk_slots o.math) block.0 refl o.named_so o.filled lines_fill has.ends in
       leaf_written text r.parse.constructs r.tables.names false leaf to old o.space o.entered l d
       fence_names.block kids o.quiet o.enters kids_writes (exits o.lines.writes.order) block.1 block.2 block.3 none
       (λ m m'. block_alike r.tables.names text false m m' o.math fence_names.block kids (end_in o.space.out) (end_in l.out)
@@ -133,4 +132,4 @@ module _ {A : Type 0} (r : Reading) (first : Bool) (text : List ℕ) (fence_name
       subst (StandsAt text (AtEnding (last_ending_or here.beside.ending ls) begins.after)) (sym same_d) o.lines.stands))
       (ap (λ (s : Standing). s.on) same_d ∙ begins.kept.0, ap (λ (s : Standing). s.outermost) same_d ∙ begins.kept.1)
       end_d (o.lines.written ∙ ap (λ (s : Standing). end_at s.line_end 0) (sym same_d)) o.starts o.begins
-      filled
+      filled (block_sound r.tables.names text o.math node o.node o.lines.nodes (chunk_slots o.math) block.0 refl o.sound lines_fill has.ends)

@@ -16,7 +16,7 @@ use Rattle.parse_lines.proofs.Runs.{run_fits}
 use Rattle.parse_raw.proofs.Runs.{sequence_fits}
 use Rattle.parse_raw.proofs.Tokens.{run_some}
 use Rattle.parse_raw.proofs.FenceParts.{all_part, dark_both, parts_after, parts_both, run_boundary, token_part, trim_parts}
-use Rattle.parse_raw.proofs.FenceRows.{fence_filled, fence_stops, mark_some, meta_stops, sequence_fills, sequence_row, space_fills, trim_begins}
+use Rattle.parse_raw.proofs.FenceRows.{fence_filled, fence_sound, fence_stops, mark_some, meta_stops, sequence_fills, sequence_row, space_fills, trim_begins}
 
 pub sequence_other : (fence : FenceNames) (math : Bool) → AreNames math fence → (same_name fence.sequence n.CodeFencedFenceInfo ≡ false) × IsRawName fence.sequence
 sequence_other fence true are = subst (λ (name : Name). (same_name name n.CodeFencedFenceInfo ≡ false) × IsRawName name) (sym are.sequence) (refl, record { no_data = refl; no_definition = refl; no_code = refl; no_math = refl })
@@ -118,4 +118,5 @@ module _ {A : Type 0} (on : Constructs) (names : Names) (fence : FenceNames) (ma
         );
         before = before_entered text ending left [] f g done.before exited.order same_g end_g;
         filled = fence_filled math node last_slots is.0 done.fill (meta_stops math trimmed).ends;
+        sound = fence_sound names text math node is.0 done.sound;
       }

@@ -12,7 +12,7 @@ use Rattle.parse_slots.proofs.Steps.{fill_both}
 use Rattle.parse_raw.specs.Laid.{WritesReadUnclosed, WritesToEnd}
 use Rattle.parse_raw.proofs.Bytes.{line_ending_fits}
 use Rattle.parse_raw.proofs.Blank.{end_written}
-use Rattle.parse_raw.proofs.ClosedCode.{block_alike, block_filled, block_is, block_row, chunk_slots, found_of, info_found}
+use Rattle.parse_raw.proofs.ClosedCode.{block_alike, block_filled, block_is, block_row, block_sound, chunk_slots, found_of, info_found}
 use Rattle.parse_raw.proofs.ClosingFence.{parts_closed}
 use Rattle.parse_raw.proofs.Endings.{ending_fills, ending_last, ending_parts, ending_raw}
 use Rattle.parse_raw.proofs.LeafNodes.{spelled}
@@ -93,6 +93,8 @@ module _ {A : Type 0} (r : Reading) (first : Bool) (text : List ℕ) (fence_name
       let node = Around (enter_at text fence_names.block (end_in o.space.out)) kids (exit_at text fence_names.block (end_in e.out)) in
       let slots = chunk_slots o.math in
       let has = block_row o.math in
+      let inner_fill =
+      fill_both (o.lines.fill slots has.chunks) (ending_fills text n.LineEnding slots last done.nodes has.chunks.between.ending refl refl done.are_ending) in
       let whole : cut node ≡ one node = cond-false (same_name fence_names.block n.Data && is_nil kids) _ _ (ap (λ (t : Bool). t && is_nil kids) block.3) in
       let writes_node = subst (Writes text o.space.out d.out) whole (
       writes_around text o.space.out o.entered.out e.out d.out fence_names.block kids o.enters kids_writes exited) in
@@ -104,7 +106,8 @@ module _ {A : Type 0} (r : Reading) (first : Bool) (text : List ℕ) (fence_name
             spelled text r.parse.constructs r.tables.names true leaf fence_names.block kids (end_in o.space.out) (end_in e.out) block.1 block.2 none
             (λ m m'. block_alike r.tables.names text true m m' o.math fence_names.block kids (end_in o.space.out) (end_in e.out) leaf
             (page.FencedCode found false lines) block.0 (open_is r.tables.names text true o.math o.node inner o.named_so raw)
-            (info_found r text true o.math info begins.fence o.node begins.info_is o.info, refl, alike.0, alike.1));
+            (info_found r text true o.math info begins.fence o.node begins.info_is o.info, refl, alike.0, alike.1))
+            (block_sound r.tables.names text o.math node o.node inner slots block.0 refl o.sound inner_fill has.ends);
         writes = writes_both text old.out o.space.out d.out o.quiet.nodes (one node) o.quiet.writes writes_node;
         ending = last;
         left = begins.after;
@@ -118,10 +121,7 @@ module _ {A : Type 0} (r : Reading) (first : Bool) (text : List ℕ) (fence_name
         starts = o.starts;
         begins = o.begins;
         ends = sym (ap (λ (end : End). end.index) end_d);
-        filled =
-            block_filled o.math node o.node inner slots block.0 refl o.named_so o.filled
-            (fill_both (o.lines.fill slots has.chunks)
-            (ending_fills text n.LineEnding slots last done.nodes has.chunks.between.ending refl refl done.are_ending)) has.ends;
+        filled = block_filled o.math node o.node inner slots block.0 refl o.named_so o.filled inner_fill has.ends;
       }
 
 -- ---- in a container or at the top

@@ -39,6 +39,7 @@ use Rattle.parse_raw.specs.declared.fence_names.FenceNames.{FenceNames}
 use Rattle.parse_raw.specs.Bytes.{AreClosing, fence_marks}
 use Rattle.parse_raw.specs.RawLines.{AreRaw, IsRawName, WritesLines}
 use Rattle.parse_slots.specs.Left.{Fill, IsFilled}
+use Rattle.parse_references.specs.Sound.{AreSound, IsSound}
 
 -- ---- names
 
@@ -77,6 +78,7 @@ pub record WritesParts {A : Type 0} (names : Names) (text : List ℕ) (ending : 
   pub around : HasSameOpen (standing old) (standing new)
   pub before : IsBefore text ending left bytes new
   pub fill : Fill Spaces slots nodes more
+  pub sound : AreSound names text nodes
 
 -- From a walk before these bytes, parts are written up to others.
 abbrev pub LeadsTo : {A : Type 0} → Names → Option (List ℕ) → List Slot → List Slot → List ℕ → List ℕ → Walk A → Walk A → Type 0
@@ -105,6 +107,7 @@ pub record WritesPart {A : Type 0} (on : Constructs) (names : Names) (text : Lis
   pub raw : AreRaw nodes
   pub around : HasSameOpen (standing old) (standing new)
   pub before : IsBefore text ending left bytes new
+  pub sound : AreSound names text nodes
 
 -- how many bytes of a text are the info: math has none
 abbrev pub info_size : Bool → List ℕ → ℕ
@@ -154,6 +157,7 @@ pub record WritesFenceOf {A : Type 0} (on : Constructs) (names : Names) (math : 
   pub around : HasSameOpen (standing old) (standing new)
   pub before : IsBefore text ending left [] new
   pub filled : IsFilled Lines Plain node
+  pub sound : IsSound names text node
 
 abbrev pub WritesFence : {A : Type 0} → Constructs → Names → Bool → ℕ → List ℕ → Walk A → Walk A → Type 0
 WritesFence on names math byte bare old new =
@@ -198,6 +202,7 @@ pub record WritesOpened {A : Type 0} (on : Constructs) (names : Names) (text : L
   pub mark : is_among (fence_marks math) fence.byte ≡ true
   pub some : 0 < fence.run
   pub filled : IsFilled Lines Plain node
+  pub sound : IsSound names text node
 
 -- Where a fence begins, it is written so, with lines that it doesn't close.
 abbrev pub WritesOpening : {A : Type 0} → Constructs → Names → ℕ → FenceNames → Walk A → Walk A → Type 0

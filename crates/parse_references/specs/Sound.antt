@@ -1,6 +1,6 @@
 -- What the grammar asks of some events beside their rows: calls of footnotes hold strings alone, references decode, and a heading begins with at most six
 -- `#` (CommonMark 2.5 and 4.2, GFM footnotes).
-use Rattle.std.specs.Prelude.{◌≡◌, ℕ, true, false, List, [], ◌∷◌, Option, None, Some}
+use Rattle.std.specs.Prelude.{◌≡◌, ℕ, true, false, if◌then◌else◌, List, [], ◌∷◌, Option, None, Some}
 use Rattle.engine_events.specs.Names.{same_name}
 use Rattle.engine_events.specs.declared.event.Name.{Name}
 use Rattle.engine_events.specs.declared.event.Name.TheVariants as n
@@ -20,11 +20,16 @@ module _ (names : Names) (text : List ℕ) where
   abbrev pub node_bytes : Node → List ℕ
   node_bytes (Around enter kids exit) = bytes_between text (spot_of enter) (spot_of exit)
 
+  -- what stands before the next child: white space stands between children
+  abbrev pub sibling_after : Option Name → Name → Option Name
+  sibling_after sibling name = if same_name name n.SpaceOrTab then sibling else Some name
+
   -- the values among these children decode, where this sibling is before them
   abbrev pub Decode : Option Name → Nodes → Type 0
   Decode sibling Nil = Unit {0}
   Decode sibling (Cons node ns) =
-      (same_name (node_name node) n.CharacterReferenceValue ≡ true → decodes names sibling (node_bytes node) ≡ true) × Decode (Some (node_name node)) ns
+      (same_name (node_name node) n.CharacterReferenceValue ≡ true → decodes names sibling (node_bytes node) ≡ true)
+      × Decode (sibling_after sibling (node_name node)) ns
 
   -- the first sequence among these children has at most six bytes
   abbrev pub IsRank : Nodes → Type 0

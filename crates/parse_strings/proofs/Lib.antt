@@ -7,6 +7,7 @@ pub mod References
 pub mod ReferenceSteps
 pub mod SameText
 pub mod PlainNodes
+pub mod SoundNodes
 pub mod Texts
 pub mod Parts
 pub mod OfBytes

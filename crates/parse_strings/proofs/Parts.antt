@@ -32,6 +32,8 @@ use Rattle.parse_slots.specs.Left.{Fill, MayEndLines, took}
 use Rattle.parse_slots.proofs.Steps.{fill_both, fill_none, fill_taken, may_both, may_lines, may_space}
 use Rattle.parse_slots.proofs.Voids.{data_fill, void_between}
 use Rattle.parse_lines.proofs.Quiet.{ending_fill}
+use Rattle.parse_references.proofs.Sound.{data_sound, sound_both, sound_one, void_sound}
+use Rattle.parse_strings.proofs.SoundNodes.{ending_sound}
 use Rattle.parse_strings.proofs.PlainNodes.{plain_both, plain_none, plain_one, plain_quiet, plain_void, sought_names}
 use Rattle.parse_strings.proofs.Spelled.{data_string, still_whole, string_append}
 use Rattle.parse_strings.proofs.Texts.{DataStep, EndingStep, WhiteStep, white_dark}
@@ -173,7 +175,7 @@ module _ {A : Type 0} (text : List ℕ) (stop : Stop) where
         → standing new ≡ standing old → WritesNode names text name front string ahead.line old new
         → WritesNodeIn names text name front string content stop old new
     node_in old new name front string content ahead same w =
-        record { node = w.node; named = w.named; writes = ahead.lifts (one w.node) new same w.writes; whole = w.whole; spells = w.spells; plain = w.plain; filled = w.filled }
+        record { node = w.node; named = w.named; writes = ahead.lifts (one w.node) new same w.writes; whole = w.whole; spells = w.spells; plain = w.plain; filled = w.filled; sound = w.sound }
 
   module _ (on : Constructs) (names : Names) where
     -- data
@@ -208,6 +210,7 @@ module _ {A : Type 0} (text : List ℕ) (stop : Stop) where
           spells = step.text ∙ ap (λ ys. ys ++ bytes_text on names after) (sym spelled);
           plain = plain_data text (end_in a.out) (end_after (end_in a.out) size);
           fill = λ around may. data_fill around StringPart [] text (end_in a.out) (end_after (end_in a.out) size) refl;
+          sound = data_sound names text (end_in a.out) (end_after (end_in a.out) size);
         }
 
     -- a node that spells what its bytes stand for
@@ -229,6 +232,7 @@ module _ {A : Type 0} (text : List ℕ) (stop : Stop) where
       spells = spells ∙ ap (λ ys. ys ++ bytes_text on names after) (sym w.spells);
       plain = w.plain;
       fill = λ around may. fill_taken around string_row name Plain string_row w.node w.named takes (w.filled around);
+      sound = sound_one names text w.node w.sound;
     }
 
     -- white space before a line ending
@@ -255,6 +259,7 @@ module _ {A : Type 0} (text : List ℕ) (stop : Stop) where
           plain = plain_void text n.SpaceOrTab (end_in a.out) (end_after (end_in a.out) size) refl refl;
           fill = λ around may.
               void_between around string_row n.SpaceOrTab text (end_in a.out) (end_after (end_in a.out) size) refl refl (may_space around (take size xs) may) refl;
+          sound = void_sound names text n.SpaceOrTab (end_in a.out) (end_after (end_in a.out) size) refl;
         }
 
     -- a line ending, and the white space on the next line
@@ -307,6 +312,9 @@ module _ {A : Type 0} (text : List ℕ) (stop : Stop) where
               subst (λ b. Fill b string_row (append (Cons ends.node ends.quiet) voids) string_row) (sym (may_lines around _ (ending_any e front) may))
               (fill_both (ending_fill string_row n.LineEnding ends.node ends.quiet ends.named ends.empty refl refl refl refl refl ends.are_quiet)
               (void_between Lines string_row n.SpaceOrTab text from (end_after from white) refl refl refl refl));
+          sound =
+              sound_both names text (Cons ends.node ends.quiet) voids (ending_sound names text ends.node ends.quiet ends.named ends.empty ends.are_quiet)
+              (void_sound names text n.SpaceOrTab from (end_after from white) refl);
         }
 
     -- ---- all of a string
@@ -322,6 +330,7 @@ module _ {A : Type 0} (text : List ℕ) (stop : Stop) where
       spells = refl;
       plain = plain_none;
       fill = λ around may. fill_none around string_row;
+      sound = tt;
     }
 
     pub front_more : (a b c : Walk A) (string rest left content : List ℕ) (size : ℕ) → AreCutApart string content
@@ -349,6 +358,7 @@ module _ {A : Type 0} (text : List ℕ) (stop : Stop) where
           plain = plain_both one.nodes two.nodes one.plain two.plain;
           fill = λ around may.
               let both = may_both around one.front two.front may in fill_both (one.fill around both.0) (two.fill around both.1);
+          sound = sound_both names text one.nodes two.nodes one.sound two.sound;
         })
 
     pub front_all : (a b : Walk A) (string rest content : List ℕ) → rest ≡ [] → WritesStringFront on names text string rest content stop a b
@@ -365,4 +375,5 @@ module _ {A : Type 0} (text : List ℕ) (stop : Stop) where
               sym (one.spells ∙ ap (λ zs. string_of names text one.nodes ++ bytes_text on names zs) none ∙ append-nil (string_of names text one.nodes));
           plain = one.plain;
           fill = λ around may. one.fill around (subst (MayEndLines around) (sym whole) may);
+          sound = one.sound;
         }

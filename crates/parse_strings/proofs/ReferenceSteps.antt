@@ -1,11 +1,14 @@
 -- A character reference from its `&` to its `;` (CommonMark 2.5).
-use Rattle.std.proofs.Common.{◌≡◌, ◌<◌, ◌+◌, ℕ, false, List, [], ◌∷◌, ◌++◌, refl, ap, subst, ◌∙◌, append_assoc, arith, length}
+use Rattle.std.proofs.Common.{◌≡◌, ◌<◌, ◌+◌, ℕ, true, false, List, [], ◌∷◌, ◌++◌, None, refl, sym, ap, subst, ◌∙◌, append_assoc, arith, length}
 use Rattle.parse_strings.proofs.Prelude.{append, append-nil, AreMarks, AreNext, ArePlain, Around, cut, End, end_after, end_at, end_in, enter_at, EntersInLine}
-use Rattle.parse_strings.proofs.Prelude.{exit_at, ExitsInLine, is_listed, lines_around, lines_both, mark_nodes, marked_text, Name, Names, Nodes, one}
-use Rattle.parse_strings.proofs.Prelude.{StandsInLine, string_of, token, void_nodes, Walk, WritesInLine, WritesMarks, WritesNode}
+use Rattle.parse_strings.proofs.Prelude.{exit_at, ExitsInLine, is_listed, lines_around, lines_both, mark_nodes, marked_text, Name, Names, Nil, Nodes, one}
+use Rattle.parse_strings.proofs.Prelude.{same_name, StandsInLine, string_of, token, true≢false, void_nodes, Walk, WritesInLine, WritesMarks, WritesNode}
 use Rattle.engine_events.specs.declared.event.Name.TheVariants as n
 use Rattle.event_grammar.specs.declared.slot.Form.TheVariants.{Plain}
 use Rattle.parse_slots.proofs.Steps.{filled_in_line}
+use Rattle.parse_references.specs.Sound.{AreSound, asked_names, Decode, IsSound}
+use Rattle.parse_references.proofs.Sound.{asks_nothing, sound_both, sound_one}
+use Rattle.parse_strings.specs.References.{marked_decodes}
 use Rattle.parse_strings.proofs.Fills.{reference_fill}
 use Rattle.parse_strings.proofs.PlainNodes.{plain_both, plain_none, plain_one, sought_names}
 use Rattle.parse_strings.proofs.Spelled.{still_whole, token_text, void_one}
@@ -48,13 +51,62 @@ reference_string names text line (m ∷ x ∷ []) value first i j k l a b are ne
     append-nil _ ∙ ap (marked_text names (m ∷ x ∷ [])) (token_text text n.CharacterReferenceValue k value line next)
 reference_string names text line (m ∷ x ∷ y ∷ ms) value first i j k l a b are next = absurd are
 
+sound_token : (names : Names) (text : List ℕ) (name : Name) (index size : ℕ) → is_listed asked_names name ≡ false
+    → AreSound names text (one (token text name index size))
+sound_token names text name index size other = sound_one names text (token text name index size) (asks_nothing names text name Nil other, tt)
+
+sound_marks : (names : Names) (text : List ℕ) (index : ℕ) (marks : List ℕ) → AreSound names text (mark_nodes text index marks)
+sound_marks names text index [] = tt
+sound_marks names text index (m ∷ []) = sound_token names text n.CharacterReferenceMarkerNumeric index 1 refl
+sound_marks names text index (m ∷ x ∷ ms) =
+    sound_both names text (one (token text n.CharacterReferenceMarkerNumeric index 1))
+    (one (token text n.CharacterReferenceMarkerHexadecimal (index + 1) 1))
+    (sound_token names text n.CharacterReferenceMarkerNumeric index 1 refl) (sound_token names text n.CharacterReferenceMarkerHexadecimal (index + 1) 1 refl)
+
+sound_kids : (names : Names) (text : List ℕ) (i j k l : ℕ) (marks : List ℕ) (size : ℕ) → AreSound names text (reference_kids text i j k l marks size)
+sound_kids names text i j k l marks size =
+    sound_both names text (one (token text n.CharacterReferenceMarker i 1)) _ (sound_token names text n.CharacterReferenceMarker i 1 refl)
+    (sound_both names text (mark_nodes text j marks) _ (sound_marks names text j marks)
+    (sound_both names text (one (token text n.CharacterReferenceValue k size)) (one (token text n.CharacterReferenceMarkerSemi l 1))
+    (sound_token names text n.CharacterReferenceValue k size refl) (sound_token names text n.CharacterReferenceMarkerSemi l 1 refl)))
+
+-- no value
+other_kid : {P : Type 0} → false ≡ true → P
+other_kid h = absurd (true≢false (sym h))
+
+-- the value after its last mark
+kids_decode : (names : Names) (text line marks value : List ℕ) (first i j k l : ℕ) → AreMarks marks first → marked_decodes names marks value ≡ true
+    → AreNext text (end_at k 0) (value ++ line) → Decode names text None (reference_kids text i j k l marks (length value))
+kids_decode names text line [] value first i j k l are decodes next =
+    let same = token_text text n.CharacterReferenceValue k value line next in
+    (other_kid, (λ h. ap (marked_decodes names []) same ∙ decodes, (other_kid, tt)))
+kids_decode names text line (m ∷ []) value first i j k l are decodes next =
+    let same = token_text text n.CharacterReferenceValue k value line next in
+    (other_kid, (other_kid, (λ h. ap (marked_decodes names (m ∷ [])) same ∙ decodes, (other_kid, tt))))
+kids_decode names text line (m ∷ x ∷ []) value first i j k l are decodes next =
+    let same = token_text text n.CharacterReferenceValue k value line next in
+    (other_kid, (other_kid, (other_kid, (λ h. ap (marked_decodes names (m ∷ x ∷ [])) same ∙ decodes, (other_kid, tt)))))
+kids_decode names text line (m ∷ x ∷ y ∷ ms) value first i j k l are decodes next = absurd are
+
+-- a reference is sound whose value decodes
+reference_sound : (names : Names) (text : List ℕ) (kids : Nodes) (a b : End) → Decode names text None kids → AreSound names text kids
+    → IsSound names text (Around (enter_at text n.CharacterReference a) kids (exit_at text n.CharacterReference b))
+reference_sound names text kids a b decode sound = (
+  record {
+    call = λ same. other_kid (ap (λ name. same_name name n.GfmFootnoteCall) same);
+    reference = λ same. decode;
+    heading = λ same. other_kid (ap (λ name. same_name name n.HeadingAtx) same);
+  },
+  sound,
+)
+
 -- the same bytes are next
 pub stands_by : {A : Type 0} (text : List ℕ) (w : Walk A) (line same : List ℕ) → line ≡ same → StandsInLine text line w → StandsInLine text same w
 stands_by text w line same is st = subst (λ xs. StandsInLine text xs w) is st
 
 module _ {A : Type 0} (names : Names) (text : List ℕ) where
   pub writes_reference : (a b c d e f g : Walk A) (marks value line : List ℕ) (first count : ℕ) → (end_in a.out).owed ≡ 0 → AreMarks marks first
-      → 0 < length value
+      → marked_decodes names marks value ≡ true → 0 < length value
       → count ≡ length value
       → EntersInLine text n.CharacterReference (38 ∷ ((marks ++ (value ++ 59 ∷ [])) ++ line)) a b
       → WritesInLine text (38 ∷ []) (void_nodes text n.CharacterReferenceMarker (end_in b.out) (end_after (end_in b.out) 1))
@@ -64,7 +116,7 @@ module _ {A : Type 0} (names : Names) (text : List ℕ) where
       → WritesInLine text (59 ∷ []) (void_nodes text n.CharacterReferenceMarkerSemi (end_in e.out) (end_after (end_in e.out) 1)) line e f
       → ExitsInLine text n.CharacterReference line f g
       → WritesNode names text n.CharacterReference (38 ∷ (marks ++ (value ++ 59 ∷ []))) (marked_text names marks value) line a g
-  writes_reference a b c d e f g marks value line first count whole are some sized enters marker marked valued closed exits =
+  writes_reference a b c d e f g marks value line first count whole are decodes some sized enters marker marked valued closed exits =
       let owed = λ (x : End). x.owed in
       let whole_b : (end_in b.out).owed ≡ 0 = ap owed enters.end ∙ whole in
       let whole_e : (end_in e.out).owed ≡ 0 = ap owed valued.end ∙ still_whole (end_in d.out) (length value) marked.whole in
@@ -81,6 +133,9 @@ module _ {A : Type 0} (names : Names) (text : List ℕ) where
       let later = lines_both text c d f marks (value ++ 59 ∷ []) line _ _ marked.writes last in
       let all = lines_both text b c f (38 ∷ []) (marks ++ (value ++ 59 ∷ [])) line _ _
       (subst (λ ns. WritesInLine text (38 ∷ []) ns ((marks ++ (value ++ 59 ∷ [])) ++ line) b c) m marker) later in
+      let next =
+      next_here names text (value ++ 59 ∷ line) d
+      (subst (λ xs. StandsInLine text xs d) (append_assoc value (59 ∷ []) line) marked.writes.stands) marked.whole in
       record {
         node = Around (enter_at text n.CharacterReference (end_in a.out)) kids (exit_at text n.CharacterReference (end_in f.out));
         named = refl;
@@ -88,12 +143,15 @@ module _ {A : Type 0} (names : Names) (text : List ℕ) where
         whole = ap owed exits.end ∙ whole_f;
         spells =
             reference_string names text (59 ∷ line) marks value first (end_in b.out).index (end_in c.out).index (end_in d.out).index (end_in e.out).index
-            (end_in a.out) (end_in f.out) are
-            (next_here names text (value ++ 59 ∷ line) d
-            (subst (λ xs. StandsInLine text xs d) (append_assoc value (59 ∷ []) line) marked.writes.stands) marked.whole);
+            (end_in a.out) (end_in f.out) are next;
         plain = plain_one _ refl (plain_kids text (end_in b.out).index (end_in c.out).index (end_in d.out).index (end_in e.out).index marks size);
         filled = λ around.
             filled_in_line around Plain n.CharacterReference []
             (Around (enter_at text n.CharacterReference (end_in a.out)) kids (exit_at text n.CharacterReference (end_in f.out))) refl refl refl
             (reference_fill text (end_in b.out).index (end_in c.out).index (end_in d.out).index (end_in e.out).index size marks first are) refl;
+        sound =
+            reference_sound names text kids (end_in a.out) (end_in f.out)
+            (kids_decode names text (59 ∷ line) marks value first (end_in b.out).index (end_in c.out).index (end_in d.out).index (end_in e.out).index are
+            decodes next)
+            (sound_kids names text (end_in b.out).index (end_in c.out).index (end_in d.out).index (end_in e.out).index marks size);
       }

@@ -9,6 +9,7 @@ use Rattle.event_grammar.specs.declared.slot.Form.TheVariants.{Plain}
 use Rattle.event_grammar.specs.Grammar.{row}
 use Rattle.parse_slots.specs.Left.{Fill}
 use Rattle.parse_slots.proofs.Steps.{filled_in_line}
+use Rattle.parse_references.proofs.Sound.{sound_around, sound_both, void_sound}
 use Rattle.parse_strings.proofs.Fills.{escape_fill}
 use Rattle.parse_strings.proofs.PlainNodes.{plain_both, plain_one, plain_void}
 use Rattle.parse_strings.proofs.Spelled.{still_whole, token_text, void_one, whole_end}
@@ -38,8 +39,9 @@ module _ {A : Type 0} (names : Names) (text : List ℕ) where
       let whole_b : (end_in b.out).owed ≡ 0 = ap (λ (x : End). x.owed) enters.end ∙ whole in
       let whole_c : (end_in c.out).owed ≡ 0 = ap (λ (x : End). x.owed) marker.end ∙ still_whole (end_in b.out) 1 whole_b in
       let whole_d : (end_in d.out).owed ≡ 0 = ap (λ (x : End). x.owed) value.end ∙ still_whole (end_in c.out) 1 whole_c in
+      let node = Around (enter_at text n.CharacterEscape (end_in a.out)) (append markers values) (exit_at text n.CharacterEscape (end_in d.out)) in
       record {
-        node = Around (enter_at text n.CharacterEscape (end_in a.out)) (append markers values) (exit_at text n.CharacterEscape (end_in d.out));
+        node = node;
         named = refl;
         writes =
             lines_around text a b d e n.CharacterEscape (92 ∷ byte ∷ []) line (append markers values) enters
@@ -55,10 +57,13 @@ module _ {A : Type 0} (names : Names) (text : List ℕ) where
             (plain_both markers values (plain_void text n.CharacterEscapeMarker (end_in b.out) (end_after (end_in b.out) 1) refl refl)
             (plain_void text n.CharacterEscapeValue (end_in c.out) (end_after (end_in c.out) 1) refl refl));
         filled = λ around.
-            filled_in_line around Plain n.CharacterEscape []
-            (Around (enter_at text n.CharacterEscape (end_in a.out)) (append markers values) (exit_at text n.CharacterEscape (end_in d.out))) refl refl refl
+            filled_in_line around Plain n.CharacterEscape [] node refl refl refl
             (subst (λ ns. Fill Spaces (row n.CharacterEscape Plain) ns [])
             (sym (ap₂ append (void_one text n.CharacterEscapeMarker (end_in b.out) 1 whole_b (omega arith) refl)
             (void_one text n.CharacterEscapeValue (end_in c.out) 1 whole_c (omega arith) refl)))
             (escape_fill text (end_in b.out).index (end_in c.out).index)) refl;
+        sound =
+            sound_around names text node refl
+            (sound_both names text markers values (void_sound names text n.CharacterEscapeMarker (end_in b.out) (end_after (end_in b.out) 1) refl)
+            (void_sound names text n.CharacterEscapeValue (end_in c.out) (end_after (end_in c.out) 1) refl));
       }

@@ -15,19 +15,21 @@ use Rattle.std.specs.Int.{is_in_range}
 use Rattle.std.proofs.lemmas.Bool.Decides.{nat_tests}
 use Rattle.std.specs.Option.{MatchOption}
 use Rattle.std.specs.List.{list_all}
+use Rattle.std.specs.Str.{IsAscii, is_utf8}
 use Rattle.std.proofs.lemmas.Bool.{cases_lt, and_left, and_right}
 use Rattle.std.proofs.lemmas.Bool.{le-leb, not-true, not-false, or_left, agree_below_at, ltb-true, false_from_ne_true}
 use Rattle.std.proofs.lemmas.List.{get_or_at, get_or-drop, length-drop}
 use Rattle.std.proofs.lemmas.List.Sums.{prefix_len_passes, prefix_len_stops}
-use Rattle.std.proofs.lemmas.Str.{IsCharBoundary-before_ascii, IsCharBoundary-end}
+use Rattle.std.proofs.lemmas.Str.{IsCharBoundary-before_ascii, IsCharBoundary-end, is_utf8-from_IsUtf8, IsUtf8-from_ascii}
 use Rattle.markdown_options.specs.declared.line_ending.LineEnding.TheVariants.{CarriageReturnLineFeed, CarriageReturn, LineFeed}
 use Rattle.definition_text.specs.Content.{line_ending_code}
 use Rattle.definition_inline.specs.CharacterReference.{reference_after}
 use Rattle.definition_inline.specs.Inline.{Character, InlineLeaf}
 use Rattle.definition_inline.specs.Strings.{string_text}
 use Rattle.definition_inline.proofs.Scanning.{string_byte, string_step}
-use Rattle.inline_references.specs.Grammar.{IsWritten, name as by_name, digits as by_digits, lower_x, upper_x}
+use Rattle.inline_references.specs.Grammar.{IsValue, IsWritten, name as by_name, digits as by_digits, lower_x, upper_x}
 use Rattle.inline_references.proofs.Written.{read_is_written}
+use Rattle.event_grammar.specs.Facts.{is_size}
 use Rattle.event_meaning.specs.Strings.{is_told}
 use Rattle.inline_leaves.specs.Leaves.{IsAfter, ReadsEnding, found_leaf, size_before}
 use Rattle.inline_leaves.specs.declared.leaf.Leaf.{Leaf}
@@ -37,6 +39,7 @@ use Rattle.inline_leaves.proofs.Endings.{ending_is_eol}
 use Rattle.inline_links.specs.Texts.{code_text}
 use Rattle.inline_links.proofs.Texts.{bytes_back}
 use Rattle.parse_lines.specs.InContent.{IsApart}
+use Rattle.parse_strings.specs.References.{marked_decodes}
 use Rattle.parse_strings.specs.Strings.{NoLeaf}
 use Rattle.parse_strings.proofs.Codes.{alone_codes, begins_feed, codes_split, feed_codes, line_bytes, no_ends}
 
@@ -119,6 +122,7 @@ module _ (on : Constructs) (names : Names) where
     pub whole : cs ≡ front ++ others
     pub written : IsWritten front name
     pub size : found.size ≡ length front
+    pub known : is_some (reference_text names name) ≡ true
     pub text : string_text on names cs ≡ unwrap_or (reference_text names name) [] ++ string_text on names others
 
   written_first : (front : List ℕ) (name : CharacterName) → IsWritten front name → (more : List ℕ) × (front ≡ 38 ∷ more)
@@ -155,6 +159,7 @@ module _ (on : Constructs) (names : Names) where
             whole = w.2;
             written = w.1;
             size = found_size;
+            known = ap is_some known;
             text =
                 leaf_text cs found here (omega (arith, found_size, some)) (omega (arith, sizes, some))
                 ∙ ap₂ (λ xs ys. xs ++ string_text on names ys)
@@ -377,6 +382,7 @@ pub record ReferenceStep (on : Constructs) (names : Names) (xs rest : List ℕ) 
   pub most : length (first ∷ more) ≤ 31
   pub all : list_all is_ascii_alphanumeric (first ∷ more) ≡ true
   pub dark : list_any ends_line (38 ∷ (marks ++ ((first ∷ more) ++ 59 ∷ []))) ≡ false
+  pub decodes : marked_decodes names marks (first ∷ more) ≡ true
   pub text : string_text on names (content_codes xs) ≡ marked_text names marks (first ∷ more) ++ string_text on names (content_codes rest)
   -- the bytes after the first mark
   pub tail : xs ≡ 38 ∷ (marks ++ first ∷ (more ++ 59 ∷ rest))
@@ -393,6 +399,7 @@ pub record IsMarked (names : Names) (front : List ℕ) (name : CharacterName) : 
   pub all : list_all is_ascii_alphanumeric (first ∷ more) ≡ true
   pub dark : list_any is_eol front ≡ false
   pub text : unwrap_or (reference_text names name) [] ≡ marked_text names marks (first ∷ more)
+  pub decodes : is_some (reference_text names name) ≡ true → marked_decodes names marks (first ∷ more) ≡ true
 
 value_dark : (test : ℕ → Bool) → test 10 ≡ false → test 13 ≡ false → test 257 ≡ false → (value : List ℕ) → list_all test value ≡ true
     → list_any is_eol (value ++ 59 ∷ []) ≡ false
@@ -412,8 +419,28 @@ digit_alphanumeric c is = ap (λ (s : Bool). (s || is_in_range 65 90 c) || is_in
 hexdigit_alphanumeric : (c : ℕ) → is_ascii_hexdigit c ≡ true → is_ascii_alphanumeric c ≡ true
 hexdigit_alphanumeric c is = grind (arith, nat_tests, is)
 
+alphanumeric_ascii : (c : ℕ) → is_ascii_alphanumeric c ≡ true → ltb c 128 ≡ true
+alphanumeric_ascii c is = grind (arith, nat_tests, is)
+
 fails_at : (test : ℕ → Bool) (k b : ℕ) → test k ≡ false → test b ≡ true → eqb b k ≡ false
 fails_at test k b fails is = ne_eqb b k (λ e. true≢false (sym is ∙ ap test e ∙ fails))
+
+-- letters and digits are in ASCII
+letters_ascii : (xs : List ℕ) → list_all is_ascii_alphanumeric xs ≡ true → IsAscii xs
+letters_ascii [] all i = omega arith
+letters_ascii (x ∷ xs) all zero =
+    let is = (and_parts (is_ascii_alphanumeric x) (list_all is_ascii_alphanumeric xs) all).0 in
+    ltb-true x 128 (alphanumeric_ascii x is)
+letters_ascii (x ∷ xs) all (suc i) = letters_ascii xs (and_parts (is_ascii_alphanumeric x) (list_all is_ascii_alphanumeric xs) all).1 i
+
+letters_text : (xs : List ℕ) → list_all is_ascii_alphanumeric xs ≡ true → is_utf8 xs ≡ true
+letters_text xs all = is_utf8-from_IsUtf8 xs (IsUtf8-from_ascii xs (letters_ascii xs all))
+
+-- so many bytes, all of a kind
+value_is : (test : ℕ → Bool) (most : ℕ) (value : List ℕ) → IsValue test most value → (is_size most value && list_all test value) ≡ true
+value_is test most value h =
+    ap₂ (λ (s t : Bool). s && t)
+    (ap₂ (λ (s t : Bool). s && t) (le-leb 1 (length value) h.nonempty) (le-leb (length value) most h.bounded)) h.bytes
 
 pub marked : (names : Names) (front : List ℕ) (name : CharacterName) → IsWritten front name → IsMarked names front name
 marked names front _ (by_name [] h) = absurd (omega (arith, h.nonempty))
@@ -427,6 +454,7 @@ marked names front _ (by_name (x ∷ xs) h) = record {
   all = h.bytes;
   dark = value_dark is_ascii_alphanumeric refl refl refl (x ∷ xs) h.bytes;
   text = refl;
+  decodes = λ known. ap₂ (λ (s t : Bool). s && t) (letters_text (x ∷ xs) h.bytes) known;
 }
 marked names front _ (by_digits [] h) = absurd (omega (arith, h.nonempty))
 marked names front _ (by_digits (x ∷ xs) h) =
@@ -441,6 +469,7 @@ marked names front _ (by_digits (x ∷ xs) h) =
       all = all_weaker is_ascii_digit is_ascii_alphanumeric digit_alphanumeric (x ∷ xs) h.bytes;
       dark = value_dark is_ascii_digit refl refl refl (x ∷ xs) h.bytes;
       text = refl;
+      decodes = λ known. value_is is_ascii_digit 7 (x ∷ xs) h;
     }
 marked names front _ (lower_x [] h) = absurd (omega (arith, h.nonempty))
 marked names front _ (lower_x (x ∷ xs) h) = record {
@@ -453,6 +482,7 @@ marked names front _ (lower_x (x ∷ xs) h) = record {
   all = all_weaker is_ascii_hexdigit is_ascii_alphanumeric hexdigit_alphanumeric (x ∷ xs) h.bytes;
   dark = value_dark is_ascii_hexdigit refl refl refl (x ∷ xs) h.bytes;
   text = refl;
+  decodes = λ known. value_is is_ascii_hexdigit 6 (x ∷ xs) h;
 }
 marked names front _ (upper_x [] h) = absurd (omega (arith, h.nonempty))
 marked names front _ (upper_x (x ∷ xs) h) = record {
@@ -465,6 +495,7 @@ marked names front _ (upper_x (x ∷ xs) h) = record {
   all = all_weaker is_ascii_hexdigit is_ascii_alphanumeric hexdigit_alphanumeric (x ∷ xs) h.bytes;
   dark = value_dark is_ascii_hexdigit refl refl refl (x ∷ xs) h.bytes;
   text = refl;
+  decodes = λ known. value_is is_ascii_hexdigit 6 (x ∷ xs) h;
 }
 
 pub bytes_after : (front after xs : List ℕ) → xs ≡ front ++ after → AreBytes xs → AreBytes after
@@ -510,6 +541,7 @@ reference_step on names xs rest parts bytes rest_bytes after h =
       are = m.are;
       most = m.most;
       all = m.all;
+      decodes = m.decodes is.known;
       dark = no_ends (38 ∷ (m.marks ++ (value ++ 59 ∷ []))) (ap (list_any is_eol) (sym m.whole) ∙ m.dark);
       text = is.text ∙ ap₂ (λ ys zs. ys ++ string_text on names zs) m.text (sym left);
     }

@@ -1,9 +1,11 @@
 -- What is written of a character reference (CommonMark 2.5).
-use Rattle.std.specs.Prelude.{◌≡◌, ℕ, ◌+◌, Bool, true, false, ◌||◌, ◌==◌, List, [], ◌∷◌, unwrap_or}
+use Rattle.std.specs.Prelude.{◌≡◌, ℕ, ◌+◌, Bool, true, false, ◌&&◌, ◌||◌, ◌==◌, List, [], ◌∷◌, is_some, unwrap_or}
+use Rattle.std.specs.Str.{is_utf8}
 use Rattle.engine_events.specs.declared.event.Name.{Name}
 use Rattle.engine_events.specs.declared.event.Name.TheVariants as n
 use Rattle.definition_text.specs.Ascii.{number_sign, semicolon, small_x, capital_x}
 use Rattle.definition_inline.specs.CharacterReference.{Names, number_of, numbered_text}
+use Rattle.event_grammar.specs.Facts.{are_digits, are_hexdigits}
 use Rattle.event_grammar.specs.Trees.{Node, Nodes, Around, Nil, Cons}
 use Rattle.parse_output.specs.Ends.{end_at, enter_at, exit_at}
 use Rattle.parse_output.specs.Written.{end_in}
@@ -28,6 +30,12 @@ abbrev pub marked_text : Names → List ℕ → List ℕ → List ℕ
 marked_text names [] value = unwrap_or (names value) []
 marked_text names (m ∷ []) value = numbered_text (number_of 10 value)
 marked_text names (m ∷ x ∷ ms) value = numbered_text (number_of 16 value)
+
+-- whether a value after these decodes
+abbrev pub marked_decodes : Names → List ℕ → List ℕ → Bool
+marked_decodes names [] value = is_utf8 value && is_some (names value)
+marked_decodes names (m ∷ []) value = are_digits 7 value
+marked_decodes names (m ∷ x ∷ ms) value = are_hexdigits 6 value
 
 -- what holds no other, from an index on, of so many bytes
 abbrev pub token : List ℕ → Name → ℕ → ℕ → Node

@@ -21,6 +21,7 @@ use Rattle.parse_lines.specs.declared.walk.Walk.{Walk}
 use Rattle.parse_lines.specs.Content.{StandsInLine, WritesInLine}
 use Rattle.parse_lines.specs.InContent.{IsWhole, Stop, WritesInContent}
 use Rattle.parse_slots.specs.Left.{Fill, IsFilled, MayEndLines}
+use Rattle.parse_references.specs.Sound.{AreSound, IsSound}
 use Rattle.parse_strings.specs.Plain.{ArePlain}
 
 -- the text that the bytes of a string stand for (CommonMark 2.4 and 2.5)
@@ -41,6 +42,7 @@ pub record WritesNode {A : Type 0} (names : Names) (text : List ℕ) (name : Nam
   pub spells : string_of names text (one node) ≡ string
   pub plain : ArePlain (one node)
   pub filled : (around : Between) → IsFilled around Plain node
+  pub sound : IsSound names text node
 
 -- the same in a content
 pub record WritesNodeIn {A : Type 0} (names : Names) (text : List ℕ) (name : Name) (front string content : List ℕ) (stop : Stop) (old new : Walk A)
@@ -52,6 +54,7 @@ pub record WritesNodeIn {A : Type 0} (names : Names) (text : List ℕ) (name : N
   pub spells : string_of names text (one node) ≡ string
   pub plain : ArePlain (one node)
   pub filled : (around : Between) → IsFilled around Plain node
+  pub sound : IsSound names text node
 
 -- A string has one line, or no white space and no line ending comes after it: so neither a line ending nor a tab is cut where it ends.
 abbrev pub AreCutApart : List ℕ → List ℕ → Type 0
@@ -83,6 +86,7 @@ pub record WritesStringPart {A : Type 0} (on : Constructs) (names : Names) (text
   pub spells : bytes_text on names string ≡ string_of names text nodes ++ bytes_text on names after
   pub plain : ArePlain nodes
   pub fill : (around : Between) → MayEndLines around front → Fill around string_row nodes string_row
+  pub sound : AreSound names text nodes
 
 -- nodes are written for all of a string but its rest
 pub record WritesStringFront {A : Type 0} (on : Constructs) (names : Names) (text string rest content : List ℕ) (stop : Stop) (old new : Walk A)
@@ -95,6 +99,7 @@ pub record WritesStringFront {A : Type 0} (on : Constructs) (names : Names) (tex
   pub spells : bytes_text on names string ≡ string_of names text nodes ++ bytes_text on names rest
   pub plain : ArePlain nodes
   pub fill : (around : Between) → MayEndLines around front → Fill around string_row nodes string_row
+  pub sound : AreSound names text nodes
 
 -- nodes are written for a string in a content, which spell the text that the string stands for, and the bytes after it are ahead
 pub record WritesStringIn {A : Type 0} (names : Names) (on : Constructs) (text string content : List ℕ) (stop : Stop) (old new : Walk A) : Type 0 where
@@ -104,3 +109,4 @@ pub record WritesStringIn {A : Type 0} (names : Names) (on : Constructs) (text s
   pub spells : string_of names text nodes ≡ bytes_text on names string
   pub plain : ArePlain nodes
   pub fill : (around : Between) → MayEndLines around string → Fill around string_row nodes string_row
+  pub sound : AreSound names text nodes

@@ -11,7 +11,7 @@ ghost use Rattle.parse_lines.specs.InContent.{IsWhole, StandsInContent, Stop};
 ghost use Rattle.parse_lines.specs.Open.{still_open};
 ghost use Rattle.parse_lines.specs.Standing.{standing};
 ghost use Rattle.std.specs.List.{position_or_len};
-ghost use Rattle.parse_strings.specs.References.{AreMarks, WritesMarks, is_semicolon, marked_text};
+ghost use Rattle.parse_strings.specs.References.{AreMarks, WritesMarks, is_semicolon, marked_decodes, marked_text};
 ghost use Rattle.parse_strings.specs.Strings.{StandsInString, WritesNodeIn};
 
 use engine_events::event::Name;
@@ -30,7 +30,7 @@ pub fn push_reference<A: Allocator>(
     ensures open { OnOk result (still_open walk.new ≡ still_open walk.old) }
     ensures written { OnOk result ((names : Names) (text marks value after content : List ℕ) (first : ℕ) (stop : Stop)
         → bytes.now ≡ ampersand ∷ (marks ++ first ∷ after) → AreMarks marks first → 0 < length value → length value ≤ 31
-        → list_all is_ascii_alphanumeric value ≡ true → size ≡ length marks + length value + 2
+        → list_all is_ascii_alphanumeric value ≡ true → marked_decodes names marks value ≡ true → size ≡ length marks + length value + 2
         → let front = ampersand ∷ (marks ++ (value ++ semicolon ∷ [])) in list_any ends_line front ≡ false
         → StandsInContent text (front ++ content) stop walk.old → IsWhole walk.old
         → WritesNodeIn names text CharacterReference front (marked_text names marks value) content stop walk.old walk.new) }

@@ -10,6 +10,7 @@ use Rattle.definition_inline.specs.Scan.{inlines}
 use Rattle.engine_events.specs.declared.event.Name.TheVariants as n
 use Rattle.event_grammar.specs.declared.slot.Between.TheVariants.{Spaces}
 use Rattle.event_meaning.specs.Texts.{inlines_of}
+use Rattle.parse_references.proofs.Sound.{sound_around, sound_one}
 use Rattle.parse_alike.proofs.Composed.{alike_parts_compose}
 use Rattle.parse_tables.proofs.Fills.{cell_text}
 use Rattle.parse_tables.proofs.Parts.{part_entered, part_left, stop_before}
@@ -122,4 +123,5 @@ module _ {A : Type 0} (r : Reading) (text behind : List ℕ) (ending : Option Li
           columns = ap (λ (xs : List Node). xs ++ []) w.plain.columns;
         };
         fill = cell_text node refl (w.fill Spaces (ap (list_any ends_line) ahead ∙ dark));
+        sound = sound_one r.tables.names text node (sound_around r.tables.names text node refl w.sound);
       }

@@ -1,5 +1,6 @@
 mod Prelude
 pub mod Fills
+pub mod Sound
 pub mod Steps
 pub mod CellBytes
 pub mod Parts

@@ -14,6 +14,7 @@ use Rattle.parse_lines.specs.Ends.{line_after}
 use Rattle.parse_raw.proofs.Bytes.{ending_token, line_ending_fits}
 use Rattle.parse_raw.proofs.Endings.{ending_nodes}
 use Rattle.parse_slots.proofs.Steps.{fill_both}
+use Rattle.parse_references.proofs.Sound.{sound_around, sound_both, void_sound}
 use Rattle.parse_tables.proofs.CellBytes.{AreLineCodes, cells_are}
 use Rattle.parse_tables.proofs.Fills.{row_filled, space_part}
 use Rattle.parse_tables.proofs.LineStarts.{before_rest}
@@ -140,6 +141,12 @@ module _ {A : Type 0} (r : Reading) (line : BlockLine) (owed : ℕ) (bytes : Lis
           };
           filled =
               row_filled node refl (fill_both (space_part text from bare_end) (fill_both bar.fill (fill_both cs.fill (space_part text behind line_end))));
+          sound =
+              let names = r.tables.names in
+              sound_around names text node refl
+              (sound_both names text ns (append bar.nodes (append cs.nodes ms)) (void_sound names text n.SpaceOrTab from bare_end refl)
+              (sound_both names text bar.nodes (append cs.nodes ms) (bar.sound names)
+              (sound_both names text cs.nodes ms cs.sound (void_sound names text n.SpaceOrTab behind line_end refl))));
         };
         writes = around_line text ending left old entered all new n.GfmTableRow kids order enters w.around w.writes w.before exits;
       }
@@ -152,6 +159,7 @@ same_row r text line line' node same row = record {
   spell = subst (λ (cs : List Cell). SpellCells r text cs (kids_of node)) (ap₂ cells same.1 same.0) row.spell;
   in_row = row.in_row;
   filled = row.filled;
+  sound = row.sound;
 }
 
 -- ---- the next line

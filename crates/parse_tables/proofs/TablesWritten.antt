@@ -12,6 +12,7 @@ use Rattle.engine_events.specs.declared.event.Name.TheVariants as n
 use Rattle.event_grammar.specs.declared.slot.Between.TheVariants.{Lines}
 use Rattle.event_grammar.specs.declared.slot.Form.TheVariants.{Plain}
 use Rattle.parse_laid.specs.Leaves.{AreTable, EndsAt}
+use Rattle.parse_references.proofs.Sound.{sound_around}
 use Rattle.parse_raw.specs.Written.{WritesLeaf}
 use Rattle.parse_raw.proofs.LeafNodes.{rest_within}
 use Rattle.parse_leaves.proofs.Fills.{filled_up}
@@ -22,6 +23,7 @@ use Rattle.parse_tables.proofs.BodyWritten.{entered_open, entered_stands, entere
 use Rattle.parse_tables.proofs.DelimiterLines.{line_delimiters, row_delimiters}
 use Rattle.parse_tables.proofs.Fills.{table_fill}
 use Rattle.parse_tables.proofs.RowsWritten.{around_line, lines_both, same_row}
+use Rattle.parse_tables.proofs.Sound.{table_sound}
 use Rattle.parse_tables.proofs.TableNodes.{table_definitions, table_spells}
 
 -- ---- pieces of a text as lines
@@ -139,6 +141,9 @@ module _ {A : Type 0} (r : Reading) (head row : BlockLine) (rows : List BlockLin
             );
             definitions = λ m m' are.
                 none_alike m m' r.tables.names text (named n.Definition kids) (table_definitions r text h d others columns hw.node bw.nodes is_head is_body);
+            sound =
+                sound_around r.tables.names text node refl
+                (table_sound r text h h.ending d.ending columns others hw.node bw.nodes is_head is_body);
           };
           writes = all.writes;
           stands = subst (λ (p : Place). StandsAt text p (standing new)) (ap (λ (e : Option LineEnding). AtEnding e after) last_is ∙ sym to_is) b.at;

@@ -14,6 +14,7 @@ use Rattle.event_grammar.specs.Trees.{Node, Nodes, Nil, Cons}
 use Rattle.parse_output.specs.Forest.{append, one}
 use Rattle.parse_output.specs.Written.{IsInOrder}
 use Rattle.parse_slots.specs.Left.{IsFilled}
+use Rattle.parse_references.specs.Sound.{IsSound}
 use Rattle.parse_laid.specs.Leaves.{AreTaken, IsRowLine}
 use Rattle.parse_laid.specs.Places.{LineRest, Between, Within, InAll, prefixed}
 use Rattle.parse_lines.specs.declared.walk.Walk.{Walk}
@@ -32,6 +33,7 @@ pub record IsRowNode (r : Reading) (text : List ℕ) (line : BlockLine) (node : 
   pub spell : SpellCells r text (line_cells line) (kids_of node)
   pub in_row : AreInRow (one node)
   pub filled : IsFilled Lines Plain node
+  pub sound : IsSound r.tables.names text node
 
 -- the row of a line is written
 pub record WritesRowNode {A : Type 0} (r : Reading) (text : List ℕ) (line : BlockLine) (ending : Option LineEnding) (left : List LineRest) (old new : Walk A)

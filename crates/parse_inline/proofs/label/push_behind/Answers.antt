@@ -1,6 +1,7 @@
 use Rattle.std.proofs.Common.{◌≡◌, None, Some, sym, ap, subst, ◌∙◌}
 use Rattle.parse_inline.proofs.Prelude.{content_codes, on_ok_weaker, resource_at, SpellsResource}
 use Rattle.inline_links.specs.View.{resource_of}
+use Rattle.parse_references.specs.Sound.{AreSound}
 use Rattle.parse_inline.proofs.Behind.{by_reference, by_resource}
 use Rattle.parse_inline.proofs.label.push_behind.Goals as goal
 
@@ -27,6 +28,7 @@ returns-in-Some-clause-written g c =
       left = is.rest ∙ sym tail.rest;
       leads = is.leads;
       fill = tail.fill;
+      sound = subst (λ by. AreSound by text tail.nodes) (sym names) tail.sound;
     })
     c.push_resource.ensures.written
 
@@ -49,5 +51,6 @@ returns-in-None-clause-written g c =
       left = is.rest ∙ sym tail.rest;
       leads = is.leads;
       fill = tail.fill;
+      sound = subst (λ by. AreSound by text tail.nodes) (sym names) tail.sound;
     })
     c.push_link_reference.ensures.written

@@ -10,6 +10,6 @@ returns-clause-written g c =
     reference_written context.names text stop _ _ context printed c.args.bytes.now from to c.reference_size.result refl
     (λ k. omega (arith, c.type_inv.bytes k)) form at
     c.reference_size.ensures st whole
-    (λ marks value after content first is are some most alphanumeric size dark next outside.
-    written context.names text marks value after content first stop is are some most alphanumeric size dark next outside))
+    (λ marks value after content first is are some most alphanumeric decodes size dark next outside.
+    written context.names text marks value after content first stop is are some most alphanumeric decodes size dark next outside))
     c.push_reference.ensures.written c.push_reference.ensures.open

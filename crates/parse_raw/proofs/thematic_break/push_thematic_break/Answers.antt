@@ -6,6 +6,7 @@ use Rattle.parse_raw.specs.Bytes.{AreBreak}
 use Rattle.event_grammar.specs.declared.slot.Between.TheVariants.{Lines}
 use Rattle.event_grammar.specs.declared.slot.Form.TheVariants.{Plain}
 use Rattle.parse_slots.proofs.Steps.{filled_by}
+use Rattle.parse_references.proofs.Sound.{sound_filled}
 use Rattle.parse_raw.proofs.Prelude.{Around, end_in, enter_at, exit_at}
 use Rattle.parse_raw.specs.Tokens.{BeginsDark, break_rest, PassesBreakPart}
 use Rattle.parse_raw.proofs.Breaks.{parts_filled, parts_more, parts_none}
@@ -60,12 +61,13 @@ returns-clause-written g c =
     let same = stays ∙ kids.same ∙ enter.stays ∙ white.stays in
     let line_end = ap (λ (s : Standing). s.line_end) stays in
     let none = no_bytes_left c.loop-rest.rest.now c.loop-rest-test.ensures in
+    let node = Around (enter_at text n.ThematicBreak (end_in a.out)) kids.nodes (exit_at text n.ThematicBreak (end_in c.loop-rest.walk.out)) in
+    let filled = filled_by Lines Plain n.ThematicBreak break_rest node refl
+    (parts_filled text c.as_bytes-rest.result.now c.loop-rest.rest.now b c.loop-rest.walk parts (subst BeginsDark same_bytes is.dark) none) refl in
     leaf_written text r.parse.constructs r.tables.names top page.Break to old a b c.loop-rest.walk d n.ThematicBreak kids.nodes space.quiet entered kids.writes
     (exits text kids.writes.order) refl refl refl kids.raw.definitions (λ m m'. (tt, tt))
     (stands_here text here laid.0 left laid.1 to (standing old) (standing d) st laid.2.0 laid.2.1 laid.4 same)
     (ap (λ (s : Standing). s.on) same, ap (λ (s : Standing). s.outermost) same) end
     (left_none text _ c.loop-rest.walk none kids.after ∙ ap (λ (k : ℕ). end_at k 0) (sym line_end)) space.starts space.begins
-    (filled_by Lines Plain n.ThematicBreak break_rest
-    (Around (enter_at text n.ThematicBreak (end_in a.out)) kids.nodes (exit_at text n.ThematicBreak (end_in c.loop-rest.walk.out))) refl
-    (parts_filled text c.as_bytes-rest.result.now c.loop-rest.rest.now b c.loop-rest.walk parts (subst BeginsDark same_bytes is.dark) none) refl))
+    filled (sound_filled r.tables.names text 2 Lines Plain n.ThematicBreak node refl refl filled))
     c.exit.ensures.exits c.exit.ensures.end c.exit.ensures.stays

@@ -39,7 +39,7 @@ returns-in-Some-clause-written g c = λ text content stop some apart st whole.
     omega (arith, length-append step.marks (value ++ 59 ∷ []), length-append value (59 ∷ [])) in
     let w =
     c.in_ok-push_reference.ensures.written names text step.marks value (step.more ++ 59 ∷ rest) (rest ++ content) step.first stop
-    (c.as_bytes.ensures.value ∙ step.tail) step.are (omega arith) step.most step.all (size ∙ parts) step.dark
+    (c.as_bytes.ensures.value ∙ step.tail) step.are (omega arith) step.most step.all step.decodes (size ∙ parts) step.dark
     (subst (λ ys. StandsInContent text ys stop c.args.walk.now) (ap (λ ys. ys ++ content) step.whole ∙ append_assoc front rest content) st) whole in
     node_part text stop on names _ _ CharacterReference front
     (marked_text names step.marks value) xs rest content c.saturating_sub-size.result w step.whole size

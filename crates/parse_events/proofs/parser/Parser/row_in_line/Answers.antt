@@ -1,5 +1,5 @@
 use Rattle.std.proofs.Common.{sym, ap, subst}
-use Rattle.parse_events.proofs.Prelude.{BlockRow, first_codes, GoesOnInLine, Leaf, on_ok_weaker, piece_lines, reading_by, Row, row_value, Single}
+use Rattle.parse_events.proofs.Prelude.{BlockRow, first_codes, GoesOnInLine, on_ok_weaker, piece_lines, reading_by, Row, row_value}
 use Rattle.parse_events.proofs.LeafRows.{leaf_row, no_ending}
 use Rattle.parse_events.proofs.parser.Parser.row_in_line.Goals as goal
 

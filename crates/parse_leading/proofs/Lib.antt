@@ -1,0 +1,11 @@
+pub mod Leaves
+pub mod Steps
+pub mod Firsts
+pub mod Walk
+pub mod Tables
+pub mod Documents
+pub mod DelimiterLines
+pub mod Laid
+pub mod Calm
+pub mod Columns
+pub mod Agree

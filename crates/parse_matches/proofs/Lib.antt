@@ -1,0 +1,4 @@
+pub mod Passing
+pub mod Voids
+pub mod Facts
+pub mod Law
