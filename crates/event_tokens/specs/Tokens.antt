@@ -1,8 +1,9 @@
--- Which bytes an event that holds no other may have, by its name. One of no bytes is left out, so no bytes fit each form.
+-- Which bytes an event that holds no other may have, by its name. They are whole characters: those that need not be ASCII are asked to be UTF-8. One of no
+-- bytes may be columns of a tab, unless it is a line ending or a number.
 use Rattle.std.specs.Prelude.{ℕ, Bool, true, false, not, ◌||◌, ◌&&◌, ◌==◌, leb, List, [], ◌∷◌, Option, None, Some, codes, length}
-use Rattle.std.specs.Char.{is_ascii_alphanumeric, is_ascii_digit, is_ascii_punctuation}
+use Rattle.std.specs.Char.{is_ascii_alphanumeric, is_ascii_punctuation}
 use Rattle.std.specs.List.{list_all, list_any}
-use Rattle.std.specs.Str.{bytes_eq}
+use Rattle.std.specs.Str.{bytes_eq, is_utf8}
 use Rattle.definition_text.specs.Ascii.{at_sign, less_than}
 use Rattle.definition_text.specs.Bytes.{begins_with}
 use Rattle.definition_text.specs.Columns.{is_white}
@@ -12,14 +13,17 @@ use Rattle.definition_inline.specs.Autolink.{email_end, uri_end}
 use Rattle.definition_inline.specs.GfmAutolinkLiteral.{begins_caselessly}
 use Rattle.engine_events.specs.declared.event.Name.{Name}
 use Rattle.engine_events.specs.declared.event.Name.TheVariants as n
-use Rattle.event_grammar.specs.Facts.{is_ending}
+use Rattle.event_grammar.specs.Facts.{are_digits, is_ending}
 
 -- ---- forms of bytes
 
 pub data Form : Type 0 where
-  Any : Form
+  -- whole characters
+  Characters : Form
   -- one line ending
   Ending : Form
+  -- a digit or more, and at most so many
+  Number : ℕ → Form
   -- each byte is of a kind
   All : (ℕ → Bool) → Form
   -- at most so many bytes, each of a kind
@@ -34,6 +38,8 @@ pub data Form : Type 0 where
   Such : (List ℕ → Bool) → Form
   -- bytes of one form or of the other
   Either : Form → Form → Form
+  -- bytes of both forms
+  Both : Form → Form → Form
 
 abbrev pub is_nothing : List ℕ → Bool
 is_nothing [] = true
@@ -47,8 +53,9 @@ is_run [] = true
 is_run (b ∷ bs) = list_all (λ c. c == b) bs
 
 abbrev pub fits : Form → List ℕ → Bool
-fits Any bytes = true
-fits Ending bytes = is_nothing bytes || is_ending bytes
+fits Characters bytes = is_utf8 bytes
+fits Ending bytes = is_ending bytes
+fits (Number most) bytes = are_digits most bytes
 fits (All kind) bytes = list_all kind bytes
 fits (Most most kind) bytes = leb (length bytes) most && list_all kind bytes
 fits (Run marks) bytes = is_run bytes && list_all (is_among marks) bytes
@@ -56,14 +63,19 @@ fits (Only text) bytes = is_nothing bytes || bytes_eq bytes text
 fits (Least least kind) bytes = is_nothing bytes || (leb least (length bytes) && list_all kind bytes)
 fits (Such test) bytes = is_nothing bytes || test bytes
 fits (Either one other) bytes = fits one bytes || fits other bytes
+fits (Both one other) bytes = fits one bytes && fits other bytes
 
 -- one byte of these
 abbrev pub one_of : List ℕ → Form
 one_of codes = Most 1 (is_among codes)
 
--- bytes without a line ending
+-- characters that pass a test
+abbrev pub text_such : (List ℕ → Bool) → Form
+text_such test = Both Characters (Such test)
+
+-- characters without a line ending
 abbrev pub line : Form
-line = All (λ b. not (ends_line b))
+line = Both Characters (All (λ b. not (ends_line b)))
 
 -- ---- links
 
@@ -106,7 +118,7 @@ token_form n.ByteOrderMark = Only (239 ∷ 187 ∷ 191 ∷ [])
 token_form n.Data = line
 -- containers
 token_form n.BlockQuoteMarker = one_of (codes ">")
-token_form n.ListItemValue = Most 9 is_ascii_digit
+token_form n.ListItemValue = Number 9
 token_form n.ListItemMarker = one_of (codes "-+*.)")
 token_form n.GfmFootnoteDefinitionLabelMarker = one_of (codes "[]")
 token_form n.GfmFootnoteDefinitionMarker = one_of (codes "^")
@@ -138,13 +150,13 @@ token_form n.CharacterReferenceMarkerHexadecimal = one_of (codes "xX")
 token_form n.CharacterReferenceMarkerSemi = one_of (codes ";")
 token_form n.CharacterReferenceValue = Most 31 is_ascii_alphanumeric
 token_form n.AutolinkMarker = one_of (codes "<>")
-token_form n.AutolinkProtocol = Such is_uri
-token_form n.AutolinkEmail = Such is_email
-token_form n.GfmAutolinkLiteralWww = Such (begins_link (codes "www."))
-token_form n.GfmAutolinkLiteralProtocol = Either (Such (begins_link (codes "http://"))) (Such (begins_link (codes "https://")))
-token_form n.GfmAutolinkLiteralEmail = Such is_address
-token_form n.GfmAutolinkLiteralMailto = Such (begins_address (codes "mailto:"))
-token_form n.GfmAutolinkLiteralXmpp = Such (begins_address (codes "xmpp:"))
+token_form n.AutolinkProtocol = text_such is_uri
+token_form n.AutolinkEmail = text_such is_email
+token_form n.GfmAutolinkLiteralWww = text_such (begins_link (codes "www."))
+token_form n.GfmAutolinkLiteralProtocol = Both Characters (Either (Such (begins_link (codes "http://"))) (Such (begins_link (codes "https://"))))
+token_form n.GfmAutolinkLiteralEmail = text_such is_address
+token_form n.GfmAutolinkLiteralMailto = text_such (begins_address (codes "mailto:"))
+token_form n.GfmAutolinkLiteralXmpp = text_such (begins_address (codes "xmpp:"))
 token_form n.CodeTextSequence = Run (codes "`")
 token_form n.CodeTextData = line
 token_form n.MathTextSequence = Run (codes "$")
@@ -166,7 +178,7 @@ token_form n.ReferenceMarker = one_of (codes "[]")
 token_form n.ResourceMarker = one_of (codes "()")
 token_form n.ResourceDestinationLiteralMarker = one_of (codes "<>")
 token_form n.ResourceTitleMarker = one_of (codes "\"'()")
-token_form name = Any
+token_form name = Characters
 
 -- whether an event of a name may have these bytes
 abbrev pub is_token : Name → List ℕ → Bool

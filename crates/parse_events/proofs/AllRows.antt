@@ -1,6 +1,6 @@
 -- After all rows of a text, its events are in the grammar and spell its page.
 use Rattle.std.proofs.Common.{◌≡◌, ◌<◌, inl, inr, ℕ, List, [], ◌∷◌, true, refl, sym, ap, ◌∙◌, subst, arith, get_or, length}
-use Rattle.std.specs.Str.{IsUtf8}
+use Rattle.std.specs.Str.{is_utf8}
 use Rattle.parse_events.proofs.Prelude.{AreOpen, bare_blocks, Between, document_targets, End, end_in, Event, forest_in, group_items, growth}
 use Rattle.parse_events.proofs.Prelude.{Growth, IsFront, IsInOrder, joined, Kind, kind_before_text, line_at, lines, lines_joined, Nodes, Opened, opened}
 use Rattle.parse_events.proofs.Prelude.{Output, Part, Reading, Spells, Stands, StandsBefore, TextLine, unmatched, unread, Walk, without_mark, written_to}
@@ -22,8 +22,8 @@ use Rattle.parse_slots.specs.Left.{ends, left_by}
 use Rattle.parse_references.specs.Sound.{AreSound}
 use Rattle.parse_leading.proofs.Agree.{documents_agree}
 use Rattle.parse_leading.proofs.Documents.{documents_lead_on}
-use Rattle.parse_matches.specs.Laws.{BeginWhole}
 use Rattle.parse_matches.proofs.Law.{met_grammar_matches}
+use Rattle.parse_matches.proofs.Places.{places_fit}
 use Rattle.parse_alike.specs.Spelled.{IsPageOfText}
 use Rattle.parse_open.specs.Texts.{text_blocks}
 use Rattle.parse_open.proofs.FilledBytes.{documents_are_filled, tree_is}
@@ -32,10 +32,8 @@ use Rattle.parse_open.proofs.Texts.{texts_are_spelled}
 use Rattle.parse_events.specs.Nested.{IsNested}
 use Rattle.parse_events.specs.Parsed.{AreEventsOf}
 use Rattle.parse_events.specs.Stands.{IsAt}
-use Rattle.parse_events.specs.WellPlaced.{AreWellPlaced}
 use Rattle.parse_events.proofs.Bytewise.{spells_the_same}
 use Rattle.parse_events.proofs.NestedLaw.{nested}
-use Rattle.parse_events.proofs.PlacesFit.{all_whole, places_fit}
 use Rattle.event_tokens.specs.Bytes.{HaveTheirBytes}
 
 -- ---- the end of the text
@@ -124,10 +122,10 @@ module _ (tables : TextTables) (options : ParseOptions) (text : List ℕ) where
         (texts_are_spelled tables options text are.front kids line are.is_front all_spelled (are.stands.ends refl))
 
     -- the list of events matches the grammar
-    pub nodes_match : ((k : ℕ) → get_or text k 0 < 256) → PlacesFit text (spot 0 0) events → BeginWhole events → HaveTheirBytes text events
+    pub nodes_match : ((k : ℕ) → get_or text k 0 < 256) → is_utf8 text ≡ true → ArePlaced text events → HaveTheirBytes text events
         → MatchesGrammar tables.names text events
-    nodes_match bytes places whole tokens =
-        let page = nodes_spelled places in
+    nodes_match bytes utf8 placed tokens =
+        let page = nodes_spelled (places_fit text events utf8 placed tokens) in
         let filled = nodes_filled nodes are.nested.each are.nested.named in
         met_grammar_matches tables.names text events (
         record {
@@ -135,12 +133,12 @@ module _ (tables : TextTables) (options : ParseOptions) (text : List ℕ) where
           nested = are.nested.each;
           paired = are.nested.named;
           filled = filled;
+          utf8 = utf8;
+          placed = placed;
           tokens = tokens;
-          whole = whole;
           sound = nodes_sound;
           leads = documents_lead_on tables options text nodes page filled nodes_sound;
           cells = documents_agree tables options text nodes bytes page filled;
-          places = places;
         })
 
     pub events_spelled : PlacesFit text (spot 0 0) events → IsPageOfText tables options text (spelled tables.names events text)
@@ -148,63 +146,58 @@ module _ (tables : TextTables) (options : ParseOptions) (text : List ℕ) where
         subst (IsPageOfText tables options text) (sym (ap (page_of tables.names text) (tree_nodes events are.nested))) (nodes_spelled places)
 
 -- what is said of an output and of its text is said of others that are the same
-written_same : {A : Type 0} (text bytes : List ℕ) (out own : Output A) (es events : List Event) → bytes ≡ text → out ≡ own → events ≡ es
-    → (IsInOrder bytes out → (end_in out).index ≡ length bytes → bytewise (tree es) ≡ (forest_in bytes out).kids)
+written_same : {A : Type 0} (text bytes : List ℕ) (out own : Output A) (events : List Event) → bytes ≡ text → out ≡ own
+    → (IsInOrder bytes out → (end_in out).index ≡ length bytes → bytewise (tree events) ≡ (forest_in bytes out).kids)
     → IsInOrder text own → (end_in own).index ≡ length text → bytewise (tree events) ≡ (forest_in text own).kids
-written_same {A} text bytes out own es events bytes_are out_is same written order end =
-    let all : IsInOrder text own → (end_in own).index ≡ length text → bytewise (tree es) ≡ (forest_in text own).kids =
-    subst (λ (o : Output A). IsInOrder text o → (end_in o).index ≡ length text → bytewise (tree es) ≡ (forest_in text o).kids) out_is
-    (subst (λ (bs : List ℕ). IsInOrder bs out → (end_in out).index ≡ length bs → bytewise (tree es) ≡ (forest_in bs out).kids) bytes_are written) in
-    ap (λ (xs : List Event). bytewise (tree xs)) same ∙ all order end
+written_same {A} text bytes out own events bytes_are out_is written =
+    subst (λ (o : Output A). IsInOrder text o → (end_in o).index ≡ length text → bytewise (tree events) ≡ (forest_in text o).kids) out_is
+    (subst (λ (bs : List ℕ). IsInOrder bs out → (end_in out).index ≡ length bs → bytewise (tree events) ≡ (forest_in bs out).kids) bytes_are written)
 
 -- the same, where all of the text is written
-tokens_same : {A : Type 0} (text bytes : List ℕ) (out own : Output A) (es events : List Event) → bytes ≡ text → out ≡ own → events ≡ es
-    → (IsInOrder bytes out → (end_in out).index ≡ length bytes → HaveTheirBytes bytes es)
+tokens_same : {A : Type 0} (text bytes : List ℕ) (out own : Output A) (events : List Event) → bytes ≡ text → out ≡ own
+    → (IsInOrder bytes out → (end_in out).index ≡ length bytes → HaveTheirBytes bytes events)
     → IsInOrder text own → (end_in own).index ≡ length text → HaveTheirBytes text events
-tokens_same {A} text bytes out own es events bytes_are out_is same written order end =
-    let all : IsInOrder text own → (end_in own).index ≡ length text → HaveTheirBytes text es =
-    subst (λ (o : Output A). IsInOrder text o → (end_in o).index ≡ length text → HaveTheirBytes text es) out_is
-    (subst (λ (bs : List ℕ). IsInOrder bs out → (end_in out).index ≡ length bs → HaveTheirBytes bs es) bytes_are written) in
-    subst (HaveTheirBytes text) (sym same) (all order end)
+tokens_same {A} text bytes out own events bytes_are out_is tokens =
+    subst (λ (o : Output A). IsInOrder text o → (end_in o).index ≡ length text → HaveTheirBytes text events) out_is
+    (subst (λ (bs : List ℕ). IsInOrder bs out → (end_in out).index ≡ length bs → HaveTheirBytes bs events) bytes_are tokens)
 
 -- ---- the events of the text
 
 -- what is finished of a walk after the rows of a text has its nodes
 pub are_of_text : {A : Type 0} (tables : TextTables) (options : ParseOptions) (text : List ℕ) (old w : Walk A)
-    (start : StandsBefore options.constructs text (kind_before_text text) (without_mark text) old) (bytes : List ℕ) (out : Output A) (es events : List Event)
-    → bytes ≡ text → out ≡ w.out → events ≡ es → open_in w.out ≡ [] → HaveChildren es → unmatched es ≡ open_in out
-    → (IsInOrder bytes out → (end_in out).index ≡ length bytes → bytewise (tree es) ≡ (forest_in bytes out).kids)
+    (start : StandsBefore options.constructs text (kind_before_text text) (without_mark text) old) (bytes : List ℕ) (out : Output A) (events : List Event)
+    → bytes ≡ text → out ≡ w.out → open_in w.out ≡ [] → HaveChildren events → unmatched events ≡ open_in out
+    → (IsInOrder bytes out → (end_in out).index ≡ length bytes → bytewise (tree events) ≡ (forest_in bytes out).kids)
     → Stands (text_reading tables options text) text start.front (all_rows tables options text) [] (Between []) w
     → AreOfText tables options text w events
-are_of_text {A} tables options text old w start bytes out es events bytes_are out_is same none children matched written st =
+are_of_text {A} tables options text old w start bytes out events bytes_are out_is none children matched written st =
     record {
       front = start.front;
       is_front = start.is_front tables.names;
       stands = st;
-      nested = nested events (ap unmatched same ∙ matched ∙ ap (λ (o : Output A). open_in o) out_is ∙ none);
-      children = subst HaveChildren (sym same) children;
+      nested = nested events (matched ∙ ap (λ (o : Output A). open_in o) out_is ∙ none);
+      children = children;
       same =
-          written_same text bytes out w.out es events bytes_are out_is same written st.order
+          written_same text bytes out w.out events bytes_are out_is written st.order
           (all_written text (all_rows tables options text) w st.at);
     }
 
 -- and is the list of its events
 pub are_events : {A : Type 0} (tables : TextTables) (options : ParseOptions) (text : List ℕ) (w : Walk A) (bytes : List ℕ) (out : Output A)
-    (es events : List Event) → bytes ≡ text → out ≡ w.out → events ≡ es → ArePlaced bytes es
-    → (IsInOrder bytes out → (end_in out).index ≡ length bytes → HaveTheirBytes bytes es) → AreOfText tables options text w events
-    → ((k : ℕ) → get_or text k 0 < 256) → IsUtf8 text → AreWellPlaced text events → AreEventsOf tables options text events
-are_events tables options text w bytes out es events bytes_are out_is same placed tokens are numbers utf8 well =
-    let own_placed : ArePlaced text events =
-    subst (λ (bs : List ℕ). ArePlaced bs events) bytes_are (subst (λ (xs : List Event). ArePlaced bytes xs) (sym same) placed) in
+    (events : List Event) → bytes ≡ text → out ≡ w.out → ArePlaced bytes events
+    → (IsInOrder bytes out → (end_in out).index ≡ length bytes → HaveTheirBytes bytes events) → AreOfText tables options text w events
+    → ((k : ℕ) → get_or text k 0 < 256) → AreEventsOf tables options text events
+are_events tables options text w bytes out events bytes_are out_is placed tokens are numbers =
+    let utf8 : is_utf8 text ≡ true = are.stands.order.0 in
+    let own_placed : ArePlaced text events = subst (λ (bs : List ℕ). ArePlaced bs events) bytes_are placed in
     let own_tokens : HaveTheirBytes text events =
-    tokens_same text bytes out w.out es events bytes_are out_is same tokens are.stands.order
+    tokens_same text bytes out w.out events bytes_are out_is tokens are.stands.order
     (all_written text (all_rows tables options text) w are.stands.at) in
-    let places = places_fit text utf8 events own_placed well in
     record {
       placed = own_placed;
       nested = are.nested;
       children = are.children;
       tokens = own_tokens;
-      grammar = nodes_match tables options text w events are numbers places (all_whole text events well) own_tokens;
-      spelled = events_spelled tables options text w events are places;
+      grammar = nodes_match tables options text w events are numbers utf8 own_placed own_tokens;
+      spelled = events_spelled tables options text w events are (places_fit text events utf8 own_placed own_tokens);
     }

@@ -158,7 +158,7 @@ module _ {A : Type 0} where
       let between_is : text_between text (written_to old) to ≡ mp.mark =
       ap₂ (text_between text) start (ap (λ (k : ℕ). end_at k 0) reached)
       ∙ ap (between 0 (length mp.mark)) parts ∙ ap (λ (k : ℕ). take k (mp.mark ++ rest)) none ∙ take-append_seam mp.mark rest in
-      let written = writes short text order (record { follows = follows; bytes = ap (is_token n.ByteOrderMark) between_is ∙ mp.fits }) in
+      let written = writes short text order (record { follows = follows; bytes = λ apart. ap (is_token n.ByteOrderMark) between_is ∙ mp.fits }) in
       let nodes = void_nodes text n.ByteOrderMark (written_to old) to in
       let st : StandsAt text (Between (unread before (lines rest))) (standing old) = begins text mp.mark before fits refl bytes parts mp.first in
       record {

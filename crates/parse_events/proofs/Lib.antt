@@ -26,6 +26,5 @@ pub mod FrontLines
 pub mod Fronts
 pub mod Blocks
 pub mod Targets
-pub mod PlacesFit
 pub mod Bytewise
 pub mod AllRows

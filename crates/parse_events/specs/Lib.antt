@@ -8,4 +8,3 @@ pub mod Stands
 pub mod Parsing
 pub mod Document
 pub mod Parsed
-pub mod WellPlaced

@@ -25,7 +25,6 @@ ghost use Rattle.event_tokens.specs.Bytes.{HaveTheirBytes};
 use crate::labels::Labels;
 use crate::parser::Parser;
 use crate::state::ParseState;
-use crate::well_placed::well_placed;
 use block_parser::{BlockRows, block_rows};
 use block_rows::Row;
 use block_starts::frontmatter::without_frontmatter;
@@ -50,11 +49,8 @@ pub const SIZE_MAX: usize = usize::MAX / 8;
 ///
 /// Each event that holds no other has bytes that its name may have: a marker is its byte, white space
 /// is spaces and tabs, data ends no line, the value of an escape is punctuation. The table is in
-/// `event_tokens`. If its name can hold no other, it has at least a byte, or a column of a tab.
-///
-/// Before the list is returned, each event is looked at: whether its place is between characters, and, if
-/// it is a line ending or an item's number, whether it begins at a byte. If one had no such place, the
-/// call would fail with `out of memory`; no text is known where one hasn't.
+/// `event_tokens`. The bytes are whole characters, so each event begins and ends between characters. If its
+/// name can hold no other, it has at least a byte, or a column of a tab.
 pub fn parse<'a, T: Tables, A: Allocator + Clone>(
     alloc: A,
     value: &'a str,
@@ -142,8 +138,7 @@ fn text_events<'a, T: Tables, A: Allocator + Clone>(
 {
     let walk = begin(alloc.clone()?, value, options)?;
     let walk = push_blocks(alloc, walk, options, tables, &blocks.rows, &blocks.pieces)?;
-    let written = walk.into_output().finish(value.as_bytes())?;
-    let events = well_placed(written, value)?;
+    let events = walk.into_output().finish(value.as_bytes())?;
     Ok(events)
 }
 

@@ -6,7 +6,6 @@ pub mod labels;
 pub mod opened;
 pub mod parser;
 pub mod state;
-pub mod well_placed;
 
 pub use document::{SIZE_MAX, parse};
 pub use state::ParseState;

@@ -5,7 +5,7 @@ use Rattle.event_tokens.specs.Tokens.{is_email, is_nothing, is_token, is_uri}
 use Rattle.parse_written.specs.Leaves.{is_target}
 use Rattle.parse_lines.proofs.Bytes.{has_bytes}
 use Rattle.parse_inline.proofs.Prelude.{Anywhere, append, ArePlain, Around, End, end_after, end_in, ends_line, enter_at, EntersInLine, exit_at, ExitsInLine}
-use Rattle.parse_inline.proofs.Prelude.{in_angles, inlines_of, IsWhole, leaves, line_in_content, list_any, list_any-append, Name, Names, Nodes, one}
+use Rattle.parse_inline.proofs.Prelude.{in_angles, inlines_of, IsUtf8, IsWhole, leaves, line_in_content, list_any, list_any-append, Name, Names, Nodes, one}
 use Rattle.parse_inline.proofs.Prelude.{plain_both, plain_none, plain_one, same_name, standing, StandsInContent, StandsInLine, still_whole, Stop, text_of}
 use Rattle.parse_inline.proofs.Prelude.{token, token_text, void_nodes, void_one, Walk, WritesFront, WritesInLine}
 use Rattle.engine_events.specs.declared.event.Name.TheVariants as n
@@ -20,6 +20,7 @@ use Rattle.event_grammar.specs.Grammar.{one as one_slot, row, text_row}
 use Rattle.parse_slots.specs.Left.{Fill, IsFilled}
 use Rattle.parse_slots.proofs.Steps.{fill_both, fill_taken, filled_in_line}
 use Rattle.parse_references.proofs.Sound.{sound_filled, sound_one}
+use Rattle.parse_strings.proofs.Characters.{with_characters}
 use Rattle.parse_strings.proofs.Fills.{token_taken}
 use Rattle.parse_lines.proofs.InLine.{lines_around, lines_both}
 use Rattle.parse_inline.specs.Leaves.{address_name}
@@ -70,21 +71,21 @@ address_prefix : (email : Bool) → same_name (address_name email) n.BlockQuoteP
 address_prefix true = refl
 address_prefix false = refl
 
-address_may : (email : Bool) (bytes : List ℕ) → is_target email bytes ≡ true → is_token (address_name email) bytes ≡ true
-address_may true bytes is = or_right (is_nothing bytes) (is_email bytes) is
-address_may false bytes is = or_right (is_nothing bytes) (is_uri bytes) is
+address_may : (email : Bool) (bytes : List ℕ) → IsUtf8 bytes → is_target email bytes ≡ true → is_token (address_name email) bytes ≡ true
+address_may true bytes utf8 is = with_characters bytes _ utf8 (or_right (is_nothing bytes) (is_email bytes) is)
+address_may false bytes utf8 is = with_characters bytes _ utf8 (or_right (is_nothing bytes) (is_uri bytes) is)
 
 module _ {A : Type 0} (names : Names) (text : List ℕ) (stop : Stop) where
   pub autolink_front : (email : Bool) (name : Name) (a b c d e f : Walk A) (address content : List ℕ) (size : ℕ) → name ≡ address_name email
       → size ≡ length address
-      → 0 < length address → list_any ends_line address ≡ false → is_target email address ≡ true
+      → 0 < length address → list_any ends_line address ≡ false → is_target email address ≡ true → IsUtf8 address
       → StandsInContent text (in_angles address ++ content) stop a → IsWhole a
       → standing f ≡ standing a
       → ((line : List ℕ) → StandsInLine text line a → EntersInLine text n.Autolink line a b) → WritesNext text n.AutolinkMarker 1 b c
       → WritesNext text name size c d
       → WritesNext text n.AutolinkMarker 1 d e → ((line : List ℕ) → StandsInLine text line e → ExitsInLine text n.Autolink line e f)
       → WritesFront names text (in_angles address) content Anywhere (Autolink email address ∷ []) stop a f
-  autolink_front email name a b c d e f address content size named is some dark target st whole same enters first value second exits =
+  autolink_front email name a b c d e f address content size named is some dark target utf8 st whole same enters first value second exits =
       let inner : list_any ends_line (address ++ 62 ∷ []) ≡ false =
       list_any-append ends_line address (62 ∷ []) ∙ ap (λ t. t || list_any ends_line (62 ∷ [])) dark in
       let ahead = line_in_content text stop a (in_angles address) content st inner in
@@ -95,7 +96,7 @@ module _ {A : Type 0} (names : Names) (text : List ℕ) (stop : Stop) where
       let at_value = subst (λ xs. StandsInLine text xs c) (append_assoc address (62 ∷ []) line) m.stands in
       let prefix : same_name name n.BlockQuotePrefix ≡ false = ap (λ x. same_name x n.BlockQuotePrefix) named ∙ address_prefix email in
       let inside_c : IsWhole c = ap (λ (y : End). y.owed) m.end ∙ still_whole (end_in b.out) 1 (ap (λ (y : End). y.owed) entered.end ∙ whole) in
-      let may = ap (λ x. is_token x address) named ∙ address_may email address target in
+      let may = ap (λ x. is_token x address) named ∙ address_may email address utf8 target in
       let v = value address (62 ∷ line) is prefix at_value (has_bytes text address (62 ∷ line) size c name is at_value inside_c may) in
       let l =
       second (62 ∷ []) line refl refl v.stands (has_bytes text (62 ∷ []) line 1 d n.AutolinkMarker refl v.stands

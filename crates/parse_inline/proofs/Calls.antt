@@ -1,13 +1,12 @@
 -- What calls of a walk write of a content: a mark, the start and the end of a span, of a label.
 use Rattle.std.proofs.Common.{◌≡◌, ℕ, false, List, [], ◌∷◌, ◌++◌, length, refl, ap, subst, ◌∙◌, arith}
 use Rattle.std.proofs.Common.{true}
-use Rattle.std.specs.Prelude.{not}
 use Rattle.event_tokens.specs.Tokens.{is_token}
 use Rattle.parse_lines.specs.Content.{HasBytes}
-use Rattle.parse_lines.proofs.Bytes.{dark_line, has_bytes, has_kind}
+use Rattle.parse_lines.proofs.Bytes.{has_bytes}
 use Rattle.parse_inline.proofs.Prelude.{append, ArePlain, Around, contents_around, contents_both, data_nodes, End, end_after, end_in, ends_line, EndsLabel}
 use Rattle.parse_inline.proofs.Prelude.{enter_at, EntersInContent, EntersInLine, EntersLabel, EntersSpan, exit_at, ExitsInContent, ExitsInLine, is_listed}
-use Rattle.parse_inline.proofs.Prelude.{IsWhole, LeavesSpan, line_enters, line_exits, line_in_content, list_any, Name, Nodes, plain_one, same_name}
+use Rattle.parse_inline.proofs.Prelude.{IsUtf8, IsWhole, LeavesSpan, line_enters, line_exits, line_in_content, list_any, Name, Nodes, plain_one, same_name}
 use Rattle.parse_inline.proofs.Prelude.{sequence_name, sought_names, Span, span_name, standing, StandsInContent, StandsInLine, Stop, text_name, void_next}
 use Rattle.parse_inline.proofs.Prelude.{void_nodes, Walk, WritesInContent, WritesInLine}
 use Rattle.std.specs.Prelude.{Result, Ok, Err, OnOk}
@@ -20,6 +19,7 @@ use Rattle.event_grammar.specs.Checks.{between_of}
 use Rattle.parse_slots.specs.Left.{Fill}
 use Rattle.parse_slots.proofs.Steps.{filled_by}
 use Rattle.parse_lines.proofs.Ahead.{owed_after}
+use Rattle.parse_strings.proofs.Characters.{fits_data}
 use Rattle.parse_inline.specs.Rows.{WritesMark}
 use Rattle.parse_inline.proofs.Plain.{cut_one}
 
@@ -98,14 +98,14 @@ module _ {A : Type 0} (text : List ℕ) (stop : Stop) where
         whole = λ whole. ap (λ (e : End). e.owed) writes.end ∙ whole_after (end_in a.out) (length front) whole;
       }
 
-  pub writing_data : (a b : Walk A) (size : ℕ) (front content : List ℕ) → size ≡ length front → list_any ends_line front ≡ false
+  pub writing_data : (a b : Walk A) (size : ℕ) (front content : List ℕ) → size ≡ length front → list_any ends_line front ≡ false → IsUtf8 front
       → DoesData size a b → StandsInContent text (front ++ content) stop a
       → IsWritten (data_nodes text (end_in a.out) (end_after (end_in a.out) (length front))) front content a b
-  writing_data a b size front content is dark does st =
+  writing_data a b size front content is dark utf8 does st =
       let ahead = line_in_content text stop a front content st dark in
       let writes : WritesInLine text front (data_nodes text (end_in a.out) (end_after (end_in a.out) (length front))) ahead.line a b =
       subst (λ count. WritesInLine text front (data_nodes text (end_in a.out) (end_after (end_in a.out) count)) ahead.line a b) is
-      (does.1 text front ahead.line is ahead.stands (has_kind text front ahead.line size a (λ c. not (ends_line c)) is ahead.stands (dark_line front dark))) in
+      (does.1 text front ahead.line is ahead.stands (fits_data text front ahead.line size a is ahead.stands utf8 dark)) in
       record {
         writes = ahead.lifts (data_nodes text (end_in a.out) (end_after (end_in a.out) (length front))) b does.0 writes;
         whole = λ whole. ap (λ (e : End). e.owed) writes.end ∙ whole_after (end_in a.out) (length front) whole;

@@ -4,8 +4,8 @@ use Rattle.std.specs.Borrow.{Bor}
 use Rattle.parse_inline.proofs.Prelude.{AreBytesAt, AreCodes, AreLaid, AreLinkable, ArePartsAlike, ArePlain, call_codes, content_codes, data_nodes, end_after}
 use Rattle.parse_inline.proofs.Prelude.{end_in, EndNoLine, ends_line, EntersLabel, EntersSpan, filled, held_levels, held_of, Holds, hole_of, Image, in_link}
 use Rattle.parse_inline.proofs.Prelude.{inline_bytes_law, InlineCode, InlineContext, InlineLeaf, InlineRow, Inlines, InLinked, InSpan, is_link, IsData}
-use Rattle.parse_inline.proofs.Prelude.{IsFirstLaid, IsInRows, IsLeafLaid, IsPartLaid, IsWhole, laid_levels, LeafPart, leaves, length-replicate, level, Level}
-use Rattle.parse_inline.proofs.Prelude.{Link, linked_name, LinkedKind, links, list_any, mark_name, Nodes, part, rows_view, sequence_size, Setting, Span}
+use Rattle.parse_inline.proofs.Prelude.{IsFirstLaid, IsInRows, IsLeafLaid, IsPartLaid, IsUtf8, IsWhole, laid_levels, LeafPart, leaves, length-replicate, level}
+use Rattle.parse_inline.proofs.Prelude.{Level, Link, linked_name, LinkedKind, links, list_any, mark_name, Nodes, part, rows_view, sequence_size, Setting, Span}
 use Rattle.parse_inline.proofs.Prelude.{spelled_view, SpelledLeaf, StandsInContent, StandsInText, Step, Stop, take-append-drop, Target, Walk, WritesCall}
 use Rattle.parse_inline.proofs.Prelude.{WritesInContent, WritesLeaves, WritesPart, WritesSpelled}
 use Rattle.std.proofs.lemmas.Bool.{false_from_ne_true}
@@ -103,15 +103,15 @@ module _ {A : Type 0} (s : Setting) (first : Walk A) where
         sound
 
     -- bytes of text
-    pub data_row : (text : List ℕ) → found.after ≡ laid_levels st.levels → IsData text st.place found.next → AreHeld (map inline.Data text) st.steps found.left
-        → DoesData (length text) old new → IsInRows s first others held new
-    data_row text open_same here own does =
+    pub data_row : (text : List ℕ) (size : ℕ) → size ≡ length text → IsUtf8 text → found.after ≡ laid_levels st.levels
+        → IsData text st.place found.next → AreHeld (map inline.Data text) st.steps found.left → DoesData size old new → IsInRows s first others held new
+    data_row text size sized utf8 open_same here own does =
         let passes = inline_bytes_law text st.left st.place found.next st.stands.codes here.codes here.inline in
         let after = drop (length text) st.left in
         let both : st.left ≡ text ++ after = sym (take-append-drop (length text) st.left) ∙ ap (λ xs. xs ++ after) passes.front in
         let stands : StandsInContent s.text (text ++ after) s.stop old = subst (λ bs. StandsInContent s.text bs s.stop old) both st.stands.stands in
         let dark = dark_text text here.inline in
-        let w = writing_data s.text s.stop old new (length text) text after refl dark does stands in
+        let w = writing_data s.text s.stop old new size text after sized dark utf8 does stands in
         let linked = in_link (links st.levels) in
         let ns = data_nodes s.text (end_in old.out) (end_after (end_in old.out) (length text)) in
         leaves_row (map inline.Data text) ns text after open_same own both w.writes (w.whole st.stands.whole) passes.left
@@ -132,17 +132,18 @@ module _ {A : Type 0} (s : Setting) (first : Walk A) where
 
   -- ---- rows of text
 
-  pub text_passes : (text : Bor (List ℕ)) (others : List InlineRow) (held : List opened.Open) (old new : Walk A) → DoesData (length text.now) old new
-      → IsInRows s first (rows.Text text ∷ others) held old → IsInRows s first others held new
-  text_passes text others held old new does st =
+  pub text_passes : (text : Bor (List ℕ)) (size : ℕ) (others : List InlineRow) (held : List opened.Open) (old new : Walk A) → size ≡ length text.now
+      → IsUtf8 text.now → DoesData size old new → IsInRows s first (rows.Text text ∷ others) held old → IsInRows s first others held new
+  text_passes text size others held old new sized utf8 does st =
       let f = found (rows.Text text) others held old new st in
-      data_row (rows.Text text) others held old new st text.now f.here.0 f.here.1 f.own does
+      data_row (rows.Text text) others held old new st text.now size sized utf8 f.here.0 f.here.1 f.own does
 
-  pub verbatim_passes : (verbatim : VerbatimText) (others : List InlineRow) (held : List opened.Open) (old new : Walk A)
-      → DoesData (length verbatim.text.now) old new → IsInRows s first (rows.Verbatim verbatim ∷ others) held old → IsInRows s first others held new
-  verbatim_passes verbatim others held old new does st =
+  pub verbatim_passes : (verbatim : VerbatimText) (size : ℕ) (others : List InlineRow) (held : List opened.Open) (old new : Walk A)
+      → size ≡ length verbatim.text.now → IsUtf8 verbatim.text.now → DoesData size old new
+      → IsInRows s first (rows.Verbatim verbatim ∷ others) held old → IsInRows s first others held new
+  verbatim_passes verbatim size others held old new sized utf8 does st =
       let f = found (rows.Verbatim verbatim) others held old new st in
-      data_row (rows.Verbatim verbatim) others held old new st verbatim.text.now f.here.0 f.here.1 f.own does
+      data_row (rows.Verbatim verbatim) others held old new st verbatim.text.now size sized utf8 f.here.0 f.here.1 f.own does
 
   -- ---- constructs
 

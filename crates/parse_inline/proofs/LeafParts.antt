@@ -4,7 +4,7 @@ use Rattle.std.proofs.Common.{drop, length, map, arith}
 use Rattle.std.proofs.Common.{◌≤◌, zero, suc, ◌&&◌, replicate}
 use Rattle.std.specs.Char.{is_ascii_punctuation}
 use Rattle.std.specs.List.{list_all}
-use Rattle.std.specs.Prelude.{leb, not}
+use Rattle.std.specs.Prelude.{leb}
 use Rattle.std.proofs.lemmas.Bool.{le-leb, or_right}
 use Rattle.std.proofs.lemmas.List.{length-replicate}
 use Rattle.event_tokens.specs.Tokens.{is_among, is_nothing, is_token}
@@ -14,21 +14,19 @@ use Rattle.parse_slots.proofs.Steps.{fill_none}
 use Rattle.parse_slots.proofs.Voids.{data_fill}
 use Rattle.parse_references.proofs.Sound.{data_sound}
 use Rattle.parse_lines.specs.Content.{HasBytes}
-use Rattle.parse_lines.proofs.Bytes.{has_kind}
-use Rattle.parse_lines.proofs.Bytes.{dark_line as none_ends}
 use Rattle.parse_inline.proofs.Prelude.{Anywhere, AreBytesAt, AreCodes, AreCutBetween, ArePartsAlike, bare, cases_Bool, codes_of, codes_split, content_codes}
 use Rattle.parse_inline.proofs.Prelude.{contents_none, Data, data_nodes, End, end_after, end_in, ending_bytes, EndNoLine, ends_line, Escape, escaped}
 use Rattle.parse_inline.proofs.Prelude.{html_leaves, if◌then◌else◌, in_angles, indent, inline_bytes_law, InlineCode, InlineContext, InlineLeaf, is_eol}
-use Rattle.parse_inline.proofs.Prelude.{is_listed, is_white, IsApart, IsData, IsLeafLaid, IsPartLaid, IsWhole, Leaf, LeafPart, leaves, line_bytes, line_end}
-use Rattle.parse_inline.proofs.Prelude.{line_ending_code, line_in_content, LineEnding, list_any, Meaning, Name, Names, Nil, part, plain_none, same_name}
-use Rattle.parse_inline.proofs.Prelude.{slice_index, sought_names, spelled_view, SpelledLeaf, standing, StandsInContent, StandsInLine, still_whole, Stop}
-use Rattle.parse_inline.proofs.Prelude.{take-append-drop, text_part, true≢false, Walk, WritesFront, WritesInLine, WritesLeaves, WritesPart}
-use Rattle.parse_inline.proofs.Prelude.{WritesSpelled}
+use Rattle.parse_inline.proofs.Prelude.{is_listed, is_white, IsApart, IsData, IsLeafLaid, IsPartLaid, IsUtf8, IsWhole, Leaf, LeafPart, leaves, line_bytes}
+use Rattle.parse_inline.proofs.Prelude.{line_end, line_ending_code, line_in_content, LineEnding, list_any, Meaning, Name, Names, Nil, part, plain_none}
+use Rattle.parse_inline.proofs.Prelude.{same_name, slice_index, sought_names, spelled_view, SpelledLeaf, standing, StandsInContent, StandsInLine, still_whole}
+use Rattle.parse_inline.proofs.Prelude.{Stop, take-append-drop, text_part, true≢false, Walk, WritesFront, WritesInLine, WritesLeaves, WritesPart, WritesSpelled}
 use Rattle.markdown_options.specs.declared.line_ending.LineEnding.TheVariants as endings
 use Rattle.engine_events.specs.declared.event.Name.TheVariants as n
 use Rattle.definition_inline.specs.Inline as inline
 use Rattle.definition_inline.proofs.Scanning.{drop-codes_of}
 use Rattle.event_meaning.specs.Texts as texts
+use Rattle.parse_strings.proofs.Characters.{fits_data}
 use Rattle.parse_strings.proofs.Codes.{alone_codes, feed_codes}
 use Rattle.parse_rows.specs.Bytes.{Passes}
 use Rattle.inline_leaves.specs.Leaves.{kind_view}
@@ -220,20 +218,20 @@ module _ {A : Type 0} (names : Names) (text bytes : List ℕ) (from to : List In
       (λ here. written (drop (length (escaped front)) bytes) is.marks here whole) (map Escape front)
       (λ m m'. escapes_alike m m' front)
 
-  pub data_part : (front : List ℕ) → IsData front from to → standing b ≡ standing a
-      → ((xs line : List ℕ) → length front ≡ length xs → StandsInLine text (xs ++ line) a
-      → HasBytes text n.Data (length front) a
-      → WritesInLine text xs (data_nodes text (end_in a.out) (end_after (end_in a.out) (length front))) line a b)
+  pub data_part : (front : List ℕ) (size : ℕ) → size ≡ length front → IsUtf8 front → IsData front from to → standing b ≡ standing a
+      → ((xs line : List ℕ) → size ≡ length xs → StandsInLine text (xs ++ line) a
+      → HasBytes text n.Data size a
+      → WritesInLine text xs (data_nodes text (end_in a.out) (end_after (end_in a.out) size)) line a b)
       → WritesLeaves names text bytes Anywhere (map Data front) to stop a b
-  data_part front is same written =
+  data_part front size sized utf8 is same written =
       let content = drop (length front) bytes in
       let dark = dark_text front is.inline in
       leaves_first front Anywhere (map Data front) (codes_first front bytes from to at is.codes is.inline)
       (λ here.
       let ahead = line_in_content text stop a front content here dark in
-      let w =
-      written front ahead.line refl ahead.stands
-      (has_kind text front ahead.line (length front) a (λ c. not (ends_line c)) refl ahead.stands (none_ends front dark)) in
+      let w : WritesInLine text front (data_nodes text (end_in a.out) (end_after (end_in a.out) (length front))) ahead.line a b =
+      subst (λ k. WritesInLine text front (data_nodes text (end_in a.out) (end_after (end_in a.out) k)) ahead.line a b) sized
+      (written front ahead.line sized ahead.stands (fits_data text front ahead.line size a sized ahead.stands utf8 dark)) in
       record {
         nodes = data_nodes text (end_in a.out) (end_after (end_in a.out) (length front));
         writes = ahead.lifts _ b same w;
@@ -245,14 +243,15 @@ module _ {A : Type 0} (names : Names) (text bytes : List ℕ) (from to : List In
       })
       (map Data front) (λ m m'. data_alike m m' front)
 
-  pub autolink_part : (email : Bool) (address : List ℕ) → IsAutolink email address from to
-      → ((content : List ℕ) → 0 < length address → list_any ends_line address ≡ false → is_target email address ≡ true → StandsInContent text (in_angles address ++ content) stop a → IsWhole a
+  pub autolink_part : (email : Bool) (address : List ℕ) → IsUtf8 address → IsAutolink email address from to
+      → ((content : List ℕ) → 0 < length address → list_any ends_line address ≡ false → is_target email address ≡ true → IsUtf8 address
+      → StandsInContent text (in_angles address ++ content) stop a → IsWhole a
       → WritesFront names text (in_angles address) content Anywhere (inline.Autolink email address ∷ []) stop a b)
       → WritesLeaves names text bytes Anywhere (inline.Autolink email address ∷ []) to stop a b
-  autolink_part email address is written =
+  autolink_part email address utf8 is written =
       let inside = line_append address (62 ∷ []) is.inline (refl, tt) in
       leaves_first (in_angles address) Anywhere (inline.Autolink email address ∷ []) (codes_first (in_angles address) bytes from to at is.codes (refl, inside))
-      (λ here. written (drop (length (in_angles address)) bytes) is.some (dark_text address is.inline) is.target here whole)
+      (λ here. written (drop (length (in_angles address)) bytes) is.some (dark_text address is.inline) is.target utf8 here whole)
       (inline.Autolink email address ∷ []) (λ m m'. leaf_alike m m' (inline.Autolink email address) (leaves (inline.Autolink email address ∷ [])) refl)
 
   pub token_part : (name : Name) (front : List ℕ) (MayBe : Bool → Type 0) (l : InlineLeaf) → IsText front from to → ((m m' : Meaning)
@@ -326,11 +325,13 @@ module _ {A : Type 0} (names : Names) (text bytes : List ℕ) (from to : List In
       leaves_of_front names text stop a b bytes front (bare law.rest) Anywhere (l ∷ []) (l ∷ []) to parts law.left
       (written law.rest law.parts (apart_by ending law.rest (codes_of is.line.rest) codes) st whole) (λ m m'. leaf_alike m m' l (leaves (l ∷ [])) refl)
 
-  pub html_part : (html region : List ℕ) → AreSmall html → AreSmall bytes → region ≡ take (length html) bytes → IsHtml (content_codes html) from to
-      → ((front content : List ℕ) → region ≡ front ++ 62 ∷ [] → AreCutBetween region content → StandsInContent text (region ++ content) stop a → IsWhole a
+  pub html_part : (html region : List ℕ) → IsUtf8 html → AreSmall html → AreSmall bytes → region ≡ take (length html) bytes
+      → IsHtml (content_codes html) from to
+      → ((front content : List ℕ) → region ≡ front ++ 62 ∷ [] → IsUtf8 region → AreCutBetween region content
+      → StandsInContent text (region ++ content) stop a → IsWhole a
       → WritesFront names text region content Anywhere (html_leaves (content_codes region)) stop a b)
       → WritesLeaves names text bytes Anywhere (inline.Html (content_codes html) ∷ []) to stop a b
-  html_part html region small_html small region_is is written =
+  html_part html region utf8 small_html small region_is is written =
       let p = text_bytes_law html bytes from to small_html small at is.codes in
       let content = drop (length html) bytes in
       let same : region ≡ html = region_is ∙ p.front in
@@ -344,7 +345,7 @@ module _ {A : Type 0} (names : Names) (text bytes : List ℕ) (from to : List In
       ∙ ap₂ (λ (xs ys : List ℕ). xs ++ ys) (ap content_codes (sym same)) p.left in
       let l = inline.Html (content_codes html) in
       leaves_of_front names text stop a b bytes region content Anywhere (html_leaves (content_codes region)) (l ∷ []) to parts p.left
-      (written front content (same ∙ closed) cut (subst (λ xs. StandsInContent text xs stop a) parts st) whole)
+      (written front content (same ∙ closed) (subst IsUtf8 (sym same) utf8) cut (subst (λ xs. StandsInContent text xs stop a) parts st) whole)
       (λ m m'. leaf_alike m m' l (leaves (html_leaves (content_codes region))) (ap (λ xs. leaves (html_leaves (content_codes xs))) same))
 
   pub nothing_part : from ≡ to → WritesLeaves names text bytes Anywhere [] to stop a a

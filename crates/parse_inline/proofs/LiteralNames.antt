@@ -8,7 +8,9 @@ use Rattle.definition_inline.specs.GfmAutolinkLiteral.{begins_caselessly}
 use Rattle.definition_inline.specs.Inline.{Email, Protocol, Www}
 use Rattle.engine_events.specs.declared.event.Name.TheVariants as n
 use Rattle.event_tokens.specs.Tokens.{begins_address, begins_link, is_address, is_nothing, is_token}
+use Rattle.parse_strings.proofs.Characters.{with_characters}
 use Rattle.parse_written.specs.Written.{is_literal}
+use Rattle.parse_inline.proofs.Prelude.{IsUtf8}
 
 -- the first byte, by what begins the bytes
 link_first : (b : ℕ) (bs bytes : List ℕ) → begins_caselessly (b ∷ bs) bytes ≡ true → to_ascii_lowercase b ≡ to_ascii_lowercase (slice_index bytes 0)
@@ -52,44 +54,46 @@ m_is b is = ap (is_one 77 109) is
 pub x_is : (b : ℕ) → b ≡ 120 → is_one 88 120 b ≡ true
 x_is b is = ap (is_one 88 120) is
 
-pub www_may : (bytes : List ℕ) → is_literal Www bytes ≡ true → is_token n.GfmAutolinkLiteralWww bytes ≡ true
-www_may bytes is = or_right (is_nothing bytes) (begins_link (codes "www.") bytes) is
+pub www_may : (bytes : List ℕ) → IsUtf8 bytes → is_literal Www bytes ≡ true → is_token n.GfmAutolinkLiteralWww bytes ≡ true
+www_may bytes utf8 is = with_characters bytes _ utf8 (or_right (is_nothing bytes) (begins_link (codes "www.") bytes) is)
 
-pub email_may : (bytes : List ℕ) → is_literal Email bytes ≡ true → is_token n.GfmAutolinkLiteralEmail bytes ≡ true
-email_may bytes is = or_right (is_nothing bytes) (is_address bytes) is
+pub email_may : (bytes : List ℕ) → IsUtf8 bytes → is_literal Email bytes ≡ true → is_token n.GfmAutolinkLiteralEmail bytes ≡ true
+email_may bytes utf8 is = with_characters bytes _ utf8 (or_right (is_nothing bytes) (is_address bytes) is)
 
 mail_lower : (b : ℕ) → is_either 77 109 b → to_ascii_lowercase b ≡ 109
 mail_lower b (inl is) = ap to_ascii_lowercase is
 mail_lower b (inr is) = ap to_ascii_lowercase is
 
-pub mailto_may : (bytes : List ℕ) → is_either 77 109 (slice_index bytes 0) → is_literal Protocol bytes ≡ true → is_token n.GfmAutolinkLiteralMailto bytes ≡ true
-mailto_may bytes m is =
+pub mailto_may : (bytes : List ℕ) → IsUtf8 bytes → is_either 77 109 (slice_index bytes 0) → is_literal Protocol bytes ≡ true
+    → is_token n.GfmAutolinkLiteralMailto bytes ≡ true
+mailto_may bytes utf8 m is =
     let lower = mail_lower (slice_index bytes 0) m in
     protocol_by (is_token n.GfmAutolinkLiteralMailto bytes ≡ true) bytes is (λ _ first. absurd (let no : 104 ≡ 109 = first ∙ lower in omega (arith, no)))
     (λ _ first. absurd (let no : 104 ≡ 109 = first ∙ lower in omega (arith, no)))
-    (λ a _. or_right (is_nothing bytes) (begins_address (codes "mailto:") bytes) a)
+    (λ a _. with_characters bytes _ utf8 (or_right (is_nothing bytes) (begins_address (codes "mailto:") bytes) a))
     (λ _ first. absurd (let no : 120 ≡ 109 = ap to_ascii_lowercase first ∙ lower in omega (arith, no)))
 
 chat_lower : (b : ℕ) → is_either 88 120 b → to_ascii_lowercase b ≡ 120
 chat_lower b (inl is) = ap to_ascii_lowercase is
 chat_lower b (inr is) = ap to_ascii_lowercase is
 
-pub xmpp_may : (bytes : List ℕ) → is_either 88 120 (slice_index bytes 0) → is_literal Protocol bytes ≡ true → is_token n.GfmAutolinkLiteralXmpp bytes ≡ true
-xmpp_may bytes x is =
+pub xmpp_may : (bytes : List ℕ) → IsUtf8 bytes → is_either 88 120 (slice_index bytes 0) → is_literal Protocol bytes ≡ true
+    → is_token n.GfmAutolinkLiteralXmpp bytes ≡ true
+xmpp_may bytes utf8 x is =
     let lower = chat_lower (slice_index bytes 0) x in
     protocol_by (is_token n.GfmAutolinkLiteralXmpp bytes ≡ true) bytes is (λ _ first. absurd (let no : 104 ≡ 120 = first ∙ lower in omega (arith, no)))
     (λ _ first. absurd (let no : 104 ≡ 120 = first ∙ lower in omega (arith, no)))
     (λ _ first. absurd (let no : 109 ≡ 120 = ap to_ascii_lowercase first ∙ lower in omega (arith, no)))
-    (λ a _. or_right (is_nothing bytes) (begins_address (codes "xmpp:") bytes) a)
+    (λ a _. with_characters bytes _ utf8 (or_right (is_nothing bytes) (begins_address (codes "xmpp:") bytes) a))
 
-pub protocol_may : (bytes : List ℕ) → (slice_index bytes 0 ≡ 109 → ⊥) → (slice_index bytes 0 ≡ 120 → ⊥) → is_literal Protocol bytes ≡ true
+pub protocol_may : (bytes : List ℕ) → IsUtf8 bytes → (slice_index bytes 0 ≡ 109 → ⊥) → (slice_index bytes 0 ≡ 120 → ⊥) → is_literal Protocol bytes ≡ true
     → is_token n.GfmAutolinkLiteralProtocol bytes ≡ true
-protocol_may bytes no_mail no_chat is =
+protocol_may bytes utf8 no_mail no_chat is =
     let nothing = is_nothing bytes in
     let http = begins_link (codes "http://") bytes in
     let https = begins_link (codes "https://") bytes in
     protocol_by (is_token n.GfmAutolinkLiteralProtocol bytes ≡ true) bytes is
-    (λ a _. or_left (nothing || http) (nothing || https) (or_right nothing http a))
-    (λ b _. or_right (nothing || http) (nothing || https) (or_right nothing https b))
+    (λ a _. with_characters bytes _ utf8 (or_left (nothing || http) (nothing || https) (or_right nothing http a)))
+    (λ b _. with_characters bytes _ utf8 (or_right (nothing || http) (nothing || https) (or_right nothing https b)))
     (λ _ first. absurd (no_mail (sym first)))
     (λ _ first. absurd (no_chat (sym first)))

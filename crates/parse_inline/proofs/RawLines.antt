@@ -1,11 +1,12 @@
 -- What is written of a part of a line of raw text, or of a line ending in it (CommonMark 6.1 and 6.6).
 use Rattle.std.proofs.Common.{inl, inr, ◌≡◌, ℕ, zero, suc, ◌+◌, ◌≤◌, ◌<◌, Bool, true, false, not, cond, ◌||◌, List, [], ◌∷◌, ◌++◌, refl, sym, ap, ap₂}
 use Rattle.std.proofs.Common.{None, subst, ◌∙◌, append_assoc, take, drop, length, map, arith}
-use Rattle.std.specs.List.{flat_map, list_all}
+use Rattle.std.specs.List.{flat_map}
+use Rattle.std.specs.Str.{IsCharBoundary, IsUtf8}
 use Rattle.event_tokens.specs.Tokens.{is_token}
 use Rattle.parse_output.specs.Joined.{text_between}
 use Rattle.parse_lines.specs.Content.{HasBytes}
-use Rattle.parse_lines.proofs.Bytes.{dark_line as none_ends, ending_may, has_kind}
+use Rattle.parse_lines.proofs.Bytes.{ending_may}
 use Rattle.parse_inline.proofs.Prelude.{after_bytes, after_return_code, append, append-nil, AreBytes, AreCutBetween, AreNamed, AreNext, AreQuiet, Around, bare}
 use Rattle.parse_inline.proofs.Prelude.{begins_with_eol, BeginsDark, cases_Bool, code_part, code_parts, code_space, cond-false, cond-true, cond_both, Cons}
 use Rattle.parse_inline.proofs.Prelude.{content_codes, contents_both, default_constructs, Each, End, end_after, end_at, end_in, Ending, ending_bytes}
@@ -17,6 +18,9 @@ use Rattle.parse_inline.proofs.Prelude.{prefix_len-le-length, ReadsEnding, same_
 use Rattle.parse_inline.proofs.Prelude.{take-append-drop, take-append_seam, text_of, the_type, token_text, true≢false, void_nodes, Walk, whole_end}
 use Rattle.parse_inline.proofs.Prelude.{WritesEndingIn, WritesInContent, WritesLine, ◌==◌}
 use Rattle.std.proofs.Math.Seq.{drop-append-add, take-append-add}
+use Rattle.std.proofs.lemmas.Bool.{cases_lt, not-false}
+use Rattle.std.proofs.lemmas.List.Sums.{prefix_len_stops}
+use Rattle.std.proofs.lemmas.Str.{IsCharBoundary-before_ascii, IsCharBoundary-end, IsUtf8-take}
 use denote.Enum.Bare.{true_same}
 use Rattle.markdown_options.specs.declared.line_ending.LineEnding.TheVariants as endings
 use Rattle.engine_events.specs.declared.event.Name.TheVariants as n
@@ -25,6 +29,8 @@ use Rattle.definition_text.proofs.ContentBytes.{codes_in_line}
 use Rattle.definition_inline.specs.Inline as inline
 use Rattle.event_meaning.specs.Texts.{html_data, html_line}
 use Rattle.event_meaning.specs.Texts as texts
+use Rattle.inline_leaves.proofs.Codes.{boundary_after_byte}
+use Rattle.parse_strings.proofs.Characters.{fits_data}
 use Rattle.parse_inline.proofs.Fronts.{WritesNext, next_here}
 use Rattle.parse_inline.proofs.HtmlLines.{BeginsBare, BeginsEnding, EndsNoLine, IsWhite, html_chunk, html_ending}
 use Rattle.parse_inline.proofs.Kids.{codes_same, html_append, named_both, void_some}
@@ -51,15 +57,14 @@ chunk_prefix name (inl (inl is)) = ap (λ x. same_name x n.BlockQuotePrefix) is
 chunk_prefix name (inl (inr is)) = ap (λ x. same_name x n.BlockQuotePrefix) is
 chunk_prefix name (inr is) = ap (λ x. same_name x n.BlockQuotePrefix) is
 
--- a chunk may be any bytes without a line ending
-chunk_may : {A : Type 0} (name : Name) → IsChunk name → (text : List ℕ) (size : ℕ) (w : Walk A)
-    → list_all (λ c. not (ends_line c)) (text_between text (end_in w.out) (end_after (end_in w.out) size)) ≡ true → HasBytes text name size w
-chunk_may name (inl (inl is)) text size w dark =
-    ap (λ x. is_token x (text_between text (end_in w.out) (end_after (end_in w.out) size))) is ∙ dark
-chunk_may name (inl (inr is)) text size w dark =
-    ap (λ x. is_token x (text_between text (end_in w.out) (end_after (end_in w.out) size))) is ∙ dark
-chunk_may name (inr is) text size w dark =
-    ap (λ x. is_token x (text_between text (end_in w.out) (end_after (end_in w.out) size))) is ∙ dark
+-- a chunk may be what data may be
+chunk_may : {A : Type 0} (name : Name) → IsChunk name → (text : List ℕ) (size : ℕ) (w : Walk A) → HasBytes text n.Data size w → HasBytes text name size w
+chunk_may name (inl (inl is)) text size w has =
+    ap (λ x. is_token x (text_between text (end_in w.out) (end_after (end_in w.out) size))) is ∙ has
+chunk_may name (inl (inr is)) text size w has =
+    ap (λ x. is_token x (text_between text (end_in w.out) (end_after (end_in w.out) size))) is ∙ has
+chunk_may name (inr is) text size w has =
+    ap (λ x. is_token x (text_between text (end_in w.out) (end_after (end_in w.out) size))) is ∙ has
 
 pub chunk_sought : (name : Name) → IsChunk name → is_listed sought_names name ≡ false
 chunk_sought name (inl (inl is)) = ap (is_listed sought_names) is
@@ -139,6 +144,20 @@ line_dark (b ∷ bs) = elim (cases_Bool (ends_line b)) [
       cond-true (not (ends_line b)) (1 + position_or_len ends_line bs) 0 (ap not goes) ∙ omega arith in
       ap (λ k. list_any ends_line (take k (b ∷ bs))) size
       ∙ or_from (ends_line b) (list_any ends_line (take (position_or_len ends_line bs) bs)) goes (line_dark bs)
+]
+
+ends_ascii : (b : ℕ) → ends_line b ≡ true → b < 128
+ends_ascii b ends = grind (arith, nat_tests)
+
+-- they are cut between characters
+line_cut : (bs : List ℕ) → IsCharBoundary bs (position_or_len ends_line bs)
+line_cut bs = elim (cases_lt (position_or_len ends_line bs) (length bs)) [
+  | inl within ↦
+      IsCharBoundary-before_ascii bs (position_or_len ends_line bs) within
+      (ends_ascii _ (not-false _ (prefix_len_stops (λ b. not (ends_line b)) bs 0 within)))
+  | inr all ↦
+      let is : length bs ≡ position_or_len ends_line bs = omega (arith, all, prefix_len-le-length (λ b. not (ends_line b)) bs) in
+      subst (IsCharBoundary bs) is (IsCharBoundary-end bs)
 ]
 
 -- what follows them
@@ -330,10 +349,10 @@ EndsNext text size a b =
     → StandsInContent text (ending_bytes ending ++ content) stop a → WritesEndingIn text n.LineEnding ending content stop a b
 
 module _ {A : Type 0} (names : Names) (text : List ℕ) (stop : Stop) where
-  pub chunk_line : (a b : Walk A) (name : Name) (indented : Bool) (bytes content : List ℕ) (size : ℕ) → IsChunk name → AreBytes bytes → 0 < length bytes
-      → begins_with_eol (content_codes bytes) ≡ false → size ≡ position_or_len ends_line bytes → StandsInContent text (bytes ++ content) stop a
-      → standing b ≡ standing a → WritesNext text name size a b → WritesLine names text name indented size bytes content stop a b
-  chunk_line a b name indented bytes content size chunk bytes_small filled no_end is st same written =
+  pub chunk_line : (a b : Walk A) (name : Name) (indented : Bool) (bytes content : List ℕ) (size : ℕ) → IsChunk name → AreBytes bytes → IsUtf8 bytes
+      → 0 < length bytes → begins_with_eol (content_codes bytes) ≡ false → size ≡ position_or_len ends_line bytes
+      → StandsInContent text (bytes ++ content) stop a → standing b ≡ standing a → WritesNext text name size a b → WritesLine names text name indented size bytes content stop a b
+  chunk_line a b name indented bytes content size chunk bytes_small utf8 filled no_end is st same written =
       let within : size ≤ length bytes = subst (λ k. k ≤ length bytes) (sym is) (prefix_len-le-length (λ b. not (ends_line b)) bytes) in
       let some : 0 < size = subst (λ k. 0 < k) (sym is) (some_line bytes filled no_end) in
       let front = take size bytes in
@@ -344,7 +363,8 @@ module _ {A : Type 0} (names : Names) (text : List ℕ) (stop : Stop) where
       let parts : bytes ≡ front ++ rest = sym (take-append-drop size bytes) in
       let at = subst (λ xs. StandsInContent text xs stop a) (ap (λ xs. xs ++ content) parts ∙ append_assoc front rest content) st in
       let ahead = line_in_content text stop a front (rest ++ content) at dark in
-      let may = has_kind text front ahead.line size a (λ c. not (ends_line c)) length_is ahead.stands (none_ends front dark) in
+      let cut : IsCharBoundary bytes size = subst (IsCharBoundary bytes) (sym is) (line_cut bytes) in
+      let may = fits_data text front ahead.line size a length_is ahead.stands (IsUtf8-take bytes size utf8 cut) dark in
       let w =
       written front ahead.line length_is (chunk_prefix name chunk) ahead.stands (chunk_may name chunk text size a may) in
       let e = end_in a.out in
@@ -386,6 +406,7 @@ module _ {A : Type 0} (names : Names) (text : List ℕ) (stop : Stop) where
             (codes_ending rest stops)));
         fill = λ around slots takes none may.
             fill_taken around slots name Plain slots node refl takes (filled_void around Plain name node refl refl (chunk_void name chunk));
+        cut = λ _. cut;
       }
 
   -- the ending that bytes begin with
@@ -393,6 +414,7 @@ module _ {A : Type 0} (names : Names) (text : List ℕ) (stop : Stop) where
     pub parts : bytes ≡ ending_bytes found.ending ++ drop found.size bytes
     pub is : found.size ≡ length (ending_bytes found.ending)
     pub ends : WritesEndingIn text n.LineEnding found.ending (drop found.size bytes ++ content) stop a b
+    pub cut : IsUtf8 bytes → IsCharBoundary bytes (found.size + indent (drop found.size bytes))
 
   pub ends_bytes : (a b : Walk A) (bytes content : List ℕ) (found : Ending) → AreBytes bytes → ReadsEnding bytes found → AreCutBetween bytes content
       → StandsInContent text (bytes ++ content) stop a → EndsNext text found.size a b → EndsBytes bytes content found a b
@@ -408,6 +430,7 @@ module _ {A : Type 0} (names : Names) (text : List ℕ) (stop : Stop) where
         parts = step.parts;
         is = step.is;
         ends = ends (rest ++ content) stop found.ending step.is apart refl refl (ending_may found.ending) (subst (λ xs. StandsInContent text xs stop a) ahead st);
+        cut = step.cut;
       }
 
   ending_named : (name : Name) (a b : Walk A) (ending : LineEnding) (content : List ℕ) (w : WritesEndingIn text n.LineEnding ending content stop a b)
@@ -441,6 +464,7 @@ module _ {A : Type 0} (names : Names) (text : List ℕ) (stop : Stop) where
             (sym (may_lines around (take found.size bytes)
             (ap (list_any ends_line) (front ∙ sym (append-nil eb)) ∙ ending_any found.ending []) may))
             (ending_between text stop a b found.ending (rest ++ content) w slots none);
+        cut = λ utf8. boundary_after_byte bytes found.size utf8 reads.some reads.within reads.ascii;
       }
 
   pub ending_white : (a b c : Walk A) (name : Name) (indented : Bool) (bytes content : List ℕ) (found : Ending) (white size : ℕ) → indented ≡ true
@@ -497,4 +521,7 @@ module _ {A : Type 0} (names : Names) (text : List ℕ) (stop : Stop) where
             (sym (may_lines around (take size bytes) (ap (list_any ends_line) front ∙ ending_any found.ending more) may))
             (fill_both (ending_between text stop a b found.ending (rest ++ content) w slots none)
             (void_between Lines slots n.SpaceOrTab text b_end c_end refl none.space refl refl));
+        cut = λ utf8.
+            let sum : found.size + indent rest ≡ size = omega (arith, size_is, white_is) in
+            subst (IsCharBoundary bytes) sum (e.cut utf8);
       }

@@ -6,12 +6,17 @@ use Rattle.event_tokens.specs.Tokens.{is_token}
 use Rattle.parse_lines.proofs.Runs.{run_fits}
 use Rattle.parse_inline.proofs.Prelude.{after_return_code, and_parts, Anywhere, append, AreBytesAt, AreCutBetween, ArePartsAlike, Around, cases_Bool, code_of}
 use Rattle.parse_inline.proofs.Prelude.{cond-false, cond-true, content_codes, contents_around, contents_both, End, end_in, ends_line, enter_at, EntersInLine}
-use Rattle.parse_inline.proofs.Prelude.{eqb-true, exit_at, ExitsInLine, InlineCode, inlines_of, is_listed, is_white, IsChunk, IsCodeChunk, IsWhole, leaves}
-use Rattle.parse_inline.proofs.Prelude.{length-append, length-take-le, line_enters, line_exits, line_names, list_any, Meaning, Name, Names, nat_tests, Nodes}
-use Rattle.parse_inline.proofs.Prelude.{one, or_from, or_parts, plain_both, plain_none, plain_one, prefix_len-le-length, run, run_of, same_name, sought_names}
-use Rattle.parse_inline.proofs.Prelude.{standing, StandsInContent, StandsInLine, Stop, take-append-drop, take-append_seam, the_type, token, unwrap_or, Walk}
-use Rattle.parse_inline.proofs.Prelude.{without_padding, WritesInContent, WritesLeaves, WritesLines, ◌==◌}
+use Rattle.parse_inline.proofs.Prelude.{eqb-true, exit_at, ExitsInLine, InlineCode, inlines_of, is_listed, is_white, IsChunk, IsCodeChunk, IsUtf8, IsWhole}
+use Rattle.parse_inline.proofs.Prelude.{leaves, length-append, length-take-le, line_enters, line_exits, line_names, list_any, Meaning, Name, Names, nat_tests}
+use Rattle.parse_inline.proofs.Prelude.{Nodes, one, or_from, or_parts, plain_both, plain_none, plain_one, prefix_len-le-length, run, run_of, same_name}
+use Rattle.parse_inline.proofs.Prelude.{sought_names, standing, StandsInContent, StandsInLine, Stop, take-append-drop, take-append_seam, the_type, token}
+use Rattle.parse_inline.proofs.Prelude.{unwrap_or, Walk, without_padding, WritesInContent, WritesLeaves, WritesLines, ◌==◌}
 use denote.Enum.Bare.{same_true}
+use Rattle.std.proofs.Common.{get_or}
+use Rattle.std.proofs.Math.Seq.{get_or-append_seam}
+use Rattle.std.proofs.lemmas.List.Sums.{prefix_len_passes}
+use Rattle.std.proofs.lemmas.Str.{IsCharBoundary-before_ascii, IsUtf8-drop, IsUtf8-take}
+use Rattle.inline_leaves.proofs.Codes.{boundary_after_byte}
 use Rattle.engine_events.specs.declared.event.Name.TheVariants as n
 use Rattle.definition_text.specs.Runs.{after_run}
 use Rattle.definition_inline.specs.CodeText.{code_text}
@@ -34,6 +39,7 @@ use Rattle.parse_inline.proofs.Fills.{filled_around}
 use Rattle.parse_inline.proofs.Fronts.{WritesNext, token_in}
 use Rattle.parse_inline.proofs.Kids.{code_between}
 use Rattle.parse_inline.proofs.LeavesAlike.{leaf_alike}
+use Rattle.parse_inline.proofs.Places.{byte_at}
 use Rattle.parse_inline.proofs.Plain.{cut_one}
 use Rattle.parse_inline.proofs.RawTexts.{dark_whole}
 
@@ -167,6 +173,9 @@ raw_names marker text sequence chunk are =
 marker_dark : (m : ℕ) → is_raw_marker m ≡ true → ends_line m ≡ false
 marker_dark m is = grind (arith, nat_tests)
 
+marker_ascii : (m : ℕ) → is_raw_marker m ≡ true → m < 128
+marker_ascii m is = grind (arith, nat_tests)
+
 marker_black : (m : ℕ) → is_raw_marker m ≡ true → is_white m ≡ false
 marker_black m is = grind (arith, nat_tests)
 
@@ -187,6 +196,32 @@ run_first m (x ∷ xs) some = elim (cases_Bool (x == m)) [
   | inl same ↦ (xs, ap (λ y. y ∷ xs) (eqb-true x m same))
   | inr other ↦ absurd (omega (arith, some, cond-false (x == m) (1 + run m xs) 0 other))
 ]
+
+-- bytes from a run on are characters
+pub raw_characters : (content : List ℕ) (place marker : ℕ) (printed bytes : List ℕ) (to : List InlineCode) → IsRawInBytes marker printed bytes to
+    → bytes ≡ drop place content → is_raw_marker marker ≡ true → IsUtf8 content → IsUtf8 bytes
+raw_characters content place marker printed bytes to raw is marks utf8 =
+    let (others, begins) = run_first marker bytes raw.some in
+    let at = byte_at content place marker others (sym begins ∙ is) in
+    subst IsUtf8 (sym is)
+    (IsUtf8-drop content place utf8
+    (IsCharBoundary-before_ascii content place at.within (subst (λ b. b < 128) (sym at.byte) (marker_ascii marker marks))))
+
+-- bytes between two runs, too
+inner_characters : (m size : ℕ) (bytes inside front others : List ℕ) → m < 128 → IsUtf8 bytes → 0 < size → size ≡ run m bytes → inside ≡ drop size bytes
+    → inside ≡ front ++ m ∷ others → IsUtf8 front
+inner_characters m size bytes inside front others ascii utf8 some size_is inside_is parts =
+    let last : get_or bytes (size - 1) 0 ≡ m =
+    eqb-true (get_or bytes (size - 1) 0) m (prefix_len_passes (λ x. x == m) bytes (size - 1) 0 (omega (arith, some, size_is))) in
+    let within : size ≤ length bytes = subst (λ k. k ≤ length bytes) (sym size_is) (prefix_len-le-length (λ x. x == m) bytes) in
+    let after : IsUtf8 inside =
+    subst IsUtf8 (sym inside_is)
+    (IsUtf8-drop bytes size utf8 (boundary_after_byte bytes size utf8 some within (subst (λ b. b < 128) (sym last) ascii))) in
+    let next : get_or inside (length front) 0 ≡ m = ap (λ xs. get_or xs (length front) 0) parts ∙ get_or-append_seam front m others 0 in
+    let before : length front < length inside = omega (arith, ap length parts, length-append front (m ∷ others)) in
+    subst IsUtf8 (ap (take (length front)) parts ∙ take-append_seam front (m ∷ others))
+    (IsUtf8-take inside (length front) after
+    (IsCharBoundary-before_ascii inside (length front) before (subst (λ b. b < 128) (sym next) ascii)))
 
 -- the next run is in the bytes, and has its size
 pub record NextRun (m size : ℕ) (xs end : List ℕ) : Type 0 where
@@ -253,18 +288,19 @@ cut_before (b ∷ bs) m others dark =
 
 module _ {A : Type 0} (names : Names) (text : List ℕ) (stop : Stop) where
   pub raw_written : (a b c d e f : Walk A) (name sequence chunk : Name) (marker : ℕ) (printed bytes inside end inner : List ℕ) (to : List InlineCode) (size : ℕ)
-      → are_raw_names marker name sequence chunk ≡ true → is_raw_marker marker ≡ true → IsRawInBytes marker printed bytes to → size ≡ run marker bytes
+      → are_raw_names marker name sequence chunk ≡ true → is_raw_marker marker ≡ true → IsRawInBytes marker printed bytes to → IsUtf8 bytes
+      → size ≡ run marker bytes
       → inside ≡ drop size bytes
       → (0 < size → end ≡ unwrap_or (run_of marker size false inside) []) → inner ≡ take (length inside - length end) inside → StandsInContent text bytes stop a
       → IsWhole a → standing b ≡ standing a → ((line : List ℕ) → StandsInLine text line a → EntersInLine text name line a b) → standing c ≡ standing b
       → WritesNext text sequence size b c
-      → ((content : List ℕ) → IsChunk chunk → AreCutBetween inner content → StandsInContent text (inner ++ content) stop c
+      → ((content : List ℕ) → IsChunk chunk → IsUtf8 inner → AreCutBetween inner content → StandsInContent text (inner ++ content) stop c
       → WritesLines names text chunk false inner content stop c d)
       → standing e ≡ standing d → WritesNext text sequence size d e → standing f ≡ standing e
       → ((line : List ℕ) → StandsInLine text line e → ExitsInLine text name line e f)
       → WritesLeaves names text bytes Anywhere (raw_leaf name printed ∷ []) to stop a f
-  raw_written a b c d e f name sequence chunk marker printed bytes inside end inner to size are marks raw size_is inside_is end_is inner_is st whole same_b enters same_c
-      first lines same_e second same_f exits =
+  raw_written a b c d e f name sequence chunk marker printed bytes inside end inner to size are marks raw utf8 size_is inside_is end_is inner_is st whole
+      same_b enters same_c first lines same_e second same_f exits =
       let known = raw_names marker name sequence chunk are in
       let dark = marker_dark marker marks in
       let some : 0 < size = omega (arith, raw.some, size_is) in
@@ -299,7 +335,11 @@ module _ {A : Type 0} (names : Names) (text : List ℕ) (stop : Stop) where
       let (others, begins) = run_first marker raw.end (omega (arith, next.size_is, some)) in
       let cut : AreCutBetween inner (closing ++ after) =
       subst (AreCutBetween inner) (sym begins ∙ end_parts) (cut_before inner marker others dark) in
-      let w = lines (closing ++ after) (inl known.chunks) cut t.writes.stands in
+      let characters : IsUtf8 inner =
+      subst IsUtf8 (sym inner_at)
+      (inner_characters marker size bytes inside next.front others (marker_ascii marker marks) utf8 some size_is inside_is
+      (next.parts ∙ ap (λ xs. next.front ++ xs) begins)) in
+      let w = lines (closing ++ after) (inl known.chunks) characters cut t.writes.stands in
       let whole_d =
       dark_whole text marker others stop d (marker_black marker marks)
       (subst (λ xs. StandsInContent text xs stop d) (sym end_parts ∙ begins) w.writes.stands) in

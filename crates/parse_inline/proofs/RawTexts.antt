@@ -7,6 +7,7 @@ use Rattle.parse_inline.proofs.Prelude.{indent, is_white, IsWhole, leaves, line_
 use Rattle.parse_inline.proofs.Prelude.{plain_both, plain_none, plain_one, standing, StandsInContent, StandsInLine, Stop, take-append-drop, true≢false, Walk}
 use Rattle.parse_inline.proofs.Prelude.{WritesFront, WritesInContent, WritesLine, WritesLines, WritesLinesTo}
 use Rattle.std.proofs.lemmas.List.Sums.{fold-append}
+use Rattle.std.proofs.lemmas.Str.{IsUtf8-drop}
 use Rattle.engine_events.specs.declared.event.Name.TheVariants as n
 use Rattle.definition_text.specs.Content.{at_line_start}
 use Rattle.event_meaning.specs.Texts as texts
@@ -76,6 +77,7 @@ module _ {A : Type 0} (names : Names) (text : List ℕ) where
     code = λ flat raw. refl;
     html = λ on is whole. refl;
     fill = λ around slots takes none may. fill_none around slots;
+    characters = λ utf8. utf8;
   }
 
   pub lines_more : (a b c : Walk A) (name : Name) (indented : Bool) (bytes rest next content : List ℕ) (size : ℕ) (stop : Stop) → next ≡ drop size rest
@@ -107,6 +109,7 @@ module _ {A : Type 0} (names : Names) (text : List ℕ) where
             ∙ w.html on html_is whole;
         fill = λ around slots takes none may.
             let both = may_both around w.front more may in fill_both (w.fill around slots takes none both.0) (line.fill around slots takes none both.1);
+        characters = λ utf8. IsUtf8-drop rest size (w.characters utf8) (line.cut (w.characters utf8));
       })
 
   pub lines_end : (a b : Walk A) (name : Name) (indented : Bool) (bytes rest content : List ℕ) (stop : Stop) → rest ≡ []

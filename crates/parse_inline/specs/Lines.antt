@@ -1,5 +1,6 @@
 -- What is written of raw text, line by line (CommonMark 6.1 and 6.6).
 use Rattle.std.specs.Prelude.{◌≡◌, ◌⊎◌, ◌≤◌, ◌<◌, ℕ, Bool, true, false, ◌&&◌, ◌||◌, ◌==◌, List, [], ◌∷◌, ◌++◌, Some, drop, length, map, take}
+use Rattle.std.specs.Str.{IsCharBoundary, IsUtf8}
 use Rattle.engine_events.specs.Names.{is_listed, same_name}
 use Rattle.engine_events.specs.declared.event.Name.{Name}
 use Rattle.engine_events.specs.declared.event.Name.TheVariants as n
@@ -95,6 +96,7 @@ pub record WritesLine {A : Type 0} (names : Names) (text : List ℕ) (name : Nam
   pub html : indented ≡ true → name ≡ n.HtmlTextData → IsWhole old
       → append (html_parts names text nodes) (leaves (html_leaves (content_codes (drop size bytes)))) ≡ leaves (html_leaves (content_codes bytes))
   pub fill : FillsLines name (take size bytes) nodes
+  pub cut : IsUtf8 bytes → IsCharBoundary bytes size
 
 -- the first lines of raw text are written, and the rest is ahead
 pub record WritesLinesTo {A : Type 0} (names : Names) (text : List ℕ) (name : Name) (indented : Bool) (bytes rest content : List ℕ) (stop : Stop)
@@ -110,3 +112,4 @@ pub record WritesLinesTo {A : Type 0} (names : Names) (text : List ℕ) (name : 
   pub html : indented ≡ true → name ≡ n.HtmlTextData → IsWhole old
       → append (html_parts names text nodes) (leaves (html_leaves (content_codes rest))) ≡ leaves (html_leaves (content_codes bytes))
   pub fill : FillsLines name front nodes
+  pub characters : IsUtf8 bytes → IsUtf8 rest

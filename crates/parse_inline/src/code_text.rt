@@ -2,6 +2,7 @@
 //!
 //!     raw ::= run text run, of the same size
 ghost use Rattle.std.specs.Prelude.{◌≡◌, ◌<◌, ◌≤◌, ◌∷◌, [], ℕ, List, OnOk, false, length, true, unwrap_or};
+ghost use Rattle.std.specs.Str.{IsUtf8};
 ghost use Rattle.definition_inline.specs.CharacterReference.{Names};
 ghost use Rattle.definition_inline.specs.CodeText.{run_of};
 ghost use Rattle.definition_text.specs.Runs.{run as run_size};
@@ -61,7 +62,7 @@ pub(crate) fn push_raw<A: Allocator>(
     requires child { may_enter (still_open walk.old) raw.now.text ≡ true }
     ensures open { OnOk result (still_open walk.new ≡ still_open walk.old) }
     ensures written { OnOk result ((names : Names) (text printed : List ℕ) (to : List InlineCode) (stop : Stop) → IsRawInBytes raw.now.marker printed bytes.now to
-        → StandsInContent text bytes.now stop walk.old → IsWhole walk.old
+        → IsUtf8 bytes.now → StandsInContent text bytes.now stop walk.old → IsWhole walk.old
         → WritesLeaves names text bytes.now Anywhere (raw_leaf raw.now.text printed ∷ []) to stop walk.old walk.new) }
 {
     let size = run(raw.marker, bytes);

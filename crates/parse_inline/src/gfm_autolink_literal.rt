@@ -1,5 +1,6 @@
 //! Links with no brackets (GFM 6.9).
 ghost use Rattle.std.specs.Prelude.{◌≡◌, true};
+ghost use Rattle.std.specs.Str.{IsUtf8};
 ghost use Rattle.engine_events.specs.Names.{is_listed};
 ghost use Rattle.event_grammar.specs.Grammar.{text_names};
 ghost use Rattle.event_tokens.specs.Tokens.{is_token};
@@ -15,7 +16,7 @@ use parse_lines::cut::first;
 pub(crate) fn literal_name(kind: LiteralKind, bytes: &[u8]) -> Name
     ensures listed { is_listed text_names result ≡ true }
     ensures kind { is_listed (literal_names kind) result ≡ true }
-    ensures may { is_literal (kind_view kind) bytes.now ≡ true → is_token result bytes.now ≡ true }
+    ensures may { is_literal (kind_view kind) bytes.now ≡ true → IsUtf8 bytes.now → is_token result bytes.now ≡ true }
 {
     match kind {
         LiteralKind::Www => Name::GfmAutolinkLiteralWww,

@@ -2,6 +2,7 @@
 ghost use Rattle.std.specs.Prelude.{◌≡◌, ◌<◌, ◌++◌, ◌∷◌, [], List, OnOk, drop, false, length, map, true, ℕ};
 ghost use Rattle.std.specs.Char.{is_ascii_punctuation};
 ghost use Rattle.std.specs.List.{list_all, list_any};
+ghost use Rattle.std.specs.Str.{IsUtf8};
 ghost use Rattle.markdown_options.specs.LineEndings.{ending_bytes};
 ghost use Rattle.markdown_options.specs.declared.line_ending.LineEnding.{LineEnding};
 ghost use Rattle.definition_text.specs.Ascii.{greater_than};
@@ -61,8 +62,8 @@ pub(crate) fn push_leaf<T, A: Allocator>(
         LeafPart::Number { .. } => push_character(walk, bytes),
         LeafPart::Code(_) => push_raw(walk, &CODE, bytes),
         LeafPart::Math(_) => push_raw(walk, &MATH, bytes),
-        LeafPart::Unclosed(text) => walk.data(text.len()),
-        LeafPart::Autolink { email, text } => push_autolink(walk, email, text.len()),
+        LeafPart::Unclosed(text) => walk.data(text.as_bytes().len()),
+        LeafPart::Autolink { email, text } => push_autolink(walk, email, text.as_bytes().len()),
         LeafPart::Literal { kind, text } => {
             walk.text(literal_name(kind, text.as_bytes()), text.len())
         }
@@ -132,7 +133,8 @@ fn push_autolink<A: Allocator>(
     requires child { may_enter (still_open walk.old) Autolink ≡ true }
     ensures open { OnOk result (still_open walk.new ≡ still_open walk.old) }
     ensures written { OnOk result ((names : Names) (text address content : List ℕ) (stop : Stop) → size ≡ length address → 0 < length address
-        → list_any ends_line address ≡ false → is_target email address ≡ true → StandsInContent text (in_angles address ++ content) stop walk.old → IsWhole walk.old
+        → list_any ends_line address ≡ false → is_target email address ≡ true → IsUtf8 address
+        → StandsInContent text (in_angles address ++ content) stop walk.old → IsWhole walk.old
         → WritesFront names text (in_angles address) content Anywhere (inline.Autolink email address ∷ []) stop walk.old walk.new) }
 {
     walk.enter(Name::Autolink)?;
@@ -160,8 +162,8 @@ fn address_name(email: bool) -> Name
 fn push_html<A: Allocator>(walk: &mut Walk<'_, A>, bytes: &[u8]) -> Result<(), AllocError>
     requires child { may_enter (still_open walk.old) HtmlText ≡ true }
     ensures open { OnOk result (still_open walk.new ≡ still_open walk.old) }
-    ensures written { OnOk result ((names : Names) (text front content : List ℕ) (stop : Stop) → bytes.now ≡ front ++ greater_than ∷ [] → AreCutBetween bytes.now content
-        → StandsInContent text (bytes.now ++ content) stop walk.old → IsWhole walk.old
+    ensures written { OnOk result ((names : Names) (text front content : List ℕ) (stop : Stop) → bytes.now ≡ front ++ greater_than ∷ [] → IsUtf8 bytes.now
+        → AreCutBetween bytes.now content → StandsInContent text (bytes.now ++ content) stop walk.old → IsWhole walk.old
         → WritesFront names text bytes.now content Anywhere (html_leaves (content_codes bytes.now)) stop walk.old walk.new) }
 {
     walk.enter(Name::HtmlText)?;

@@ -1,6 +1,7 @@
 //! Raw text of lines (CommonMark 6.1 and 6.6).
 ghost use Rattle.std.specs.Prelude.{◌≡◌, ◌++◌, ◌<◌, IfOk, List, OnOk, length, true, ℕ};
 ghost use Rattle.std.specs.List.{position_or_len};
+ghost use Rattle.std.specs.Str.{IsUtf8};
 ghost use Rattle.definition_text.specs.Lines.{ends_line};
 ghost use Rattle.definition_inline.specs.CharacterReference.{Names};
 ghost use Rattle.parse_output.specs.Children.{holds_lines, may_enter};
@@ -32,7 +33,7 @@ pub(crate) fn push_lines<A: Allocator>(
     requires child { may_enter (still_open walk.old) name ≡ true }
     requires lines { holds_lines (still_open walk.old) ≡ true }
     ensures open { OnOk result (still_open walk.new ≡ still_open walk.old) }
-    ensures written { OnOk result ((names : Names) (text content : List ℕ) (stop : Stop) → IsChunk name → AreCutBetween bytes.now content
+    ensures written { OnOk result ((names : Names) (text content : List ℕ) (stop : Stop) → IsChunk name → IsUtf8 bytes.now → AreCutBetween bytes.now content
         → StandsInContent text (bytes.now ++ content) stop walk.old → WritesLines names text name indented bytes.now content stop walk.old walk.new) }
 {
     let mut rest = bytes;
@@ -54,8 +55,9 @@ fn push_line<A: Allocator>(
     requires child { may_enter (still_open walk.old) name ≡ true }
     requires lines { holds_lines (still_open walk.old) ≡ true }
     ensures open { OnOk result (still_open walk.new ≡ still_open walk.old) }
-    ensures written { IfOk result (λ size. (names : Names) (text content : List ℕ) (stop : Stop) → IsChunk name → 0 < length bytes.now → AreCutBetween bytes.now content
-        → StandsInContent text (bytes.now ++ content) stop walk.old → WritesLine names text name indented size bytes.now content stop walk.old walk.new) }
+    ensures written { IfOk result (λ size. (names : Names) (text content : List ℕ) (stop : Stop) → IsChunk name → 0 < length bytes.now
+        → IsUtf8 bytes.now → AreCutBetween bytes.now content → StandsInContent text (bytes.now ++ content) stop walk.old
+        → WritesLine names text name indented size bytes.now content stop walk.old walk.new) }
 {
     let Some(found) = ending_at(bytes) else {
         let size = line_size(bytes);

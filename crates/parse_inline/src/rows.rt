@@ -68,8 +68,8 @@ fn push_row<T: Tables, A: Allocator>(
         open.new.items walk.old walk.new) }
 {
     match row {
-        InlineRow::Text(text) => walk.data(text.len()),
-        InlineRow::Verbatim(verbatim) => walk.data(verbatim.text.len()),
+        InlineRow::Text(text) => walk.data(text.as_bytes().len()),
+        InlineRow::Verbatim(verbatim) => walk.data(verbatim.text.as_bytes().len()),
         InlineRow::Leaf(part) => push_leaf(walk, reading, part),
         InlineRow::Spelled(leaf) => push_spelled(walk, reading, leaf),
         InlineRow::EnterSpan(span) => enter_span(walk, reading, open, span),

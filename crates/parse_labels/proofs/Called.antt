@@ -1,5 +1,5 @@
 -- The labels of the footnotes that nodes spell are among those of the nodes.
-use Rattle.std.proofs.Common.{inl, inr, ◌≡◌, ℕ, Bool, true, false, ◌||◌, List, [], ◌∷◌, ◌++◌, Option, None, Some, refl, sym, ap, subst, ◌∙◌, append_assoc}
+use Rattle.std.proofs.Common.{inl, inr, ◌≡◌, ℕ, Bool, true, false, ◌||◌, List, [], ◌∷◌, ◌++◌, Option, refl, sym, ap, ◌∙◌, append_assoc}
 use Rattle.std.proofs.lemmas.Bool.{cases_Bool, cond-false, cond-true, or_cases, true≢false}
 use Rattle.engine_events.specs.Names.{same_name}
 use Rattle.engine_events.specs.declared.event.Name.{Name}
@@ -14,14 +14,14 @@ use Rattle.event_grammar.specs.declared.slot.Form.{Form}
 use Rattle.event_grammar.specs.declared.slot.Slot.{Slot}
 use Rattle.event_grammar.specs.Checks.{between_of}
 use Rattle.event_grammar.specs.Grammar.{row}
-use Rattle.event_grammar.specs.InGrammar.{kids_of, node_name}
-use Rattle.event_grammar.specs.References.{label_text, named, named_in}
+use Rattle.event_grammar.specs.InGrammar.{kids_of}
+use Rattle.event_grammar.specs.References.{label_text, named}
 use Rattle.event_grammar.specs.Slots.{take_child}
 use Rattle.event_grammar.specs.Trees.{Node, Nodes, Around, Nil, Cons}
 use Rattle.event_meaning.specs.Blocks.{block_of, blocks_from, blocks_of, footnote_label, join, label_of, start_of}
 use Rattle.event_meaning.specs.Children.{child, inside_of, text_of}
 use Rattle.event_meaning.specs.Spelled.{block_footnotes, footnotes}
-use Rattle.parse_slots.specs.Left.{ends, is_filled, left_by}
+use Rattle.parse_slots.specs.Left.{ends, left_by}
 use Rattle.parse_labels.proofs.Defined.{inside_filled}
 use Rattle.parse_labels.proofs.Inside.{any_node, in_child, in_first, in_node, in_others, is_there, IsThere, of_child, parts_filled, rest_after}
 use Rattle.parse_labels.proofs.Kept.{any_both, any_label}

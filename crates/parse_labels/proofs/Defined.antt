@@ -1,5 +1,5 @@
 -- The labels of the definitions of links that nodes spell are among those of the nodes.
-use Rattle.std.proofs.Common.{inl, inr, ◌≡◌, ℕ, Bool, true, false, ◌||◌, List, [], ◌∷◌, ◌++◌, Option, None, Some, map, refl, sym, ap, subst, ◌∙◌}
+use Rattle.std.proofs.Common.{inl, inr, ◌≡◌, ℕ, Bool, true, false, ◌||◌, List, [], ◌∷◌, ◌++◌, Option, map, refl, sym, ap, subst, ◌∙◌}
 use Rattle.std.proofs.lemmas.Bool.{cases_Bool, cond-false, cond-true, or_cases, true≢false}
 use denote.Enum.Bare.{same_true}
 use Rattle.engine_events.specs.contracts.event.Name.{the_type}
@@ -22,7 +22,7 @@ use Rattle.event_meaning.specs.Blocks.{label_of}
 use Rattle.event_meaning.specs.Children.{child, inside_of}
 use Rattle.event_meaning.specs.Spelled.{definition_of}
 use Rattle.parse_slots.specs.Left.{ends, is_filled, left_by}
-use Rattle.parse_labels.proofs.Inside.{any_node, in_child, in_first, in_node, in_others, is_there, IsThere, needs, of_child, parts_filled, rest_after}
+use Rattle.parse_labels.proofs.Inside.{any_node, in_child, in_first, in_node, in_others, is_there, IsThere, of_child, parts_filled, rest_after}
 use Rattle.parse_labels.proofs.Kept.{any_label}
 use Rattle.event_grammar.specs.Slots.{take_child}
 

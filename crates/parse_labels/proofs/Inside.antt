@@ -6,7 +6,6 @@ use denote.Enum.Bare.{same_true}
 use Rattle.engine_events.specs.contracts.event.Name.{the_type}
 use Rattle.engine_events.specs.Names.{same_name}
 use Rattle.engine_events.specs.declared.event.Name.{Name}
-use Rattle.definition_text.specs.Columns.{Code}
 use Rattle.definition_text.specs.Content.{content_codes}
 use Rattle.definition_inline.specs.LabelMatch.{normal_label}
 use Rattle.event_grammar.specs.declared.slot.Between.{Between}
@@ -22,7 +21,7 @@ use Rattle.event_grammar.specs.Slots.{may_end, Taken, take_child, taken}
 use Rattle.event_grammar.specs.Trees.{Node, Nodes, Around, Nil, Cons}
 use Rattle.event_meaning.specs.Children.{child}
 use Rattle.parse_slots.specs.Left.{ends, is_filled, left_after, left_by}
-use Rattle.parse_references.proofs.Rows.{if_ends, no_take, took_or}
+use Rattle.parse_references.proofs.Rows.{if_ends}
 use Rattle.parse_labels.proofs.Kept.{any_label}
 
 -- ---- the first of nodes that fill a row

@@ -1,8 +1,8 @@
 -- Which labels are among others.
-use Rattle.std.proofs.Common.{◌≡◌, ℕ, zero, suc, ◌+◌, Bool, true, false, cond, ◌||◌, List, [], ◌∷◌, ◌++◌, Option, None, Some, length, map, refl, sym, ap, ap₂, ◌∙◌, arith, nat_lt, not}
+use Rattle.std.proofs.Common.{◌≡◌, ℕ, suc, ◌+◌, Bool, true, false, cond, ◌||◌, List, [], ◌∷◌, ◌++◌, None, Some, length, map, refl, sym, ap, ap₂, ◌∙◌, arith, nat_lt, not}
 use Rattle.std.proofs.lemmas.Bool.{le-ltb, lt-ltb, ltb-false, ltb-true}
 use Rattle.std.specs.Prelude.{is_some}
-use Rattle.std.specs.List.{AllZip, list_any, position, position_or_len}
+use Rattle.std.specs.List.{list_any, position, position_or_len}
 use Rattle.std.specs.Str.{bytes_eq}
 use Rattle.definition_text.specs.Columns.{Code}
 use Rattle.definition_inline.specs.Definition.{Definition}

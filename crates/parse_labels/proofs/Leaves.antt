@@ -1,5 +1,5 @@
 -- Leaves that are read lead on, and so do the nodes that spell them.
-use Rattle.std.proofs.Common.{◌≡◌, ℕ, Bool, true, false, ◌&&◌, ◌||◌, List, [], ◌∷◌, Option, None, Some, drop, length, map, refl, sym, ap, subst, ◌∙◌}
+use Rattle.std.proofs.Common.{◌≡◌, ℕ, Bool, true, false, List, [], ◌∷◌, Option, None, Some, drop, length, map, refl, sym, subst}
 use Rattle.std.proofs.lemmas.Bool.{true≢false}
 use Rattle.engine_events.specs.Names.{is_listed, same_name}
 use Rattle.engine_events.specs.declared.event.Name.{Name}
@@ -16,20 +16,20 @@ use Rattle.definition_inline.specs.Scan.{inlines, without_indent}
 use Rattle.definition_page.specs.GfmTable.{body_lines, head_line}
 use Rattle.definition_page.specs.InlinePieces.{Meaning}
 use Rattle.definition_page.specs.Page as page
-use Rattle.definition_page.specs.Read.{Reading, checked_text, context_of, read_cell, read_row, Standing, text_content}
+use Rattle.definition_page.specs.Read.{Reading, checked_text, context_of, read_cell, read_row, text_content}
 use Rattle.event_grammar.specs.declared.slot.Between.TheVariants.{Lines}
 use Rattle.event_grammar.specs.declared.slot.Form.TheVariants.{Plain}
 use Rattle.event_grammar.specs.Checks.{between_of}
-use Rattle.event_grammar.specs.Grammar.{block_names, link_names, row}
+use Rattle.event_grammar.specs.Grammar.{block_names, row}
 use Rattle.event_grammar.specs.References.{media_names}
-use Rattle.event_grammar.specs.Trees.{Node, Nodes, Around, Nil, Cons}
+use Rattle.event_grammar.specs.Trees.{Nodes, Around}
 use Rattle.event_meaning.specs.Blocks.{block_of, blocks_from, join, one as one_block, start_of, underline_rank}
 use Rattle.event_meaning.specs.Children.{kids_in, text_in, text_of}
 use Rattle.event_meaning.specs.Texts.{inlines_of, text_within}
 use Rattle.parse_slots.specs.Left.{ends, left_by}
 use Rattle.parse_alike.specs.Inline.{ArePartsAlike}
 use Rattle.parse_alike.specs.Page.{AreBlocksAlike, AreLeavesAlike}
-use Rattle.parse_references.specs.Leads.{AreLabelsOf, HoldBareCalls, is_among, LeadOn, LeadsOn}
+use Rattle.parse_references.specs.Leads.{AreLabelsOf, HoldBareCalls, is_among, LeadOn}
 use Rattle.parse_references.proofs.Bare.{bare_kids, bare_lead, leads_alone, unlinked}
 use Rattle.parse_references.proofs.Contents.{contents_lead}
 use Rattle.parse_references.proofs.Parts.{alike_lead}

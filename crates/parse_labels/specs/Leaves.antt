@@ -2,7 +2,7 @@
 use Rattle.std.specs.Prelude.{Bool, false, List, [], ◌∷◌}
 use Rattle.definition_text.specs.Columns.{Code}
 use Rattle.definition_inline.specs.Inline.{Inlines}
-use Rattle.definition_page.specs.GfmTable.{Table, TableRow}
+use Rattle.definition_page.specs.GfmTable.{TableRow}
 use Rattle.definition_page.specs.Page as page
 use Rattle.parse_references.specs.Leads.{PartsLead}
 

@@ -190,7 +190,7 @@ module _ {A : Type 0} (text : List ℕ) (stop : Stop) where
       let bytes : text_between text from to ≡ ending_bytes ending =
       ap (λ (x : End). text_between text x to) here_end ∙ ending_between text (standing old) st.at.line ∙ ending_is in
       let token : IsToken text name from to =
-      record { follows = follows; bytes = ap (is_token name) bytes ∙ may } in
+      record { follows = follows; bytes = λ apart. ap (is_token name) bytes ∙ may } in
       let ended = ending_written text st.ending (first ∷ others) at order token in
       let began = line_written text first others between ended.1 ended.0.order in
       let reach = (ending_end text (standing old) st.at.line).0 in

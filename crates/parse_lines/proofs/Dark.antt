@@ -1,6 +1,10 @@
 -- Bytes of a line that are no white space, by their columns.
 use Rattle.std.proofs.Common.{◌≡◌, ℕ, ◌+◌, ◌-◌, ◌<◌, ◌≤◌, ◌^◌, zero, suc, Bool, false, not, List, [], ◌∷◌, refl, sym, ap, ◌∙◌, subst, arith, drop, take, length}
-use Rattle.parse_lines.proofs.Prelude.{IsToken}
+use Rattle.std.specs.Str.{is_utf8}
+use Rattle.std.proofs.lemmas.Bool.{and_from, eq-eqb}
+use Rattle.parse_output.proofs.Characters.{characters_to}
+use Rattle.parse_lines.proofs.Prelude.{IsToken, same_end, true≢false, ◌==◌}
+use Rattle.parse_lines.proofs.Cuts.{column_cut}
 use Rattle.parse_lines.proofs.Prelude.{bytes_of, cond-false, cond-true, drop-drop, End, end_at, end_in, Follows, is_byte, is_tab_column, is_white, IsInOrder}
 use Rattle.parse_lines.proofs.Prelude.{IsLineOf, list_any, Name, or_parts, Output, prefix_len, Rest, rest_start, void_nodes, whole, Writes}
 use Rattle.engine_events.specs.declared.event.Name.TheVariants.{SpaceOrTab}
@@ -87,7 +91,17 @@ module _ (text before content after : List ℕ) (line_end : ℕ) (line : IsLineO
       pub at : end_in o ≡ column_end n
       pub order : IsInOrder text o
 
-    pub token_step : (name : Name) (n k : ℕ) (a b : Output A) → IsDark n k → is_token name (take k (drop n (whole content))) ≡ true → IsAtColumn n a
+    -- a token that has a size has a code
+    some_codes : (n k : ℕ) (a : Output A) → IsDark n k → IsAtColumn n a → same_end (end_at ((end_in a).index + k) 0) (end_in a) ≡ false → 0 < k
+    some_codes n zero a dark at apart =
+        let owed : (end_in a).owed ≡ 0 = ap (λ (e : End). e.owed) at.at ∙ start_owed line_end (drop n (whole content)) ∙ dark.none in
+        let here : (end_in a).index + 0 ≡ (end_in a).index = omega arith in
+        absurd (true≢false (sym (and_from ((end_in a).index + 0 == (end_in a).index) (0 == (end_in a).owed)
+        (eq-eqb ((end_in a).index + 0) (end_in a).index here) (eq-eqb 0 (end_in a).owed (sym owed))) ∙ apart))
+    some_codes n (suc k) a dark at apart = omega arith
+
+    pub token_step : (name : Name) (n k : ℕ) (a b : Output A) → IsDark n k → (0 < k → is_token name (take k (drop n (whole content))) ≡ true)
+        → IsAtColumn n a
         → ((end_in a).index + k < 2 ^ 64 → end_in b ≡ end_at ((end_in a).index + k) 0)
         → ((end_in a).index + k < 2 ^ 64 → IsInOrder text a → IsToken text name (end_in a) (end_at ((end_in a).index + k) 0)
         → Writes text a b (void_nodes text name (end_in a) (end_at ((end_in a).index + k) 0)))
@@ -101,11 +115,25 @@ module _ (text before content after : List ℕ) (line_end : ℕ) (line : IsLineO
         subst (λ (e : End). Follows text e (end_at ((end_in a).index + k) 0)) (sym at.at) (subst (Follows text (column_end n)) (sym there) follows) in
         let bytes : text_between text (end_in a) (end_at ((end_in a).index + k) 0) ≡ take k (drop n (whole content)) =
         ap₂ (text_between text) at.at there ∙ rests_between text before content after line_end line end n k ∙ dark_bytes (take k (drop n (whole content))) dark.dark in
-        let written = writes fits at.order (record { follows = first; bytes = ap (is_token name) bytes ∙ may }) in (
+        let written = writes fits at.order (record { follows = first; bytes = λ apart. ap (is_token name) bytes ∙ may (some_codes n k a dark at apart) }) in (
           subst (λ (e : End). Writes text a b (void_nodes text name e (column_end (n + k)))) at.at
               (subst (λ (e : End). Writes text a b (void_nodes text name (end_in a) e)) there written),
           record { at = ends fits ∙ there; order = written.order },
         )
+
+    -- the codes are whole characters, if a byte of ASCII is next
+    pub characters_step : (n k b : ℕ) (a : Output A) (more : Rest) → IsDark n k → IsAtColumn n a → drop (n + k) (whole content) ≡ b ∷ more → is_byte b ≡ true
+        → b < 128 → is_utf8 (take k (drop n (whole content))) ≡ true
+    characters_step n k b a more dark at next byte ascii =
+        let to = column_end (n + k) in
+        let follows : Follows text (end_in a) to =
+        subst (λ (e : End). Follows text e to) (sym at.at) (line_follows text before content after line_end n (n + k) line end (omega arith)) in
+        let bytes : text_between text (end_in a) to ≡ take k (drop n (whole content)) =
+        ap (λ (e : End). text_between text e to) at.at ∙ rests_between text before content after line_end line end n k
+        ∙ dark_bytes (take k (drop n (whole content))) dark.dark in
+        ap is_utf8 (sym bytes)
+        ∙ characters_to text a at.order to follows
+        (column_cut text before content after line_end line end (n + k) b more (further n k dark).none next byte ascii)
 
     pub space_step : (n k : ℕ) (rest : Rest) (a b : Output A) → rest ≡ drop (n + k) (whole content)
         → list_all is_white (take k (drop n (whole content))) ≡ true → IsAtColumn n a
@@ -121,7 +149,7 @@ module _ (text before content after : List ℕ) (line_end : ℕ) (line : IsLineO
         let bytes : text_between text (end_in a) (rest_start line_end rest) ≡ bytes_of (take k (drop n (whole content))) =
         ap₂ (text_between text) at.at there ∙ rests_between text before content after line_end line end n k in
         let may = ap (list_all is_white) bytes ∙ all_filter is_white is_byte (take k (drop n (whole content))) white in
-        let written = writes at.order (record { follows = first; bytes = may }) in (
+        let written = writes at.order (record { follows = first; bytes = λ apart. may }) in (
           subst (λ (e : End). Writes text a b (void_nodes text SpaceOrTab e (column_end (n + k)))) at.at
               (subst (λ (e : End). Writes text a b (void_nodes text SpaceOrTab (end_in a) e)) there written),
           record { at = ends ∙ there; order = written.order },

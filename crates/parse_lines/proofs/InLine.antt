@@ -74,7 +74,7 @@ module _ {A : Type 0} (text : List ℕ) where
       let all = reached ∙ here in
       let written : Writes text w.out out (nodes end) = writes st.order (record {
         follows = subst (λ a. Follows text a end) (sym st.at) (subst (Follows text from) (sym reached) follows);
-        bytes = subst (λ (e : End). is_token name (text_between text (end_in w.out) e) ≡ true) (sym all) bytes;
+        bytes = λ apart. subst (λ (e : End). is_token name (text_between text (end_in w.out) e) ≡ true) (sym all) bytes;
       }) in
       let now : Writes text w.out out (nodes (end_after (end_in w.out) size)) = subst (λ e. Writes text w.out out (nodes e)) all written in
       let to : Follows text (end_in w.out) (end_after (end_in w.out) size) =

@@ -21,6 +21,7 @@ pub mod White
 pub mod Runs
 pub mod NextLine
 pub mod ContentLines
+pub mod Cuts
 pub mod Dark
 pub mod Markers
 pub mod Parts

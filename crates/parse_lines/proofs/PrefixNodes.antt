@@ -30,7 +30,8 @@ use Rattle.parse_slots.proofs.Voids.{further_apart, void_between, void_data, voi
 use Rattle.parse_lines.specs.Prefixes.{IsFootnoteLabel, IsFootnotePrefix, IsItemPrefix, item_form}
 use Rattle.parse_lines.proofs.Between.{rests_between}
 use Rattle.parse_lines.proofs.Columns.{bare_owes_none}
-use Rattle.parse_lines.proofs.Dark.{IsAtColumn, IsDark, dark_bytes, further, space_step, token_step}
+use Rattle.parse_lines.proofs.Dark.{IsAtColumn, IsDark, characters_step, dark_bytes, further, space_step, token_step}
+use Rattle.std.specs.Str.{is_utf8}
 use Rattle.parse_lines.proofs.Ends.{line_follows}
 use Rattle.parse_lines.proofs.Quiet.{no_void}
 use Rattle.parse_lines.proofs.Markers.{IsFootnoteStart, IsItemStart, any_white, digits_are, marked}
@@ -195,10 +196,11 @@ module _ {A : Type 0} (text before content after : List ℕ) (line_end : ℕ) (l
       let rest_at : rest ≡ drop ((first + d0 + 1) + gap m.rest) (whole content) =
       is.rest_is ∙ ap (drop (gap m.rest)) (sym (ap (drop 1) after_digits) ∙ drop-drop 1 (first + d0) (whole content))
       ∙ drop-drop (gap m.rest) (first + d0 + 1) (whole content) in
-      let digits_may : is_token n.ListItemValue (take d0 (drop first (whole content))) ≡ true =
+      let digits_may : 0 < d0 → is_token n.ListItemValue (take d0 (drop first (whole content))) ≡ true =
+      λ some.
       ap (λ (xs : Rest). is_token n.ListItemValue (take d0 xs)) (sym here_at)
-      ∙ ap₂ (λ (k : ℕ) (b : Bool). leb k 9 && b) (length-take-le d0 here (omega (arith, are.within))) (all_prefix is_digit d0 here (omega arith))
-      ∙ ap (λ (b : Bool). b && true) (le-leb d0 9 mark.few) in
+      ∙ ap₂ (λ (k : ℕ) (b : Bool). (leb 1 k && leb k 9) && b) (length-take-le d0 here (omega (arith, are.within))) (all_prefix is_digit d0 here (omega arith))
+      ∙ ap₂ (λ (a b : Bool). (a && b) && true) (le-leb 1 d0 some) (le-leb d0 9 mark.few) in
       let marker_may : is_token n.ListItemMarker (take 1 (drop (first + d0) (whole content))) ≡ true =
       ap (λ (xs : Rest). is_token n.ListItemMarker (take 1 xs)) after_digits ∙ ap (λ (b : Bool). b && true) mark.is_marker in
       let after_marker : drop (first + d0 + 1) (whole content) ≡ m.rest = sym (drop-drop 1 (first + d0) (whole content)) ∙ ap (drop 1) after_digits in
@@ -209,7 +211,7 @@ module _ {A : Type 0} (text before content after : List ℕ) (line_end : ℕ) (l
       record { at = enters.1 ∙ from ∙ ap (rest_start line_end) here_at; order = entered.order } in
       let value_d0 : WritesToken text n.ListItemValue d0 b c = subst (λ (j : ℕ). WritesToken text n.ListItemValue j b c) same value in
       let one_step = token_step text before content after line_end line end n.ListItemValue first d0 b c dark_digits digits_may at_b value_d0.0 value_d0.1 in
-      let two_step = token_step text before content after line_end line end n.ListItemMarker (first + d0) 1 c d dark_marker marker_may one_step.1 marker.0 marker.1 in
+      let two_step = token_step text before content after line_end line end n.ListItemMarker (first + d0) 1 c d dark_marker (λ some. marker_may) one_step.1 marker.0 marker.1 in
       let last_step =
       space_step text before content after line_end line end (first + d0 + 1) (gap m.rest) rest d e rest_at gap_may two_step.1 space.0 space.1 in
       let e0 = column content line_end first in
@@ -354,18 +356,25 @@ module _ {A : Type 0} (text before content after : List ℕ) (line_end : ℕ) (l
       (further text before content after line_end line end (k + 1 + 1) size third).none in
       let entered = enters.0 order in
       let at_b : IsAtColumn text before content after line_end line end k b = record { at = enters.1 ∙ from; order = entered.order } in
-      let s1 = token_step text before content after line_end line end n.GfmFootnoteDefinitionLabelMarker k 1 b c first (may_at text before content after line_end line end n.GfmFootnoteDefinitionLabelMarker k (91 ∷ []) (94 ∷ (label ++ 93 ∷ more)) is refl) at_b open_bracket.0 open_bracket.1 in
+      let s1 = token_step text before content after line_end line end n.GfmFootnoteDefinitionLabelMarker k 1 b c first
+      (λ some. may_at text before content after line_end line end n.GfmFootnoteDefinitionLabelMarker k (91 ∷ []) (94 ∷ (label ++ 93 ∷ more)) is refl) at_b
+      open_bracket.0 open_bracket.1 in
       let s2 = token_step text before content after line_end line end n.GfmFootnoteDefinitionMarker (k + 1) 1 c d second
-      (may_at text before content after line_end line end n.GfmFootnoteDefinitionMarker (k + 1) (94 ∷ []) (label ++ 93 ∷ more) is2 refl) s1.1 mark.0 mark.1 in
+      (λ some. may_at text before content after line_end line end n.GfmFootnoteDefinitionMarker (k + 1) (94 ∷ []) (label ++ 93 ∷ more) is2 refl) s1.1 mark.0 mark.1 in
       let entered2 = inner.0 s2.1.order in
       let at_e : IsAtColumn text before content after line_end line end (k + 1 + 1) e = record { at = inner.1 ∙ s2.1.at; order = entered2.order } in
+      let label_is : take size (drop (k + 1 + 1) (whole content)) ≡ label =
+      ap (λ (j : ℕ). take j (drop (k + 1 + 1) (whole content))) sized ∙ ap (take (length label)) is3 ∙ take-append_seam label (93 ∷ more) in
+      let chars : is_utf8 (take size (drop (k + 1 + 1) (whole content))) ≡ true =
+      characters_step text before content after line_end line end (k + 1 + 1) size 93 e more third at_e is4 refl (omega arith) in
+      let no_ending : list_all (λ b. not (ends_line b)) (take size (drop (k + 1 + 1) (whole content))) ≡ true =
+      ap (list_all (λ b. not (ends_line b))) label_is ∙ no_endings label dark in
       let s3 = token_step text before content after line_end line end n.Data (k + 1 + 1) size e f third
-      (subst (λ (j : ℕ). is_token n.Data (take j (drop (k + 1 + 1) (whole content))) ≡ true) (sym sized)
-      (may_at text before content after line_end line end n.Data (k + 1 + 1) label (93 ∷ more) is3 (no_endings label dark))) at_e string_data.0 string_data.1 in
+      (λ some. ap₂ (λ (a b : Bool). a && b) chars no_ending) at_e string_data.0 string_data.1 in
       let exited2 = inner_end.0 s3.1.order in
       let at_g : IsAtColumn text before content after line_end line end (k + 1 + 1 + size) g = record { at = inner_end.1 ∙ s3.1.at; order = exited2.order } in
       let s4 = token_step text before content after line_end line end n.GfmFootnoteDefinitionLabelMarker (k + 1 + 1 + size) 1 g h fourth
-      (may_at text before content after line_end line end n.GfmFootnoteDefinitionLabelMarker (k + 1 + 1 + size) (93 ∷ []) more is4 refl) at_g close.0 close.1 in
+      (λ some. may_at text before content after line_end line end n.GfmFootnoteDefinitionLabelMarker (k + 1 + 1 + size) (93 ∷ []) more is4 refl) at_g close.0 close.1 in
       let e0 = column content line_end k in
       let e1 = column content line_end (k + 1) in
       let e2 = column content line_end (k + 1 + 1) in
@@ -464,7 +473,7 @@ module _ {A : Type 0} (text before content after : List ℕ) (line_end : ℕ) (l
       (further text before content after line_end line end first (length label + 3) whole_front).none in
       let at_c : IsAtColumn text before content after line_end line end after_label c = record { at = lab.3; order = lab.2.order } in
       let s1 = token_step text before content after line_end line end n.DefinitionMarker after_label 1 c d colon
-      (may_at text before content after line_end line end n.DefinitionMarker after_label (58 ∷ []) is.after colon_at refl) at_c marker.0 marker.1 in
+      (λ some. may_at text before content after line_end line end n.DefinitionMarker after_label (58 ∷ []) is.after colon_at refl) at_c marker.0 marker.1 in
       let gap_size = indent is.after in
       let rest_is : rest ≡ drop (after_label + 1 + gap_size) (whole content) =
       is.rest_is ∙ ap (drop gap_size) (sym (rest_at text before content after line_end line end after_label (58 ∷ []) is.after colon_at))

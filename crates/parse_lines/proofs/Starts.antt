@@ -35,7 +35,7 @@ module _ {A : Type 0} (text : List ℕ) where
       let on : Follows text (written_to old) stop = subst (λ (x : End). Follows text x stop) (sym to_rest) follows in
       let white_is = subst (λ (x : End). list_all is_white (text_between text x stop) ≡ true) (sym to_rest)
       (bare_white text before content after n old.line_end start stop line end at stop_is) in
-      quiet_nothing text old.out white.out (written_to old) stop on white_is (writes text order (record { follows = on; bytes = white_is }))
+      quiet_nothing text old.out white.out (written_to old) stop on white_is (writes text order (record { follows = on; bytes = λ apart. white_is }))
   space_ahead old white before content after n line end at (inr to_bare) order writes =
       let start = rest_of old.rest in
       let stop = bare_end old in
@@ -43,7 +43,7 @@ module _ {A : Type 0} (text : List ℕ) where
       let follows = bare_follows_self text before content after n old.line_end start stop line end at stop_is in
       let on : Follows text (written_to old) stop = subst (λ (x : End). Follows text x stop) (sym to_bare) follows in
       let none = no_void text SpaceOrTab (written_to old) stop to_bare in (
-        record { nodes = Nil; writes = subst (Writes text old.out white.out) none (writes text order (record { follows = on; bytes = white_self text (written_to old) stop to_bare })); quiet = tt; white = refl },
+        record { nodes = Nil; writes = subst (Writes text old.out white.out) none (writes text order (record { follows = on; bytes = λ apart. white_self text (written_to old) stop to_bare })); quiet = tt; white = refl },
         λ same. refl,
       )
 

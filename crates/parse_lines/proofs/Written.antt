@@ -75,7 +75,7 @@ module _ {A : Type 0} (text before content after : List ℕ) (n line_end : ℕ) 
       sym (ap₂ (text_between text) from_start to_rest) ∙ rests_between text before content after line_end line end n k
       ∙ ap (λ (r : Rest). bytes_of (take k r)) (sym at) in
       let white = ap (list_all is_white) same ∙ all_filter is_white is_byte (take k start) further.white in
-      quiet_space text a b (end_in a) to on white (writes order (record { follows = on; bytes = white }))
+      quiet_space text a b (end_in a) to on white (writes order (record { follows = on; bytes = λ apart. white }))
 
   -- the prefix of a quote, where all before its mark is written
   pub quote_inner : (on : Constructs) (quote : ContainerLine) (b c d e f : Output A) (bare_end to : End)
@@ -143,8 +143,8 @@ module _ {A : Type 0} (text before content after : List ℕ) (n line_end : ℕ) 
       subst (λ (x : End). Fill Spaces (row BlockQuotePrefix Plain)
       (append (void_nodes text BlockQuoteMarker (end_in c) (end_at ((end_in c).index + 1) 0)) (void_nodes text SpaceOrTab x to)) [])
       (sym (marker_end fits)) (prefix_fill text (end_in c) (end_at ((end_in c).index + 1) 0) to (omega arith)) in
-      let second = marker fits entered.order (record { follows = follows2; bytes = ap (is_token BlockQuoteMarker) mark_is }) in
-      let third = space second.order (record { follows = follows3; bytes = white_is }) in
+      let second = marker fits entered.order (record { follows = follows2; bytes = λ apart. ap (is_token BlockQuoteMarker) mark_is }) in
+      let third = space second.order (record { follows = follows3; bytes = λ apart. white_is }) in
       quote_node text b c d e f (void_nodes text BlockQuoteMarker (end_in c) (end_at ((end_in c).index + 1) 0)) (void_nodes text SpaceOrTab (end_in d) to)
       (prefix_marker text (end_in c) (end_at ((end_in c).index + 1) 0)) (prefix_space text (end_in d) to) filled entered second third (exits third.order)
 

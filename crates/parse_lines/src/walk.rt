@@ -1,5 +1,6 @@
 //! The lines of a text (CommonMark 2.1), one after another, each after the prefixes of its containers.
 ghost use Rattle.std.specs.Prelude.{◌≡◌, ◌∷◌, [], ◌+◌, ◌-◌, ◌<◌, ◌^◌, IfOk, List, OnOk, false, length, true, ℕ};
+ghost use Rattle.std.specs.Str.{is_utf8};
 ghost use Rattle.definition_text.specs.Columns.{bare, bytes_of};
 ghost use Rattle.definition_text.specs.Lines.{ending_text};
 ghost use Rattle.block_starts.specs.View.{rest_of};
@@ -66,7 +67,7 @@ impl<'a, A: Allocator + Clone> Walk<'a, A> {
         ensures open { IfOk result (λ walk. still_open walk ≡ []) }
         ensures begins { IfOk result (λ walk. BeginsAt size lines.now (standing walk)) }
         ensures written { IfOk result (λ walk. written_to walk ≡ first_end) }
-        ensures order { IfOk result (λ walk. (text : List ℕ) → IsInOrder text walk.out) }
+        ensures order { IfOk result (λ walk. (text : List ℕ) → is_utf8 text ≡ true → IsInOrder text walk.out) }
         ensures forest { IfOk result (λ walk. (text : List ℕ) → forest_in text walk.out ≡ growth Nil []) }
         ensures outside { IfOk result (λ walk. (standing walk).outermost ≡ []) }
     {

@@ -6,7 +6,7 @@ use Rattle.event_grammar.specs.Grammar.{opt}
 use Rattle.parse_references.specs.Sound.{AreSound, IsSound, asked_names}
 use Rattle.parse_references.proofs.Sound.{sound_around, sound_both, sound_fill, sound_one}
 use Rattle.parse_strings.proofs.SoundNodes.{empty_sound}
-use Rattle.parse_links.proofs.Prelude.{append, Cons, Constructs, Holds, is_listed, IsInner, IsQuoted, IsRaw, IsStringNode, IsVoidOf, kids_of, Name, Names, Node}
+use Rattle.parse_links.proofs.Prelude.{Constructs, Holds, is_listed, IsInner, IsQuoted, IsRaw, IsStringNode, IsVoidOf, kids_of, Name, Names, Node}
 use Rattle.parse_links.proofs.Prelude.{node_name, one, PlaceNames, some_nodes, Stop, Walk, WritesWhite}
 use Rattle.parse_links.proofs.Fills.{HasBareRow, HasMarkedRow, HasPlaceRow, HasStringRow}
 

@@ -1,7 +1,6 @@
 -- All that the grammar asks of nodes beside their rows.
 use Rattle.std.proofs.Common.{◌≡◌, ℕ, Bool, true, false, not, ◌||◌, List, Option, None, Some, refl, ap, subst}
 use Rattle.std.proofs.lemmas.Bool.{not-true}
-use Rattle.std.specs.List.{list_all}
 use Rattle.std.specs.Prelude.{if◌then◌else◌}
 use Rattle.engine_events.specs.Names.{is_listed, same_name}
 use Rattle.engine_events.specs.declared.event.Event.{Event}
@@ -14,8 +13,7 @@ use Rattle.event_grammar.specs.declared.slot.Form.TheVariants.{Plain}
 use Rattle.event_grammar.specs.declared.slot.Slot.{Slot}
 use Rattle.event_grammar.specs.Checks.{stands_between}
 use Rattle.event_grammar.specs.Grammar.{document_row, link_names, mdx_names, row}
-use Rattle.event_grammar.specs.InGrammar.{Within, within, inside, Before, before, after, node_name, cells_of, kids_of, CellsAgree, PlacesFit}
-use Rattle.event_grammar.specs.Points.{spot}
+use Rattle.event_grammar.specs.InGrammar.{Within, within, inside, Before, before, after, node_name, cells_of, kids_of, CellsAgree}
 use Rattle.event_grammar.specs.References.{footnote_labels, link_labels}
 use Rattle.event_grammar.specs.Slots.{Taken}
 use Rattle.event_grammar.specs.Trees.{AreNodes, IsNode, Node, Nodes, Around, Nil, Cons}
@@ -28,9 +26,10 @@ use Rattle.parse_references.specs.Leads.{LeadOn, LeadsOn}
 use Rattle.parse_references.specs.Sound.{AreSound, IsSound}
 use Rattle.parse_references.proofs.Nodes.{nodes_lead_on}
 use Rattle.parse_references.proofs.Rows.{between_passes}
-use Rattle.parse_matches.specs.Laws.{MetGrammarMatches, begins_whole}
+use Rattle.parse_matches.specs.Laws.{MetGrammarMatches}
 use Rattle.parse_matches.proofs.Facts.{Answers, HaveAnswers, child_holds, has_fact, kids_answer, plain_row}
 use Rattle.parse_matches.proofs.Passing.{is_known, row_passes, rows_known, taken_passes}
+use Rattle.parse_matches.proofs.Places.{places_fit}
 use Rattle.parse_matches.proofs.Voids.{AreFit, IsFit, nodes_fit, suits}
 
 module _ (names : Names) (text : List ℕ) (links footnotes : List (List ℕ)) where
@@ -128,9 +127,7 @@ met_grammar_matches names text events met =
     let ns = met.nodes in
     let are : AreMet names text (link_labels text ns) (footnote_labels text ns) false 0 ns = record {
       paired = met.paired;
-      fit =
-          nodes_fit text (spot 0 0) ns met.paired (subst (λ es. are_fit text es ≡ true) met.nested met.tokens)
-          (subst (λ es. list_all begins_whole es ≡ true) met.nested met.whole) (subst (PlacesFit text (spot 0 0)) met.nested met.places);
+      fit = nodes_fit text ns met.paired (subst (λ es. are_fit text es ≡ true) met.nested met.tokens);
       sound = met.sound;
       leads = met.leads;
       cells = met.cells;
@@ -138,4 +135,4 @@ met_grammar_matches names text events met =
     filled_lists_match names text events ns met.nested met.filled
     (kids_hold names text (link_labels text ns) (footnote_labels text ns) (within Lines false) (before None 0) document_row ns refl met.filled
     (plain_row names text Lines None document_row ns refl met.filled) are)
-    met.places (nodes_lead_on.defined text ns met.leads)
+    (places_fit text events met.utf8 met.placed met.tokens) (nodes_lead_on.defined text ns met.leads)

@@ -1,4 +1,5 @@
 pub mod Passing
 pub mod Voids
 pub mod Facts
+pub mod Places
 pub mod Law

@@ -89,6 +89,6 @@ pub sized : (text : List ℕ) (ds : List Draft) {name : Name} (from to : End) �
     → AreInOrder text first_end ds → IsToken text name from to → IsSizedToken text name from to
 sized text ds from to at other are token = record {
   follows = token.follows;
-  bytes = token.bytes;
+  bytes = token.bytes other;
   apart = apart_ends text from to (subst (Owes text) at (owes_at text first_end ds (inl refl) are)) token.follows other;
 }

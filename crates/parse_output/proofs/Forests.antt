@@ -1,5 +1,5 @@
 -- What drafts say of a text, and more drafts; and their events as a tree.
-use Rattle.parse_output.proofs.Prelude.{and_parts, append, append-nil-list, AreInOrder, Around, byte_nodes, Cons, cut, data_nodes, Draft, draft_events}
+use Rattle.parse_output.proofs.Prelude.{and_from, and_parts, append, append-nil-list, AreInOrder, Around, byte_nodes, Cons, cut, data_nodes, Draft, draft_events}
 use Rattle.parse_output.proofs.Prelude.{drafted, drafted_all, drafts_end, edge, End, end_at, end_columns, end_place, enter_at, Event, exit_at, exited}
 use Rattle.parse_output.proofs.Prelude.{exited_from, first_end, fold, fold-append, Follows, forest, GoesOnward, growth, Growth, if◌then◌else◌, IsData, Name}
 use Rattle.parse_output.proofs.Prelude.{Nil, Nodes, Part, Place, same_end, sub_self, take_more, void_nodes, with_nodes, ◌==◌}
@@ -10,14 +10,21 @@ use Rattle.event_grammar.specs.Trees.{Node, grown, followed_by, tree}
 use Rattle.event_grammar.specs.Trees.{closed}
 use Rattle.parse_output.specs.declared.draft.Draft.TheVariants as draft
 use Rattle.std.specs.Prelude.{not, ◌&&◌}
+use Rattle.std.proofs.Common.{inl, inr}
+use Rattle.std.proofs.lemmas.Bool.{cases_Bool}
 use Rattle.std.proofs.lemmas.List.Folds.{list_all-append}
+use Rattle.std.proofs.lemmas.Str.{IsUtf8-append, IsUtf8-from_is_utf8, is_utf8-from_IsUtf8}
+use Rattle.std.specs.List.{list_all}
+use Rattle.std.specs.Str.{is_utf8}
 use Rattle.definition_text.specs.Lines.{ends_line}
-use Rattle.event_tokens.specs.Tokens.{is_token}
-use Rattle.parse_output.specs.Joined.{text_between}
+use Rattle.event_tokens.specs.Tokens.{is_token, token_form}
+use Rattle.event_tokens.proofs.Nothing.{nothing_fits}
+use Rattle.parse_output.specs.Joined.{end_edge, text_between}
 use Rattle.parse_output.specs.Voids.{IsSizedToken, IsToken}
 use Rattle.parse_output.proofs.Apart.{apart_longer, sized, test_eq}
 use Rattle.parse_output.proofs.Between.{edges, text_on}
 use Rattle.parse_output.proofs.Ends.{follows_both, spot_index}
+use Rattle.parse_output.proofs.Joined.{none_between}
 use Rattle.parse_output.specs.Forest.{byte_node, node_bytewise, bytewise, draft_end, drafts_events}
 use Rattle.parse_output.specs.Forest.{entered}
 
@@ -25,7 +32,26 @@ use Rattle.parse_output.specs.Forest.{entered}
 
 -- two pieces of data are one
 data_tokens : (bs cs : List ℕ) → is_token n.Data bs ≡ true → is_token n.Data cs ≡ true → is_token n.Data (bs ++ cs) ≡ true
-data_tokens bs cs first second = list_all-append (λ b. not (ends_line b)) bs cs ∙ ap₂ (λ a b. a && b) first second
+data_tokens bs cs first second =
+    let dark = λ (b : ℕ). not (ends_line b) in
+    let one = and_parts (is_utf8 bs) (list_all dark bs) first in
+    let other = and_parts (is_utf8 cs) (list_all dark cs) second in
+    let all : list_all dark (bs ++ cs) ≡ true = list_all-append dark bs cs ∙ ap₂ (λ a b. a && b) one.1 other.1 in
+    and_from (is_utf8 (bs ++ cs)) (list_all dark (bs ++ cs))
+    (is_utf8-from_IsUtf8 (bs ++ cs) (IsUtf8-append bs cs (IsUtf8-from_is_utf8 bs one.0) (IsUtf8-from_is_utf8 cs other.0))) all
+
+-- a token has bytes of its name, whatever its size, if no bytes are such
+token_fits : (text : List ℕ) (name : Name) (from to : End) → is_token name [] ≡ true → IsToken text name from to
+    → is_token name (text_between text from to) ≡ true
+token_fits text name from to none token =
+    elim (cases_Bool (same_end to from)) [
+      | inl same ↦
+          let parts = and_parts (to.index == from.index) (to.owed == from.owed) same in
+          let edges_same : end_edge text from ≡ end_edge text to =
+          ap₂ (λ (i o : ℕ). edge (spot i (end_columns text (end_at i o)))) (sym (test_eq _ _ parts.0)) (sym (test_eq _ _ parts.1)) in
+          ap (is_token name) (none_between text (end_edge text from) (end_edge text to) edges_same) ∙ none
+      | inr apart ↦ token.bytes apart
+    ]
 
 pub append-nil : (ns : Nodes) → append ns Nil ≡ ns
 append-nil Nil = refl
@@ -96,7 +122,8 @@ data_longer text a b c is first second =
       follows = follows_both text a b c held.follows second.follows;
       bytes =
           ap (is_token n.Data) (sym (text_on text a b c held.follows second.follows))
-          ∙ data_tokens (text_between text a b) (text_between text b c) held.bytes second.bytes;
+          ∙ data_tokens (text_between text a b) (text_between text b c) held.bytes
+          (token_fits text n.Data b c (nothing_fits (token_form n.Data) refl) second);
       apart = apart_longer text a b c held.follows second.follows held.apart;
     }
 

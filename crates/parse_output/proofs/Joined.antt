@@ -120,7 +120,7 @@ pub writes_joined : {A : Type 0} (text : List ℕ) (old new : Output A) (ns : No
 writes_joined text old new ns order writes =
     subst (λ (x : End). AreJoined (end_edge text x) ns (end_edge text (end_in new))) old.ends (
     subst (λ (x : End). AreJoined (end_edge text (drafts_end first_end old.drafts.items)) ns (end_edge text x)) new.ends (
-    nodes_joined (forest_in text old) (forest_in text new) ns _ _ (forest_joined text old.drafts.items order) (forest_joined text new.drafts.items writes.order)
+    nodes_joined (forest_in text old) (forest_in text new) ns _ _ (forest_joined text old.drafts.items order.1) (forest_joined text new.drafts.items writes.order.1)
     writes.forest
     ))
 

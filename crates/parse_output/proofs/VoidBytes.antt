@@ -1,31 +1,15 @@
 -- The events of drafts have bytes that their names may have, and a size if their names can hold no other.
 use Rattle.parse_output.proofs.Prelude.{and-false, AreInOrder, Draft, End, end_at, enter_at, Event, exit_at, first_end, Name, same_name}
-use Rattle.std.proofs.Common.{◌≡◌, ℕ, Bool, true, false, not, ◌&&◌, ◌||◌, if◌then◌else◌, List, [], ◌∷◌, refl, ap, ap₂, ◌∙◌, arith}
-use Rattle.std.specs.Prelude.{leb}
-use Rattle.std.proofs.lemmas.Bool.{le-leb}
+use Rattle.std.proofs.Common.{◌≡◌, ℕ, Bool, true, false, not, ◌&&◌, if◌then◌else◌, List, [], ◌∷◌, refl, ap, ap₂, ◌∙◌}
 use Rattle.parse_output.specs.Forest.{drafts_events}
 use Rattle.parse_output.specs.declared.draft.Draft.TheVariants as draft
 use Rattle.event_tokens.specs.Bytes.{HaveTheirBytes, are_fit, is_fit, is_fit_at, same_spot}
-use Rattle.event_tokens.specs.Tokens.{Form, fits, is_token, token_form, Any, Ending, All, Most, Run, Only, Least, Such, Either}
+use Rattle.event_tokens.specs.Tokens.{is_token}
+use Rattle.event_tokens.proofs.Nothing.{nothing_held}
 use Rattle.event_grammar.specs.Void.{is_void}
 use Rattle.parse_output.specs.Joined.{end_edge, end_spot, text_between}
 use Rattle.parse_output.specs.Voids.{IsSizedToken}
 use Rattle.parse_output.proofs.Joined.{none_between}
-
-none_most : (most : ℕ) → leb 0 most ≡ true
-none_most most = le-leb 0 most (omega arith)
-
--- no bytes fit each form
-nothing_fits : (form : Form) → fits form [] ≡ true
-nothing_fits Any = refl
-nothing_fits Ending = refl
-nothing_fits (All kind) = refl
-nothing_fits (Most most kind) = ap (λ (b : Bool). b && true) (none_most most)
-nothing_fits (Run marks) = refl
-nothing_fits (Only text) = refl
-nothing_fits (Least least kind) = refl
-nothing_fits (Such test) = refl
-nothing_fits (Either one other) = ap (λ (b : Bool). b || fits other []) (nothing_fits one)
 
 -- the bytes are such, and the name has a row or the places are two
 fit_held : (may void same : Bool) → may ≡ true → void ≡ false → (may && not (void && same)) ≡ true
@@ -51,7 +35,7 @@ enter_fits text name from (draft.Void other owed index ∷ ds) held = refl
 enter_fits text name from (draft.Exit other ∷ ds) held =
     let here = end_spot text from in
     let none : is_token name (text_between text from from) ≡ true =
-    ap (is_token name) (none_between text (end_edge text from) (end_edge text from) refl) ∙ nothing_fits (token_form name) in
+    ap (is_token name) (none_between text (end_edge text from) (end_edge text from) refl) ∙ nothing_held name held in
     if_pair (same_name name other) (is_fit_at text name here here)
     (fit_held (is_token name (text_between text from from)) (is_void name) (same_spot here here) none held)
 

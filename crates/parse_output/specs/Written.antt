@@ -1,5 +1,6 @@
 -- What an output has written.
-use Rattle.std.specs.Prelude.{◌≡◌, ℕ, List}
+use Rattle.std.specs.Prelude.{◌≡◌, ℕ, true, List}
+use Rattle.std.specs.Str.{is_utf8}
 use Rattle.engine_events.specs.declared.event.Name.{Name}
 use Rattle.event_grammar.specs.Trees.{Growth, Nodes}
 use Rattle.parse_output.specs.declared.end.End.{End}
@@ -21,9 +22,9 @@ end_in o = o.end
 abbrev pub forest_in : {A : Type 0} → List ℕ → Output A → Growth
 forest_in text o = forest text o.drafts.items
 
--- its drafts go onward in a text
+-- its drafts go onward in a text of characters
 abbrev pub IsInOrder : {A : Type 0} → List ℕ → Output A → Type 0
-IsInOrder text o = AreInOrder text first_end o.drafts.items
+IsInOrder text o = (is_utf8 text ≡ true) × AreInOrder text first_end o.drafts.items
 
 -- these nodes are written
 pub record Writes {A : Type 0} (text : List ℕ) (old new : Output A) (ns : Nodes) : Type 0 where

@@ -1,5 +1,6 @@
 //! Events, written one after another.
 ghost use Rattle.std.specs.Prelude.{◌≡◌, ◌<◌, ◌^◌, ◌∷◌, [], IfOk, IsTrue, List, OnOk, false, length, true, ℕ};
+ghost use Rattle.std.specs.Str.{is_utf8};
 ghost use Rattle.parse_output.specs.Placed.{ArePlaced};
 ghost use Rattle.engine_events.specs.declared.event.Name.TheVariants.{Data, Paragraph};
 ghost use Rattle.event_grammar.specs.Trees.{Nil, growth, tree};
@@ -46,7 +47,7 @@ impl<A: Allocator + Clone> Output<A> {
     pub fn new(alloc: A, size: usize) -> Result<Output<A>, AllocError>
         ensures open { IfOk result (λ output. open_in output ≡ []) }
         ensures end { IfOk result (λ output. end_in output ≡ first_end) }
-        ensures order { IfOk result (λ output. (text : List ℕ) → IsInOrder text output) }
+        ensures order { IfOk result (λ output. (text : List ℕ) → is_utf8 text ≡ true → IsInOrder text output) }
         ensures forest { IfOk result (λ output. (text : List ℕ) → forest_in text output ≡ growth Nil []) }
     {
         Ok(Output {

@@ -82,7 +82,7 @@ module _ {A : Type 0} (text : List ℕ) where
       (rest_to_end text line.before line.content after old.line_end st.columns line.parts line.end) in
       let white = rest_white text line.before line.content after old.line_end line.parts line.end st.columns (written_to old) (at ∙ ap (rest_start old.line_end) is)
       (ap (list_all is_white) (sym st.suffix) ∙ blank) in
-      let space = writes text order (record { follows = follows; bytes = white }) in
+      let space = writes text order (record { follows = follows; bytes = λ apart. white }) in
       let void = void_nodes text n.SpaceOrTab (written_to old) (end_at old.line_end 0) in
       let same : append (forest_in text old.out).kids void ≡ append (forest_in text old.out).kids Nil =
       ap (λ (g : Growth). g.kids) (sym space.forest ∙ written.forest) ∙ ap (append (forest_in text old.out).kids) none in

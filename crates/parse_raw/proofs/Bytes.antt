@@ -1,11 +1,14 @@
 -- Bytes of a line, and which events may have them.
 use Rattle.std.proofs.Common.{◌≡◌, ℕ, zero, suc, ◌+◌, ◌-◌, ◌≤◌, Bool, true, false, ◌&&◌, ◌||◌, List, [], ◌∷◌, ◌++◌, None, Some, inl, inr, refl, sym, ap, ap₂, subst, ◌∙◌}
-use Rattle.std.proofs.Common.{drop, take, length, length-drop, reverse, arith}
-use Rattle.parse_raw.proofs.Prelude.{all_filter, and_parts, bytes_of, cases_Bool, codes_first, cond-false, cond-true, End, end_at, end_to_next, ends_line}
+use Rattle.std.proofs.Common.{Option, not, drop, eq-eqb, take, length, length-drop, reverse, arith}
+use Rattle.parse_raw.proofs.Prelude.{all_filter, and_parts, bytes_of, cases_Bool, codes_first, cond-false, cond-true, End, end_at, end_to_next}
+use Rattle.parse_raw.proofs.Prelude.{ending_text, ends_line, LineEnding, same_end}
 use Rattle.parse_raw.proofs.Prelude.{Follows, indent, is_byte, is_white, IsChunkName, IsInLine, IsLineOf, IsToken, is_token, line_after, list_all, list_any}
 use Rattle.parse_raw.proofs.Prelude.{Name, or_parts, prefix_len, replicate, Rest, rest_start, standing, tab_column}
 use Rattle.parse_raw.proofs.Prelude.{take-append-drop, text_between, Walk, whole, written_to, all_prefix}
 use Rattle.std.specs.List.{suffix_len}
+use Rattle.std.specs.Str.{is_utf8}
+use Rattle.std.proofs.lemmas.Bool.{and_from, true≢false}
 use Rattle.std.proofs.Math.Seq.{drop-append_seam}
 use Rattle.std.proofs.lemmas.List.{length-reverse, reverse-append, reverse-reverse}
 use Rattle.std.proofs.lemmas.List.Folds.{list_all-append}
@@ -13,9 +16,11 @@ use Rattle.markdown_options.specs.declared.line_ending.LineEnding.TheVariants.{C
 use Rattle.engine_events.specs.declared.event.Name.TheVariants as n
 use Rattle.definition_text.specs.Columns.{codes_from}
 use Rattle.block_starts.specs.Widths.{width}
+use Rattle.event_tokens.specs.Tokens.{Form, fits, line as line_form, token_form}
 use Rattle.parse_lines.proofs.Between.{rest_between, rests_between}
 use Rattle.parse_lines.proofs.Bytes.{dark_line}
 use Rattle.parse_lines.proofs.ContentLines.{ending_between}
+use Rattle.parse_lines.proofs.Written.{ending_end}
 use Rattle.parse_raw.specs.Bytes.{IsEndingName}
 
 -- ---- what is left of a line has no line ending
@@ -48,21 +53,27 @@ dark_bytes (x ∷ xs) dark =
     ]
 
 -- what is left of a line may be what is left of it in a raw block
-chunk_fits : (name : Name) (bytes : List ℕ) → IsChunkName name → list_any ends_line bytes ≡ false → is_token name bytes ≡ true
-chunk_fits name bytes (inl is) dark = ap (λ (x : Name). is_token x bytes) is ∙ dark_line bytes dark
-chunk_fits name bytes (inr (inl is)) dark = ap (λ (x : Name). is_token x bytes) is ∙ dark_line bytes dark
-chunk_fits name bytes (inr (inr (inl is))) dark = ap (λ (x : Name). is_token x bytes) is ∙ dark_line bytes dark
-chunk_fits name bytes (inr (inr (inr is))) dark = ap (λ (x : Name). is_token x bytes) is ∙ dark_line bytes dark
+chunk_form : (name : Name) → IsChunkName name → token_form name ≡ line_form
+chunk_form name (inl is) = ap token_form is
+chunk_form name (inr (inl is)) = ap token_form is
+chunk_form name (inr (inr (inl is))) = ap token_form is
+chunk_form name (inr (inr (inr is))) = ap token_form is
+
+chunk_fits : (name : Name) (bytes : List ℕ) → IsChunkName name → is_utf8 bytes ≡ true → list_any ends_line bytes ≡ false → is_token name bytes ≡ true
+chunk_fits name bytes is utf8 dark =
+    ap (λ (form : Form). fits form bytes) (chunk_form name is)
+    ∙ and_from (is_utf8 bytes) (list_all (λ (b : ℕ). not (ends_line b)) bytes) utf8 (dark_line bytes dark)
 
 module _ (text before content after : List ℕ) (line_end : ℕ) (line : IsLineOf text before content after) (end : line_end ≡ length before + length content) where
   -- all that is left of a line after some columns
   pub rest_fits : (name : Name) (m : ℕ) (from : End) → from ≡ rest_start line_end (drop m (whole content)) → IsChunkName name
-      → is_token name (text_between text from (end_at line_end 0)) ≡ true
-  rest_fits name m from at is =
+      → is_utf8 (text_between text from (end_at line_end 0)) ≡ true → is_token name (text_between text from (end_at line_end 0)) ≡ true
+  rest_fits name m from at is utf8 =
       let rest = drop m (whole content) in
       let dark = dark_bytes rest (dark_drop m (whole content) (dark_codes 0 content line.dark)) in
-      ap (λ (e : End). is_token name (text_between text e (end_at line_end 0))) at
-      ∙ ap (is_token name) (rest_between text before content after line_end line end m) ∙ chunk_fits name (bytes_of rest) is dark
+      let bytes : text_between text from (end_at line_end 0) ≡ bytes_of rest =
+      ap (λ (e : End). text_between text e (end_at line_end 0)) at ∙ rest_between text before content after line_end line end m in
+      chunk_fits name (text_between text from (end_at line_end 0)) is utf8 (ap (list_any ends_line) bytes ∙ dark)
 
   -- some columns of white space
   pub columns_white : (n k : ℕ) (from to : End) → from ≡ rest_start line_end (drop n (whole content)) → to ≡ rest_start line_end (drop (n + k) (whole content))
@@ -82,27 +93,37 @@ module _ (text before content after : List ℕ) (line_end : ℕ) (line : IsLineO
 -- ---- endings
 
 pub line_ending_fits : IsEndingName n.LineEnding
-line_ending_fits None = refl
-line_ending_fits (Some LineFeed) = refl
-line_ending_fits (Some CarriageReturn) = refl
-line_ending_fits (Some CarriageReturnLineFeed) = refl
+line_ending_fits LineFeed = refl
+line_ending_fits CarriageReturn = refl
+line_ending_fits CarriageReturnLineFeed = refl
 
 pub blank_ending_fits : IsEndingName n.BlankLineEnding
-blank_ending_fits None = refl
-blank_ending_fits (Some LineFeed) = refl
-blank_ending_fits (Some CarriageReturn) = refl
-blank_ending_fits (Some CarriageReturnLineFeed) = refl
+blank_ending_fits LineFeed = refl
+blank_ending_fits CarriageReturn = refl
+blank_ending_fits CarriageReturnLineFeed = refl
+
+some_fits : (name : Name) (ending : Option LineEnding) → IsEndingName name → (ending ≡ None → ⊥) → is_token name (ending_text ending) ≡ true
+some_fits name None fits some = absurd (some refl)
+some_fits name (Some ending) fits some = fits ending
 
 -- the ending of the line on which a walk stands
 pub ending_token : {A : Type 0} (text : List ℕ) (name : Name) (w : Walk A) → IsEndingName name → IsInLine text (standing w) → written_to w ≡ end_at w.line_end 0
     → IsToken text name (written_to w) (line_after w)
 ending_token text name w fits line at =
     let to = line_after w in
+    let reach = (ending_end text (standing w) line).0 in
     record {
       follows = subst (λ (e : End). Follows text e to) (sym at) (end_to_next text (standing w) line);
-      bytes =
+      bytes = λ apart.
+          let some : w.ending ≡ None → ⊥ =
+          λ none.
+          let nothing : length (ending_text w.ending) ≡ 0 = ap (λ (e : Option LineEnding). length (ending_text e)) none in
+          let there : w.size - length w.left.now ≡ w.line_end = omega (arith, reach, nothing) in
+          let same : same_end to (written_to w) ≡ true =
+          ap (same_end to) at ∙ ap₂ (λ (a b : Bool). a && b) (eq-eqb (w.size - length w.left.now) w.line_end there) refl in
+          true≢false (sym same ∙ apart) in
           ap (λ (e : End). is_token name (text_between text e to)) at
-          ∙ ap (is_token name) (ending_between text (standing w) line) ∙ fits w.ending;
+          ∙ ap (is_token name) (ending_between text (standing w) line) ∙ some_fits name w.ending fits some;
     }
 
 -- ---- lists

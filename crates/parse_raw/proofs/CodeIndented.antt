@@ -2,7 +2,7 @@
 use Rattle.std.proofs.Common.{◌≡◌, ℕ, ◌+◌, ◌-◌, ◌≤◌, Bool, false, List, [], ◌∷◌, ◌++◌, inl, refl, sym, ap, subst, ◌∙◌, drop, length, take, arith}
 use Rattle.definition_text.specs.Columns.{is_blank}
 use Rattle.parse_raw.proofs.Prelude.{all_prefix, AreTaken, around, at_ending, AtEnding, Between, block_codes, BlockLine, chunk_parts, Constructs, drop-drop}
-use Rattle.parse_raw.proofs.Prelude.{End, end_at, ending_text, EndsAt, Enters, Exits, InAll, indent, InSome, is_white, IsAfterWhite, IsCutLine, IsInOrder}
+use Rattle.parse_raw.proofs.Prelude.{End, end_at, ending_text, EndsAt, Enters, Exits, InAll, indent, InSome, is_white, IsAfterWhite, IsCharBoundary, IsCutLine, IsInOrder}
 use Rattle.parse_raw.proofs.Prelude.{IsLeafLaid, IsLineOf, IsWrittenToRest, last_ending, line_follows, line_left, LineRest, min, Names, outdent, own_lines}
 use Rattle.parse_raw.proofs.Prelude.{Place, Prefixed, raw_lines, raw_lines_are_alike, raw_parts, RawPart, Rest, rest_line, rest_of, rest_start, rest_to_end}
 use Rattle.parse_raw.proofs.Prelude.{space_written, Standing, standing, StandsAt, Walk, whole, Within, WritesCutLines, WritesLeaf, WritesQuiet, WritesUpTo}
@@ -22,6 +22,7 @@ use Rattle.parse_laid.specs.Leaves.{AreCode, IsCodeLine}
 use Rattle.parse_raw.proofs.Prelude.{append-nil, Around, end_in, enter_at, exit_at, false≢true, list_all, take-append-drop}
 use Rattle.parse_raw.proofs.LeafNodes.{leaf_written}
 use Rattle.parse_raw.proofs.RawBlocks.{WritesFirst, all_written, own_count, taken_as}
+use Rattle.parse_lines.proofs.Cuts.{line_end_cut}
 use Rattle.parse_raw.proofs.RawLines.{has_some, rest_written}
 
 -- a later line is one of which four columns are cut
@@ -110,8 +111,10 @@ module _ {A : Type 0} (text : List ℕ) where
       let line_b : b.line_end ≡ a.line_end = ap (λ (s : Standing). s.line_end) same_b in
       let at_b : written_to b ≡ rest_start b.line_end (drop space.columns (whole space.content)) =
       end_b ∙ space.at ∙ ap (λ (k : ℕ). rest_start k (drop space.columns (whole space.content))) (sym line_b) in
-      let chunk = rest_written text n.CodeFlowChunk b c space.before space.content space.after space.columns space.line (line_b ∙ space.end) at_b enters.order (inl refl)
-      writes_c in
+      let boundary : IsCharBoundary text b.line_end =
+      subst (IsCharBoundary text) (sym (ap (λ (s : Standing). s.line_end) same)) (line_end_cut text (standing old) st.line) in
+      let chunk = rest_written text n.CodeFlowChunk b c space.before space.content space.after space.columns space.line (line_b ∙ space.end) boundary at_b
+      enters.order (inl refl) writes_c in
       let own : code.0 ≡ here = sym (ap line_left code.2.0) in
       let first_is : rest_line (outdent 4 here.rest) here.beside ≡ first = ap (λ (l : LineRest). rest_line (outdent 4 l.rest) l.beside) (sym own) ∙ sym code.4 in
       let st_c : StandsAt text (AtEnding here.beside.ending left) (standing c) =

@@ -190,7 +190,7 @@ module _ {A : Type 0} (names : Names) where
       ap (λ (e : End). end_after e (length front)) at ∙ after_bytes i (length front) ∙ ap (λ (k : ℕ). end_at (i + k) 0) (sym count) in
       let between : text_between text (end_in a.out) to ≡ front =
       ap (text_between text (end_in a.out)) (sym there) ∙ whole_between text (end_in a.out) front rest before.whole before.next in
-      let done = writes fits text before.order (record { follows = follows; bytes = ap (is_token name) between ∙ may }) in
+      let done = writes fits text before.order (record { follows = follows; bytes = λ apart. ap (is_token name) between ∙ may }) in
       let reached : end_after (end_in a.out) (length front) ≡ end_in b.out = there ∙ sym (ends fits) in
       let index = ap (λ (e : End). e.index) (ends fits) in
       let line_end = ap (λ (s : Standing). s.line_end) same in

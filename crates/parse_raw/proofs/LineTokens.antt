@@ -34,7 +34,7 @@ module _ {A : Type 0} (text : List ℕ) where
       let e = end_in old.out in
       let follows : Follows text e to = subst (Follows text e) (sym is) (follows_after text front line e at.next) in
       let bytes : text_between text e to ≡ front = ap (text_between text e) is ∙ whole_between text e front line at.whole at.next in
-      let written = writes text at.order (record { follows = follows; bytes = ap (is_token name) bytes ∙ may }) in
+      let written = writes text at.order (record { follows = follows; bytes = λ apart. ap (is_token name) bytes ∙ may }) in
       let to_bytes : to ≡ end_at (e.index + length front) 0 = is ∙ after_first e (length front) at.whole in
       record {
         writes =

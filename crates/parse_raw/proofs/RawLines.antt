@@ -3,7 +3,7 @@ use Rattle.std.proofs.Common.{◌≡◌, ℕ, zero, suc, ◌+◌, ◌-◌, ◌<�
 use Rattle.std.proofs.Common.{subst, ◌∙◌, drop, take, length, map, arith}
 use Rattle.parse_raw.proofs.Prelude.{append, AreRaw, at_ending, AtEnding, block_codes, bytes_of, cases_Bool, Chunk, chunk, chunk_parts, Code, code_byte}
 use Rattle.parse_raw.proofs.Prelude.{cond-false, cond-true, drop-drop, End, end_at, ending_text, ends_in, eqb-true, false≢true, Follows, has_codes, html_chunk}
-use Rattle.parse_raw.proofs.Prelude.{indent, is_tab_column, IsChunkName, IsInOrder, IsLineOf, IsWrittenToRest, left_bytes, line_follows, LineRest, min, Name}
+use Rattle.parse_raw.proofs.Prelude.{indent, is_tab_column, IsCharBoundary, IsChunkName, IsInOrder, IsLineOf, IsWrittenToRest, left_bytes, line_follows, LineRest, min, Name}
 use Rattle.parse_raw.proofs.Prelude.{Nil, no_void, Node, Nodes, outdent, prefix_len, raw_part, raw_parts, RawPart, replicate, Rest, rest_of, rest_start}
 use Rattle.parse_raw.proofs.Prelude.{rest_to_end, same_end, same_name, space, spaced_text_of, Standing, standing, StandsAt, tab_column, void_nodes, Walk}
 use Rattle.parse_raw.proofs.Prelude.{whole, Within, Writes, writes_both, WritesCut, WritesUpTo, written_to}
@@ -20,6 +20,8 @@ use Rattle.parse_slots.proofs.Steps.{fill_both}
 use Rattle.parse_slots.proofs.Voids.{void_again, void_between, void_taken}
 use Rattle.text_lines.proofs.Codes.{no_bytes}
 use Rattle.parse_raw.specs.RawLines.{TakesChunks}
+use Rattle.parse_output.proofs.Characters.{characters_to}
+use Rattle.parse_lines.proofs.Cuts.{line_end_cut}
 use Rattle.parse_raw.proofs.Bytes.{columns_white, rest_fits}
 use Rattle.parse_raw.proofs.Nodes.{IsRawName, ends_append, raw_append, raw_parts_append, raw_void, void_cases}
 use Rattle.parse_raw.proofs.Raw.{rest_bytes, rest_size, void_node}
@@ -198,10 +200,11 @@ module _ {A : Type 0} (text : List ℕ) (name : Name) where
     pub taken : (slots more : List Slot) → has_codes codes ≡ true → take_child slots name ≡ Some (took Plain more) → Fill Lines slots nodes more
 
   pub rest_written : (b d : Walk A) (before content after : List ℕ) (m : ℕ) → IsLineOf text before content after → b.line_end ≡ length before + length content
-      → written_to b ≡ rest_start b.line_end (drop m (whole content)) → IsInOrder text b.out → IsChunkName name
+      → IsCharBoundary text b.line_end → written_to b ≡ rest_start b.line_end (drop m (whole content)) → IsInOrder text b.out → IsChunkName name
       → WritesUpTo name (end_at b.line_end 0) b d → WritesRest (block_codes (drop m (whole content))) b d
-  rest_written b d before content after m line end at order is_chunk writes =
-      let follows = rest_to_end text before content after b.line_end m line end in
+  rest_written b d before content after m line end cut at order is_chunk writes =
+      let follows = subst (λ (e : End). Follows text e (end_at b.line_end 0)) (sym at) (rest_to_end text before content after b.line_end m line end) in
+      let utf8 = characters_to text b.out order (end_at b.line_end 0) follows cut in
       let nodes = chunk_nodes text before content after b.line_end m line end name is_chunk in
       let chunk = chunk_void name is_chunk in
       let is : void_nodes text name (rest_start b.line_end (drop m (whole content))) (end_at b.line_end 0)
@@ -211,8 +214,8 @@ module _ {A : Type 0} (text : List ℕ) (name : Name) where
         is = refl;
         writes =
             writes text order (record {
-              follows = subst (λ (e : End). Follows text e (end_at b.line_end 0)) (sym at) follows;
-              bytes = rest_fits text before content after b.line_end line end name m (written_to b) at is_chunk;
+              follows = follows;
+              bytes = λ apart. rest_fits text before content after b.line_end line end name m (written_to b) at is_chunk utf8;
             });
         raw = subst AreRaw is nodes.1;
         parts = ap (raw_parts text) (sym is) ∙ nodes.0;
@@ -230,7 +233,7 @@ module _ {A : Type 0} (text : List ℕ) (name : Name) where
   whole_written b d here left is_chunk st at order same end writes =
       let from : written_to b ≡ rest_start b.line_end (drop st.columns (whole st.line.content)) =
       at ∙ ap (rest_start b.line_end) (st.rest ∙ st.suffix) in
-      let all = rest_written b d st.line.before st.line.content (ending_text b.ending ++ b.left.now) st.columns st.line.parts st.line.end from order is_chunk writes in
+      let all = rest_written b d st.line.before st.line.content (ending_text b.ending ++ b.left.now) st.columns st.line.parts st.line.end (line_end_cut text (standing b) st.line) from order is_chunk writes in
       record {
         nodes = all.nodes;
         writes = all.writes;
@@ -268,12 +271,13 @@ module _ {A : Type 0} (text : List ℕ) (name : Name) where
             subst (λ (e : End). Follows text e mid) (sym from) (
             subst (λ (e : End). Follows text (rest_start b.line_end (drop st.columns (whole content))) e) mid_is follows
             );
-        bytes = columns_white text before content after b.line_end st.line.parts st.line.end st.columns j (written_to b) mid from (sym mid_is) few;
+        bytes = λ apart. columns_white text before content after b.line_end st.line.parts st.line.end st.columns j (written_to b) mid from (sym mid_is) few;
       }) in
       let line_end : c.line_end ≡ b.line_end = ap (λ (s : Standing). s.line_end) same_c in
       let at_c : written_to c ≡ rest_start c.line_end (drop columns (whole content)) =
       to ∙ sym mid_is ∙ ap (λ (e : ℕ). rest_start e (drop columns (whole content))) (sym line_end) in
-      let all = rest_written c d before content after columns st.line.parts (line_end ∙ st.line.end) at_c spaces.order is_chunk writes in
+      let boundary : IsCharBoundary text c.line_end = subst (IsCharBoundary text) (sym line_end) (line_end_cut text (standing b) st.line) in
+      let all = rest_written c d before content after columns st.line.parts (line_end ∙ st.line.end) boundary at_c spaces.order is_chunk writes in
       let space_nodes = void_nodes text n.SpaceOrTab (written_to b) mid in
       let raw = space_raw text (written_to b) mid in
       let same = same_d ∙ same_c in

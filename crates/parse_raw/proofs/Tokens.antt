@@ -57,7 +57,7 @@ module _ {A : Type 0} where
       after_first (written_to a) (length front) whole ∙ ap (λ (k : ℕ). end_at ((written_to a).index + k) 0) count in
       let between : text_between text (written_to a) to ≡ front =
       ap (text_between text (written_to a)) (sym reached) ∙ whole_between text (written_to a) front (drop size bytes) whole next in
-      let done = writes fits text left.order (record { follows = follows; bytes = ap (is_token name) between ∙ may }) in
+      let done = writes fits text left.order (record { follows = follows; bytes = λ apart. ap (is_token name) between ∙ may }) in
       record {
         tokens = record {
           nodes = void_nodes text name (written_to a) to;

@@ -1,5 +1,5 @@
 -- Bytes of the tokens of raw blocks: of breaks and fences.
-use Rattle.std.specs.Prelude.{◌≡◌, ℕ, Bool, true, false, ◌==◌, ◌||◌, List, Option, codes, slice_index}
+use Rattle.std.specs.Prelude.{◌≡◌, ℕ, Bool, true, false, ◌==◌, ◌||◌, List, Some, codes, slice_index}
 use Rattle.std.specs.List.{list_all}
 use Rattle.markdown_options.specs.declared.line_ending.LineEnding.{LineEnding}
 use Rattle.engine_events.specs.declared.event.Name.{Name}
@@ -11,7 +11,7 @@ use Rattle.event_tokens.specs.Tokens.{is_among, is_token}
 
 -- an event of a name may be the ending of a line
 abbrev pub IsEndingName : Name → Type 0
-IsEndingName name = (ending : Option LineEnding) → is_token name (ending_text ending) ≡ true
+IsEndingName name = (ending : LineEnding) → is_token name (ending_text (Some ending)) ≡ true
 
 -- a marker of a break, and bytes of a break by it: the marker, spaces and tabs (CommonMark 4.1)
 abbrev pub break_marks : List ℕ

@@ -1,5 +1,5 @@
 -- Rows of events around a text: which child holds it, by computed tests of names.
-use Rattle.std.proofs.Common.{inl, inr, ◌⊎◌, ◌≡◌, ℕ, zero, suc, Bool, true, false, ◌&&◌, ◌||◌, List, [], ◌∷◌, Option, None, Some, refl, sym, ap, subst, ◌∙◌}
+use Rattle.std.proofs.Common.{inl, inr, ◌⊎◌, ◌≡◌, ℕ, Bool, true, ◌&&◌, ◌||◌, List, [], ◌∷◌, None, Some, refl, sym}
 use Rattle.std.proofs.lemmas.Bool.{and_parts, or_cases, true≢false}
 use Rattle.std.specs.Prelude.{not}
 use Rattle.engine_events.specs.Names.{same_name, is_listed}
@@ -7,13 +7,12 @@ use Rattle.engine_events.specs.declared.event.Name.{Name}
 use Rattle.engine_events.specs.declared.event.Name.TheVariants as n
 use Rattle.event_grammar.specs.declared.slot.Child.{Child}
 use Rattle.event_grammar.specs.declared.slot.Form.{Form}
-use Rattle.event_grammar.specs.declared.slot.Form.TheVariants.{Plain}
 use Rattle.event_grammar.specs.declared.slot.Slot.{Slot}
 use Rattle.event_grammar.specs.declared.slot.Slot.TheVariants.{One, Opt, Lead, Many}
 use Rattle.event_grammar.specs.Grammar.{row, text_row}
-use Rattle.event_grammar.specs.Slots.{Taken, form_of, has, take_child, taken}
+use Rattle.event_grammar.specs.Slots.{Taken, has, take_child, taken}
 use Rattle.event_meaning.specs.Texts.{text_names}
-use Rattle.parse_references.proofs.Rows.{all_pass, is_bare, no_take, one_passes, passes, row_bare, took_or}
+use Rattle.parse_references.proofs.Rows.{is_bare, no_take, one_passes, passes, row_bare, took_or}
 
 -- so deep are the rows of what no link, image or call is in
 abbrev pub depth : ℕ

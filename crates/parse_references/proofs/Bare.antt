@@ -1,5 +1,5 @@
 -- Nodes that fill bare rows are bare, and lead on.
-use Rattle.std.proofs.Common.{inl, inr, ◌≡◌, ℕ, zero, suc, Bool, true, false, ◌&&◌, ◌||◌, List, [], ◌∷◌, Option, None, Some, refl, sym, ap, subst, ◌∙◌}
+use Rattle.std.proofs.Common.{◌≡◌, ℕ, zero, suc, Bool, true, false, ◌&&◌, ◌||◌, List, [], ◌∷◌, Option, None, Some, refl, sym, ap, ◌∙◌}
 use Rattle.std.proofs.lemmas.Bool.{and_parts, and_right, not-true, or_from, or_parts, true≢false}
 use Rattle.std.specs.List.{list_all}
 use Rattle.std.specs.Prelude.{if◌then◌else◌, not}
@@ -48,8 +48,7 @@ module _ (off : List Name) where
           → is_filled around form node ≡ true → IsWithout off node
       without_node around (Around enter kids exit) zero form without filled = absurd (true≢false (sym without))
       without_node around (Around enter kids exit) (suc k) form without filled =
-          let parts = and_parts (not (is_listed off enter.name)) (row_without off k (row enter.name form)) without in
-          (
+          let parts = and_parts (not (is_listed off enter.name)) (row_without off k (row enter.name form)) without in (
             not-true (is_listed off enter.name) parts.0,
             without_kids (between_of (row enter.name form) around enter.name) kids k (row enter.name form) parts.1 filled,
           )

@@ -1,11 +1,9 @@
 -- The inline structure of a content leads on: in a link is none, and references are defined.
 use Rattle.std.proofs.Common.{◌≡◌, Bool, true, false, ◌&&◌, ◌||◌, List, refl, sym}
 use Rattle.std.proofs.lemmas.Bool.{not-false, or_parts, true≢false}
-use Rattle.std.specs.Prelude.{not}
 use Rattle.definition_text.specs.Columns.{Code}
-use Rattle.definition_text.specs.InlineCode.{InlineCode}
-use Rattle.definition_inline.specs.Inline.{Target, Resource, Reference, LinkedKind, Link, Image, Inline, Leaf, Span, Linked, Call, Inlines, Nil, Cons}
-use Rattle.definition_inline.specs.Scan.{InlineContext, inlines_from}
+use Rattle.definition_inline.specs.Inline.{Target, Resource, Reference, Link, Image, Inline, Leaf, Span, Linked, Call, Inlines, Nil, Cons}
+use Rattle.definition_inline.specs.Scan.{inlines_from}
 use Rattle.definition_page.specs.GfmTable.{in_cell, part_in_cell}
 use Rattle.laws_inline.specs.NestedLinks.{is_leading, is_nesting}
 use Rattle.laws_inline.specs.Occurs.{has, part_has}

@@ -1,10 +1,10 @@
 -- Nodes that lead on, one after another, and what they lead to.
-use Rattle.std.proofs.Common.{◌≡◌, ℕ, ◌+◌, Bool, true, false, ◌||◌, List, None, Some, length, refl, ap, ap₂, ◌∙◌}
-use Rattle.std.specs.Prelude.{if◌then◌else◌, Option}
+use Rattle.std.proofs.Common.{◌≡◌, ℕ, ◌+◌, Bool, false, ◌||◌, List, None, Some, length, refl, ap₂}
+use Rattle.std.specs.Prelude.{if◌then◌else◌}
 use Rattle.std.specs.Option.{option_or}
 use Rattle.engine_events.specs.Names.{is_listed}
 use Rattle.event_grammar.specs.Grammar.{link_names}
-use Rattle.event_grammar.specs.References.{first_lost, footnote_labels, leads_on, link_labels, lost, lost_in}
+use Rattle.event_grammar.specs.References.{footnote_labels, link_labels, lost, lost_in}
 use Rattle.event_grammar.specs.Trees.{Node, Nodes, Around, Nil, Cons, events_of}
 use Rattle.parse_output.specs.Forest.{append}
 use Rattle.parse_references.specs.Laws.{NodesLeadOn}

@@ -1,9 +1,9 @@
 -- Inline structure that leads on, one part after another, and what is alike to it.
-use Rattle.std.proofs.Common.{◌≡◌, ℕ, Bool, true, false, ◌&&◌, ◌||◌, List, [], ◌∷◌, refl, sym, subst}
+use Rattle.std.proofs.Common.{Bool, ◌||◌, List, [], ◌∷◌, sym, subst}
 use Rattle.definition_text.specs.Columns.{Code}
 use Rattle.definition_inline.specs.Inline.{Target, Resource, Reference, InlineLeaf, Html, Inline, Leaf, Span, Linked, Call, Inlines, Nil, Cons}
 use Rattle.definition_page.specs.InlinePieces.{Meaning}
-use Rattle.event_meaning.specs.Texts.{append, leaves, part}
+use Rattle.event_meaning.specs.Texts.{append, leaves}
 use Rattle.parse_alike.specs.HtmlText.{html_leaves}
 use Rattle.parse_alike.specs.Inline.{ArePartsAlike, IsPartAlike, leaf_parts}
 use Rattle.parse_alike.specs.Targets.{AreTargetsAlike}

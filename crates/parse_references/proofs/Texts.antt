@@ -1,17 +1,14 @@
 -- Nodes of a text lead on where what they spell does.
-use Rattle.std.proofs.Common.{inl, inr, ◌⊎◌, ◌≡◌, ℕ, zero, suc, Bool, true, false, ◌&&◌, ◌||◌, List, [], ◌∷◌, Option, None, Some, refl, sym, ap, subst, ◌∙◌, cond}
+use Rattle.std.proofs.Common.{inl, inr, ◌≡◌, ℕ, Bool, true, false, ◌&&◌, ◌||◌, List, [], ◌∷◌, Option, None, Some, refl, sym, ap, subst, ◌∙◌}
 use Rattle.std.proofs.lemmas.Bool.{and_parts, cases_Bool, cond-false, cond-true, not-true, or_cases, true≢false}
 use Rattle.std.specs.Prelude.{if◌then◌else◌, is_some, not}
 use Rattle.std.specs.Option.{option_map, option_or}
-use Rattle.std.specs.List.{list_all}
 use denote.Enum.Bare.{same_true}
 use Rattle.engine_events.specs.contracts.event.Name.{the_type}
 use Rattle.engine_events.specs.declared.event.Event.{Event}
 use Rattle.engine_events.specs.Names.{same_name, is_listed}
 use Rattle.engine_events.specs.declared.event.Name.{Name}
 use Rattle.engine_events.specs.declared.event.Name.TheVariants as n
-use Rattle.definition_text.specs.Columns.{Code}
-use Rattle.definition_text.specs.Content.{content_codes}
 use Rattle.definition_inline.specs.CharacterReference.{Names}
 use Rattle.definition_inline.specs.Inline.{Target, Reference, Inlines}
 use Rattle.event_grammar.specs.declared.slot.Between.{Between}
@@ -28,7 +25,7 @@ use Rattle.event_grammar.specs.Slots.{Taken, take_child, taken}
 use Rattle.event_grammar.specs.Trees.{Node, Nodes, Around, Nil, Cons}
 use Rattle.event_meaning.specs.Children.{text_of}
 use Rattle.event_meaning.specs.Texts.{inlines_of, label_or_none, text_names, text_part, text_within}
-use Rattle.parse_slots.specs.Left.{ends, Fill, is_filled, left_after, left_by}
+use Rattle.parse_slots.specs.Left.{ends, is_filled, left_after, left_by}
 use Rattle.parse_references.specs.Laws.{TextsLeadOn}
 use Rattle.parse_references.specs.Leads.{AreBare, HoldBareCalls, is_among, LeadOn, LeadsOn, PartsLead, TargetLeads}
 use Rattle.parse_references.proofs.Around.{depth, is_dark, is_text, is_text_or_label, spells_in, taken_in, text_rows}

@@ -1,5 +1,5 @@
 -- A row of delimiters has as many cells as the row of the table's head before it (GFM 4.10).
-use Rattle.std.specs.Prelude.{◌≡◌, ℕ, Bool, true, if◌then◌else◌}
+use Rattle.std.specs.Prelude.{◌≡◌, ℕ, true, if◌then◌else◌}
 use Rattle.engine_events.specs.Names.{same_name}
 use Rattle.engine_events.specs.declared.event.Name.TheVariants as n
 use Rattle.event_grammar.specs.InGrammar.{cells_of, kids_of, node_name}

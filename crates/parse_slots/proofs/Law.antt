@@ -1,5 +1,5 @@
 -- Nodes fit a row exactly if they fill it, and all else holds of them.
-use Rattle.std.proofs.Common.{◌≡◌, ℕ, Bool, true, false, ◌&&◌, if◌then◌else◌, List, Option, None, Some, refl, sym, ap, ◌∙◌, subst}
+use Rattle.std.proofs.Common.{◌≡◌, ℕ, Bool, true, false, ◌&&◌, if◌then◌else◌, List, Option, None, Some, refl, ap, ◌∙◌}
 use Rattle.std.proofs.lemmas.Bool.{and_parts}
 use Rattle.event_grammar.specs.declared.slot.Form.{Form}
 use Rattle.event_grammar.specs.declared.slot.Form.TheVariants.{Plain}
@@ -9,7 +9,7 @@ use Rattle.event_grammar.specs.declared.slot.Between.TheVariants.{Lines}
 use Rattle.event_grammar.specs.Checks.{stands_between}
 use Rattle.event_grammar.specs.Grammar.{document_row}
 use Rattle.event_grammar.specs.InGrammar.{Within, within, Before, before, after, node_name, NodeFits, fits, KidsFit, end, takes, between}
-use Rattle.event_grammar.specs.Slots.{Taken, take_child, may_end}
+use Rattle.event_grammar.specs.Slots.{Taken, take_child}
 use Rattle.event_grammar.specs.Trees.{Node, Nodes, Around, Nil, Cons}
 use Rattle.parse_slots.specs.Left.{ends, is_filled, left_after, left_by}
 use Rattle.parse_slots.proofs.Steps.{left_between, left_taken}

@@ -1,5 +1,5 @@
 -- Rows that are filled, and rows that aren't.
-use Rattle.std.specs.Prelude.{◌≡◌, true, false, ◌∷◌, [], None, Some}
+use Rattle.std.specs.Prelude.{◌≡◌, ◌∷◌, [], None}
 use Rattle.engine_events.specs.Events.{event}
 use Rattle.engine_events.specs.declared.event.Kind.TheVariants.{Enter, Exit}
 use Rattle.engine_events.specs.declared.event.Name.{Name}

@@ -1,5 +1,5 @@
 -- What nodes leave of a row of the grammar, by their names alone: the row takes them child by child, and what it doesn't take may stand between.
-use Rattle.std.specs.Prelude.{◌≡◌, ℕ, Bool, true, false, ◌&&◌, if◌then◌else◌, List, [], ◌∷◌, Option, None, Some}
+use Rattle.std.specs.Prelude.{◌≡◌, ℕ, Bool, true, false, ◌&&◌, if◌then◌else◌, List, Option, None, Some}
 use Rattle.std.specs.List.{list_any}
 use Rattle.definition_text.specs.Lines.{ends_line}
 use Rattle.engine_events.specs.declared.event.Name.TheVariants as n

@@ -9,5 +9,6 @@ pub mod SameText
 pub mod PlainNodes
 pub mod SoundNodes
 pub mod Texts
+pub mod Characters
 pub mod Parts
 pub mod OfBytes

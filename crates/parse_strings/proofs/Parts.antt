@@ -1,9 +1,8 @@
 -- What is written of the parts of a string in a content (CommonMark 2.4 and 2.5).
 use Rattle.std.proofs.Common.{◌≡◌, ℕ, zero, suc, ◌+◌, ◌<◌, ◌≤◌, true, false, ◌||◌, cond, eqb, List, [], ◌∷◌, ◌++◌, inl, inr, refl}
 use Rattle.std.proofs.Common.{sym, ap, ap₂, subst, ◌∙◌, append_assoc, arith, drop, take, length, length-append, Option}
-use Rattle.std.specs.Prelude.{not}
 use Rattle.parse_lines.specs.Content.{HasBytes}
-use Rattle.parse_lines.proofs.Bytes.{dark_line, has_kind}
+use Rattle.parse_lines.proofs.Bytes.{has_kind}
 use Rattle.parse_lines.proofs.White.{all_prefix}
 use Rattle.parse_strings.proofs.Prelude.{append, append-nil, AreCutApart, AreNext, ArePlain, AreQuiet, Around, byte_nodes, bytes_text, cases_Bool, cond-false}
 use Rattle.parse_strings.proofs.Prelude.{cond-true, cond_both, Cons, Constructs, data_nodes, drop_at, End, end_after, end_at, end_in, ending_bytes, ends_line}
@@ -12,6 +11,7 @@ use Rattle.parse_strings.proofs.Prelude.{list_any, list_any-append, Name, Names,
 use Rattle.parse_strings.proofs.Prelude.{StandsInContent, StandsInLine, Stop, string_of, string_part, text_of, true≢false, void_nodes, Walk, WritesInLine}
 use Rattle.parse_strings.proofs.Prelude.{WritesNode, WritesStringFront, WritesStringPart}
 use Rattle.std.proofs.lemmas.List.{length-take-le, take-append-drop}
+use Rattle.std.proofs.lemmas.Str.{IsUtf8-take}
 use Rattle.markdown_options.specs.declared.line_ending.LineEnding.TheVariants.{CarriageReturnLineFeed, CarriageReturn, LineFeed}
 use Rattle.definition_text.specs.BlockLines.{BlockLine}
 use Rattle.engine_events.specs.declared.event.Name.TheVariants as n
@@ -21,6 +21,7 @@ use Rattle.parse_lines.specs.Standing.{standing}
 use Rattle.parse_lines.proofs.Ahead.{owed_after}
 use Rattle.parse_lines.proofs.InContent.{IsLineAhead, contents_both, contents_none}
 use Rattle.parse_strings.specs.Strings.{WritesNodeIn, WritesStringIn}
+use Rattle.parse_strings.proofs.Characters.{fits_data}
 use Rattle.parse_strings.proofs.Codes.{begins_feed}
 use Rattle.std.proofs.Common.{Some}
 use Rattle.event_grammar.specs.declared.slot.Between.TheVariants.{Lines}
@@ -179,19 +180,19 @@ module _ {A : Type 0} (text : List ℕ) (stop : Stop) where
 
   module _ (on : Constructs) (names : Names) where
     -- data
-    pub data_part : (a b : Walk A) (xs content : List ℕ) (size : ℕ) → DataStep on names xs size → 0 < size → StandsInContent text (xs ++ content) stop a
-        → IsWhole a → standing b ≡ standing a
+    pub data_part : (a b : Walk A) (xs content : List ℕ) (size : ℕ) → DataStep on names xs size → IsUtf8 xs → 0 < size
+        → StandsInContent text (xs ++ content) stop a → IsWhole a → standing b ≡ standing a
         → ((front line : List ℕ) → size ≡ length front → StandsInLine text (front ++ line) a → HasBytes text n.Data size a
         → WritesInLine text front (data_nodes text (end_in a.out) (end_after (end_in a.out) size)) line a b)
         → WritesStringPart on names text xs content size stop a b
-    data_part a b xs content size step some st whole same written =
+    data_part a b xs content size step utf8 some st whole same written =
         let front = take size xs in
         let after = drop size xs in
         let is : size ≡ length front = sym (length-take-le size xs step.within) in
         let parts : xs ++ content ≡ front ++ (after ++ content) =
         ap (λ ys. ys ++ content) (sym (take-append-drop size xs)) ∙ append_assoc front after content in
         let ahead = line_in_content text stop a front (after ++ content) (subst (λ ys. StandsInContent text ys stop a) parts st) step.dark in
-        let bytes = has_kind text front ahead.line size a (λ c. not (ends_line c)) is ahead.stands (dark_line front step.dark) in
+        let bytes = fits_data text front ahead.line size a is ahead.stands (IsUtf8-take xs size utf8 (step.cut utf8)) step.dark in
         let w = written front ahead.line is ahead.stands bytes in
         let spelled : string_of names text (data_nodes text (end_in a.out) (end_after (end_in a.out) size)) ≡ front =
         ap (λ k. string_of names text (data_nodes text (end_in a.out) (end_after (end_in a.out) k))) is

@@ -1,6 +1,7 @@
 //! Strings, in which only escapes and references are read (CommonMark 2.4 and 2.5).
 ghost use Rattle.std.specs.Prelude.{◌≡◌, ◌<◌, ◌++◌, IfOk, List, None, OnOk, length, true, ℕ};
 ghost use Rattle.std.specs.List.{prefix_len};
+ghost use Rattle.std.specs.Str.{IsUtf8};
 ghost use Rattle.markdown_options.specs.declared.configuration.Constructs.{Constructs};
 ghost use Rattle.definition_text.specs.Content.{content_codes};
 ghost use Rattle.definition_inline.specs.CharacterEscape.{escape_at};
@@ -89,8 +90,8 @@ fn push_white_or_data<A: Allocator>(
     requires string { holds_string (still_open walk.old) ≡ true }
     ensures open { OnOk result (still_open walk.new ≡ still_open walk.old) }
     ensures written { IfOk result (λ size. (on : Constructs) (names : Names) (text content : List ℕ) (stop : Stop) → 0 < length bytes.now
-        → escape_at on (content_codes bytes.now) ≡ None → reference_at on names (content_codes bytes.now) ≡ None → AreCutApart bytes.now content
-        → StandsInContent text (bytes.now ++ content) stop walk.old → IsWhole walk.old
+        → IsUtf8 bytes.now → escape_at on (content_codes bytes.now) ≡ None → reference_at on names (content_codes bytes.now) ≡ None
+        → AreCutApart bytes.now content → StandsInContent text (bytes.now ++ content) stop walk.old → IsWhole walk.old
         → WritesStringPart on names text bytes.now content size stop walk.old walk.new) }
 {
     if let Some(found) = ending_at(bytes) {
@@ -112,7 +113,7 @@ fn push_data<A: Allocator>(walk: &mut Walk<'_, A>, bytes: &[u8]) -> Result<usize
     requires child { may_enter (still_open walk.old) Data ≡ true }
     ensures open { OnOk result (still_open walk.new ≡ still_open walk.old) }
     ensures written { IfOk result (λ size. (on : Constructs) (names : Names) (text content : List ℕ) (stop : Stop) → 0 < length bytes.now
-        → NoLeaf on names (content_codes bytes.now) → StandsInContent text (bytes.now ++ content) stop walk.old → IsWhole walk.old
+        → IsUtf8 bytes.now → NoLeaf on names (content_codes bytes.now) → StandsInContent text (bytes.now ++ content) stop walk.old → IsWhole walk.old
         → WritesStringPart on names text bytes.now content size stop walk.old walk.new) }
 {
     let size = data_size(bytes_from(bytes, 1)).saturating_add(1);

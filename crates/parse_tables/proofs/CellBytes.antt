@@ -1,7 +1,7 @@
 -- The cells of a line are among its bytes, one after another.
-use Rattle.std.proofs.Common.{◌≡◌, ◌⊎◌, ℕ, zero, suc, ◌+◌, ◌<◌, ◌==◌, Bool, true, false, not, ◌&&◌, List, [], ◌∷◌, ◌++◌, drop, length, get_or, replicate, inl, inr, refl, sym, ap, ap₂, subst, ◌∙◌, arith, eqb}
+use Rattle.std.proofs.Common.{◌≡◌, ◌⊎◌, ℕ, suc, ◌+◌, Bool, true, false, not, ◌&&◌, List, [], ◌∷◌, ◌++◌, drop, length, inl, inr, refl, sym, ap, subst, ◌∙◌, arith, eqb}
 use Rattle.std.proofs.Common.{append_assoc}
-use Rattle.parse_tables.proofs.Prelude.{after_first_bar, all_filter, and_parts, append-nil, AreCellsOf, bytes_of, cases_Bool, Cell, cell, cells, cond-false}
+use Rattle.parse_tables.proofs.Prelude.{after_first_bar, all_filter, and_parts, AreCellsOf, bytes_of, cases_Bool, Cell, cells, cond-false}
 use Rattle.parse_tables.proofs.Prelude.{cond-true, cond_both, eqb-true, filter-append, if◌then◌else◌, in_first_cell, is_bar, is_blank, is_byte, is_tab_column}
 use Rattle.parse_tables.proofs.Prelude.{is_white, Kind, list_all, may_escape, parts, prefix_len, slice_index, true≢false, without_blank_first}
 use Rattle.parse_tables.proofs.Prelude.{without_blank_last}

@@ -1,11 +1,10 @@
 -- The nodes of delimiters say how columns are aligned.
-use Rattle.std.proofs.Common.{◌≡◌, ◌<◌, ℕ, zero, suc, ◌+◌, Bool, true, false, List, [], ◌∷◌, ◌++◌, map, length, replicate, refl, sym, ap, ap₂, subst, ◌∙◌, arith, eqb, get_or}
+use Rattle.std.proofs.Common.{◌≡◌, ℕ, zero, suc, ◌+◌, Bool, true, false, List, [], ◌∷◌, ◌++◌, map, length, replicate, refl, sym, ap, ap₂, subst, ◌∙◌, arith, eqb}
 use Rattle.parse_tables.proofs.Prelude.{AlignKind, alignment, and_parts, append, Around, begins_other, colon_if, cond-false, cond_both, Cons, cut, End, end_at}
 use Rattle.parse_tables.proofs.Prelude.{enter_at, exit_at, if◌then◌else◌, Name, named, named_both, Nil, Node, Nodes, one, run, same_end, same_name}
 use Rattle.parse_tables.proofs.Prelude.{value_align, void_nodes}
 use Rattle.std.specs.Prelude.{not, ◌&&◌, drop, Some}
 use Rattle.std.proofs.lemmas.Bool.{not-true}
-use Rattle.engine_events.specs.declared.event.Event.{Event}
 use Rattle.engine_events.specs.declared.event.Name.TheVariants as n
 use Rattle.event_check.specs.Align.{align_of, mark, marks, marks_in}
 use Rattle.event_check.specs.declared.align.Marks.{Marks}

@@ -1,13 +1,13 @@
 -- A delimiter is written part by part.
-use Rattle.std.proofs.Common.{◌≡◌, ◌<◌, ℕ, suc, ◌+◌, ◌-◌, ◌^◌, Bool, true, List, [], ◌∷◌, ◌++◌, drop, length, length-append, replicate, min, refl, sym, ap, ap₂, subst, ◌∙◌, arith}
-use Rattle.parse_tables.proofs.Prelude.{alignment, append, Around, colon_if, End, end_at, end_in, enter_at, exit_at, IsBefore, length-replicate, Nodes, one}
+use Rattle.std.proofs.Common.{◌≡◌, ℕ, suc, ◌+◌, ◌-◌, ◌^◌, Bool, true, List, [], ◌∷◌, ◌++◌, drop, length, length-append, replicate, min, refl, sym, ap, ap₂, subst, ◌∙◌, arith}
+use Rattle.parse_tables.proofs.Prelude.{alignment, Around, colon_if, End, end_at, end_in, enter_at, exit_at, IsBefore, length-replicate, one}
 use Rattle.parse_tables.proofs.Prelude.{run, void_nodes, Walk, WritesColumnHere, WritesTo}
 use Rattle.std.proofs.Common.{zero, false, ◌&&◌, ◌==◌}
 use Rattle.std.specs.List.{list_all}
 use Rattle.std.specs.Prelude.{codes}
 use Rattle.event_tokens.specs.Tokens.{is_among, is_token}
 use Rattle.engine_events.specs.declared.event.Name.TheVariants as n
-use Rattle.parse_tables.proofs.ColumnNodes.{column_aligns, column_definitions, column_end, column_filled, column_kids, column_node, runs_of, value_node}
+use Rattle.parse_tables.proofs.ColumnNodes.{column_aligns, column_definitions, column_filled, column_kids, column_node, runs_of, value_node}
 use Rattle.parse_tables.proofs.Fills.{cell_columns}
 use Rattle.parse_tables.proofs.Steps.{IsEntered, IsExited, IsToken, around_written, before_both, entered_before, place_fits, token_written}
 

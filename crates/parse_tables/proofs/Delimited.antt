@@ -1,8 +1,8 @@
 -- The bytes of a row of delimiters are bars, white space and delimiters.
-use Rattle.std.proofs.Common.{◌≡◌, ◌⊎◌, ℕ, zero, suc, ◌+◌, ◌-◌, ◌<◌, ◌≤◌, ◌==◌, Bool, true, false, not, ◌&&◌, List, [], ◌∷◌, ◌++◌, Option, None, Some, drop, take, length, get_or, replicate, inl, inr, refl, sym, ap, ap₂, subst, ◌∙◌, arith, eqb, append_assoc, length-drop}
+use Rattle.std.proofs.Common.{◌≡◌, ℕ, zero, suc, ◌+◌, ◌-◌, ◌<◌, Bool, true, false, not, ◌&&◌, List, [], ◌∷◌, ◌++◌, Option, None, Some, drop, take, length, get_or, replicate, inl, inr, refl, sym, ap, ap₂, subst, ◌∙◌, arith, eqb, append_assoc, length-drop}
 use Rattle.parse_tables.proofs.Prelude.{AlignKind, alignment, alignments_of, all_prefix, and_alignment, and_parts, append-nil, AreDelimiters, bar}
-use Rattle.parse_tables.proofs.Prelude.{begins_other, cases_Bool, Cell, cell, cells, colon_if, column, column_delimiter, cond-false, cond-true, cond_both}
-use Rattle.parse_tables.proofs.Prelude.{delimiters, eqb-true, if◌then◌else◌, in_first_cell, is_bar, is_bar_or_colon, is_blank, is_white, Kind, list_all}
+use Rattle.parse_tables.proofs.Prelude.{begins_other, cases_Bool, Cell, cell, cells, colon_if, column, column_delimiter, cond-false, cond-true}
+use Rattle.parse_tables.proofs.Prelude.{delimiters, eqb-true, in_first_cell, is_bar, is_bar_or_colon, is_blank, is_white, Kind, list_all}
 use Rattle.parse_tables.proofs.Prelude.{list_any, may_escape, ne_eqb, none, parts, prefix_len, run, some_alignments, suffix_len, take-append-drop, trim}
 use Rattle.parse_tables.proofs.Prelude.{true≢false, white, without_blank_first, without_blank_last}
 use Rattle.std.specs.Prelude.{codes, reverse}

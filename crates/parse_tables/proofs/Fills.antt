@@ -1,5 +1,5 @@
 -- The nodes of a table fill rows of the grammar (GFM 4.10).
-use Rattle.std.proofs.Common.{◌≡◌, ◌⊎◌, ◌<◌, ◌++◌, ℕ, List, [], ◌∷◌, Option, None, Some, inl, inr, refl, sym, ap₂, subst}
+use Rattle.std.proofs.Common.{◌≡◌, ◌<◌, ◌++◌, ℕ, List, [], ◌∷◌, Option, None, Some, inl, inr, refl, sym, ap₂, subst}
 use Rattle.parse_tables.proofs.Prelude.{AlignKind, append, AreBody, AreEnding, AreOnNextLine, AreRowNodes, BlockLine, Cons, End, IsHeadNode, kids_of}
 use Rattle.parse_tables.proofs.Prelude.{LineEnding, Nil, Node, node_name, Nodes, one, Reading, void_nodes}
 use Rattle.engine_events.specs.declared.event.Name.TheVariants as n

@@ -1,8 +1,8 @@
 -- Where a line is begun, what is left of it is ahead.
-use Rattle.std.proofs.Common.{◌≡◌, ℕ, zero, suc, ◌+◌, ◌-◌, ◌≤◌, List, [], ◌∷◌, ◌++◌, Option, drop, length, length-append, replicate, refl, sym, ap, ap₂, subst, ◌∙◌, arith, false}
-use Rattle.parse_tables.proofs.Prelude.{after_bytes, AreNext, AtEnding, bare, bytes_of, drop-drop, End, end_after, end_at, end_in, ends_line, Follows}
-use Rattle.parse_tables.proofs.Prelude.{follows_after, is_tab_column, IsBefore, IsInOrder, IsWrittenToRest, length-replicate, LineRest, list_any, next_after}
-use Rattle.parse_tables.proofs.Prelude.{prefix_len, Rest, rest_start, Standing, standing, StandsAt, void_nodes, Walk, Within, Writes, WritesTo, WritesUpTo}
+use Rattle.std.proofs.Common.{◌≡◌, ℕ, zero, suc, ◌+◌, ◌-◌, ◌≤◌, List, [], ◌++◌, drop, length, length-append, replicate, refl, sym, ap, ap₂, subst, ◌∙◌, arith, false}
+use Rattle.parse_tables.proofs.Prelude.{after_bytes, AreNext, AtEnding, bare, bytes_of, drop-drop, End, end_after, end_at, ends_line, Follows}
+use Rattle.parse_tables.proofs.Prelude.{follows_after, is_tab_column, IsInOrder, IsWrittenToRest, length-replicate, LineRest, list_any, next_after}
+use Rattle.parse_tables.proofs.Prelude.{prefix_len, Rest, rest_start, Standing, standing, StandsAt, void_nodes, Walk, Within, WritesTo, WritesUpTo}
 use Rattle.parse_tables.proofs.Prelude.{written_to}
 use Rattle.definition_text.specs.Ascii.{space}
 use Rattle.std.proofs.Common.{true}
@@ -14,7 +14,7 @@ use Rattle.parse_output.proofs.Joined.{none_between}
 use Rattle.parse_lines.proofs.Ahead.{after_both, after_tab, owed_after}
 use Rattle.parse_lines.proofs.Columns.{bare_owes_none}
 use Rattle.parse_lines.proofs.ContentLines.{start_owed}
-use Rattle.parse_lines.proofs.Ends.{left_within, start_whole}
+use Rattle.parse_lines.proofs.Ends.{left_within}
 use Rattle.parse_lines.proofs.Next.{left_bytes, left_next}
 use Rattle.parse_lines.proofs.NextLine.{left_dark, left_to_end}
 use Rattle.parse_lines.proofs.Steps.{at_ending}
@@ -96,7 +96,7 @@ module _ {A : Type 0} (text : List ℕ) (here : LineRest) (left : List LineRest)
       (subst (Follows text from) to (follows_after text spaces bytes from rest_next)) in
       let white : list_all is_white (text_between text (written_to old) (end_at (old.line_end - length bytes) 0)) ≡ true =
       ap₂ (λ (x y : End). list_all is_white (text_between text x y)) is (sym places.0) ∙ white_tab text from owed bytes (start_owed old.line_end here.rest) rest_next in
-      let w = writes text order (record { follows = follows; bytes = white }) in
+      let w = writes text order (record { follows = follows; bytes = λ apart. white }) in
       let line_end : new.line_end ≡ old.line_end = ap (λ (s : Standing). s.line_end) same in
       let index = ap (λ (e : End). e.index) end in
       record {
@@ -133,7 +133,7 @@ module _ {A : Type 0} (text : List ℕ) (here : LineRest) (left : List LineRest)
       let white : list_all is_white (text_between text (written_to old) to) ≡ true =
       ap (λ (e : End). list_all is_white (text_between text e to)) is
       ∙ bare_white text at.line.before at.line.content _ at.columns old.line_end here.rest to at.line.parts at.line.end at.suffix start in
-      let w = writes text order (record { follows = follows; bytes = white }) in
+      let w = writes text order (record { follows = follows; bytes = λ apart. white }) in
       let next : AreNext text (rest_start old.line_end rest) (left_bytes rest) =
       subst (λ (r : Rest). AreNext text (rest_start old.line_end r) (left_bytes r)) (sym suffix)
       (left_next text at.line.before at.line.content _ old.line_end n at.line.parts at.line.end) in

@@ -1,7 +1,7 @@
 -- A part of a line in an event, written as a content.
-use Rattle.std.proofs.Common.{◌≡◌, ◌<◌, ℕ, ◌+◌, Bool, false, List, [], ◌∷◌, ◌++◌, Option, length, refl, sym, ap, ap₂, subst, ◌∙◌, arith}
-use Rattle.parse_tables.proofs.Prelude.{Around, AtEnding, BeginsLineAfter, cut, end_in, ends_line, enter_at, Enters, EntersInLine, exit_at, ExitsInLine}
-use Rattle.parse_tables.proofs.Prelude.{IsBefore, LineEnding, LineRest, list_any, Name, Nodes, or_parts, standing, StandsInContent, StandsInLine, Walk, Writes}
+use Rattle.std.proofs.Common.{◌≡◌, ◌<◌, ℕ, List, [], ◌++◌, Option, length, ap, subst}
+use Rattle.parse_tables.proofs.Prelude.{Around, AtEnding, BeginsLineAfter, cut, end_in, enter_at, Enters, EntersInLine, exit_at, ExitsInLine}
+use Rattle.parse_tables.proofs.Prelude.{IsBefore, LineEnding, LineRest, Name, Nodes, standing, StandsInLine, Walk}
 use Rattle.parse_tables.proofs.Prelude.{writes_around, WritesInContent, WritesTo}
 use Rattle.parse_output.specs.declared.output.Output.{Output}
 use Rattle.parse_lines.specs.InContent.{EntersInContent, ExitsInContent, Stop}

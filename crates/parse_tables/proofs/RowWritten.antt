@@ -1,8 +1,8 @@
 -- A row of delimiters is written part by part.
-use Rattle.std.proofs.Common.{◌≡◌, ◌<◌, ◌≤◌, ℕ, zero, suc, ◌+◌, ◌-◌, ◌^◌, max, Bool, true, false, not, ◌&&◌, ◌||◌, List, [], ◌∷◌, ◌++◌, drop, take, length, map, replicate, get_or, Option, refl, sym, ap, ap₂, subst, ◌∙◌, arith, eqb, inl, inr, append_assoc}
+use Rattle.std.proofs.Common.{◌≡◌, ◌<◌, ℕ, suc, ◌+◌, ◌-◌, max, Bool, true, false, List, [], ◌∷◌, ◌++◌, drop, take, length, map, replicate, get_or, Option, refl, sym, ap, ap₂, subst, ◌∙◌, arith, inl, append_assoc}
 use Rattle.parse_tables.proofs.Prelude.{AlignKind, alignment, append, append-nil, AreDelimiters, AreQuiet, Around, bar, bare, begins_other, bytes_of, colon_if}
 use Rattle.parse_tables.proofs.Prelude.{column, cond-true, cond_both, cut, delimiters, End, end_at, end_in, enter_at, Err, exit_at, Exits, is_white, IsBefore}
-use Rattle.parse_tables.proofs.Prelude.{IsInOrder, IsWrittenToRest, LineEnding, LineRest, list_all, map-append, Name, named, named_both, Nil, Node, Nodes}
+use Rattle.parse_tables.proofs.Prelude.{IsInOrder, IsWrittenToRest, LineEnding, LineRest, map-append, Name, named, named_both, Nil, Node, Nodes}
 use Rattle.parse_tables.proofs.Prelude.{none, Ok, one, OnOk, prefix_len, prefix_len-le-length, Rest, Result, same_end, same_name, slice_index, standing}
 use Rattle.parse_tables.proofs.Prelude.{StandsAt, take-append-drop, true≢false, value_align, void_nodes, Walk, white, Within, WritesColumnHere}
 use Rattle.parse_tables.proofs.Prelude.{WritesDelimiterRow, WritesTo, WritesUpTo, written_to}
@@ -13,7 +13,7 @@ use Rattle.event_tokens.specs.Tokens.{is_token}
 use Rattle.parse_lines.proofs.White.{all_prefix}
 use Rattle.engine_events.specs.declared.event.Name.TheVariants as n
 use Rattle.block_starts.specs.View.{rest_of}
-use Rattle.parse_tables.specs.Columns.{FillColumns, WritesColumn, WritesColumns, WritesDelimiters, WritesPart, WritesPartHere}
+use Rattle.parse_tables.specs.Columns.{FillColumns, WritesColumns, WritesPart, WritesPartHere}
 use Rattle.parse_tables.proofs.ColumnNodes.{named_void}
 use Rattle.parse_tables.proofs.Delimited.{row_delimited, some_columns}
 use Rattle.parse_tables.proofs.Fills.{bar_columns, columns_both, delimiters_filled, no_columns, space_columns}

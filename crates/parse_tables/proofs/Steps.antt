@@ -1,5 +1,5 @@
 -- One step after another in a line.
-use Rattle.std.proofs.Common.{◌≡◌, ◌<◌, ◌≤◌, ℕ, ◌+◌, ◌^◌, List, [], ◌∷◌, ◌++◌, Option, length, length-append, refl, sym, ap, ap₂, subst, ◌∙◌, arith, false}
+use Rattle.std.proofs.Common.{◌≡◌, ◌<◌, ℕ, ◌+◌, ◌^◌, List, [], ◌∷◌, ◌++◌, Option, length, length-append, refl, sym, ap, ap₂, subst, ◌∙◌, arith, false}
 use Rattle.parse_tables.proofs.Prelude.{after_bytes, append, AreNext, Around, AtEnding, cut, End, end_after, end_at, end_in, ends_line, enter_at, Enters}
 use Rattle.parse_tables.proofs.Prelude.{exit_at, Exits, Follows, follows_after, HasSameOpen, IsBefore, IsInOrder, LineEnding, LineRest, list_any, Name}
 use Rattle.parse_tables.proofs.Prelude.{next_after, Nil, Nodes, or_from, or_parts, Standing, standing, StandsAt, void_nodes, Walk, writes_around, writes_both}
@@ -68,7 +68,7 @@ module _ {A : Type 0} (text : List ℕ) (ending : Option LineEnding) (left : Lis
       let follows = subst (λ (e : End). Follows text (end_in old.out) e) (place_after old front line b ∙ sym place) (follows_after text front line (end_in old.out) b.next) in
       let between : text_between text (end_in old.out) to ≡ front =
       ap (text_between text (end_in old.out)) (place ∙ sym (place_after old front line b)) ∙ whole_between text (end_in old.out) front line b.bare b.next in
-      let writes = written text b.order (record { follows = follows; bytes = ap (is_token name) between ∙ may }) in
+      let writes = written text b.order (record { follows = follows; bytes = λ apart. ap (is_token name) between ∙ may }) in
       record { writes = writes; before = before_after old new front line b same writes.order (end ∙ place); around = same_open old new same }
 
   -- what is entered and exited around other nodes

@@ -1,12 +1,11 @@
 -- What a walk writes of a line that it is in (CommonMark 2.1).
-use Rattle.std.specs.Prelude.{◌≡◌, ℕ, ◌+◌, false, List, [], ◌∷◌, ◌++◌, Option, length}
+use Rattle.std.specs.Prelude.{◌≡◌, ℕ, ◌+◌, false, List, [], Option, length}
 use Rattle.std.specs.List.{list_any}
 use Rattle.markdown_options.specs.declared.line_ending.LineEnding.{LineEnding}
 use Rattle.definition_text.specs.Lines.{ends_line}
 use Rattle.engine_events.specs.declared.event.Name.TheVariants as n
 use Rattle.event_grammar.specs.References.{named}
-use Rattle.event_grammar.specs.Trees.{Node, Nodes}
-use Rattle.event_meaning.specs.Children.{children}
+use Rattle.event_grammar.specs.Trees.{Nodes}
 use Rattle.parse_output.specs.Written.{IsInOrder, Writes, end_in}
 use Rattle.parse_laid.specs.Places.{LineRest, AtEnding}
 use Rattle.parse_lines.specs.declared.walk.Walk.{Walk}

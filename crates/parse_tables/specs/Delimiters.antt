@@ -1,5 +1,5 @@
 -- Rows of delimiters, part by part (GFM 4.10).
-use Rattle.std.specs.Prelude.{◌≡◌, ℕ, Bool, true, false, not, ◌==◌, ◌||◌, ◌&&◌, if◌then◌else◌, List, [], ◌∷◌, ◌++◌, replicate}
+use Rattle.std.specs.Prelude.{◌≡◌, ℕ, Bool, true, false, not, ◌==◌, ◌&&◌, List, [], ◌∷◌, ◌++◌, replicate}
 use Rattle.definition_text.specs.Ascii.{colon, hyphen}
 use Rattle.definition_text.specs.Columns.{is_white}
 use Rattle.definition_block.specs.GfmTable.{alignment}

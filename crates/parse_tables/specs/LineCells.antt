@@ -1,24 +1,10 @@
 -- The cells of a line among its bytes, and what is written of them (GFM 4.10).
-use Rattle.std.specs.Prelude.{◌≡◌, ◌⊎◌, ℕ, ◌+◌, true, false, ◌==◌, if◌then◌else◌, List, [], ◌∷◌, ◌++◌, Option, drop, map, slice_index}
-use Rattle.std.specs.List.{AllZip, list_all, prefix_len}
+use Rattle.std.specs.Prelude.{◌≡◌, ◌⊎◌, ℕ, ◌+◌, true, ◌==◌, if◌then◌else◌, List, [], ◌∷◌, ◌++◌, drop, slice_index}
+use Rattle.std.specs.List.{list_all, prefix_len}
 use Rattle.markdown_options.specs.declared.beside.Kind.TheVariants.{Punctuation, Whitespace}
-use Rattle.markdown_options.specs.declared.line_ending.LineEnding.{LineEnding}
 use Rattle.definition_text.specs.Ascii.{vertical_bar}
 use Rattle.definition_text.specs.Columns.{bytes_of, is_white}
 use Rattle.definition_block.specs.GfmTable.{Cell}
-use Rattle.definition_page.specs.InlinePieces.{Meaning}
-use Rattle.definition_page.specs.Read.{Reading, read_cell}
-use Rattle.engine_events.specs.declared.event.Name.TheVariants as n
-use Rattle.event_grammar.specs.InGrammar.{kids_of, node_name}
-use Rattle.event_grammar.specs.Trees.{Node, Nodes}
-use Rattle.event_meaning.specs.Children.{children}
-use Rattle.event_meaning.specs.GfmTable.{cell_of}
-use Rattle.parse_output.specs.Forest.{one}
-use Rattle.parse_alike.specs.Inline.{ArePartsAlike}
-use Rattle.parse_alike.specs.Meanings.{AreMeanings}
-use Rattle.parse_laid.specs.Places.{LineRest}
-use Rattle.parse_lines.specs.declared.walk.Walk.{Walk}
-use Rattle.parse_tables.specs.Before.{AreInRow, IsBefore, WritesTo}
 
 -- these are the cells of bytes, each with the bar after it; after the last one may be white space
 abbrev pub AreCellsOf : List Cell → List ℕ → Type 0

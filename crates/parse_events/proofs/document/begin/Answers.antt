@@ -1,4 +1,5 @@
 use Rattle.std.proofs.Common.{◌<◌, ◌≤◌, ℕ, List, arith, get_or, length, subst}
+use Rattle.std.proofs.lemmas.Str.{is_utf8-from_IsUtf8}
 use Rattle.parse_events.proofs.Prelude.{Kind, StandsBefore, TEXT_MAX, without_mark}
 use Rattle.parse_events.proofs.Fronts.{after_mark}
 use Rattle.parse_events.proofs.document.begin.Goals as goal
@@ -19,4 +20,4 @@ returns-clause-begins g c =
     c.in_ok-push_front.ensures.begins value
     (after_mark on value before rest c.saturating_sub.result c.in_ok-walk.walk c.token.new.self fits bytes mark.ensures.text c.saturating_sub.ensures
     begun.constructs
-    begun.size begun.left begun.begins begun.written (begun.order value) (begun.forest value) begun.outside marked.stays marked.end marked.written)))
+    begun.size begun.left begun.begins begun.written (begun.order value (is_utf8-from_IsUtf8 value c.utf8.value)) (begun.forest value) begun.outside marked.stays marked.end marked.written)))

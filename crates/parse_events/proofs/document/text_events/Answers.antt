@@ -11,19 +11,17 @@ returns g c =
     let options = c.args.options.now in
     let value = c.args.value.now in
     let events = c.in_ok-events.events.items in
-    let written = c.in_ok-written.ensures in
+    let written = c.in_ok-events.ensures in
     let start = c.in_ok-walk.ensures.begins in
     let bytes : (k : ℕ) → get_or value k 0 < 256 = λ k. omega (arith, c.type_inv.value k) in
     let rows = ap₂ (λ (rs : List Row) (ps : List Piece). rows_value rs (piece_lines ps)) c.deref.ensures.value c.deref-2.ensures.value ∙ c.requires.rows in
     let are =
-    are_of_text tables options value c.in_ok-walk.walk c.in_ok-walk-2.walk start c.as_bytes.result.now c.into_output.result c.in_ok-written.written.items events
-    c.as_bytes.ensures.value c.into_output.ensures c.in_ok-events.ensures.same (c.in_ok-walk-2.ensures.open ∙ c.in_ok-walk.ensures.open)
-    written.children written.open written.written
+    are_of_text tables options value c.in_ok-walk.walk c.in_ok-walk-2.walk start c.as_bytes.result.now c.into_output.result events
+    c.as_bytes.ensures.value c.into_output.ensures (c.in_ok-walk-2.ensures.open ∙ c.in_ok-walk.ensures.open) written.children written.open written.written
     (c.in_ok-walk-2.ensures.written value (kind_before_text value) (without_mark value) start (rest_bytes value (without_mark value) refl bytes) rows) in
     record {
       events =
-          are_events tables options value c.in_ok-walk-2.walk c.as_bytes.result.now c.into_output.result c.in_ok-written.written.items events
-          c.as_bytes.ensures.value c.into_output.ensures c.in_ok-events.ensures.same written.placed written.tokens are bytes c.utf8.value
-          c.in_ok-events.ensures.placed;
+          are_events tables options value c.in_ok-walk-2.walk c.as_bytes.result.now c.into_output.result events c.as_bytes.ensures.value c.into_output.ensures
+          written.placed written.tokens are bytes;
       filled = nodes_filled tables options value c.in_ok-walk-2.walk events are;
     }

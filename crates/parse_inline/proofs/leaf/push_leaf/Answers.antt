@@ -1,5 +1,5 @@
 use Rattle.std.proofs.Common.{◌≡◌, ◌<◌, refl, sym, ap, ap₂, subst, ◌∙◌, drop, take, length}
-use Rattle.parse_inline.proofs.Prelude.{both_ok, bytes_drop, raw_bytes_law, slice_index, utf8_bytes}
+use Rattle.parse_inline.proofs.Prelude.{both_ok, bytes_drop, IsUtf8, raw_bytes_law, slice_index, utf8_bytes}
 use Rattle.std.proofs.Common.{true}
 use Rattle.event_tokens.specs.Tokens.{is_token}
 use Rattle.inline_leaves.specs.Leaves.{kind_view}
@@ -7,6 +7,7 @@ use Rattle.parse_written.specs.Written.{is_literal}
 use Rattle.inline_leaves.specs.declared.leaf.LeafPart.TheVariants as leaf
 use Rattle.parse_inline.proofs.LeafParts.{autolink_part, break_part, data_part, escape_part, escaped_break_part, html_part, line_end_part}
 use Rattle.parse_inline.proofs.LeafParts.{literal_part, nothing_part, part_from}
+use Rattle.parse_inline.proofs.RawSpans.{raw_characters}
 use Rattle.parse_inline.proofs.leaf.push_leaf.Goals as goal
 
 pub returns-in-Escape-clause-written : goal.returns-in-Escape-clause-written
@@ -27,7 +28,9 @@ returns-in-Unclosed-clause-written g c =
     let here : c.bytes_from-bytes.result.now ≡ bytes =
     c.bytes_from-bytes.ensures.rest ∙ ap₂ drop c.place.ensures c.as_bytes.ensures.value ∙ sym ahead in
     part_from context text bytes c.bytes_from-bytes.result.now c.args.part (leaf.Unclosed c.in-Unclosed.text) from to stop _ _ here c.in-Unclosed.is laid at st
-    (λ form there stands. data_part context.names text _ from to stop _ _ there stands whole c.in-Unclosed.text.now form same (written text)))
+    (λ form there stands. data_part context.names text _ from to stop _ _ there stands whole c.in-Unclosed.text.now _
+    (ap length c.as_bytes-in-Unclosed.ensures.value) (subst IsUtf8 c.as_bytes-in-Unclosed.ensures.value c.as_bytes-in-Unclosed.ensures.utf8) form same
+    (written text)))
     c.data.ensures.written c.data.ensures.stays
 
 pub returns-in-Autolink-clause-written : goal.returns-in-Autolink-clause-written
@@ -39,8 +42,10 @@ returns-in-Autolink-clause-written g c =
     part_from context text bytes c.bytes_from-bytes.result.now c.args.part
     (leaf.Autolink c.in-Autolink.email c.in-Autolink.text) from to stop _ _ here c.in-Autolink.is laid
     at st
-    (λ form there stands. autolink_part context.names text _ from to stop _ _ there stands whole c.in-Autolink.email c.in-Autolink.text.now form
-    (λ content some dark target next outside. written context.names text c.in-Autolink.text.now content stop refl some dark target next outside)))
+    (λ form there stands. autolink_part context.names text _ from to stop _ _ there stands whole c.in-Autolink.email c.in-Autolink.text.now
+    (subst IsUtf8 c.as_bytes-in-Autolink.ensures.value c.as_bytes-in-Autolink.ensures.utf8) form
+    (λ content some dark target utf8 next outside. written context.names text c.in-Autolink.text.now content stop
+    (ap length c.as_bytes-in-Autolink.ensures.value) some dark target utf8 next outside)))
     c.push_autolink.ensures.written c.push_autolink.ensures.open
 
 pub returns-in-Literal-clause-written : goal.returns-in-Literal-clause-written
@@ -54,7 +59,7 @@ returns-in-Literal-clause-written g c =
     (λ form there stands. literal_part context.names text _ from to stop _ _ there stands whole c.in-Literal.kind c.literal_name.result c.in-Literal.text.now
     c.literal_name.ensures.kind
     (λ is. subst (λ xs. is_token c.literal_name.result xs ≡ true) c.as_bytes-in-Literal.ensures.value
-    (c.literal_name.ensures.may (ap (is_literal (kind_view c.in-Literal.kind)) c.as_bytes-in-Literal.ensures.value ∙ is)))
+    (c.literal_name.ensures.may (ap (is_literal (kind_view c.in-Literal.kind)) c.as_bytes-in-Literal.ensures.value ∙ is) c.as_bytes-in-Literal.ensures.utf8))
     form same (written text)))
     c.text.ensures.written c.text.ensures.stays
 
@@ -66,11 +71,12 @@ returns-in-Html-clause-written g c =
     c.bytes_from-bytes.ensures.rest ∙ ap₂ drop c.place.ensures c.as_bytes.ensures.value ∙ sym ahead in
     part_from context text bytes c.bytes_from-bytes.result.now c.args.part (leaf.Html c.in-Html.text) from to stop _ _ here c.in-Html.is laid at st
     (λ form there stands. html_part context.names text _ from to stop _ _ there stands whole c.in-Html.text.now c.bytes_up_to.result.now
+    (subst IsUtf8 c.as_bytes-in-Html.ensures.value c.as_bytes-in-Html.ensures.utf8)
     (λ k. subst (λ xs. slice_index xs k < 256) c.as_bytes-in-Html.ensures.value (utf8_bytes c.as_bytes-in-Html.result.now c.as_bytes-in-Html.ensures.utf8 k))
     (λ k. subst (λ xs. slice_index xs k < 256) (sym c.bytes_from-bytes.ensures.rest)
     (bytes_drop c.place.result c.as_bytes.result.now (utf8_bytes c.as_bytes.result.now c.as_bytes.ensures.utf8) k)) (c.bytes_up_to.ensures ∙ ap
     (λ xs. take (length xs) c.bytes_from-bytes.result.now) c.as_bytes-in-Html.ensures.value)
-    form (λ front content closed cut next outside. written context.names text front content stop closed cut next outside)))
+    form (λ front content closed utf8 cut next outside. written context.names text front content stop closed utf8 cut next outside)))
     c.push_html.ensures.written c.push_html.ensures.open
 
 pub returns-in-EscapedBreak-clause-written : goal.returns-in-EscapedBreak-clause-written
@@ -119,7 +125,9 @@ returns-in-Code-clause-written g c =
     let here : c.bytes_from-bytes.result.now ≡ bytes =
     c.bytes_from-bytes.ensures.rest ∙ ap₂ drop c.place.ensures c.as_bytes.ensures.value ∙ sym ahead in
     part_from context text bytes c.bytes_from-bytes.result.now c.args.part (leaf.Code c.in-Code.field-0) from to stop _ _ here c.in-Code.is laid at st
-    (λ form there stands. written context.names text _ to stop (raw_bytes_law.0 _ _ from to form there) stands whole))
+    (λ form there stands. written context.names text _ to stop (raw_bytes_law.0 _ _ from to form there)
+    (raw_characters _ c.place.result 96 _ _ to (raw_bytes_law.0 _ _ from to form there) c.bytes_from-bytes.ensures.rest refl c.as_bytes.ensures.utf8)
+    stands whole))
     c.push_raw.ensures.written c.push_raw.ensures.open
 
 pub returns-in-Math-clause-written : goal.returns-in-Math-clause-written
@@ -129,7 +137,9 @@ returns-in-Math-clause-written g c =
     let here : c.bytes_from-bytes.result.now ≡ bytes =
     c.bytes_from-bytes.ensures.rest ∙ ap₂ drop c.place.ensures c.as_bytes.ensures.value ∙ sym ahead in
     part_from context text bytes c.bytes_from-bytes.result.now c.args.part (leaf.Math c.in-Math.field-0) from to stop _ _ here c.in-Math.is laid at st
-    (λ form there stands. written context.names text _ to stop (raw_bytes_law.1 _ _ from to form there) stands whole))
+    (λ form there stands. written context.names text _ to stop (raw_bytes_law.1 _ _ from to form there)
+    (raw_characters _ c.place.result 36 _ _ to (raw_bytes_law.1 _ _ from to form there) c.bytes_from-bytes.ensures.rest refl c.as_bytes.ensures.utf8)
+    stands whole))
     c.push_raw-in-Math.ensures.written c.push_raw-in-Math.ensures.open
 
 pub returns-in-Character-clause-written : goal.returns-in-Character-clause-written

@@ -2,6 +2,7 @@ use Rattle.std.proofs.Common.{◌≡◌, refl, sym, ap₂, ◌∙◌, drop}
 use Rattle.inline_rows.specs.declared.row.SpelledLeaf.TheVariants as spelled
 use Rattle.parse_inline.proofs.Prelude.{both_ok, raw_bytes_law}
 use Rattle.parse_inline.proofs.LeafParts.{spelled_from}
+use Rattle.parse_inline.proofs.RawSpans.{raw_characters}
 use Rattle.parse_inline.proofs.leaf.push_spelled.Goals as goal
 
 pub returns-in-Code-clause-written : goal.returns-in-Code-clause-written
@@ -11,7 +12,9 @@ returns-in-Code-clause-written g c =
     let here : c.bytes_from-bytes.result.now ≡ bytes =
     c.bytes_from-bytes.ensures.rest ∙ ap₂ drop c.place.ensures c.as_bytes.ensures.value ∙ sym ahead in
     spelled_from context text bytes c.bytes_from-bytes.result.now c.args.leaf (spelled.Code c.in-Code.field-0) from to stop _ _ here c.in-Code.is laid at st
-    (λ form there stands. written context.names text _ to stop (raw_bytes_law.0 _ _ from to form there) stands whole))
+    (λ form there stands. written context.names text _ to stop (raw_bytes_law.0 _ _ from to form there)
+    (raw_characters _ c.place.result 96 _ _ to (raw_bytes_law.0 _ _ from to form there) c.bytes_from-bytes.ensures.rest refl c.as_bytes.ensures.utf8)
+    stands whole))
     c.push_raw.ensures.written c.push_raw.ensures.open
 
 pub returns-in-Math-clause-written : goal.returns-in-Math-clause-written
@@ -21,7 +24,9 @@ returns-in-Math-clause-written g c =
     let here : c.bytes_from-bytes.result.now ≡ bytes =
     c.bytes_from-bytes.ensures.rest ∙ ap₂ drop c.place.ensures c.as_bytes.ensures.value ∙ sym ahead in
     spelled_from context text bytes c.bytes_from-bytes.result.now c.args.leaf (spelled.Math c.in-Math.field-0) from to stop _ _ here c.in-Math.is laid at st
-    (λ form there stands. written context.names text _ to stop (raw_bytes_law.1 _ _ from to form there) stands whole))
+    (λ form there stands. written context.names text _ to stop (raw_bytes_law.1 _ _ from to form there)
+    (raw_characters _ c.place.result 36 _ _ to (raw_bytes_law.1 _ _ from to form there) c.bytes_from-bytes.ensures.rest refl c.as_bytes.ensures.utf8)
+    stands whole))
     c.push_raw-in-Math.ensures.written c.push_raw-in-Math.ensures.open
 
 pub returns-in-Check-clause-written : goal.returns-in-Check-clause-written

@@ -5,20 +5,20 @@ use Rattle.parse_strings.proofs.Parts.{ending_small}
 use Rattle.parse_inline.proofs.lines.push_line.Goals as goal
 
 pub returns-in_default-clause-written : goal.returns-in_default-clause-written
-returns-in_default-clause-written g c = λ names text content stop chunk some cut st.
+returns-in_default-clause-written g c = λ names text content stop chunk some utf8 cut st.
     chunk_line names text stop _ _ c.args.name c.args.indented c.args.bytes.now content _ chunk
-    (λ k. omega (arith, c.type_inv.bytes k)) some c.in_default.ensures
+    (λ k. omega (arith, c.type_inv.bytes k)) utf8 some c.in_default.ensures
     c.line_size-size.ensures st c.in_ok-text.ensures.stays (c.in_ok-text.ensures.written text)
 
 pub returns-then-not-indented-clause-written : goal.returns-then-not-indented-clause-written
-returns-then-not-indented-clause-written g c = λ names text content stop chunk some cut st.
+returns-then-not-indented-clause-written g c = λ names text content stop chunk some utf8 cut st.
     let flat : c.args.indented ≡ false = search rules in
     let ends = ends_bytes names text stop _ _ c.args.bytes.now content c.in-Some.found (λ k. omega (arith, c.type_inv.bytes k)) c.in-Some.ensures cut st
     (c.in_ok-content_ending.ensures.written text) in
     ending_line names text stop _ _ c.args.name c.args.indented c.args.bytes.now content c.in-Some.found flat c.in-Some.ensures ends
 
 pub returns-clause-written : goal.returns-clause-written
-returns-clause-written g c = λ names text content stop chunk some cut st.
+returns-clause-written g c = λ names text content stop chunk some utf8 cut st.
     let on : c.args.indented ≡ true = search rules in
     let ends = ends_bytes names text stop _ _ c.args.bytes.now content c.in-Some.found (λ k. omega (arith, c.type_inv.bytes k)) c.in-Some.ensures cut st
     (c.in_ok-content_ending.ensures.written text) in

@@ -1,5 +1,5 @@
-use Rattle.std.proofs.Common.{OnOk, sym, subst}
-use Rattle.parse_inline.proofs.Prelude.{on_ok_weaker, PassesRow}
+use Rattle.std.proofs.Common.{length, OnOk, sym, ap, subst}
+use Rattle.parse_inline.proofs.Prelude.{IsUtf8, on_ok_weaker, PassesRow}
 use Rattle.parse_inline.proofs.Calls.{on_ok_both}
 use Rattle.parse_inline.proofs.InRows.{call_passes, image_passes, leaf_passes, link_passes, span_passes, spelled_passes, text_passes, verbatim_passes}
 use Rattle.parse_inline.proofs.rows.push_row.Goals as goal
@@ -13,7 +13,11 @@ returns-in-Text-clause-written g c =
     let new = c.data.new.self in
     subst (λ row. OnOk c.data.result (PassesRow reading.on.now names reading.content.now row held held old new)) (sym c.in-Text.is)
     (on_ok_both c.data.result
-    (λ stays written. record { passes = λ s first rows by st. text_passes s first c.in-Text.text rows held old new (stays, written) st })
+    (λ stays written. record {
+      passes = λ s first rows by st.
+          text_passes s first c.in-Text.text _ rows held old new (ap length c.as_bytes.ensures.value)
+          (subst IsUtf8 c.as_bytes.ensures.value c.as_bytes.ensures.utf8) (stays, written) st;
+    })
     c.data.ensures.stays c.data.ensures.written)
 
 pub returns-in-Verbatim-clause-written : goal.returns-in-Verbatim-clause-written
@@ -25,7 +29,11 @@ returns-in-Verbatim-clause-written g c =
     let new = c.data-in-Verbatim.new.self in
     subst (λ row. OnOk c.data-in-Verbatim.result (PassesRow reading.on.now names reading.content.now row held held old new)) (sym c.in-Verbatim.is)
     (on_ok_both c.data-in-Verbatim.result
-    (λ stays written. record { passes = λ s first rows by st. verbatim_passes s first c.in-Verbatim.verbatim rows held old new (stays, written) st })
+    (λ stays written. record {
+      passes = λ s first rows by st.
+          verbatim_passes s first c.in-Verbatim.verbatim _ rows held old new (ap length c.as_bytes-in-Verbatim.ensures.value)
+          (subst IsUtf8 c.as_bytes-in-Verbatim.ensures.value c.as_bytes-in-Verbatim.ensures.utf8) (stays, written) st;
+    })
     c.data-in-Verbatim.ensures.stays c.data-in-Verbatim.ensures.written)
 
 pub returns-in-Leaf-clause-written : goal.returns-in-Leaf-clause-written

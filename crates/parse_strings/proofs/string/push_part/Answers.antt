@@ -60,6 +60,6 @@ returns-clause-written g c =
     IfOk-weaker c.push_white_or_data.result _ _
     (λ size written text content stop some apart st whole.
     subst (λ zs. WritesStringPart on names text zs content size stop c.args.walk.now c.push_white_or_data.new.walk) same
-    (written on names text content stop (subst (λ zs. 0 < length zs) (sym same) some) escape reference (subst (λ zs. AreCutApart zs content) (sym same) apart)
-    (subst (λ zs. StandsInContent text (zs ++ content) stop c.args.walk.now) (sym same) st) whole))
+    (written on names text content stop (subst (λ zs. 0 < length zs) (sym same) some) c.as_bytes-2.ensures.utf8 escape reference
+    (subst (λ zs. AreCutApart zs content) (sym same) apart) (subst (λ zs. StandsInContent text (zs ++ content) stop c.args.walk.now) (sym same) st) whole))
     c.push_white_or_data.ensures.written

@@ -6,7 +6,7 @@ use Rattle.parse_strings.proofs.Texts.{apart_more, ending_step, ending_there, no
 use Rattle.parse_strings.proofs.string.push_white_or_data.Goals as goal
 
 pub returns-in-Some-clause-written : goal.returns-in-Some-clause-written
-returns-in-Some-clause-written g c = λ on names text content stop some escape reference apart st whole.
+returns-in-Some-clause-written g c = λ on names text content stop some utf8 escape reference apart st whole.
     let xs = c.args.bytes.now in
     let found = c.in-Some.found in
     let e = found.ending in
@@ -25,7 +25,7 @@ returns-in-Some-clause-written g c = λ on names text content stop some escape r
     (λ front line is. c.in_ok-text.ensures.written text front line is refl))
 
 pub returns-then-is_some-clause-written : goal.returns-then-is_some-clause-written
-returns-then-is_some-clause-written g c = λ on names text content stop some escape reference apart st whole.
+returns-then-is_some-clause-written g c = λ on names text content stop some utf8 escape reference apart st whole.
     let xs = c.args.bytes.now in
     let white = c.white_size-white-2.result in
     let is : white ≡ indent xs = c.white_size-white-2.ensures.size in
@@ -46,7 +46,7 @@ returns-clause-written g c =
     ∙ ap (λ ys. begins_with_eol (content_codes ys)) (sym c.bytes_from-2.ensures.rest)
     ∙ sym (ending_there c.bytes_from-2.result.now c.ending_at-2.result c.ending_at-2.ensures) ∙ sym c.is_some.ensures ∙ c.if-is_some.false in
     IfOk-weaker c.push_data.result _ _
-    (λ size written on names text content stop some escape reference apart st whole.
-    written on names text content stop some (record { escape = escape; reference = reference; ending = c.in_default.ensures; spaces = no_spaces xs none }) st
-    whole)
+    (λ size written on names text content stop some utf8 escape reference apart st whole.
+    written on names text content stop some utf8 (record { escape = escape; reference = reference; ending = c.in_default.ensures; spaces = no_spaces xs none })
+    st whole)
     c.push_data.ensures.written

@@ -1,4 +1,4 @@
-use Rattle.std.proofs.Common.{◌∙◌, ap, sym, arith}
+use Rattle.std.proofs.Common.{◌∙◌, sym, arith}
 use Rattle.parse_tables.proofs.RowWritten.{bar_part, if_ok, other_part, white_part}
 use Rattle.parse_tables.proofs.delimiters.push_part.Goals as goal
 

@@ -28,7 +28,7 @@ returns-clause-written g c =
     let onward = subst (λ (x : End). Follows text x bare_end) (sym at.written) follows in
     let white_is = subst (λ (x : End). list_all is_white (text_between text x bare_end) ≡ true) (sym at.written)
     (bare_white text before content after n old.line_end start bare_end at.line at.end at.rest bare_is) in
-    let first = white.written text at.order (record { follows = onward; bytes = white_is }) in
+    let first = white.written text at.order (record { follows = onward; bytes = λ apart. white_is }) in
     let inner = quote_inner text before content after n old.line_end start rest old.on.now (container_line rest kind) c.white.new.self.out
     c.enter.new.self.out c.token.new.self.out c.space_to.new.self.out c.exit.new.self.out
     bare_end (rest_start c.token.new.self.line_end rest) at.line at.end at.rest first.order is refl refl to white.end (enter.enters text) enter.end
@@ -61,7 +61,7 @@ returns-clause-marked g c =
     let first =
     white.written text order (record {
       follows = subst (λ (x : End). Follows text x bare_end) (sym from) follows;
-      bytes = white_self text (written_to old) bare_end from;
+      bytes = λ apart. white_self text (written_to old) bare_end from;
     }) in
     let none = subst (λ (ns : Nodes). Writes text old.out c.white.new.self.out ns) (no_void text SpaceOrTab (written_to old) bare_end from) first in
     let inner = quote_inner text before content after n old.line_end start rest old.on.now (container_line rest kind) c.white.new.self.out

@@ -13,8 +13,8 @@ returns-clause-written g c =
     let is : i + 1 ≡ length ds = omega (arith, c.len-count.ensures, c.if-count-eq0.false) in
     let of_data : IsData (get_or ds i d) = subst IsData c.index.ensures (c.if-not-is_data.ensures.data refl) in
     λ text order token.
-    let long = longer text ds i d self.end end is of_data self.ends order token in
+    let long = longer text ds i d self.end end is of_data self.ends order.1 token in
     record {
-      order = subst (λ e. AreInOrder text first_end (set ds i e)) (sym c.draft_to.ensures.same) long.order;
+      order = (order.0, subst (λ e. AreInOrder text first_end (set ds i e)) (sym c.draft_to.ensures.same) long.order);
       forest = ap (λ e. forest text (set ds i e)) c.draft_to.ensures.same ∙ long.forest;
     }

@@ -8,8 +8,10 @@ pub returns-clause-written : goal.returns-clause-written
 returns-clause-written g c =
     let self = c.args.self.now in
     λ text order. record {
-      order =
-          subst (AreInOrder text first_end) (sym c.in_ok-push.ensures.items)
-          (order_more text self.drafts.items (draft.Enter c.args.name) order c.requires.row);
+      order = (
+        order.0,
+        subst (AreInOrder text first_end) (sym c.in_ok-push.ensures.items)
+            (order_more text self.drafts.items (draft.Enter c.args.name) order.1 c.requires.row),
+      );
       forest = ap (forest text) c.in_ok-push.ensures.items ∙ entered_forest text self.drafts.items c.args.name self.end self.ends;
     }

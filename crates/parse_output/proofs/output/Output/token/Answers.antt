@@ -15,6 +15,10 @@ returns-clause-written g c =
     let other : same_end c.args.end self.end ≡ false = search rules in
     let items = c.in_ok-push.ensures.items ∙ ap (λ d. self.drafts.items ++ d ∷ []) c.draft_to.ensures.same in
     λ text order token. record {
-      order = subst (AreInOrder text first_end) (sym items) (void_order text self.drafts.items c.args.name self.end c.args.end self.ends other order token);
+      order = (
+        order.0,
+        subst (AreInOrder text first_end) (sym items)
+            (void_order text self.drafts.items c.args.name self.end c.args.end self.ends other order.1 token),
+      );
       forest = ap (forest text) items ∙ void_forest text self.drafts.items c.args.name self.end c.args.end self.ends other;
     }

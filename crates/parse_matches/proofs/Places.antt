@@ -1,32 +1,41 @@
--- Places that are told byte by byte are places of the grammar, where none is inside a character.
+-- Places that are told byte by byte are places of the grammar, since events that hold no other have whole characters.
 use Rattle.std.proofs.Common.{◌≡◌, ◌≤◌, ◌<◌, ℕ, ◌+◌, ◌-◌, zero, suc, Bool, true, false, not, ◌==◌, ◌&&◌, ◌||◌, if◌then◌else◌, List, [], ◌∷◌}
 use Rattle.std.proofs.Common.{refl, sym, ap, ap₂, ◌∙◌, subst, take, drop, length, arith, inl, inr, None}
 use Rattle.std.specs.Prelude.{nat_le, nat_lt, slice_index}
-use Rattle.std.specs.List.{fold, list_all}
+use Rattle.std.specs.List.{fold}
 use Rattle.std.specs.Str.{IsCharBoundary, IsUtf8, is_utf8}
 use Rattle.std.proofs.Math.Bool.{or-true}
 use Rattle.std.proofs.Math.Seq.{drop-nil, take-add}
-use Rattle.std.proofs.lemmas.Bool.{and_from, eq-eqb, le-leb, le-ltb, lt-ltb, ltb-false}
-use Rattle.std.proofs.lemmas.List.Elements.{All-head, All-tail}
+use Rattle.std.proofs.lemmas.Bool.{and_from, and_parts, eq-eqb, le-leb, le-ltb, lt-ltb, ltb-false}
+use Rattle.std.proofs.lemmas.Bool.Decides.{nat_tests}
 use Rattle.std.proofs.lemmas.List.Sums.{fold-append}
-use Rattle.std.proofs.lemmas.Str.{IsUtf8-take, is_utf8-from_IsUtf8}
-use Rattle.engine_events.specs.Columns.{column_after, mark_size, tab_size}
+use Rattle.std.proofs.lemmas.Str.{IsCharBoundary-before_ascii, IsCharBoundary-start, IsUtf8-from_is_utf8, IsUtf8-take, is_utf8-from_IsUtf8}
+use denote.Enum.Bare.{true_same}
+use Rattle.engine_events.specs.contracts.event.Name.{the_type}
+use Rattle.engine_events.specs.Columns.{between, column_after, mark_size, tab_size}
+use Rattle.engine_events.specs.Names.{same_name}
 use Rattle.engine_events.specs.declared.event.Event.{Event}
 use Rattle.engine_events.specs.declared.event.Kind.TheVariants as kind
+use Rattle.engine_events.specs.declared.event.Name.{Name}
 use Rattle.engine_events.specs.Events.{event}
 use Rattle.event_grammar.specs.InGrammar.{PlacesFit}
-use Rattle.event_grammar.specs.Points.{column_at, column_on, is_column, is_spot, reaches, spot}
+use Rattle.event_grammar.specs.Points.{bytes_between, column_at, column_on, edge, is_column, is_spot, reaches, spot}
+use Rattle.event_grammar.specs.Void.{is_void}
 use Rattle.event_grammar.specs.declared.spot.Spot.{Spot}
+use Rattle.event_tokens.specs.Bytes.{are_fit, is_fit, is_fit_at, same_spot}
+use Rattle.event_tokens.specs.Tokens.{is_token}
+use Rattle.event_tokens.proofs.Characters.{tokens_are_characters}
+use Rattle.parse_output.proofs.Between.{edges}
+use Rattle.parse_output.proofs.Characters.{characters_end, text_bytes}
 use Rattle.parse_output.proofs.Ends.{spot_index}
 use Rattle.parse_output.specs.Ends.{index_spot}
-use Rattle.parse_output.specs.Placed.{ArePlaced, beginning}
+use Rattle.parse_output.specs.Placed.{beginning}
 use Rattle.parse_output.specs.Spots.{next_spot, spot_at, start}
 use Rattle.parse_output.specs.Spots as byte_by_byte
 use Rattle.parse_output.specs.Tokens.{AreOnward, Enter, Exit, IsOnward, IsWhole, Token, Void, place, point_at, tokens_events}
 use Rattle.parse_output.specs.declared.spot.Place.{Place}
 use Rattle.parse_output.specs.declared.spot.Spot.{Spot as ByteSpot}
-use Rattle.parse_matches.specs.Laws.{BeginWhole, begins_whole}
-use Rattle.parse_events.specs.WellPlaced.{AreWellPlaced, IsWellPlaced}
+use Rattle.parse_matches.specs.Laws.{TokensFit}
 
 -- ---- columns
 
@@ -122,6 +131,13 @@ record IsTold (text : List ℕ) (p : Place) : Type 0 where
   pub within : p.spot.index ≤ length text
   pub whole : IsWhole text p
 
+-- the edge of a spot
+whole_edge : (index vs : ℕ) → vs ≡ 0 → edge (spot index vs) ≡ index
+whole_edge index vs none = grind (arith, nat_tests, none)
+
+edge_most : (index vs : ℕ) → edge (spot index vs) ≤ index + 1
+edge_most index vs = grind (arith, nat_tests)
+
 module _ (text : List ℕ) (utf8 : IsUtf8 text) where
   whole_column : (p : Place) → p.spot ≡ index_spot text p.spot.index → IsWhole text p → is_column text (spot p.spot.index p.vs) ≡ true
   whole_column p at (inl none) =
@@ -152,55 +168,87 @@ module _ (text : List ℕ) (utf8 : IsUtf8 text) where
       let at : (spot_at text index p.spot).index ≡ index = ap (λ (s : ByteSpot). s.index) there ∙ spot_index text index onward.within in
       (at, record { spot = there ∙ ap (index_spot text) (sym at); within = omega (arith, at, onward.within); whole = whole })
 
-  tokens_fit : (ts : List Token) (p : Place) (from : Spot) → IsTold text p → AreOnward text p ts → AreWellPlaced text (tokens_events text p ts)
+  -- what is known of the place that is reached: no event before it ends inside a character
+  record IsReached (p : Place) : Type 0 where
+    pub told : IsTold text p
+    pub between : IsCharBoundary text (edge (spot p.spot.index p.vs))
+
+  edge_within : (p : Place) → IsTold text p → edge (spot p.spot.index p.vs) ≤ length text
+  edge_within p told = by told.whole
+    where
+      by : IsWhole text p → edge (spot p.spot.index p.vs) ≤ length text
+      by (inl none) = let at = whole_edge p.spot.index p.vs none in omega (arith, at, told.within)
+      by (inr tab) = let most = edge_most p.spot.index p.vs in omega (arith, tab.within, most)
+
+  -- its index is between characters, too
+  at_index : (p : Place) → IsReached p → IsCharBoundary text p.spot.index
+  at_index p is = by is.told.whole
+    where
+      by : IsWhole text p → IsCharBoundary text p.spot.index
+      by (inl none) = subst (IsCharBoundary text) (whole_edge p.spot.index p.vs none) is.between
+      by (inr tab) = IsCharBoundary-before_ascii text p.spot.index tab.within (omega (arith, tab.tab))
+
+  reached_spot : (p : Place) → IsReached p → is_spot text (spot p.spot.index p.vs) ≡ true
+  reached_spot p is = told_spot p is.told (at_index p is)
+
+  -- the bytes of an event that holds no other
+  void_token : (name : Name) (p q : Place) (others : List Event)
+      → is_fit text (event kind.Enter name (point_at p) None) (event kind.Exit name (point_at q) None ∷ others) ≡ true
+      → is_token name (bytes_between text (spot p.spot.index p.vs) (spot q.spot.index q.vs)) ≡ true
+  void_token name p q others fit =
+      let from = spot p.spot.index p.vs in
+      let to = spot q.spot.index q.vs in
+      let same : same_name name name ≡ true = true_same the_type name name refl in
+      let both = sym (ap (λ (b : Bool). if b then is_fit_at text name from to else true) same) ∙ fit in
+      (and_parts (is_token name (bytes_between text from to)) (not (is_void name && same_spot from to)) both).0
+
+  tokens_fit : (ts : List Token) (p : Place) (from : Spot) → IsReached p → AreOnward text p ts → are_fit text (tokens_events text p ts) ≡ true
       → reaches from (spot p.spot.index p.vs) ≡ true → PlacesFit text from (tokens_events text p ts)
-  tokens_fit [] p from told onward between before = tt
-  tokens_fit (Enter name ∷ ts) p from told onward between before =
+  tokens_fit [] p from is onward fit before = tt
+  tokens_fit (Enter name ∷ ts) p from is onward fit before =
       let e = event kind.Enter name (point_at p) None in
       let others = tokens_events text p ts in
-      let here = All-head (IsWellPlaced text) e others between in
-      let there = All-tail (IsWellPlaced text) e others between in (
+      let there = and_parts (is_fit text e others) (are_fit text others) fit in (
         before,
-        told_spot p told here.between,
-        tokens_fit ts p (spot p.spot.index p.vs) told onward there (reached p.spot.index p.spot.index p.vs p.vs (omega arith) (λ same. omega arith)),
+        reached_spot p is,
+        tokens_fit ts p (spot p.spot.index p.vs) is onward there.1 (reached p.spot.index p.spot.index p.vs p.vs (omega arith) (λ same. omega arith)),
       )
-  tokens_fit (Exit name ∷ ts) p from told onward between before =
+  tokens_fit (Exit name ∷ ts) p from is onward fit before =
       let e = event kind.Exit name (point_at p) None in
       let others = tokens_events text p ts in
-      let here = All-head (IsWellPlaced text) e others between in
-      let there = All-tail (IsWellPlaced text) e others between in (
+      let there = and_parts (is_fit text e others) (are_fit text others) fit in (
         before,
-        told_spot p told here.between,
-        tokens_fit ts p (spot p.spot.index p.vs) told onward there (reached p.spot.index p.spot.index p.vs p.vs (omega arith) (λ same. omega arith)),
+        reached_spot p is,
+        tokens_fit ts p (spot p.spot.index p.vs) is onward there.1 (reached p.spot.index p.spot.index p.vs p.vs (omega arith) (λ same. omega arith)),
       )
-  tokens_fit (Void name index vs ∷ ts) p from told onward between before =
+  tokens_fit (Void name index vs ∷ ts) p from is onward fit before =
       let q = place (spot_at text index p.spot) vs in
-      let on = told_on p index vs told onward.0 onward.1 in
+      let on = told_on p index vs is.told onward.0 onward.1 in
       let e = event kind.Enter name (point_at p) None in
       let x = event kind.Exit name (point_at q) None in
       let others = tokens_events text q ts in
-      let here = All-head (IsWellPlaced text) e (x ∷ others) between in
-      let rest = All-tail (IsWellPlaced text) e (x ∷ others) between in
-      let end = All-head (IsWellPlaced text) x others rest in
-      let there = All-tail (IsWellPlaced text) x others rest in (
+      let here = and_parts (is_fit text e (x ∷ others)) (are_fit text (x ∷ others)) fit in
+      let there = and_parts (is_fit text x others) (are_fit text others) here.1 in
+      let a = edge (spot p.spot.index p.vs) in
+      let b = edge (spot q.spot.index vs) in
+      let further : a ≤ b =
+      edges p.spot.index p.vs q.spot.index vs (omega (arith, on.0, onward.0.forward)) (λ same. onward.0.columns (sym on.0 ∙ same)) in
+      let chars =
+      tokens_are_characters name (between a b text) (text_bytes text utf8 a b) (void_token name p q others here.0) in
+      let next : IsReached q = record { told = on.1; between = characters_end text utf8 a b further (edge_within q on.1) is.between chars } in (
         before,
-        told_spot p told here.between,
+        reached_spot p is,
         (
           reached p.spot.index q.spot.index p.vs vs (omega (arith, on.0, onward.0.forward)) (λ same. onward.0.columns (sym on.0 ∙ same)),
-          told_spot q on.1 end.between,
-          tokens_fit ts q (spot q.spot.index vs) on.1 onward.2 there (reached q.spot.index q.spot.index vs vs (omega arith) (λ same. omega arith)),
+          reached_spot q next,
+          tokens_fit ts q (spot q.spot.index vs) next onward.2 there.1 (reached q.spot.index q.spot.index vs vs (omega arith) (λ same. omega arith)),
         ),
       )
 
-  pub places_fit : (events : List Event) → ArePlaced text events → AreWellPlaced text events → PlacesFit text (spot 0 0) events
-  places_fit events placed between =
-      subst (PlacesFit text (spot 0 0)) (sym placed.each)
-      (tokens_fit placed.tokens beginning (spot 0 0)
-      (record { spot = refl; within = omega arith; whole = inl refl }) placed.onward (subst (AreWellPlaced text) placed.each between) refl)
-
--- what is asked of endings and numbers
-pub all_whole : (text : List ℕ) (events : List Event) → AreWellPlaced text events → BeginWhole events
-all_whole text [] placed = refl
-all_whole text (e ∷ es) placed =
-    let here = All-head (IsWellPlaced text) e es placed in
-    and_from (begins_whole e) (list_all begins_whole es) here.whole (all_whole text es (All-tail (IsWellPlaced text) e es placed))
+pub places_fit : TokensFit
+places_fit text events is_text placed fit =
+    let utf8 = IsUtf8-from_is_utf8 text is_text in
+    subst (PlacesFit text (spot 0 0)) (sym placed.each)
+    (tokens_fit text utf8 placed.tokens beginning (spot 0 0)
+    (record { told = record { spot = refl; within = omega arith; whole = inl refl }; between = IsCharBoundary-start text utf8 })
+    placed.onward (subst (λ es. are_fit text es ≡ true) placed.each fit) refl)

@@ -1,0 +1,3 @@
+pub mod Nothing
+pub mod Characters
+pub mod Utf8Bytes
