@@ -20,7 +20,8 @@ pub struct Report {
 impl Report {
     /// No findings, to which these rules may add.
     pub fn new(alloc: Global, rules: RuleSet) -> Report
-        ensures { result.findings.items ≡ [] }
+        ensures findings { result.findings.items ≡ [] }
+        ensures rules { result.rules ≡ rules }
     {
         Report {
             findings: Vec::new(alloc),
@@ -45,6 +46,7 @@ impl Report {
     pub fn add(&mut self, rule: Rule, span: Span, words: &str) -> Result<(), AllocError>
         ensures on { OnOk result (IsMember self.old.rules rule → vec_len self.new.findings ≡ vec_len self.old.findings + 1) }
         ensures off { OnOk result (¬ IsMember self.old.rules rule → self.new.findings.items ≡ self.old.findings.items) }
+        ensures rules { self.new.rules ≡ self.old.rules }
     {
         if !self.has(rule) {
             return Ok(());
@@ -63,6 +65,7 @@ impl Report {
     ) -> Result<(), AllocError>
         ensures on { OnOk result (IsMember self.old.rules rule → vec_len self.new.findings ≡ vec_len self.old.findings + 1) }
         ensures off { OnOk result (¬ IsMember self.old.rules rule → self.new.findings.items ≡ self.old.findings.items) }
+        ensures rules { self.new.rules ≡ self.old.rules }
     {
         if !self.has(rule) {
             return Ok(());
@@ -81,6 +84,7 @@ impl Report {
     ) -> Result<(), AllocError>
         ensures on { OnOk result (IsMember self.old.rules rule → vec_len self.new.findings ≡ vec_len self.old.findings + 1) }
         ensures off { OnOk result (¬ IsMember self.old.rules rule → self.new.findings.items ≡ self.old.findings.items) }
+        ensures rules { self.new.rules ≡ self.old.rules }
     {
         if !self.has(rule) {
             return Ok(());
@@ -95,6 +99,7 @@ impl Report {
     pub fn add_made(&mut self, rule: Rule, span: Span, what: String) -> Result<(), AllocError>
         ensures on { OnOk result (IsMember self.old.rules rule → vec_len self.new.findings ≡ vec_len self.old.findings + 1) }
         ensures off { OnOk result (¬ IsMember self.old.rules rule → self.new.findings.items ≡ self.old.findings.items) }
+        ensures rules { self.new.rules ≡ self.old.rules }
     {
         if self.has(rule) {
             self.push(rule, span, what)
@@ -105,7 +110,8 @@ impl Report {
 
     /// Adds a finding.
     fn push(&mut self, rule: Rule, span: Span, what: String) -> Result<(), AllocError>
-        ensures { OnOk result (vec_len self.new.findings ≡ vec_len self.old.findings + 1) }
+        ensures added { OnOk result (vec_len self.new.findings ≡ vec_len self.old.findings + 1) }
+        ensures rules { self.new.rules ≡ self.old.rules }
     {
         self.findings.push(Finding { span, rule, what })?;
         Ok(())
