@@ -26,9 +26,12 @@ pub fn wrong_token(text: &[u8], events: &[Event]) -> Option<Name> {
     None
 }
 
-/// Whether an event from one point to another is a token of its name.
+/// Whether an event from one point to another is a token of its name, of whole characters.
 fn is_token(text: &[u8], enter: &Event, exit: &Event) -> bool {
-    enter.point() != exit.point() && may_have(enter.name, bytes_between(text, enter, exit))
+    let bytes = bytes_between(text, enter, exit);
+    enter.point() != exit.point()
+        && std::str::from_utf8(bytes).is_ok()
+        && may_have(enter.name, bytes)
 }
 
 /// The bytes between two events: a tab that the second cuts is among them, one that the first cuts isn't.
