@@ -10,23 +10,21 @@ use std::alloc::{AllocError, Global};
 type Event = (u8, u16, usize, usize, usize, u8);
 
 /// A text, constructs, and its events.
-#[derive(Clone, Copy)]
-struct Row(&'static str, u64, &'static [Event]);
+type Row = (&'static str, u64, &'static [Event]);
+
+/// The events of one letter.
+const LETTER: &[Event] = &[
+    (0, 129, 0, 1, 1, 0),
+    (0, 30, 0, 1, 1, 0),
+    (1, 30, 1, 1, 2, 0),
+    (1, 129, 1, 1, 2, 0),
+];
 
 /// Texts and all of their events.
-const LISTS: [Row; 3] = [
-    Row("", 0, &[]),
-    Row(
-        "a",
-        0,
-        &[
-            (0, 129, 0, 1, 1, 0),
-            (0, 30, 0, 1, 1, 0),
-            (1, 30, 1, 1, 2, 0),
-            (1, 129, 1, 1, 2, 0),
-        ],
-    ),
-    Row(
+const LISTS: &[Row] = &[
+    ("", 0, &[]),
+    ("a", 0, LETTER),
+    (
         "é\n***",
         536_870_912,
         &[
@@ -56,32 +54,45 @@ const UNWRITTEN: FlatEvent = FlatEvent {
 
 /// Whether an array begins with these events, and goes on with what was there.
 fn holds(array: &[FlatEvent], events: &[Event]) -> bool {
-    array.iter().enumerate().all(|(at, it)| {
+    for (at, it) in array.iter().enumerate() {
         let wanted = events.get(at).copied().unwrap_or((9, 999, 9, 9, 9, 9));
-        (it.kind, it.name, it.offset, it.line, it.column, it.columns) == wanted
-    })
+        if (it.kind, it.name, it.offset, it.line, it.column, it.columns) != wanted {
+            return false;
+        }
+    }
+    true
+}
+
+/// Whether a text's events are counted in an array with so much room, where this status is returned and these events are written.
+fn lists(
+    alloc: Global,
+    row: &Row,
+    room: usize,
+    wanted: u32,
+    written: &[Event],
+) -> Result<bool, AllocError> {
+    let (text, constructs, events) = *row;
+    let mut array = Vec::from_elem(alloc, UNWRITTEN, room)?;
+    let mut count = usize::MAX;
+    let options = numbers(constructs, 0);
+    let status = list_events_with(alloc, text.as_bytes(), &options, &mut array, &mut count);
+    Ok(status == wanted && count == events.len() && holds(&array, written))
 }
 
 /// Whether a text has these events: in an array that is larger, and in none that is too small.
 fn has_events(alloc: Global, row: &Row) -> Result<bool, AllocError> {
-    let Row(text, constructs, events) = row;
-    let options = numbers(*constructs, 0);
-    let mut count = 1;
+    let events = row.2;
     for room in 0..events.len() {
-        let mut array = Vec::from_elem(alloc, UNWRITTEN, room)?;
-        let status = list_events_with(alloc, text.as_bytes(), &options, &mut array, &mut count);
-        if status != ROOM || count != events.len() || !holds(&array, &[]) {
+        if !lists(alloc, row, room, ROOM, &[])? {
             return Ok(false);
         }
     }
-    let mut array = Vec::from_elem(alloc, UNWRITTEN, events.len() + 1)?;
-    let status = list_events_with(alloc, text.as_bytes(), &options, &mut array, &mut count);
-    Ok(status == OK && count == events.len() && holds(&array, events))
+    lists(alloc, row, events.len() + 1, OK, events)
 }
 
 /// The first text with other events.
 fn first_other(alloc: Global) -> Result<Option<&'static str>, AllocError> {
-    for row in &LISTS {
+    for row in LISTS {
         if !has_events(alloc, row)? {
             return Ok(Some(row.0));
         }
@@ -94,7 +105,7 @@ fn by_flags(alloc: Global) -> Option<&'static str> {
     let mut array = [UNWRITTEN; 4];
     let mut count = 0;
     let status = list_events(alloc, b"a", 2, &mut array, &mut count);
-    let is_right = status == OK && count == 4 && holds(&array, LISTS[1].2);
+    let is_right = status == OK && count == 4 && holds(&array, LETTER);
     (!is_right).then_some("a")
 }
 

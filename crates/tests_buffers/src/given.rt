@@ -33,7 +33,7 @@ fn number_if(number: u64, flag: u32, flags: u32) -> u64 {
 }
 
 /// The constructs that each flag adds to those of CommonMark.
-const ADDED: [(u32, u64); 8] = [
+const ADDED: &[(u32, u64)] = &[
     (4, 8192),
     (8, 402_653_184),
     (16, 512),
@@ -47,7 +47,7 @@ const ADDED: [(u32, u64); 8] = [
 /// The options of a sum of flags, as the header has them.
 pub(crate) fn of_flags(flags: u32) -> FlatOptions<'static> {
     let mut constructs = COMMONMARK;
-    for (flag, number) in ADDED.iter() {
+    for (flag, number) in ADDED {
         constructs |= number_if(*number, *flag, flags);
     }
     if has(2, flags) {
@@ -61,4 +61,25 @@ pub(crate) fn of_flags(flags: u32) -> FlatOptions<'static> {
         switches |= 8;
     }
     numbers(constructs, switches)
+}
+
+/// The byte that buffers are filled with before a call.
+pub(crate) const FILLED: u8 = 255;
+
+/// Whether nothing is written in a buffer.
+pub(crate) fn is_unwritten(buffer: &[u8]) -> bool {
+    for byte in buffer {
+        if *byte != FILLED {
+            return false;
+        }
+    }
+    true
+}
+
+/// Whether a buffer begins with a text, and nothing is written behind it.
+pub(crate) fn begins_with(buffer: &[u8], text: &str) -> bool {
+    match buffer.strip_prefix(text.as_bytes()) {
+        Some(rest) => is_unwritten(rest),
+        None => false,
+    }
 }

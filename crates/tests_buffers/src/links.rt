@@ -1,6 +1,6 @@
 //! Texts and their links, in an array and a buffer of the caller's.
 use crate::asserts::assert_no_fault;
-use crate::given::numbers;
+use crate::given::{FILLED, is_unwritten, numbers};
 use markdown_buffers::flat_link::{FlatLink, NO_DEFINITION};
 use markdown_buffers::links::list_links_with;
 use markdown_buffers::status::{OK, ROOM};
@@ -8,100 +8,99 @@ use std::alloc::{AllocError, Global};
 
 /// A text, and its links in lines: kind, start and end as `line:column@offset`, destination, and the
 /// index of the definition, if there is one.
-#[derive(Clone, Copy)]
-struct Row(&'static str, &'static str);
+type Row = (&'static str, &'static str);
 
 /// The constructs of GFM, and math.
 const GFM: u64 = 1_006_632_447;
 
 /// Texts by these, and all of their links.
-const LINKS: [Row; 28] = [
-    Row("", ""),
-    Row("a *b* `[c](d)` [e] \\[f](g) <a href=\"h\"> $[i](j)$", ""),
-    Row("[a](b)", "link 1:1@0 1:7@6 b\n"),
-    Row("[a]() [b](<>)", "link 1:1@0 1:6@5 \nlink 1:7@6 1:14@13 \n"),
-    Row("a [b *c*](<d e> 'f') g", "link 1:3@2 1:21@20 d e\n"),
-    Row(
+const LINKS: &[Row] = &[
+    ("", ""),
+    ("a *b* `[c](d)` [e] \\[f](g) <a href=\"h\"> $[i](j)$", ""),
+    ("[a](b)", "link 1:1@0 1:7@6 b\n"),
+    ("[a]() [b](<>)", "link 1:1@0 1:6@5 \nlink 1:7@6 1:14@13 \n"),
+    ("a [b *c*](<d e> 'f') g", "link 1:3@2 1:21@20 d e\n"),
+    (
         "[a](b&amp;c\\)d&copy;&#x41;\\e)",
         "link 1:1@0 1:30@29 b&c)d\u{A9}A\\e\n",
     ),
-    Row(
+    (
         "[a](\u{E9}%20\u{FC})",
         "link 1:1@0 1:13@12 \u{E9}%20\u{FC}\n",
     ),
-    Row(
+    (
         "[](a) ![](b)",
         "link 1:1@0 1:6@5 a\nimage 1:7@6 1:13@12 b\n",
     ),
-    Row(
+    (
         "![a](b) ![c [d](e) f](g)",
         "image 1:1@0 1:8@7 b\nimage 1:9@8 1:25@24 g\nlink 1:13@12 1:19@18 e\n",
     ),
-    Row(
+    (
         "[![a](b)](c)",
         "link 1:1@0 1:13@12 c\nimage 1:2@1 1:9@8 b\n",
     ),
-    Row("[a [b](c)](d)", "link 1:4@3 1:10@9 c\n"),
-    Row("[[a [b]](c)", "link 1:2@1 1:12@11 c\n"),
-    Row(
+    ("[a [b](c)](d)", "link 1:4@3 1:10@9 c\n"),
+    ("[[a [b]](c)", "link 1:2@1 1:12@11 c\n"),
+    (
         "![![![a](b)](c)](d)",
         "image 1:1@0 1:20@19 d\nimage 1:3@2 1:16@15 c\nimage 1:5@4 1:12@11 b\n",
     ),
-    Row(
+    (
         "![![a]][b]\n\n[a]: c\n[b]: d",
         "image 1:1@0 1:11@10 d #3\nimage 1:3@2 1:7@6 c #2\ndefinition 3:1@12 3:7@18 c\ndefinition 4:1@19 4:7@25 d\n",
     ),
-    Row(
+    (
         "<http://a.b?c=d&amp;e> <f@g.h>",
         "autolink 1:1@0 1:23@22 http://a.b?c=d&amp;e\nautolink 1:24@23 1:31@30 mailto:f@g.h\n",
     ),
-    Row(
+    (
         "www.a.b https://c.d e@f.g mailto:h@i.j xmpp:k@l.m/n",
         "literal 1:1@0 1:8@7 http://www.a.b\nliteral 1:9@8 1:20@19 https://c.d\nliteral 1:21@20 1:26@25 mailto:e@f.g\nliteral 1:27@26 1:39@38 mailto:h@i.j\nliteral 1:40@39 1:52@51 xmpp:k@l.m/n\n",
     ),
-    Row("[www.a.b](c)", "link 1:1@0 1:13@12 c\n"),
-    Row(
+    ("[www.a.b](c)", "link 1:1@0 1:13@12 c\n"),
+    (
         "![www.a.b](c)",
         "image 1:1@0 1:14@13 c\nliteral 1:3@2 1:10@9 http://www.a.b\n",
     ),
-    Row(
+    (
         "[a][B] [b][] [ b ] ![x][b]\n\n[b]: c 'd'",
         "link 1:1@0 1:7@6 c #4\nlink 1:8@7 1:13@12 c #4\nlink 1:14@13 1:19@18 c #4\nimage 1:20@19 1:27@26 c #4\ndefinition 3:1@28 3:11@38 c\n",
     ),
-    Row(
+    (
         "[a]: b\n[A]: c\n[d]: <e\\>f>\n\n[a] [d] [g]",
         "definition 1:1@0 1:7@6 b\ndefinition 2:1@7 2:7@13 c\ndefinition 3:1@14 3:12@25 e>f\nlink 5:1@27 5:4@30 b #0\nlink 5:5@31 5:8@34 e>f #2\n",
     ),
-    Row(
+    (
         "[\u{1E9E} \u{3A3}]\n\n[ss\n\t\u{3C2}]: a",
         "link 1:1@0 1:9@8 a #1\ndefinition 3:1@10 4:11@21 a\n",
     ),
-    Row(
+    (
         "> [a\n> b]: c\n\n> [x [y](z)][A\n>  B]",
         "definition 1:3@2 2:8@12 c\nlink 4:6@19 4:12@25 z\nlink 4:13@26 5:6@34 c #0\n",
     ),
-    Row(
+    (
         "# [a](b)\n- [c](d)\n\n  > ![e](f)",
         "link 1:3@2 1:9@8 b\nlink 2:3@11 2:9@17 d\nimage 4:5@23 4:12@30 f\n",
     ),
-    Row(
+    (
         "| [a](b) |\n| - |\n| www.c.d \\| |",
         "link 1:3@2 1:9@8 b\nliteral 3:3@19 3:10@26 http://www.c.d\n",
     ),
-    Row(
+    (
         "![[^a]](b) ![x [^a]][c] [d](e)\n\n[^a]: f [g](h)\n\n[c]: i",
         "image 1:1@0 1:11@10 b\nimage 1:12@11 1:24@23 i #4\nlink 1:25@24 1:31@30 e\nlink 3:9@40 3:15@46 h\ndefinition 5:1@48 5:7@54 i\n",
     ),
-    Row(
+    (
         "a\r\n\tb\r<cd:e>\n\n\t[f](g)",
         "autolink 3:1@6 3:7@12 cd:e\n",
     ),
-    Row("- a\n\t[b](c)", "link 2:5@5 2:11@11 c\n"),
-    Row("\u{FEFF}[a](b)", "link 1:1@3 1:7@9 b\n"),
+    ("- a\n\t[b](c)", "link 2:5@5 2:11@11 c\n"),
+    ("\u{FEFF}[a](b)", "link 1:1@3 1:7@9 b\n"),
 ];
 
 /// The names of the kinds, by their numbers.
-const KINDS: [&str; 5] = ["link", "image", "autolink", "literal", "definition"];
+const KINDS: &[&str] = &["link", "image", "autolink", "literal", "definition"];
 
 /// A link that is written nowhere.
 const UNWRITTEN: FlatLink = FlatLink {
@@ -144,13 +143,41 @@ fn push_link(out: &mut String<Global>, link: &FlatLink, bytes: &[u8]) -> Result<
     out.push_str("\n")
 }
 
+/// Appends the lines of so many links.
+fn push_links(
+    out: &mut String<Global>,
+    array: &[FlatLink],
+    count: usize,
+    bytes: &[u8],
+) -> Result<(), AllocError> {
+    for link in array.iter().take(count) {
+        push_link(out, link, bytes)?;
+    }
+    Ok(())
+}
+
+/// Whether no link is written in an array.
+fn has_no_link(array: &[FlatLink]) -> bool {
+    for link in array {
+        if link.kind != 9 {
+            return false;
+        }
+    }
+    true
+}
+
+/// Whether nothing is written behind so many links and bytes.
+fn is_kept(array: &[FlatLink], count: usize, buffer: &[u8], size: usize) -> bool {
+    has_no_link(array.get(count..).unwrap_or(&[]))
+        && is_unwritten(buffer.get(size..).unwrap_or(&[]))
+}
+
 /// The lines of the links of a text, if all are written that are counted, and nothing after them; otherwise none.
 fn lines(alloc: Global, text: &str) -> Result<String<Global>, AllocError> {
     let mut array = [UNWRITTEN; 9];
-    let mut buffer = [255u8; 99];
+    let mut buffer = [FILLED; 99];
     let mut count = 0;
     let mut size = 0;
-    let mut out = String::new(alloc);
     let options = numbers(GFM, 96);
     let status = list_links_with(
         alloc,
@@ -161,51 +188,58 @@ fn lines(alloc: Global, text: &str) -> Result<String<Global>, AllocError> {
         &mut buffer,
         &mut size,
     );
-    let is_kept = buffer.iter().skip(size).all(|byte| *byte == 255)
-        && array.iter().skip(count).all(|link| link.kind == 9);
-    if status != OK || !is_kept {
-        out.push_str("not written")?;
+    if status != OK || !is_kept(&array, count, &buffer, size) {
+        return String::from_str(alloc, "not written");
     }
-    for link in array.iter().take(count) {
-        push_link(&mut out, link, &buffer)?;
-    }
+    let mut out = String::new(alloc);
+    push_links(&mut out, &array, count, &buffer)?;
     Ok(out)
+}
+
+/// Whether a text has these links.
+fn has_links(alloc: Global, row: &Row) -> Result<bool, AllocError> {
+    let (text, wanted) = *row;
+    let found = lines(alloc, text)?;
+    Ok(found.as_str() == wanted)
 }
 
 /// The first text with other links.
 fn first_other(alloc: Global) -> Result<Option<&'static str>, AllocError> {
-    for row in &LINKS {
-        if lines(alloc, row.0)?.as_str() != row.1 {
+    for row in LINKS {
+        if !has_links(alloc, row)? {
             return Ok(Some(row.0));
         }
     }
     Ok(None)
 }
 
-/// A text if its two links, or their three bytes, are written where one of both has no room.
+/// Two links, which take three bytes.
+const TWO: &str = "[a](bc) [d](e)";
+
+/// Whether two links are counted, and nothing is written, where there is no room for so many links, or for their bytes.
+fn is_overfull(alloc: Global, array: &mut [FlatLink], buffer: &mut [u8]) -> bool {
+    let mut count = 0;
+    let mut size = 0;
+    let options = numbers(GFM, 96);
+    let status = list_links_with(
+        alloc,
+        TWO.as_bytes(),
+        &options,
+        array,
+        &mut count,
+        buffer,
+        &mut size,
+    );
+    status == ROOM && count == 2 && size == 3 && is_kept(array, 0, buffer, 0)
+}
+
+/// The text with two links, if these, or their three bytes, are written where one of both has no room.
 fn first_overfull(alloc: Global) -> Option<&'static str> {
-    let text = "[a](bc) [d](e)";
-    for (links, bytes) in [(0, 3), (1, 3), (2, 0), (2, 2)] {
-        let mut array = [UNWRITTEN; 2];
-        let mut buffer = [255u8; 3];
-        let mut count = 0;
-        let mut size = 0;
-        let options = numbers(GFM, 96);
-        let status = list_links_with(
-            alloc,
-            text.as_bytes(),
-            &options,
-            &mut array[..links],
-            &mut count,
-            &mut buffer[..bytes],
-            &mut size,
-        );
-        let is_kept = buffer == [255; 3] && array.iter().all(|link| link.kind == 9);
-        if status != ROOM || count != 2 || size != 3 || !is_kept {
-            return Some(text);
-        }
-    }
-    None
+    let right = is_overfull(alloc, &mut [], &mut [FILLED; 3])
+        && is_overfull(alloc, &mut [UNWRITTEN; 1], &mut [FILLED; 3])
+        && is_overfull(alloc, &mut [UNWRITTEN; 2], &mut [])
+        && is_overfull(alloc, &mut [UNWRITTEN; 2], &mut [FILLED; 2]);
+    if right { None } else { Some(TWO) }
 }
 
 #[test]

@@ -103,18 +103,20 @@ fn answers_refusals(alloc: Global, call: usize) -> bool {
     false
 }
 
+/// The calls, by their numbers.
+const CALLS: &[&str] = &[
+    "convert",
+    "convert_with",
+    "list_events",
+    "list_links_with",
+    "check_page",
+];
+
 /// The first call that a refusal makes go wrong.
 fn first_wrong(alloc: Global) -> Option<&'static str> {
-    let calls = [
-        "convert",
-        "convert_with",
-        "list_events",
-        "list_links_with",
-        "check_page",
-    ];
-    for (number, call) in calls.iter().enumerate() {
+    for (number, call) in CALLS.iter().enumerate() {
         if !answers_refusals(alloc, number) {
-            return Some(call);
+            return Some(*call);
         }
     }
     None

@@ -7,113 +7,112 @@ use markdown_c_options::flat_options::FlatOptions;
 use std::alloc::{AllocError, Global};
 
 /// A text, its constructs, its switches, and its page.
-#[derive(Clone, Copy)]
-struct Row(&'static str, u64, u32, &'static str);
+type Row = (&'static str, u64, u32, &'static str);
 
 /// Each construct alone.
-const CONSTRUCTS: [Row; 29] = [
-    Row("*a*", 1, 0, "<p><em>a</em></p>"),
-    Row("<ab:c>", 2, 4, "<p><a href=\"ab:c\">ab:c</a></p>"),
-    Row("> a", 4, 0, "<blockquote>\n<p>a</p>\n</blockquote>"),
-    Row("\\*", 8, 0, "<p>*</p>"),
-    Row("&copy;", 16, 0, "<p>©</p>"),
-    Row("    a", 32, 0, "<pre><code>a\n</code></pre>"),
-    Row("```\na\n```", 64, 0, "<pre><code>a\n</code></pre>"),
-    Row("`a`", 128, 0, "<p><code>a</code></p>"),
-    Row("[a]: b", 256, 0, ""),
-    Row("---\na\n---", 512, 0, ""),
-    Row(
+const CONSTRUCTS: &[Row] = &[
+    ("*a*", 1, 0, "<p><em>a</em></p>"),
+    ("<ab:c>", 2, 4, "<p><a href=\"ab:c\">ab:c</a></p>"),
+    ("> a", 4, 0, "<blockquote>\n<p>a</p>\n</blockquote>"),
+    ("\\*", 8, 0, "<p>*</p>"),
+    ("&copy;", 16, 0, "<p>©</p>"),
+    ("    a", 32, 0, "<pre><code>a\n</code></pre>"),
+    ("```\na\n```", 64, 0, "<pre><code>a\n</code></pre>"),
+    ("`a`", 128, 0, "<p><code>a</code></p>"),
+    ("[a]: b", 256, 0, ""),
+    ("---\na\n---", 512, 0, ""),
+    (
         "www.a.b",
         1024,
         0,
         "<p><a href=\"http://www.a.b\">www.a.b</a></p>",
     ),
-    Row("[^a]: b", 2048, 0, ""),
-    Row("[^a]\n\n[^a]: b", 4096, 0, "<p>[^a]</p>\n<p>[^a]: b</p>"),
-    Row("~~a~~", 8192, 0, "<p><del>a</del></p>"),
-    Row(
+    ("[^a]: b", 2048, 0, ""),
+    ("[^a]\n\n[^a]: b", 4096, 0, "<p>[^a]</p>\n<p>[^a]: b</p>"),
+    ("~~a~~", 8192, 0, "<p><del>a</del></p>"),
+    (
         "a|b\n-|-",
         16384,
         0,
         "<table>\n<thead>\n<tr>\n<th>a</th>\n<th>b</th>\n</tr>\n</thead>\n</table>",
     ),
-    Row(
+    (
         "- [x] a",
         33_587_200,
         0,
         "<ul>\n<li><input type=\"checkbox\" disabled=\"\" checked=\"\" /> a</li>\n</ul>",
     ),
-    Row("a\\\nb", 65536, 0, "<p>a<br />\nb</p>"),
-    Row("a  \nb", 131_072, 0, "<p>a<br />\nb</p>"),
-    Row("# a", 262_144, 0, "<h1>a</h1>"),
-    Row("a\n=", 524_288, 0, "<h1>a</h1>"),
-    Row("<!-- a -->", 1_048_576, 2, "<!-- a -->"),
-    Row("a <b>", 2_097_152, 2, "<p>a <b></p>"),
-    Row(
+    ("a\\\nb", 65536, 0, "<p>a<br />\nb</p>"),
+    ("a  \nb", 131_072, 0, "<p>a<br />\nb</p>"),
+    ("# a", 262_144, 0, "<h1>a</h1>"),
+    ("a\n=", 524_288, 0, "<h1>a</h1>"),
+    ("<!-- a -->", 1_048_576, 2, "<!-- a -->"),
+    ("a <b>", 2_097_152, 2, "<p>a <b></p>"),
+    (
         "![a](b)",
         20_971_520,
         0,
         "<p><img src=\"b\" alt=\"a\" /></p>",
     ),
-    Row("[a](b)", 25_165_824, 0, "<p><a href=\"b\">a</a></p>"),
-    Row("- a", 33_554_432, 0, "<ul>\n<li>a</li>\n</ul>"),
-    Row("==a==", 67_108_864, 0, "<p><mark>a</mark></p>"),
-    Row(
+    ("[a](b)", 25_165_824, 0, "<p><a href=\"b\">a</a></p>"),
+    ("- a", 33_554_432, 0, "<ul>\n<li>a</li>\n</ul>"),
+    ("==a==", 67_108_864, 0, "<p><mark>a</mark></p>"),
+    (
         "$$\na\n$$",
         134_217_728,
         0,
         "<pre><code class=\"language-math math-display\">a\n</code></pre>",
     ),
-    Row(
+    (
         "$$a$$",
         268_435_456,
         0,
         "<p><code class=\"language-math math-inline\">a</code></p>",
     ),
-    Row("***", 536_870_912, 0, "<hr />"),
+    ("***", 536_870_912, 0, "<hr />"),
 ];
 
 /// Each switch on and off.
-const SWITCHES: [Row; 14] = [
-    Row(
+const SWITCHES: &[Row] = &[
+    (
         "![a](b:c)",
         COMMONMARK,
         0,
         "<p><img src=\"\" alt=\"a\" /></p>",
     ),
-    Row(
+    (
         "![a](b:c)",
         COMMONMARK,
         1,
         "<p><img src=\"b:c\" alt=\"a\" /></p>",
     ),
-    Row("[a](b:c)", COMMONMARK, 1, "<p><a href=\"\">a</a></p>"),
-    Row("[a](b:c)", COMMONMARK, 4, "<p><a href=\"b:c\">a</a></p>"),
-    Row("a <b>", COMMONMARK, 4, "<p>a &lt;b&gt;</p>"),
-    Row("a <xmp>", COMMONMARK, 2, "<p>a <xmp></p>"),
-    Row("a <xmp>", COMMONMARK, 10, "<p>a &lt;xmp></p>"),
-    Row(
+    ("[a](b:c)", COMMONMARK, 1, "<p><a href=\"\">a</a></p>"),
+    ("[a](b:c)", COMMONMARK, 4, "<p><a href=\"b:c\">a</a></p>"),
+    ("a <b>", COMMONMARK, 4, "<p>a &lt;b&gt;</p>"),
+    ("a <xmp>", COMMONMARK, 2, "<p>a <xmp></p>"),
+    ("a <xmp>", COMMONMARK, 10, "<p>a &lt;xmp></p>"),
+    (
         "- [ ] a",
         COMMONMARK + 32768,
         0,
         "<ul>\n<li><input type=\"checkbox\" disabled=\"\" /> a</li>\n</ul>",
     ),
-    Row(
+    (
         "- [ ] a",
         COMMONMARK + 32768,
         16,
         "<ul>\n<li><input type=\"checkbox\" /> a</li>\n</ul>",
     ),
-    Row("~a~", COMMONMARK + 8192, 0, "<p>~a~</p>"),
-    Row("~a~", COMMONMARK + 8192, 32, "<p><del>a</del></p>"),
-    Row("$a$", COMMONMARK + 268_435_456, 0, "<p>$a$</p>"),
-    Row(
+    ("~a~", COMMONMARK + 8192, 0, "<p>~a~</p>"),
+    ("~a~", COMMONMARK + 8192, 32, "<p><del>a</del></p>"),
+    ("$a$", COMMONMARK + 268_435_456, 0, "<p>$a$</p>"),
+    (
         "$a$",
         COMMONMARK + 268_435_456,
         64,
         "<p><code class=\"language-math math-inline\">a</code></p>",
     ),
-    Row("", 0, 127, ""),
+    ("", 0, 127, ""),
 ];
 
 /// A text with a footnote.
@@ -167,27 +166,19 @@ fn is_page(
 
 /// Whether a text has this page by the numbers alone.
 fn is_page_by_numbers(alloc: Global, row: &Row) -> Result<bool, AllocError> {
-    let Row(text, constructs, switches, page) = row;
+    let (text, constructs, switches, page) = *row;
     let mut buffer = Vec::from_elem(alloc, 0u8, page.len())?;
     let mut size = 0;
     let text = text.as_bytes();
-    let status = convert_by_numbers(
-        alloc,
-        text,
-        *constructs,
-        *switches,
-        0,
-        &mut buffer,
-        &mut size,
-    );
+    let status = convert_by_numbers(alloc, text, constructs, switches, 0, &mut buffer, &mut size);
     Ok(status == OK && size == page.len() && buffer.as_slice() == page.as_bytes())
 }
 
 /// The first text with another page.
 fn first_other(alloc: Global, rows: &[Row]) -> Result<Option<&'static str>, AllocError> {
     for row in rows {
-        let Row(text, constructs, switches, page) = row;
-        let options = numbers(*constructs, *switches);
+        let (text, constructs, switches, page) = *row;
+        let options = numbers(constructs, switches);
         if !is_page(alloc, text, &options, page)? || !is_page_by_numbers(alloc, row)? {
             return Ok(Some(text));
         }
@@ -195,21 +186,21 @@ fn first_other(alloc: Global, rows: &[Row]) -> Result<Option<&'static str>, Allo
     Ok(None)
 }
 
+/// The page of a quote with each line ending.
+const ENDINGS: &[(u32, &str)] = &[
+    (0, "<blockquote>\n<p>a</p>\n</blockquote>"),
+    (1, "<blockquote>\r<p>a</p>\r</blockquote>"),
+    (2, "<blockquote>\r\n<p>a</p>\r\n</blockquote>"),
+];
+
 /// The first of these pages that is another one: of footnotes with other texts, and of each line ending.
 fn first_other_text(alloc: Global) -> Result<Option<&'static str>, AllocError> {
-    let rows = [
-        (NOTE, other_texts(), NOTE_PAGE),
-        ("> a", ending(0), "<blockquote>\n<p>a</p>\n</blockquote>"),
-        ("> a", ending(1), "<blockquote>\r<p>a</p>\r</blockquote>"),
-        (
-            "> a",
-            ending(2),
-            "<blockquote>\r\n<p>a</p>\r\n</blockquote>",
-        ),
-    ];
-    for (text, options, page) in rows.iter() {
-        if !is_page(alloc, text, options, page)? {
-            return Ok(Some(page));
+    if !is_page(alloc, NOTE, &other_texts(), NOTE_PAGE)? {
+        return Ok(Some(NOTE_PAGE));
+    }
+    for (number, page) in ENDINGS {
+        if !is_page(alloc, "> a", &ending(*number), page)? {
+            return Ok(Some(*page));
         }
     }
     Ok(None)
@@ -217,7 +208,7 @@ fn first_other_text(alloc: Global) -> Result<Option<&'static str>, AllocError> {
 
 #[test]
 fn options(rt: HostRuntime) {
-    assert_no_fault(&rt, "CONSTRUCTS", first_other(rt.alloc(), &CONSTRUCTS));
-    assert_no_fault(&rt, "SWITCHES", first_other(rt.alloc(), &SWITCHES));
+    assert_no_fault(&rt, "CONSTRUCTS", first_other(rt.alloc(), CONSTRUCTS));
+    assert_no_fault(&rt, "SWITCHES", first_other(rt.alloc(), SWITCHES));
     assert_no_fault(&rt, "texts and endings", first_other_text(rt.alloc()));
 }

@@ -5,29 +5,28 @@ use markdown_buffers::status::OK;
 use std::alloc::{AllocError, Global};
 
 /// A page, and 1 if it is safe or 0 if it isn't.
-#[derive(Clone, Copy)]
-struct Row(&'static [u8], u32);
+type Row = (&'static [u8], u32);
 
 /// Pages of any origin.
-const PAGES: [Row; 12] = [
-    Row(b"", 1),
-    Row(b"<p>a &amp; b</p>\n", 1),
-    Row(b"<p><a href=\"https://a.b\">c</a><br /></p>", 1),
-    Row(b"<p>", 0),
-    Row(b"</p>", 0),
-    Row(b"<p><em>a</p></em>", 0),
-    Row(b"<script></script>", 0),
-    Row(b"<p onclick=\"a\">b</p>", 0),
-    Row(b"<p><a href=\"javascript:a\">b</a></p>", 0),
-    Row(b"a & b", 0),
-    Row(b"a < b", 0),
-    Row(b"\xff", 0),
+const PAGES: &[Row] = &[
+    (b"", 1),
+    (b"<p>a &amp; b</p>\n", 1),
+    (b"<p><a href=\"https://a.b\">c</a><br /></p>", 1),
+    (b"<p>", 0),
+    (b"</p>", 0),
+    (b"<p><em>a</p></em>", 0),
+    (b"<script></script>", 0),
+    (b"<p onclick=\"a\">b</p>", 0),
+    (b"<p><a href=\"javascript:a\">b</a></p>", 0),
+    (b"a & b", 0),
+    (b"a < b", 0),
+    (b"\xff", 0),
 ];
 
 /// The first page for which another number is stored.
 fn first_other(alloc: Global) -> Option<&'static str> {
-    for Row(page, wanted) in &PAGES {
-        let mut is_safe = 1 - *wanted;
+    for (page, wanted) in PAGES {
+        let mut is_safe = 2;
         if check_page(alloc, page, &mut is_safe) != OK || is_safe != *wanted {
             return Some(str::from_utf8(page).unwrap_or("a byte"));
         }
