@@ -1,6 +1,6 @@
 //! What the rules of the linter find in texts.
-use crate::fault::{difference, said};
 use crate::rows::Row;
+use crate::verdict::Verdict;
 use lint_events::events_of;
 use lint_rules::{
     Columns, Document, Finding, Folder, Place, Places, Rule, RuleSet, Settings, findings_of,
@@ -19,18 +19,15 @@ impl Folder for TwoFiles {
     }
 }
 
-/// What is wrong with what a rule finds in a text: a line for each finding is wanted.
-pub(crate) fn fault_of(
-    alloc: Global,
-    rule: &str,
-    way: &str,
-    row: Row<'_>,
-) -> Result<Option<String>, AllocError> {
-    let Some(rule) = Rule::of_word(rule) else {
-        return said(alloc, "no rule has this name");
-    };
-    let found = found_in(alloc, &settings_of(rule, way), row.text);
-    difference(alloc, &found, row.wanted)
+/// What a text comes to in which a rule finds something: a line for each finding is wanted.
+pub(crate) fn verdict_of(alloc: Global, rule: &str, way: &str, row: Row<'_>) -> Verdict {
+    match Rule::of_word(rule) {
+        Some(rule) => Verdict::compared(
+            found_in(alloc, &settings_of(rule, way), row.text),
+            row.wanted,
+        ),
+        None => Verdict::Wrong("no rule has this name"),
+    }
 }
 
 /// The settings with one rule. By `Siblings`, headings are compared with those of their section alone.
@@ -45,28 +42,42 @@ fn settings_of(rule: Rule, way: &str) -> Settings {
 
 /// What is found in a text, a line each.
 fn found_in(alloc: Global, settings: &Settings, text: &str) -> Result<String, Fault> {
-    let mut found = String::new(alloc);
     let events = events_of(alloc, text, &ParseOptions::default(), &Builtin)?;
     let document = Document {
         bytes: text.as_bytes(),
         events: &events,
         gfm: false,
     };
-    let findings = findings_of(alloc, &document, settings, &TwoFiles)?;
-    let mut places = Places::new(text.as_bytes(), Columns::Bytes);
-    for finding in &findings {
-        push_finding(&mut found, places.at(finding.span.start), finding)?;
+    Ok(lines_of(alloc, settings, &document)?)
+}
+
+/// What is found in a document, a line each.
+fn lines_of(
+    alloc: Global,
+    settings: &Settings,
+    document: &Document<'_>,
+) -> Result<String, AllocError> {
+    let findings = findings_of(alloc, document, settings, &TwoFiles)?;
+    let mut lines = String::new(alloc);
+    push_findings(&mut lines, document.bytes, &findings)?;
+    Ok(lines)
+}
+
+/// Appends findings in a text, a line each.
+fn push_findings(lines: &mut String, bytes: &[u8], findings: &[Finding]) -> Result<(), AllocError> {
+    let mut places = Places::new(bytes, Columns::Bytes);
+    for finding in findings {
+        push_finding(lines, places.at(finding.span.start), finding)?;
     }
-    Ok(found)
+    Ok(())
 }
 
 /// Appends a finding, on a line of its own.
-fn push_finding(found: &mut String, place: Place, finding: &Finding) -> Result<(), AllocError> {
+fn push_finding(lines: &mut String, place: Place, finding: &Finding) -> Result<(), AllocError> {
     let Place { line, column } = place;
-    let line = format!(in found.allocator().clone()?; "{line}:{column}: ")?;
-    if !found.is_empty() {
-        found.push('\n')?;
+    if !lines.is_empty() {
+        lines.push('\n')?;
     }
-    found.push_str(line.as_str())?;
-    found.push_str(finding.what.as_str())
+    write!(lines, "{line}:{column}: ")?;
+    lines.push_str(finding.what.as_str())
 }

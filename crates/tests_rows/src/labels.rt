@@ -1,48 +1,42 @@
 //! The labels that texts define.
 ghost use Rattle.markdown_options.specs.Mdx.{HasNoMdx};
 
-use crate::fault::difference;
-use crate::rows::Row;
 use markdown_options::{Message, Options};
 use markdown_tables::Builtin;
 use parse_events::{SIZE_MAX, parse};
 use std::alloc::{AllocError, Global};
 
-/// What is wrong with the labels that a text defines: a line for each definition is wanted, and then one with `^` before it for
-/// each footnote.
-pub(crate) fn fault_of(
-    alloc: Global,
-    row: Row<'_>,
-    options: &Options,
-) -> Result<Option<String>, AllocError>
-    requires { HasNoMdx options.now }
-{
-    let found = labels_of(alloc, row.text, options);
-    difference(alloc, &found, row.wanted)
-}
-
-/// The labels that a text defines.
-fn labels_of(alloc: Global, text: &str, options: &Options) -> Result<String, Message>
+/// The labels that a text defines: a line for each definition, and then one with `^` before it for each footnote.
+pub(crate) fn labels_of(alloc: Global, text: &str, options: &Options) -> Result<String, Message>
     requires { HasNoMdx options.now }
 {
     if text.len() > SIZE_MAX {
         return Err(Message::out_of_memory());
     }
     let (_, state) = parse(alloc, text, &options.parse, &Builtin)?;
-    let mut labels = String::new(alloc);
-    push_labels(&mut labels, "", &state.definitions)?;
-    push_labels(&mut labels, "^", &state.gfm_footnote_definitions)?;
-    Ok(labels)
+    Ok(lines_of(alloc, &state.definitions, &state.gfm_footnote_definitions)?)
+}
+
+/// These labels, each on a line of its own.
+fn lines_of(
+    alloc: Global,
+    definitions: &[String],
+    footnotes: &[String],
+) -> Result<String, AllocError> {
+    let mut lines = String::new(alloc);
+    push_labels(&mut lines, "", definitions)?;
+    push_labels(&mut lines, "^", footnotes)?;
+    Ok(lines)
 }
 
 /// Appends labels, each on a line of its own with a mark before it.
-fn push_labels(labels: &mut String, mark: &str, found: &[String]) -> Result<(), AllocError> {
-    for label in found {
-        if !labels.is_empty() {
-            labels.push('\n')?;
+fn push_labels(lines: &mut String, mark: &str, labels: &[String]) -> Result<(), AllocError> {
+    for label in labels {
+        if !lines.is_empty() {
+            lines.push('\n')?;
         }
-        labels.push_str(mark)?;
-        labels.push_str(label)?;
+        lines.push_str(mark)?;
+        lines.push_str(label)?;
     }
     Ok(())
 }

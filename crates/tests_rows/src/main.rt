@@ -2,51 +2,53 @@
 //! of row and a file. Prints the rows that are at fault, and the number of rows of each file.
 #![tactic(auto)]
 
+mod changed;
 mod deep;
-mod fault;
-mod formatted;
 mod found;
 mod joined;
 mod labels;
-mod listed;
 mod made;
-mod mended;
 mod names;
 mod pages;
 mod pairs;
 mod program;
 mod rows;
 mod texts;
+mod verdict;
 
-use fault::fault_of;
 use joined::{print_apart, print_joined};
 use pairs::print_pairs;
 use rows::{Row, Table, add_decoded, rows_of};
+use std::alloc::AllocError;
 use std::fs;
 use std::io::{self, ErrorKind, Read};
 use std::rt::Files;
+use verdict::{Verdict, verdict_of};
 
 fn main(rt: HostRuntime) -> io::Result<()> {
     let mut list = String::new(rt.alloc());
     rt.stdin().read_to_string(&mut list)?;
     let mut files = String::new(rt.alloc());
-    for line in list.lines() {
-        add_file(&rt, &mut files, line)?;
-    }
+    add_files(&rt, &mut files, &list)?;
     print_files(&rt, &files)
+}
+
+/// Adds the files that lines name.
+fn add_files(rt: &(impl AllocGlobal + Files), files: &mut String, list: &str) -> io::Result<()> {
+    for line in list.lines() {
+        add_file(rt, files, line)?;
+    }
+    Ok(())
 }
 
 /// Adds the file that a line names, with the line before it.
 fn add_file(rt: &(impl AllocGlobal + Files), files: &mut String, line: &str) -> io::Result<()> {
     let (kind, name) = line.split_once(' ').ok_or(ErrorKind::InvalidData)?;
-    files.push_str("\n@file ")?;
-    files.push_str(line)?;
-    files.push('\n')?;
+    add_line(files, line)?;
     if matches!(kind, "pairs" | "joined" | "beside") {
         return Ok(());
     }
-    let path = format!(in rt.alloc(); "{name}.rows")?;
-    let source = fs::read_to_string(rt, &path)?;
+    let source = source_of(rt, name)?;
     if add_decoded(files, source.strip_suffix("\n").unwrap_or(&source))? {
         Ok(())
     } else {
@@ -54,19 +56,43 @@ fn add_file(rt: &(impl AllocGlobal + Files), files: &mut String, line: &str) -> 
     }
 }
 
+/// Adds the line before a file.
+fn add_line(files: &mut String, line: &str) -> Result<(), AllocError> {
+    files.push_str("\n@file ")?;
+    files.push_str(line)?;
+    files.push('\n')
+}
+
+/// The file of rows with a name, as it is written.
+fn source_of(rt: &(impl AllocGlobal + Files), name: &str) -> io::Result<String> {
+    let path = format!(in rt.alloc(); "{name}.rows")?;
+    fs::read_to_string(rt, &path)
+}
+
 /// Prints what is at fault in the rows of these files, and how many rows each has.
 fn print_files(rt: &(impl AllocGlobal + Files + Print), files: &str) -> io::Result<()> {
     for file in files.split("\n@file ").skip(1) {
         let (line, tables) = file.split_once('\n').ok_or(ErrorKind::InvalidData)?;
         let (kind, name) = line.split_once(' ').ok_or(ErrorKind::InvalidData)?;
-        let count = match kind {
-            "pairs" => print_pairs(rt, files, name)?,
-            "joined" | "beside" => print_joined(rt, kind, files, name)?,
-            _ => print_tables(rt, kind, name, tables)?,
-        };
-        println!(rt; "{kind} {name} {count}")?;
+        let count = print_file(rt, files, kind, name, tables)?;
+        println!(rt; "{line} {count}")?;
     }
     Ok(())
+}
+
+/// Prints what is at fault in the rows of a file, and returns how many rows there are.
+fn print_file(
+    rt: &(impl AllocGlobal + Files + Print),
+    files: &str,
+    kind: &str,
+    name: &str,
+    tables: &str,
+) -> io::Result<usize> {
+    match kind {
+        "pairs" => print_pairs(rt, files, name),
+        "joined" | "beside" => print_joined(rt, kind, files, name),
+        _ => print_tables(rt, kind, name, tables),
+    }
 }
 
 /// Prints what is at fault in the rows of these tables, and returns how many rows there are.
@@ -79,16 +105,38 @@ fn print_tables(
     let mut count: usize = 0;
     for source in tables.split("\n@table ").skip(1) {
         let table = Table::read(source).ok_or(ErrorKind::InvalidData)?;
-        let rows = rows_of(rt.alloc(), table)?.ok_or(ErrorKind::InvalidData)?;
-        for way in table.ways.split(' ') {
-            print_rows(rt, kind, file, table, way, &rows)?;
-            if kind == "pages" {
-                print_apart(rt, way, &rows, &rows)?;
-            }
-        }
-        count = count.saturating_add(rows.len());
+        count = count.saturating_add(print_table(rt, kind, file, table)?);
     }
     Ok(count)
+}
+
+/// Prints what is at fault in the rows of a table, and returns how many rows there are.
+fn print_table(
+    rt: &(impl AllocGlobal + Files + Print),
+    kind: &str,
+    file: &str,
+    table: Table<'_>,
+) -> io::Result<usize> {
+    let rows = rows_of(rt.alloc(), table)?;
+    print_ways(rt, kind, file, table, &rows)?;
+    Ok(rows.len())
+}
+
+/// Prints what is at fault in these rows, if they are tried in each way of their table.
+fn print_ways(
+    rt: &(impl AllocGlobal + Files + Print),
+    kind: &str,
+    file: &str,
+    table: Table<'_>,
+    rows: &[Row<'_>],
+) -> io::Result<()> {
+    for way in table.ways.split(' ') {
+        print_rows(rt, kind, file, table.name, way, rows)?;
+        if kind == "pages" {
+            print_apart(rt, way, rows, rows)?;
+        }
+    }
+    Ok(())
 }
 
 /// Prints what is at fault in these rows, if they are tried in a way.
@@ -96,18 +144,26 @@ fn print_rows(
     rt: &(impl AllocGlobal + Files + Print),
     kind: &str,
     file: &str,
-    table: Table<'_>,
+    table: &str,
     way: &str,
     rows: &[Row<'_>],
 ) -> io::Result<()> {
     for (place, row) in rows.iter().enumerate() {
-        if let Some(fault) = fault_of(rt, kind, table.name, way, *row)? {
+        let verdict = verdict_of(rt, kind, table, way, *row);
+        if !matches!(verdict, Verdict::Right) {
             let number = place.saturating_add(1);
-            println!(rt;
-                "{file} {} by {way}, row {number}, {:?}: {fault}",
-                table.name, row.text
-            )?;
+            print!(rt; "{file} {table} by {way}, row {number}, {:?}: ", row.text)?;
+            print_verdict(rt, row.wanted, &verdict)?;
         }
     }
     Ok(())
+}
+
+/// Prints what is wrong with a row of which this is wanted.
+fn print_verdict(rt: &impl Print, wanted: &str, verdict: &Verdict) -> io::Result<()> {
+    match verdict {
+        Verdict::Right => Ok(()),
+        Verdict::Wrong(words) => println!(rt; "{words}"),
+        Verdict::Other(found) => println!(rt; "wanted {wanted:?}, found {found:?}"),
+    }
 }

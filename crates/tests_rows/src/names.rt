@@ -1,25 +1,19 @@
 //! Names of character references, of a caller or from a text.
-use crate::fault::{difference, said};
+use crate::pages::is_written_by_bytes;
 use crate::rows::Row;
-use markdown::{
-    Message, Options, Rows, RowsError, RunError, Tables, Watched, fits, run, to_html_with_tables,
-};
-use std::alloc::{AllocError, Global};
-use tests_helpers::Short;
+use crate::verdict::Verdict;
+use markdown::{Message, Options, Rows, Tables, fits, to_html_with_tables};
+use std::alloc::Global;
 use tests_options::Names;
 
-/// What is wrong with a text by the names of a caller, or by those that are read from a text: its page, or the fault of the names.
-pub(crate) fn fault_of(
-    alloc: Global,
-    way: &str,
-    row: Row<'_>,
-) -> Result<Option<String>, AllocError> {
+/// What a text comes to by the names of a caller, or by those that are read from a text: its page, or the fault of the names.
+pub(crate) fn verdict_of(alloc: Global, way: &str, row: Row<'_>) -> Verdict {
     match way {
-        "Caller" => difference(alloc, &page_by(alloc, row.text, &Names), row.wanted),
-        "Faults" => fault_of_names(alloc, row),
+        "Caller" => Verdict::compared(page_by(alloc, row.text, &Names), row.wanted),
+        "Faults" => verdict_of_names(alloc, row),
         _ => match row.text.split_once("\n@with\n") {
-            Some((names, text)) => fault_by_names(alloc, names, text, row.wanted),
-            None => said(alloc, "no names"),
+            Some((names, text)) => verdict_by_names(alloc, names, text, row.wanted),
+            None => Verdict::Wrong("no names"),
         },
     }
 }
@@ -32,43 +26,27 @@ fn page_by<T: Tables>(alloc: Global, text: &str, tables: &T) -> Result<String, M
     to_html_with_tables(alloc, text, &Options::default(), tables)
 }
 
-/// What is wrong with the fault of a text that should be no names.
-fn fault_of_names(alloc: Global, row: Row<'_>) -> Result<Option<String>, AllocError> {
+/// What a text comes to that should be no names, by their fault.
+fn verdict_of_names(alloc: Global, row: Row<'_>) -> Verdict {
     match Rows::read(alloc, row.text) {
-        Ok(_) => said(alloc, "names without a fault"),
-        Err(fault) => {
-            let found: Result<String, RowsError> = Ok(format!(in alloc; "{fault:?}")?);
-            difference(alloc, &found, row.wanted)
-        }
+        Ok(_) => Verdict::Wrong("names without a fault"),
+        Err(fault) => Verdict::compared(format!(in alloc; "{fault:?}"), row.wanted),
     }
 }
 
-/// What is wrong with a text by the names of another, as its page is returned, and as it is written, where each call moves a byte.
-fn fault_by_names(
-    alloc: Global,
-    names: &str,
-    text: &str,
-    wanted: &str,
-) -> Result<Option<String>, AllocError> {
-    let Ok(rows) = Rows::read(alloc, names) else {
-        return said(alloc, "a fault of the names");
-    };
-    if !matches!(is_written(alloc, &rows, text, wanted), Ok(true)) {
-        return said(alloc, "what `run` writes");
+/// What a text comes to by the names of another, as its page is returned, and as it is written, where each call moves a byte.
+fn verdict_by_names(alloc: Global, names: &str, text: &str, wanted: &str) -> Verdict {
+    match Rows::read(alloc, names) {
+        Ok(rows) => verdict_by_rows(alloc, &rows, text, wanted),
+        Err(_) => Verdict::Wrong("a fault of the names"),
     }
-    difference(alloc, &page_by(alloc, text, &rows), wanted)
 }
 
-/// Whether a text has this page as it is written, where each call moves a byte.
-fn is_written(
-    alloc: Global,
-    rows: &Rows<Global>,
-    text: &str,
-    wanted: &str,
-) -> Result<bool, RunError> {
-    let mut reader = Watched::new(Short::new(text.as_bytes(), 1, 100));
-    let mut writer = Watched::new(Short::new(Vec::new(alloc), 1, 100));
-    run(alloc, &mut reader, &mut writer, &Options::default(), rows)?;
-    let out = writer.into_inner().into_inner();
-    Ok(out.as_slice() == wanted.as_bytes())
+/// What a text comes to by names, as its page is returned, and as it is written, where each call moves a byte.
+fn verdict_by_rows(alloc: Global, rows: &Rows<Global>, text: &str, wanted: &str) -> Verdict {
+    if is_written_by_bytes(alloc, text, wanted, &Options::default(), rows) {
+        Verdict::compared(page_by(alloc, text, rows), wanted)
+    } else {
+        Verdict::Wrong("what `run` writes")
+    }
 }

@@ -1,48 +1,35 @@
 //! Texts and their pages.
 ghost use Rattle.markdown_options.specs.Mdx.{HasNoMdx};
 
-use crate::fault::{difference, said};
+use crate::changed::first_unstable;
 use crate::rows::Row;
-use crate::{formatted, mended};
-use markdown::{Builtin, RunError, Watched, fits, run, to_html_with_options};
+use crate::verdict::{Verdict, holds};
+use markdown::{Builtin, Tables, Watched, fits, run, to_html_with_options};
 use markdown_by_events::to_html_by_events;
 use markdown_options::{Message, Options};
 use parse_events::SIZE_MAX;
-use std::alloc::{AllocError, Global};
+use std::alloc::Global;
 use tests_event_helpers::wrong_of;
 use tests_helpers::{Short, broken_law, is_lawful, is_right, runs_to};
 use tests_options::OptionSet;
 
-/// What is wrong with a text and its page, if something is.
-pub(crate) fn fault_of(
-    alloc: Global,
-    set: OptionSet,
-    row: Row<'_>,
-) -> Result<Option<String>, AllocError> {
-    let options = set.options(alloc);
-    if let Some(fault) = difference(alloc, &page_of(alloc, row.text, &options), row.wanted)? {
-        return Ok(Some(fault));
-    }
-    match first_fault(alloc, row, &options).or(first_fault_by_laws(alloc, set, row)) {
-        None => Ok(None),
-        Some(fault) => said(alloc, fault),
+/// What a text and its page come to.
+pub(crate) fn verdict_of(alloc: Global, set: OptionSet, row: Row<'_>, options: &Options) -> Verdict
+    requires { HasNoMdx options.now }
+{
+    match Verdict::compared(page_of(alloc, row.text, options), row.wanted) {
+        Verdict::Right => Verdict::of_words(first_fault(alloc, set, row, options)),
+        other => other,
     }
 }
 
-/// What is wrong with an example of a standard, if something is.
-pub(crate) fn fault_of_example(
-    alloc: Global,
-    row: Row<'_>,
-    options: &Options,
-) -> Result<Option<String>, AllocError>
+/// What an example of a standard comes to.
+pub(crate) fn verdict_of_example(alloc: Global, row: Row<'_>, options: &Options) -> Verdict
     requires { HasNoMdx options.now }
 {
-    if let Some(fault) = difference(alloc, &page_of(alloc, row.text, options), row.wanted)? {
-        return Ok(Some(fault));
-    }
-    match first_fault_of_example(alloc, row, options) {
-        None => Ok(None),
-        Some(fault) => said(alloc, fault),
+    match Verdict::compared(page_of(alloc, row.text, options), row.wanted) {
+        Verdict::Right => Verdict::of_words(first_fault_of_example(alloc, row, options)),
+        other => other,
     }
 }
 
@@ -57,23 +44,32 @@ fn page_of(alloc: Global, text: &str, options: &Options) -> Result<String, Messa
 }
 
 /// The first way in which a text and its page are wrong.
-fn first_fault(alloc: Global, row: Row<'_>, options: &Options) -> Option<&'static str>
+fn first_fault(
+    alloc: Global,
+    set: OptionSet,
+    row: Row<'_>,
+    options: &Options,
+) -> Option<&'static str>
     requires { HasNoMdx options.now }
 {
-    if !matches!(is_right(alloc, row.text, row.wanted, options), Ok(true)) {
-        return Some("memory, a device, safety or a law of pages");
+    if !holds(is_right(alloc, row.text, row.wanted, options)) {
+        Some("memory, a device, safety or a law of pages")
+    } else if !is_written_by_bytes(alloc, row.text, row.wanted, options, &Builtin) {
+        Some("a byte a call")
+    } else if !holds(is_lawful(alloc, row.text, set.options(alloc))) {
+        Some("a law of pages without footnotes and frontmatter")
+    } else if !holds(is_lawful(alloc, row.text, Options::gfm())) {
+        Some("a law of pages without footnotes and frontmatter, by the options of GitHub")
+    } else {
+        fault_in_other_forms(alloc, row, options)
     }
-    if !matches!(is_right_by_bytes(alloc, row, options), Ok(true)) {
-        return Some("a byte a call");
-    }
-    fault_in_other_forms(alloc, row, options)
 }
 
 /// The first way in which an example is wrong.
 fn first_fault_of_example(alloc: Global, row: Row<'_>, options: &Options) -> Option<&'static str>
     requires { HasNoMdx options.now }
 {
-    if !matches!(runs_to(alloc, row.text, row.wanted, options), Ok(true)) {
+    if !holds(runs_to(alloc, row.text, row.wanted, options)) {
         return Some("what `run` writes");
     }
     match broken_law(alloc, row.text, options) {
@@ -88,28 +84,11 @@ fn fault_in_other_forms(alloc: Global, row: Row<'_>, options: &Options) -> Optio
     requires { HasNoMdx options.now }
 {
     if !prints_by_events(alloc, row, options) {
-        return Some("the page by way of the events");
-    }
-    if !matches!(wrong_of(alloc, row.text, options), Ok(None)) {
-        return Some("the events");
-    }
-    if !formatted::is_stable_in_all_ways(alloc, row.text) {
-        return Some("formatted twice");
-    }
-    if !mended::is_stable_in_all_ways(alloc, row.text) {
-        return Some("mended twice");
-    }
-    None
-}
-
-/// What is wrong with a text by the laws of pages, if footnotes and frontmatter are off, by these options or those of GitHub.
-fn first_fault_by_laws(alloc: Global, set: OptionSet, row: Row<'_>) -> Option<&'static str> {
-    let own = is_lawful(alloc, row.text, set.options(alloc));
-    let gfm = is_lawful(alloc, row.text, Options::gfm());
-    if matches!((own, gfm), (Ok(true), Ok(true))) {
-        None
+        Some("the page by way of the events")
+    } else if !matches!(wrong_of(alloc, row.text, options), Ok(None)) {
+        Some("the events")
     } else {
-        Some("a law of pages without footnotes and frontmatter")
+        first_unstable(alloc, row.text)
     }
 }
 
@@ -126,13 +105,19 @@ fn prints_by_events(alloc: Global, row: Row<'_>, options: &Options) -> bool
     }
 }
 
-/// Whether a text has its page where each call reads a byte, or writes one.
-fn is_right_by_bytes(alloc: Global, row: Row<'_>, options: &Options) -> Result<bool, RunError>
+/// Whether a text has this page by tables where each call reads a byte, or writes one.
+pub(crate) fn is_written_by_bytes<T: Tables>(
+    alloc: Global,
+    text: &str,
+    wanted: &str,
+    options: &Options,
+    tables: &T,
+) -> bool
     requires { HasNoMdx options.now }
 {
-    let mut reader = Watched::new(Short::new(row.text.as_bytes(), 1, 10_000));
+    let mut reader = Watched::new(Short::new(text.as_bytes(), 1, 10_000));
     let mut writer = Watched::new(Short::new(Vec::new(alloc), 1, 10_000));
-    run(alloc, &mut reader, &mut writer, options, &Builtin)?;
+    let result = run(alloc, &mut reader, &mut writer, options, tables);
     let out = writer.into_inner().into_inner();
-    Ok(out.as_slice() == row.wanted.as_bytes())
+    result.is_ok() && out.as_slice() == wanted.as_bytes()
 }

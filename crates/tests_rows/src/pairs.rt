@@ -1,8 +1,8 @@
 //! Texts of all pages that follow each other: their page, and the one by way of their events.
 ghost use Rattle.markdown_options.specs.Mdx.{HasNoMdx};
 
-use crate::joined::rows_in;
-use crate::rows::Row;
+use crate::joined::joined;
+use crate::rows::{Row, rows_in};
 use markdown_options::{Message, Options};
 use std::alloc::Global;
 use std::io::{self, ErrorKind};
@@ -36,23 +36,45 @@ pub(crate) fn print_pairs(
     let set = OptionSet::named(name).ok_or(ErrorKind::InvalidData)?;
     let rows = rows_in(rt.alloc(), files, &["pages", "examples"], "")?;
     let options = set.options(rt.alloc());
+    print_pairs_by(rt, name, &options, &rows)?;
+    Ok(rows.len())
+}
+
+/// Prints which texts of these rows have another page by way of their events if one follows the other, by options, which have a
+/// name.
+fn print_pairs_by(
+    rt: &(impl AllocGlobal + Print),
+    name: &str,
+    options: &Options,
+    rows: &[Row<'_>],
+) -> io::Result<()>
+    requires { HasNoMdx options.now }
+{
     for (step, between) in STEPS {
         for (place, row) in rows.iter().enumerate() {
-            let first = row.text;
-            let second = second_of(&rows, place, *step);
-            let wrong = wrong_pair(rt.alloc(), first, between, second, &options);
+            let second = second_of(rows, place, *step);
+            let wrong = wrong_pair(rt.alloc(), row.text, between, second, options);
             if !matches!(wrong, Ok(None)) {
-                println!(rt; "pairs by {name}, {first:?}, {between:?}, {second:?}: {wrong:?}")?;
+                println!(rt;
+                    "pairs by {name}, {:?}, {between:?}, {second:?}: {wrong:?}",
+                    row.text
+                )?;
             }
         }
     }
-    Ok(rows.len())
+    Ok(())
 }
 
 /// The text so far behind one in the list of all texts, whose end its start follows.
 fn second_of<'a>(rows: &[Row<'a>], place: usize, step: usize) -> &'a str {
-    let next = place.saturating_add(step) % rows.len().max(1);
-    rows.get(next).map_or("", |row| row.text)
+    let size = rows.len();
+    if size == 0 {
+        return "";
+    }
+    match rows.get(place.saturating_add(step) % size) {
+        Some(row) => row.text,
+        None => "",
+    }
 }
 
 /// What is wrong with the events of a text with another after it, and something between.
@@ -65,8 +87,6 @@ fn wrong_pair(
 ) -> Result<Option<Wrong>, Message>
     requires { HasNoMdx options.now }
 {
-    let mut text = String::from_str(alloc, first)?;
-    text.push_str(between)?;
-    text.push_str(second)?;
+    let text = joined(alloc, first, between, second)?;
     wrong_of(alloc, &text, options)
 }

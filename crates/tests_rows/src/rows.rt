@@ -1,5 +1,6 @@
 //! Rows as they are written in files.
 use std::alloc::{AllocError, Global};
+use std::io::{self, ErrorKind};
 
 /// A table of a file.
 #[derive(Clone, Copy)]
@@ -39,19 +40,57 @@ impl<'a> Row<'a> {
     }
 }
 
-/// The rows of a table, or none if one of them has no lines.
-pub(crate) fn rows_of<'a>(
-    alloc: Global,
-    table: Table<'a>,
-) -> Result<Option<Vec<Row<'a>>>, AllocError> {
+/// The rows of a table. Fails if one of them has no lines.
+pub(crate) fn rows_of<'a>(alloc: Global, table: Table<'a>) -> io::Result<Vec<Row<'a>>> {
     let mut rows = Vec::new(alloc);
     for source in table.rest.split("\n@row").skip(1) {
-        let Some(row) = Row::read(source) else {
-            return Ok(None);
-        };
+        let row = Row::read(source).ok_or(ErrorKind::InvalidData)?;
         rows.push(row)?;
     }
-    Ok(Some(rows))
+    Ok(rows)
+}
+
+/// The rows of those files that have one of these kinds and, if there are names, one of these.
+pub(crate) fn rows_in<'a>(
+    alloc: Global,
+    files: &'a str,
+    kinds: &[&str],
+    names: &str,
+) -> Result<Vec<Row<'a>>, AllocError> {
+    let mut rows = Vec::new(alloc);
+    for file in files.split("\n@file ").skip(1) {
+        if is_one_of(file, kinds, names) {
+            add_rows(&mut rows, file)?;
+        }
+    }
+    Ok(rows)
+}
+
+/// Whether a file has one of these kinds and, if there are names, one of these.
+fn is_one_of(file: &str, kinds: &[&str], names: &str) -> bool {
+    let (line, _) = file.split_once('\n').unwrap_or((file, ""));
+    let (kind, name) = line.split_once(' ').unwrap_or((line, ""));
+    kinds.contains(&kind) && (names.is_empty() || has_word(names, name))
+}
+
+/// Whether words, with a space between, have this one.
+fn has_word(words: &str, word: &str) -> bool {
+    for it in words.split(' ') {
+        if it == word {
+            return true;
+        }
+    }
+    false
+}
+
+/// Adds the rows of a file.
+fn add_rows<'a>(rows: &mut Vec<Row<'a>>, file: &'a str) -> Result<(), AllocError> {
+    for source in file.split("\n@row").skip(1) {
+        if let Some(row) = Row::read(source) {
+            rows.push(row)?;
+        }
+    }
+    Ok(())
 }
 
 /// The picture of ESC, which begins the number of a character.

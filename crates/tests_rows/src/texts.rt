@@ -1,8 +1,8 @@
 //! Texts whose events must be right.
 ghost use Rattle.markdown_options.specs.Mdx.{HasNoMdx};
 
-use crate::fault::said;
 use crate::rows::Row;
+use crate::verdict::Verdict;
 use markdown_options::{Message, Options};
 use std::alloc::{AllocError, Global};
 use tests_event_helpers::{Wrong, wrong_of};
@@ -16,38 +16,45 @@ const VARIANTS: &[(&str, &str)] = &[
     ("\u{FEFF}", "\r\n"),
 ];
 
-/// What is wrong with the events of a text, as it is and after a byte order mark, with each of the line endings.
-pub(crate) fn fault_of(
-    alloc: Global,
-    row: Row<'_>,
-    options: &Options,
-) -> Result<Option<String>, AllocError>
-    requires { HasNoMdx options.now }
-{
-    match wrong_variant(alloc, row.text, options) {
-        Ok(None) => Ok(None),
-        Ok(Some(wrong)) => Ok(Some(format!(in alloc; "wrong events: {wrong:?}")?)),
-        Err(_) => said(alloc, "an error"),
-    }
-}
-
-/// What is wrong with the events of a text, or of one of its variants.
-fn wrong_variant(alloc: Global, text: &str, options: &Options) -> Result<Option<Wrong>, Message>
+/// What a text comes to by its events, as it is and after a byte order mark, with each of the line endings.
+pub(crate) fn verdict_of(alloc: Global, row: Row<'_>, options: &Options) -> Verdict
     requires { HasNoMdx options.now }
 {
     for (front, ending) in VARIANTS {
-        let changed = variant(alloc, front, ending, text)?;
-        let wrong = wrong_of(alloc, &changed, options)?;
-        if wrong.is_some() {
-            return Ok(wrong);
+        match wrong_variant(alloc, front, ending, row.text, options) {
+            Ok(None) => {}
+            Ok(Some(wrong)) => {
+                return Verdict::compared(format!(in alloc; "wrong events: {wrong:?}"), "");
+            }
+            Err(_) => return Verdict::Wrong("an error"),
         }
     }
-    Ok(None)
+    Verdict::Right
 }
 
-/// A text after another, with an ending in place of each LF.
-fn variant(alloc: Global, front: &str, ending: &str, text: &str) -> Result<String, AllocError> {
-    let mut changed = String::from_str(alloc, front)?;
+/// What is wrong with the events of a text after another, with an ending in place of each LF.
+fn wrong_variant(
+    alloc: Global,
+    front: &str,
+    ending: &str,
+    text: &str,
+    options: &Options,
+) -> Result<Option<Wrong>, Message>
+    requires { HasNoMdx options.now }
+{
+    let mut changed = String::new(alloc);
+    push_variant(&mut changed, front, ending, text)?;
+    wrong_of(alloc, &changed, options)
+}
+
+/// Appends a text after another, with an ending in place of each LF.
+fn push_variant(
+    changed: &mut String,
+    front: &str,
+    ending: &str,
+    text: &str,
+) -> Result<(), AllocError> {
+    changed.push_str(front)?;
     for character in text.chars() {
         if character == '\n' {
             changed.push_str(ending)?;
@@ -55,5 +62,5 @@ fn variant(alloc: Global, front: &str, ending: &str, text: &str) -> Result<Strin
             changed.push(character)?;
         }
     }
-    Ok(changed)
+    Ok(())
 }
