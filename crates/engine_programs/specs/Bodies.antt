@@ -44,9 +44,9 @@ abbrev pub has : (ℕ → Bool) → Option ℕ → Bool
 has p None = false
 has p (Some b) = p b
 
--- What a state does. `Keep` changes what states keep but for the six names, of which `Hold` changes one. `EnterLink` may begin a chunk that is read later.
--- `Byte` goes on at the text's end or at a byte, `On` at one of some bytes or elsewhere, `AfterFeed` right after a line ending or elsewhere. `Tries` makes an
--- attempt, or looks ahead, and is the last call.
+-- What a state does. `Keep` changes what states keep but for the six names, of which `Hold` changes one. `Move` changes the machine alone. `EnterLink` may
+-- begin a chunk that is read later. `Byte` goes on at the text's end or at a byte, `On` at one of some bytes or elsewhere, `AfterFeed` right after a line
+-- ending or elsewhere. `Tries` makes an attempt, or looks ahead, and is the last call.
 pub data Body (M : Type 0) : Type 0 where
   Answer : State → Body M
   Consume : Body M → Body M
@@ -56,6 +56,7 @@ pub data Body (M : Type 0) : Type 0 where
   Keep : (f : Config M → KeptState) → ((c : Config M) (i : ℕ) → held_name (f c) i ≡ held_name c.tokenize_state i) → Body M → Body M
   Hold : ℕ → EventName → Body M → Body M
   Flag : (Config M → Flags) → Body M → Body M
+  Move : (Config M → M) → Body M → Body M
   Register : Resolver → Body M → Body M
   RegisterFirst : Resolver → Body M → Body M
   Tries : Bool → State → State → State → Body M
@@ -78,6 +79,9 @@ module _ {M : Type 0} where
   abbrev pub flagging : (Config M → Flags) → Config M → Config M
   flagging f c = record c { interrupt = (f c).interrupt; lazy = (f c).lazy; concrete = (f c).concrete; pierce = (f c).pierce }
 
+  abbrev pub moving : (Config M → M) → Config M → Config M
+  moving f c = record c { machine = f c }
+
   abbrev pub run : Body M → Config M → Effect M
   run (Answer s) c = record { config = c; pushed = []; state = s }
   run (Consume b) c = run b (past_byte c)
@@ -87,6 +91,7 @@ module _ {M : Type 0} where
   run (Keep f same b) c = run b (keeping f c)
   run (Hold i name b) c = run b (holding i name c)
   run (Flag f b) c = run b (flagging f c)
+  run (Move f b) c = run b (moving f c)
   run (Register r b) c = run b (to_run_last r c)
   run (RegisterFirst r b) c = run b (to_run_first r c)
   run (Tries check ok nok s) c = record { config = c; pushed = frame_at check ok nok c ∷ []; state = s }
