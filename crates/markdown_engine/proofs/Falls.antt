@@ -4,7 +4,7 @@ use Rattle.std.proofs.Common.{subst, arith, Option, Some, None, ◌⊎◌, inl, 
 use Rattle.markdown_engine.proofs.Prelude.{byte_before, cases_lt, eqb-true, is_before, IsFed, ltb-true, nat_tests, place_in, Point, Reaches, remaining, Skips}
 use Rattle.markdown_engine.proofs.Prelude.{VirtualByte}
 use Rattle.engine_events.specs.Columns.{tab_size}
-use Rattle.markdown_engine.specs.VirtualText.{virtual_byte, byte_given, tab_column, in_line, in_tab, next_line}
+use Rattle.markdown_engine.specs.VirtualText.{virtual_byte, after_byte, byte_given, tab_column, in_line, in_tab, next_line}
 use Rattle.markdown_engine.specs.VirtualText.{as_byte}
 use Rattle.markdown_engine.specs.VirtualText.{feeds}
 use Rattle.markdown_engine.specs.Laws.{IsRead}
@@ -29,9 +29,9 @@ module _ (size : ℕ) (p : Point) (low : p.index < size) where
   feed_less true = omega arith
   feed_less false = omega arith
 
-  line_less : (b : ℕ) → Less (as_byte b (in_line p))
+  line_less : (bytes : List ℕ) (b : ℕ) → Less (as_byte b (after_byte bytes p))
   unfolding Less
-  line_less b = omega arith
+  line_less bytes b = omega arith
 
   in_reach : (t u : Bool) → t || u ≡ false → u ≡ false
   in_reach true u e = absurd (let f : true ≡ false = e in cc)
@@ -43,14 +43,14 @@ module _ (size : ℕ) (p : Point) (low : p.index < size) where
   given_less : (bytes : List ℕ) (b : ℕ) → Less (byte_given bytes p b)
   given_less bytes b =
       by_test (b == 9) (tab_column p) (if b == 10 then as_byte 10 (next_line 1 p) else if b == 13
-      then as_byte 10 (next_line (if feeds bytes (p.index + 1) then 2 else 1) p) else as_byte b (in_line p))
+      then as_byte 10 (next_line (if feeds bytes (p.index + 1) then 2 else 1) p) else as_byte b (after_byte bytes p))
       (λ _. tab_less (if p.vs == 0 then 9 else 32) ((tab_size p.column == 1) || nat_le 3 p.vs)
       (λ e. below_three (in_reach (tab_size p.column == 1) (nat_le 3 p.vs) e)))
       (λ _. by_test (b == 10) (as_byte 10 (next_line 1 p)) (if b == 13 then as_byte 10 (next_line (if feeds bytes (p.index + 1) then 2 else 1) p)
-      else as_byte b (in_line p))
+      else as_byte b (after_byte bytes p))
       (λ _. feed_less false)
-      (λ _. by_test (b == 13) (as_byte 10 (next_line (if feeds bytes (p.index + 1) then 2 else 1) p)) (as_byte b (in_line p))
-      (λ _. feed_less (feeds bytes (p.index + 1))) (λ _. line_less b)))
+      (λ _. by_test (b == 13) (as_byte 10 (next_line (if feeds bytes (p.index + 1) then 2 else 1) p)) (as_byte b (after_byte bytes p))
+      (λ _. feed_less (feeds bytes (p.index + 1))) (λ _. line_less bytes b)))
 
   pub given_falls : (bytes : List ℕ) (b : ℕ) → remaining size (byte_given bytes p b).next < remaining size p
   unfolding Less
@@ -74,18 +74,18 @@ module _ (p : Point) where
   feed_later true = record { index = omega arith; column = λ e. omega arith }
   feed_later false = record { index = omega arith; column = λ e. omega arith }
 
-  line_later : (b : ℕ) → Later (as_byte b (in_line p))
+  line_later : (bytes : List ℕ) (b : ℕ) → Later (as_byte b (after_byte bytes p))
   unfolding Later
-  line_later b = record { index = omega arith; column = λ e. omega arith }
+  line_later bytes b = record { index = omega arith; column = λ e. omega arith }
 
   given_later : (bytes : List ℕ) (b : ℕ) → Later (byte_given bytes p b)
   given_later bytes b =
-      let line = as_byte b (in_line p) in
+      let line = as_byte b (after_byte bytes p) in
       let return = as_byte 10 (next_line (if feeds bytes (p.index + 1) then 2 else 1) p) in
       later_test (b == 9) (tab_column p) (if b == 10 then as_byte 10 (next_line 1 p) else if b == 13 then return else line)
       (tab_later (if p.vs == 0 then 9 else 32) ((tab_size p.column == 1) || nat_le 3 p.vs))
       (later_test (b == 10) (as_byte 10 (next_line 1 p)) (if b == 13 then return else line) (feed_later false)
-      (later_test (b == 13) return line (feed_later (feeds bytes (p.index + 1))) (line_later b)))
+      (later_test (b == 13) return line (feed_later (feeds bytes (p.index + 1))) (line_later bytes b)))
 
   -- the place after a byte is after it
   pub step_reaches : (bytes : List ℕ) → Reaches p (virtual_byte bytes p).next

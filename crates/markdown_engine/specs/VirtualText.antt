@@ -1,21 +1,31 @@
 -- The text as the states see it (CommonMark 2.1 and 2.2): a tab gives itself and then spaces up to the next tab stop, a line ending gives one line feed, and a
--- line may be read from a later place than its start.
+-- line may be read from a later place than its start. A byte order mark at the text's start gives its bytes, and has no columns.
 use Rattle.std.specs.Prelude.{◌≡◌, ℕ, ◌+◌, ◌-◌, ◌^◌, ◌≤◌, length, zero, suc, min, Bool, true, false, not, ◌==◌, ◌&&◌, ◌||◌, nat_lt, nat_le, if◌then◌else◌, List}
 use Rattle.std.specs.Prelude.{[], slice_get, slice_index, Option, None, Some}
 use Rattle.std.specs.Ordering.{nat_cmp}
 use Rattle.std.specs.BTreeMap.{is_at, insert_entry}
 use Rattle.std.specs.Map.{lookup}
 use Rattle.engine_events.specs.declared.place.Point.{Point}
-use Rattle.engine_events.specs.Columns.{tab_size}
+use Rattle.engine_events.specs.Columns.{mark_size, tab_size}
 use Rattle.markdown_engine.specs.declared.virtual_text.VirtualByte.{VirtualByte}
 
 -- one more, up to the most that a number of the program holds
 abbrev pub one_more : ℕ → ℕ
 one_more n = min (n + 1) (2 ^ 64 - 1)
 
--- the place after a byte of a line
+-- the place after the last column of a tab
 abbrev pub in_line : Point → Point
 in_line p = let q : Point = record { line = p.line; column = one_more p.column; index = p.index + 1; vs = 0 } in q
+
+-- whether an index is in a byte order mark at the text's start
+abbrev pub is_in_mark : List ℕ → ℕ → Bool
+is_in_mark bytes index = nat_lt index (mark_size bytes)
+
+-- the place after a byte of a line that is no tab; the bytes of a byte order mark have no columns
+abbrev pub after_byte : List ℕ → Point → Point
+after_byte bytes p =
+    let column = if is_in_mark bytes p.index then p.column else one_more p.column in
+    let q : Point = record { line = p.line; column = column; index = p.index + 1; vs = 0 } in q
 
 -- the place after a line ending of so many bytes
 abbrev pub next_line : ℕ → Point → Point
@@ -46,7 +56,7 @@ byte_given bytes p b =
     if b == 9 then tab_column p
     else if b == 10 then as_byte 10 (next_line 1 p)
     else if b == 13 then as_byte 10 (next_line (if feeds bytes (p.index + 1) then 2 else 1) p)
-    else as_byte b (in_line p)
+    else as_byte b (after_byte bytes p)
 
 -- the byte of the virtual text at a place
 abbrev pub virtual_byte : List ℕ → Point → VirtualByte

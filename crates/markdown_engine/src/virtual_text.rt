@@ -2,9 +2,10 @@
 //!
 //! A tab gives itself and then spaces up to the next tab stop (CommonMark 2.2). CR LF, CR and LF
 //! each give one line feed (CommonMark 2.1). A line may be read from a later place than its start.
+//! A byte order mark at the text's start gives its bytes, and has no columns.
 ghost use Rattle.std.specs.Prelude.{◌≡◌, ◌<◌, ◌≤◌, ◌+◌, ◌-◌, ◌^◌, length};
 ghost use Rattle.markdown_engine.specs.VirtualText.{IsCut, virtual_byte, tab_column, is_before, feeds, in_line, next_line, ends_before};
-ghost use Rattle.markdown_engine.specs.VirtualText.{line_start, place_in, start_of_line, Walks};
+ghost use Rattle.markdown_engine.specs.VirtualText.{after_byte, is_in_mark, line_start, place_in, start_of_line, Walks};
 ghost use Rattle.markdown_engine.specs.Laws.{remaining};
 ghost use Rattle.markdown_engine.specs.Order.{Reaches};
 
@@ -13,6 +14,9 @@ use engine_events::place::tab_size;
 use markdown_options::constants::TAB_SIZE;
 use std::alloc::Allocator;
 use std::collections::BTreeMap;
+
+/// The size of a byte order mark.
+const MARK_SIZE: usize = 3;
 
 /// A byte of the virtual text, and the place after it.
 #[derive(Clone, Copy, Debug, PartialEq, Eq)]
@@ -38,7 +42,7 @@ pub fn virtual_byte(bytes: &[u8], point: Point) -> VirtualByte
         },
         byte => VirtualByte {
             byte,
-            next: in_line(point),
+            next: after_byte(bytes, point),
         },
     }
 }
@@ -62,7 +66,7 @@ fn tab_column(point: Point) -> VirtualByte
     VirtualByte { byte, next }
 }
 
-/// The place after a byte of a line.
+/// The place after the last column of a tab.
 fn in_line(point: Point) -> Point
     requires { point.index < 2 ^ 64 - 1 }
     ensures { result ≡ in_line point }
@@ -73,6 +77,31 @@ fn in_line(point: Point) -> Point
         index: point.index + 1,
         vs: 0,
     }
+}
+
+/// The place after a byte of a line that is no tab.
+fn after_byte(bytes: &[u8], point: Point) -> Point
+    requires { point.index < 2 ^ 64 - 1 }
+    ensures { result ≡ after_byte bytes.now point }
+{
+    let column = if is_in_mark(bytes, point.index) {
+        point.column
+    } else {
+        point.column.saturating_add(1)
+    };
+    Point {
+        line: point.line,
+        column,
+        index: point.index + 1,
+        vs: 0,
+    }
+}
+
+/// Whether an index is in a byte order mark at the text's start.
+fn is_in_mark(bytes: &[u8], index: usize) -> bool
+    ensures { result ≡ is_in_mark bytes.now index }
+{
+    index < MARK_SIZE && matches!(bytes, [0xEF, 0xBB, 0xBF, ..])
 }
 
 /// The place after a line ending of so many bytes.

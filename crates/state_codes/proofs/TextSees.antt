@@ -10,7 +10,7 @@ use Rattle.definition_text.specs.Content.{after_return_code, content_codes}
 use Rattle.engine_events.specs.Columns.{tab_size}
 use Rattle.engine_events.specs.declared.place.Point.{Point}
 use Rattle.markdown_engine.specs.declared.virtual_text.VirtualByte.{VirtualByte}
-use Rattle.markdown_engine.specs.VirtualText.{as_byte, feeds, byte_given, in_line, in_tab, is_before, is_feed, next_line, one_more}
+use Rattle.markdown_engine.specs.VirtualText.{after_byte, as_byte, feeds, byte_given, in_line, in_tab, is_before, is_feed, next_line, one_more}
 use Rattle.markdown_engine.specs.VirtualText.{tab_column as column_given}
 use Rattle.state_codes.specs.Codes.{Fills, Sees, byte, column, full, nothing, tab, text_byte}
 use Rattle.state_codes.specs.TextCodes.{TabCodesLaw, TextCodesLaw, columns_left, whole_text}
@@ -169,7 +169,7 @@ module _ (bytes : List ℕ) where
 
   -- another byte than a tab and a CR
   plain_given : (p : Point) (b : ℕ) (is : Bool) → (b == 9) ≡ false → (b == 13) ≡ false → (b == 10) ≡ is
-      → byte_given bytes p b ≡ as_byte b (if is then next_line 1 p else in_line p)
+      → byte_given bytes p b ≡ as_byte b (if is then next_line 1 p else after_byte bytes p)
   plain_given p b true h k l = rw (h, l) (ap (λ (n : ℕ). as_byte n (next_line 1 p)) (sym (eqb-true b 10 l)))
   plain_given p b false h k l = rw (h, l, k) refl
 
@@ -186,10 +186,10 @@ module _ (bytes : List ℕ) where
     | inl feed ↦ byte no_tab (byte_there p (as_byte (text_byte b) (next_line 1 p)) h
         (ap (byte_given bytes p) e ∙ (plain_given p b true no_tab no_return feed ∙ ap (λ (n : ℕ). as_byte n (next_line 1 p)) (feed_seen b feed))))
         (rest (next_line 1 p) (omega arith) refl)
-    | inr other ↦ byte no_tab (byte_there p (as_byte (text_byte b) (in_line p)) h
+    | inr other ↦ byte no_tab (byte_there p (as_byte (text_byte b) (after_byte bytes p)) h
         (ap (byte_given bytes p) e ∙ (plain_given p b false no_tab no_return other
-        ∙ ap (λ (n : ℕ). as_byte n (in_line p)) (other_seen b other no_return low whole))))
-        (rest (in_line p) (omega arith) refl)
+        ∙ ap (λ (n : ℕ). as_byte n (after_byte bytes p)) (other_seen b other no_return low whole))))
+        (rest (after_byte bytes p) (omega arith) refl)
   ]
 
   -- a CR, with the LF that may follow it

@@ -16,13 +16,13 @@ const DATA: State = State::Next(Name::Inline(Inline::DataInside));
 
 const COUNT: Count = Count { calls: 0 };
 
-/// A text with a tab, read at once: how often the machine is called, whether nothing is left, how
-/// often it is called by the end, and the column there.
-fn count_tab(alloc: Global) -> Result<(usize, bool, usize, usize), Message> {
+/// A text that is read at once: how often the machine is called, whether nothing is left, how often
+/// it is called by the end, and the column there.
+fn count_columns(alloc: Global, bytes: &[u8]) -> Result<(usize, bool, usize, usize), Message> {
     let options = ParseOptions::default();
-    let text = ParseState::new(alloc, b"a\tb", &options, &Ascii)?;
+    let text = ParseState::new(alloc, bytes, &options, &Ascii)?;
     let mut tokenizer = Tokenizer::new(alloc, START, &text, COUNT)?;
-    let state = tokenizer.push((0, 0), (3, 0), DATA);
+    let state = tokenizer.push((0, 0), (bytes.len(), 0), DATA);
     let calls = tokenizer.machine.calls;
     let done = tokenizer.flush(state, true)?.done;
     Ok((calls, done, tokenizer.machine.calls, tokenizer.point.column))
@@ -63,12 +63,19 @@ fn count_beside_gap(alloc: Global) -> Result<usize, Message> {
 
 #[test]
 fn bytes_that_are_read(rt: HostRuntime) {
-    let tab = count_tab(rt.alloc());
+    let tab = count_columns(rt.alloc(), b"a\tb");
     assert_same(
         &rt,
         "a tab is read column by column",
         &tab,
         &Ok((5, false, 5, 6)),
+    );
+    let mark = count_columns(rt.alloc(), b"\xEF\xBB\xBF\ta");
+    assert_same(
+        &rt,
+        "a tab after a byte order mark has four columns",
+        &mark,
+        &Ok((8, false, 8, 6)),
     );
     let line = count_after_skip(rt.alloc());
     assert_same(
