@@ -13,6 +13,7 @@ use Rattle.engine_events.specs.Events.{event, point_of}
 use Rattle.engine_events.specs.Names.{same_name}
 use Rattle.markdown_engine.specs.Order.{text_start}
 use Rattle.definition_text.specs.Ascii.{tab}
+use Rattle.definition_text.specs.Lines.{without_mark}
 
 abbrev pub place_of : Option Event → Point
 place_of None = text_start
@@ -45,11 +46,15 @@ later n i = min (i + n) (2 ^ 64 - 1)
 abbrev pub column_over : ℕ → ℕ → ℕ
 column_over column b = if b == tab then later (tab_size column) column else later 1 column
 
+-- bytes at an index that have columns: not those of a byte order mark at the text's start
+abbrev pub with_columns : ℕ → List ℕ → List ℕ
+with_columns index part = if index == 0 then without_mark part else part
+
 -- the place after some bytes of a line
 abbrev pub place_past : Point → List ℕ → Point
 place_past p part = if length part == 0 then p else record {
   line = p.line;
-  column = fold column_over p.column part;
+  column = fold column_over p.column (with_columns p.index part);
   index = later (length part) p.index;
   vs = 0;
 }

@@ -3,7 +3,7 @@ ghost use Rattle.std.specs.Prelude.{◌≡◌, ◌<◌, ◌++◌, ◌-◌, ◌^�
 ghost use Rattle.std.specs.List.{fold};
 ghost use Rattle.markdown_options.specs.Messages.{IsOutOfMemory};
 ghost use Rattle.state_edits_data.specs.Each.{around, around_if, column_over, data_part, enter_event, exit_event, is_bound, is_event};
-ghost use Rattle.state_edits_data.specs.Each.{later, place_at, place_past};
+ghost use Rattle.state_edits_data.specs.Each.{later, place_at, place_past, with_columns};
 
 use engine_events::place::tab_size;
 use engine_text::bytes::part;
@@ -82,6 +82,16 @@ fn column_past(column: usize, part: &[u8]) -> usize
     column
 }
 
+/// Bytes at an index that have columns: not those of a byte order mark at the text's start.
+fn with_columns(index: usize, part: &[u8]) -> &[u8]
+    ensures { result.now ≡ with_columns index part.now }
+{
+    match part {
+        [0xEF, 0xBB, 0xBF, others @ ..] if index == 0 => others,
+        _ => part,
+    }
+}
+
 /// The place after some bytes of a line.
 pub fn place_past(point: Point, part: &[u8]) -> Point
     ensures { result ≡ place_past point part.now }
@@ -91,7 +101,7 @@ pub fn place_past(point: Point, part: &[u8]) -> Point
     }
     Point {
         line: point.line,
-        column: column_past(point.column, part),
+        column: column_past(point.column, with_columns(point.index, part)),
         index: later(part.len(), point.index),
         vs: 0,
     }
