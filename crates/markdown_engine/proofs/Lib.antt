@@ -10,6 +10,8 @@ pub mod ResolverLaws
 pub mod ChainLaws
 pub mod ChainSteps
 pub mod Total
+pub mod Halts
+pub mod Ranges
 pub mod Evaluation
 pub mod Turns
 pub mod Computing

@@ -1,6 +1,6 @@
 -- The loop of `push`.
 use Rattle.std.proofs.Common.{◌≡◌, ℕ, ◌+◌, ◌<◌, ◌≤◌, ◌++◌, [], ◌∷◌, length, map, List, Bool, true, false, refl, sym, ap, subst, ◌∙◌, arith, ◌⊎◌, inl, inr}
-use Rattle.std.proofs.Common.{Option, None, cond, is_some, not, append-nil}
+use Rattle.std.proofs.Common.{Option, None, Some, cond, is_some, not, append-nil, if◌then◌else◌}
 use Rattle.std.proofs.Common.{nat_lt, ◌==◌, ◌&&◌}
 use Rattle.markdown_engine.proofs.Prelude.{Attempt, byte_before, cases_lt, config, Config, context, Context, continuation, end_state, eq-eqb, eqb-true, Err}
 use Rattle.markdown_engine.proofs.Prelude.{feed, GoesAll, GoesOn, HasEnded, HasFlushed, Holds, HoldsAt, is_before, IsCut, IsFed, IsRefused, LawfulAt}
@@ -13,13 +13,17 @@ use Rattle.std.specs.Borrow.{Bor}
 use Rattle.markdown_options.specs.declared.message.Message.{Message}
 use Rattle.markdown_engine.specs.Reading.{with_byte, at_point}
 use Rattle.markdown_engine.specs.Machine.{AreCuts, Around, OpensRange, IsAfter}
-use Rattle.markdown_engine.specs.Machine.{Goes, HasPushed, Did}
+use Rattle.markdown_engine.specs.Machine.{Goes, HasPushed, Did, HaltsFrom, HasHalted, halt_of}
 use Rattle.markdown_engine.specs.Machine.{Shows, ReadWhole}
-use Rattle.markdown_engine.specs.Laws.{KeepsAt, FallsAt}
+use Rattle.markdown_engine.specs.Laws.{KeepsAt, FallsAt, Ranks}
+use Rattle.markdown_engine.specs.Turns.{Halt, halt_at, halted, Stops}
+use Rattle.markdown_engine.specs.VirtualText.{virtual_byte}
 use Rattle.markdown_engine.proofs.Falls.{is_fed}
+use Rattle.markdown_engine.proofs.Halts.{begins_there, halt_as, halted_at, one_later, turned_next, turned_pop, turned_retry, turns_stay}
 use Rattle.markdown_engine.proofs.Outcomes.{ends, outcome_pop, outcome_retry, outcome_next}
 use Rattle.markdown_engine.proofs.Starts.{before, before_start, skip_later}
 use Rattle.markdown_engine.proofs.Tests.{by_tests, or_right, and_both}
+use Rattle.markdown_engine.proofs.Total.{feeds_to}
 
 pub at_outcome : {M : Type 0} (text : Text) (step : Steps M) (s t : List Attempt) (c e : Config M) (x y : State) (d : Config M) (w : Bool) → s ≡ t → c ≡ e
     → x ≡ y → Outcome text step s c [] x d w → Outcome text step t e [] y d w
@@ -203,6 +207,11 @@ module _ {M V T A : Type 0} (view : M → V) (size : ℕ) (valid : HoldsAt V) (s
           | inr g ↦ inr
               (λ more limit on. goes_pop view (text_to more limit) step lawful.adds v a f t u s x y ex ey p q (g more limit on))
         ];
+        turned = elim h.turned [
+          | inl r ↦ absurd (not_ended v (at_refused x (end_state v) ex r))
+          | inr k ↦ inr (one_later step (source f) to end (halt_of view f s) (halt_of view t x) (halt_of view u y)
+              (turned_pop step (source f) to end v a (view_config view t) (view_config view u) t.attempts.items u.attempts.items x y ex ey p q) k)
+        ];
       }
 
   pub turn_retry : (n : Name) (to : ℕ × ℕ) (end : Bool) (f t u : Tokenizer M T A) (s x y : State) → x ≡ states.Retry n
@@ -211,7 +220,7 @@ module _ {M V T A : Type 0} (view : M → V) (size : ℕ) (valid : HoldsAt V) (s
       let e = step (view_config view t) n in
       let v : valid (view_config view t) t.attempts.items (states.Retry n) = is_valid to end f t s x (states.Retry n) ex (λ r. r) k in
       elim h.1 [
-        | inl r ↦ record { same = around_both f t u k.same h.0; holds = inl r; reads = inl r }
+        | inl r ↦ record { same = around_both f t u k.same h.0; holds = inl r; reads = inl r; turned = inl r }
         | inr did ↦ record {
           same = around_both f t u k.same h.0;
           holds = inr (at_valid valid e.config (view_config view u) (t.attempts.items ++ map mark e.pushed) u.attempts.items e.state y (sym did.config)
@@ -220,6 +229,15 @@ module _ {M V T A : Type 0} (view : M → V) (size : ℕ) (valid : HoldsAt V) (s
             | inl r ↦ absurd (at_refused x (states.Retry n) ex r)
             | inr g ↦ inr
                 (λ more limit on. goes_retry view (text_to more limit) step lawful.adds n f t u s x y ex did (g more limit on))
+          ];
+          turned = elim k.turned [
+            | inl r ↦ absurd (at_refused x (states.Retry n) ex r)
+            | inr l ↦ inr (one_later step (source f) to end (halt_of view f s) (halt_of view t x) (halt_of view u y)
+                (turned_retry step (source f) to end n (view_config view t) (view_config view u) t.attempts.items u.attempts.items x y ex (
+                  did.config,
+                  did.attempts,
+                  did.state,
+                )) l)
           ];
         }
       ]
@@ -231,15 +249,25 @@ module _ {M V T A : Type 0} (view : M → V) (size : ℕ) (valid : HoldsAt V) (s
       at_valid valid (with_byte (view_config view t) p b) (view_config view v) t.attempts.items v.attempts.items (states.Retry n) (states.Retry n)
       (sym given.config) (sym given.attempts) refl (lawful.keeps.fed (view_config view t) t.attempts.items n p b given.fed h)
 
+  -- what was called, by where reading was before the byte was handed in
+  did_next : (n : Name) (p : Point) (b : Option VirtualByte) {to : ℕ × ℕ} (f t v u : Tokenizer M T A) (y : State) → Handing view size to f t v p b
+      → Did view (step (view_config view v) n) v u y → let e = step (with_byte (view_config view t) p b) n in (view_config view u ≡ e.config)
+      × (u.attempts.items ≡ t.attempts.items ++ map mark e.pushed) × (y ≡ e.state)
+  did_next n p b f t v u y given did =
+      let d : Did view (step (with_byte (view_config view t) p b) n) v u y =
+      subst (λ (z : Config V). Did view (step z n) v u y) given.config did in
+      let e = step (with_byte (view_config view t) p b) n in
+      (d.config, subst (λ (z : List Attempt). u.attempts.items ≡ z ++ map mark e.pushed) given.attempts d.attempts, d.state)
+
   pub turn_next : (n : Name) (p : Point) (b : Option VirtualByte) (to : ℕ × ℕ) (end : Bool) (f t v u : Tokenizer M T A) (s x y : State)
       → Handing view size to f t v p b → x ≡ states.Next n
-      → ((more : Source) (limit : ℕ × ℕ) → GoesOn (source f) to end more limit → IsThere more limit t.point p b)
+      → ((more : Source) (limit : ℕ × ℕ) → GoesOn (source f) to end more limit → IsThere more limit t.point p b) → (b ≡ None → end ≡ true)
       → Shows view (step (view_config view v) n) v u y → Turn view valid step to end f s t x → Turn view valid step to end f s u y
-  turn_next n p b to end f t v u s x y given ex text h k =
+  turn_next n p b to end f t v u s x y given ex text stop h k =
       let e = step (view_config view v) n in
       let bs : Around f u = around_both f v u (around_both f t v k.same given.same) h.0 in
       elim h.1 [
-        | inl r ↦ record { same = bs; holds = inl r; reads = inl r }
+        | inl r ↦ record { same = bs; holds = inl r; reads = inl r; turned = inl r }
         | inr did ↦ record {
           same = bs;
           holds = inr (at_valid valid e.config (view_config view u) (v.attempts.items ++ map mark e.pushed) u.attempts.items e.state y (sym did.config)
@@ -249,6 +277,12 @@ module _ {M V T A : Type 0} (view : M → V) (size : ℕ) (valid : HoldsAt V) (s
             | inr g ↦ inr
                 (λ more limit on. goes_next view (text_to more limit) step lawful.adds n f t v u s x y ex
                 (given.config ∙ fed_as more limit (view_config view t) p b (text more limit on)) given.attempts did (g more limit on))
+          ];
+          turned = elim k.turned [
+            | inl r ↦ absurd (at_refused x (states.Next n) ex r)
+            | inr l ↦ inr (one_later step (source f) to end (halt_of view f s) (halt_of view t x) (halt_of view u y)
+                (turned_next step (source f) to end n p b (view_config view t) (view_config view u) t.attempts.items u.attempts.items x y ex given.place
+                given.byte stop (did_next n p b f t v u y given did)) l)
           ];
         }
       ]
@@ -365,6 +399,101 @@ same_stack view valid step to end f t u s x ec es eb k = (
     })
   ],
 )
+
+refused_stops : {M : Type 0} (step : Steps M) (s : Source) (to : ℕ × ℕ) (end : Bool) (c : Config M) (stack : List Attempt) (r : State) → IsRefused r
+    → (let h : Halt M = record { config = c; attempts = stack; state = r } in Stops step s to end h)
+refused_stops step s to end c stack (states.Error m) h = tt
+refused_stops step s to end c stack (states.Next n) h = absurd h
+refused_stops step s to end c stack (states.Retry n) h = absurd h
+refused_stops step s to end c stack states.Ok h = absurd h
+refused_stops step s to end c stack states.Nok h = absurd h
+
+-- with nothing that waits
+ended_stops : {M V T A : Type 0} (view : M → V) (step : Steps V) (s : Source) (to : ℕ × ℕ) (end v : Bool) (u : Tokenizer M T A) (x : State)
+    → x ≡ end_state v → u.attempts.items ≡ [] → Stops step s to end (halt_of view u x)
+ended_stops view step s to end v u x ex e =
+    subst (λ (z : State). Stops step s to end (halt_of view u z)) (sym ex) (pick v e)
+  where
+    pick : (v : Bool) → u.attempts.items ≡ [] → Stops step s to end (halt_of view u (end_state v))
+    pick true h = h
+    pick false h = h
+
+nothing_there : (t : Bool) (v : VirtualByte) → is_some (if t then Some v else None) ≡ false → t ≡ false
+nothing_there true v e = absurd (let f : true ≡ false = e in cc)
+nothing_there false v e = refl
+
+-- at the range's end
+pub next_stops : {M V T A : Type 0} (view : M → V) (step : Steps V) (to : ℕ × ℕ) (end : Bool) (f t : Tokenizer M T A) (n : Name) (p : Point)
+    (b : Option VirtualByte) (x : State) → Around f t → p ≡ place_in t.skips.entries t.point → b ≡ byte_before t.parse_state.now.bytes.now to p
+    → is_some b ≡ false → end ≡ false → x ≡ states.Next n → Stops step (source f) to end (halt_of view t x)
+next_stops view step to end f t n p b x h ep eb e last ex =
+    let none : is_before to p ≡ false = nothing_there (is_before to p) (virtual_byte t.parse_state.now.bytes.now p) (sym (ap is_some eb) ∙ e) in
+    let there : is_before to (place_in t.skips.entries t.point) ≡ false = subst (λ (z : Point). is_before to z ≡ false) ep none in
+    subst (λ (z : State). Stops step (source f) to end (halt_of view t z)) (sym ex) (
+      last,
+      subst (λ (z : Source). is_before to (place_in z.skips t.point) ≡ false) (around f t h) there,
+    )
+
+-- where the loop stops, so many turns lead
+pub stopped : {M V T A : Type 0} (view : M → V) (valid : Holds T V) (steps : Context T → Steps V) (ranks : Ranks T V) (to : ℕ × ℕ) (end : Bool)
+    (f t u : Tokenizer M T A) (s x : State) → (let z = read_with f in LawfulAt (length z.bytes) (valid z) (steps z) (ranks z)) → IsCut (source f).bytes to
+    → IsRefused s ⊎ valid (read_with f) (view_config view f) f.attempts.items s → Turn view (valid (read_with f)) (steps (read_with f)) to end f s t x
+    → view_config view u ≡ view_config view t → u.attempts.items ≡ t.attempts.items → Around t u
+    → Stops (steps (read_with f)) (source f) to end (halt_of view u x) → IsRefused x ⊎ HasHalted view steps ranks to end (halt_of view f s) f u x
+stopped {V = V} view valid steps ranks to end f t u s x lawful cut v k ec ea ar e =
+    let z = read_with f in
+    let h = halt_of view f s in
+    let g = halt_of view u x in
+    let same : g ≡ halt_of view t x = rw (ec, ea) refl in
+    elim k.turned [
+      | inl r ↦ inl r
+      | inr (n, later) ↦ elim v [
+        | inl r ↦ (
+            let back : h ≡ halt_of view t x =
+            sym (turns_stay (steps z) (source f) to end n h (refused_stops (steps z) (source f) to end h.config h.attempts s r)) ∙ later in
+            inl (subst (λ (y : Halt V). IsRefused y.state) back r))
+        | inr w ↦ inr (record {
+          same = around_both f t u k.same ar;
+          halt = halted_at (length z.bytes) (valid z) (steps z) (ranks z) lawful (source f) to end (feeds_to (source f) to cut.within cut.column) h g w
+              (n, later ∙ sym same) e;
+        })
+      ]
+    ]
+
+-- neither the range's end nor whether it failed counts
+pub halted_as : {M V T A : Type 0} (view : M → V) (steps : Context T → Steps V) (ranks : Ranks T V) (to : ℕ × ℕ) (end : Bool) (from : Halt V)
+    (old new later : Tokenizer M T A) (r : State) → halt_of view later r ≡ halt_of view new r → Around new later
+    → HasHalted view steps ranks to end from old new r → HasHalted view steps ranks to end from old later r
+halted_as view steps ranks to end from old new later r e ar h = record { same = around_both old new later h.same ar; halt = e ∙ h.halt }
+
+-- a range was read from its start
+pub halts_from : {M V T A : Type 0} (view : M → V) (steps : Context T → Steps V) (ranks : Ranks T V) (from to : ℕ × ℕ) (old start new : Tokenizer M T A)
+    (s r : State) → IsCut (source old).bytes from → OpensRange from old start → HasHalted view steps ranks to false (halt_of view start s) start new r
+    → HaltsFrom view steps ranks from to s old new r
+halts_from {M = M} {V = V} {T = T} {A = A} view steps ranks from to old start new s r cut o h =
+    let begun = halt_as (view_config view start) (at_point o.point (view_config view old)) start.attempts.items old.attempts.items s s
+    (ap (seen_as view) o.config) o.attempts refl in
+    let at = begins_there (source old) from old.point o.point cut o.begins in
+    let first = begun ∙ ap (λ (p : Point). halt_at p (halt_of view old s)) at in
+    let x = read_with start in
+    let y = read_with old in
+    record {
+      same = around_both old start new o.same h.same;
+      halt = h.halt
+          ∙ (ap (λ (z : Context T). halted (steps z) (source start) to false (ranks z) (halt_of view start s)) (same_read old start o.same.parse_state)
+          ∙ (ap (λ (z : Source). halted (steps y) z to false (ranks y) (halt_of view start s)) (around old start o.same)
+          ∙ ap (halted (steps y) (source old) to false (ranks y)) first));
+    }
+
+-- it stops with nothing that waits
+pub stopped_alone : {M V T A : Type 0} (view : M → V) (valid : Holds T V) (steps : Context T → Steps V) (ranks : Ranks T V) (to : ℕ × ℕ) (end v : Bool)
+    (f t u : Tokenizer M T A) (s x : State) → (let z = read_with f in LawfulAt (length z.bytes) (valid z) (steps z) (ranks z)) → IsCut (source f).bytes to
+    → IsRefused s ⊎ valid (read_with f) (view_config view f) f.attempts.items s → Turn view (valid (read_with f)) (steps (read_with f)) to end f s t x
+    → view_config view u ≡ view_config view t → Around t u → x ≡ end_state v → t.attempts.items ≡ u.attempts.items ++ [] → u.attempts.items ≡ []
+    → IsRefused x ⊎ HasHalted view steps ranks to end (halt_of view f s) f u x
+stopped_alone view valid steps ranks to end v f t u s x lawful cut h k ec ar ex es e =
+    stopped view valid steps ranks to end f t u s x lawful cut h k ec (sym (es ∙ append-nil u.attempts.items)) ar
+    (ended_stops view (steps (read_with f)) (source f) to end v u x ex e)
 
 -- where a range begins, what is next holds
 pub opened_valid : {M V T A : Type 0} (view : M → V) (valid : HoldsAt V) (step : Steps V) (from : ℕ × ℕ) (f t : Tokenizer M T A) (s : State)

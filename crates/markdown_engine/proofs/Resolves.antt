@@ -1,11 +1,14 @@
 -- Resolvers, one after another.
-use Rattle.std.proofs.Common.{◌≡◌, ◌∙◌, [], ◌∷◌, ◌⊎◌, inl, inr, Bool, true, false, List, ap, subst, sym}
+use Rattle.std.proofs.Common.{◌≡◌, ◌∙◌, ℕ, [], ◌∷◌, ◌⊎◌, inl, inr, Bool, true, false, List, refl, ap, subst, sym}
 use Rattle.markdown_engine.proofs.Prelude.{Config, context, Context, end_state, found_both, found_in, FoundLabels, HasCompleted, HasFlushed, HoldsAt}
 use Rattle.markdown_engine.proofs.Prelude.{IsRefused, nothing_found, Outcome, ParseState, read_with, resolve_all, resolve_each, Resolver, Resolves, SettlesAt}
-use Rattle.markdown_engine.proofs.Prelude.{State, Steps, Text, Tokenizer, view_config}
+use Rattle.markdown_engine.proofs.Prelude.{source, State, Steps, Text, text_to, Tokenizer, view_config}
 use Rattle.engine_events.specs.declared.subresult.Subresult.{Subresult}
 use Rattle.engine_events.specs.declared.state.State.TheVariants as states
+use Rattle.markdown_engine.specs.Laws.{Ranks}
+use Rattle.markdown_engine.specs.Machine.{Around, HaltsWell, HasHalted, halt_of}
 use Rattle.markdown_engine.specs.Resolving.{Settles}
+use Rattle.markdown_engine.proofs.Push.{halted_as, unless_refused}
 
 -- what the walk over resolvers keeps
 pub record ResolvingOn {M V T A : Type 0} (view : M → V) (resolve : Resolves V) (settled : SettlesAt V) (names : List Resolver) (t : Tokenizer M T A)
@@ -49,6 +52,28 @@ read_well {V = V} view valid text step s old new r never n (inr h) (inr k) = pic
         → valid (view_config view new) [] states.Ok × Outcome text step old.attempts.items (view_config view old) [] s (view_config view new) true
     pick true e o = (subst (λ (z : State). valid (view_config view new) [] z) e h, o)
     pick false e o = absurd (never (view_config view new) (subst (λ (z : State). valid (view_config view new) [] z) e h))
+
+-- and stopped at the end, well
+pub halts_well : {M V T A : Type 0} (view : M → V) (valid : HoldsAt V) (steps : Context T → Steps V) (ranks : Ranks T V) (to : ℕ × ℕ) (s : State)
+    (old new : Tokenizer M T A) (r : State) → ((c : Config V) → valid c [] states.Nok → ⊥) → (IsRefused r → ⊥)
+    → IsRefused r ⊎ valid (view_config view new) [] r → IsRefused r ⊎ HasFlushed view (text_to (source old) to) (steps (read_with old)) s old new r
+    → IsRefused r ⊎ HasHalted view steps ranks to true (halt_of view old s) old new r → HaltsWell view steps ranks to s old new
+halts_well view valid steps ranks to s old new r never n h k e =
+    subst (λ (z : State). HasHalted view steps ranks to true (halt_of view old s) old new z) (well r (unless_refused r n h) (unless_refused r n k))
+    (unless_refused r n e)
+  where
+    pick : (v : Bool) → valid (view_config view new) [] (end_state v) → end_state v ≡ states.Ok
+    pick true h = refl
+    pick false h = absurd (never (view_config view new) h)
+
+    well : (r : State) → valid (view_config view new) [] r → HasFlushed view (text_to (source old) to) (steps (read_with old)) s old new r → r ≡ states.Ok
+    well r h k = k.state ∙ pick k.well (subst (λ (z : State). valid (view_config view new) [] z) k.state h)
+
+-- whatever the tokenizer holds beside what is read
+pub halts_as : {M V T A : Type 0} (view : M → V) (steps : Context T → Steps V) (ranks : Ranks T V) (to : ℕ × ℕ) (s : State) (old new later : Tokenizer M T A)
+    → halt_of view later states.Ok ≡ halt_of view new states.Ok → Around new later → HaltsWell view steps ranks to s old new
+    → HaltsWell view steps ranks to s old later
+halts_as view steps ranks to s old new later e ar h = halted_as view steps ranks to true (halt_of view old s) old new later states.Ok e ar h
 
 pub settled_at : {M T : Type 0} (settled : Settles T M) (x y : Context T) (c : Config M) (names : List Resolver) → x ≡ y → settled x c names → settled y c names
 settled_at {T = T} settled x y c names e h = subst (λ (z : Context T). settled z c names) e h

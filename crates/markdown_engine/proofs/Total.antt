@@ -12,7 +12,7 @@ abbrev pub IsLast : List Attempt → List Attempt → Attempt → Type 0
 IsLast stack rest a = stack ≡ rest ++ a ∷ []
 
 -- a stack from its end
-last_of : (stack : List Attempt) → (stack ≡ []) ⊎ ((rest : List Attempt) × (a : Attempt) × IsLast stack rest a)
+pub last_of : (stack : List Attempt) → (stack ≡ []) ⊎ ((rest : List Attempt) × (a : Attempt) × IsLast stack rest a)
 last_of [] = inl refl
 last_of (a ∷ stack) = elim (last_of stack) [
   | inl e ↦ inr ([], a, rw e refl)

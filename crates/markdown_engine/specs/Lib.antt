@@ -6,6 +6,7 @@ pub mod Reading
 pub mod Order
 pub mod Laws
 pub mod Resolving
+pub mod Turns
 pub mod Machine
 pub mod Chains
 pub mod OrderLaws

@@ -20,8 +20,9 @@ use Rattle.engine_events.specs.declared.resolve.Name.{Name as Resolver}
 use Rattle.markdown_engine.specs.Resolvers.{with_first, with_last}
 use Rattle.markdown_engine.specs.VirtualText.{Source, Text, Walks, is_before, is_feed, place_in, text_to}
 use Rattle.engine_events.specs.declared.place.Point.{Point}
-use Rattle.markdown_engine.specs.Laws.{HoldsAt, remaining}
+use Rattle.markdown_engine.specs.Laws.{HoldsAt, Ranks, remaining}
 use Rattle.markdown_engine.specs.Order.{AreWhole, Reaches}
+use Rattle.markdown_engine.specs.Turns.{Halt, halt_at, halted, range_start, turns}
 
 module _ {M T A : Type 0} where
   abbrev pub config : Tokenizer M T A → Config M
@@ -206,6 +207,25 @@ module _ {M V T A : Type 0} (view : M → V) where
   abbrev pub HasPushedFrom : Steps V → ℕ × ℕ → ℕ × ℕ → State → Tokenizer M T A → Tokenizer M T A → State → Type 0
   HasPushedFrom step from to given old new state = (start : Tokenizer M T A) × OpensRange from old start × HasPushed step to false given start new state
 
+  -- where a tokenizer is
+  abbrev pub halt_of : Tokenizer M T A → State → Halt V
+  halt_of t s = record { config = view_config view t; attempts = t.attempts.items; state = s }
+
+  -- reading went on from here, up to where it stops; what is read from stayed
+  pub record HasHalted (step : Context T → Steps V) (rank : Ranks T V) (to : ℕ × ℕ) (end : Bool) (from : Halt V) (old new : Tokenizer M T A)
+      (s : State) : Type 0 where
+    pub same : Around old new
+    pub halt : let x = read_with old in halt_of new s ≡ halted (step x) (source old) to end (rank x) from
+
+  -- a range was read from its start
+  abbrev pub HaltsFrom : (Context T → Steps V) → Ranks T V → ℕ × ℕ → ℕ × ℕ → State → Tokenizer M T A → Tokenizer M T A → State → Type 0
+  HaltsFrom step rank from to given old new s =
+      HasHalted step rank to false (halt_at (range_start (source old) from old.point) (halt_of old given)) old new s
+
+  -- the end of a text was read
+  abbrev pub HaltsWell : (Context T → Steps V) → Ranks T V → ℕ × ℕ → State → Tokenizer M T A → Tokenizer M T A → Type 0
+  HaltsWell step rank to given old new = HasHalted step rank to true (halt_of old given) old new states.Ok
+
   -- reading ended, and this is what it comes to
   pub record HasFlushed (text : Text) (step : Steps V) (given : State) (old new : Tokenizer M T A) (s : State) : Type 0 where
     pub well : Bool
@@ -242,6 +262,7 @@ module _ {M V T A : Type 0} (view : M → V) where
     pub same : Around first t
     pub holds : IsValidUnlessRefused valid t s
     pub reads : IsRefused s ⊎ GoesAll step (source first) to end given first t s
+    pub turned : IsRefused s ⊎ ((k : ℕ) × (turns step (source first) to end k (halt_of first given) ≡ halt_of t s))
 
 -- of a state that works on any machine: all of the machine is seen
 abbrev pub Answers : {M T A : Type 0} → Effect M → Tokenizer M T A → Tokenizer M T A → State → Type 0

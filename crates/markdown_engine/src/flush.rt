@@ -38,10 +38,10 @@ pub(crate) fn add_found<A: Allocator>(
 }
 
 impl<'a, M: Machine<T>, T: Tables, A: Allocator + Clone> Tokenizer<'a, M, T, A> {
-    ghost use Rattle.std.specs.Prelude.{◌≡◌, IfErr, IfOk, IsErr, OnErr, OnOk, [], length, true};
+    ghost use Rattle.std.specs.Prelude.{◌≡◌, IfErr, IfOk, IsErr, OnErr, OnOk, [], false, length, true};
     ghost use Rattle.markdown_options.specs.Messages.{IsOutOfMemory};
     ghost use Rattle.engine_events.specs.declared.state.State.TheVariants as states;
-    ghost use Rattle.markdown_engine.specs.Machine.{Completes, HasFailed, IsResolved, IsValid, IsValidUnlessFailed, IsWhole};
+    ghost use Rattle.markdown_engine.specs.Machine.{Completes, HaltsWell, HasFailed, IsResolved, IsValid, IsValidUnlessFailed, IsWhole};
     ghost use Rattle.markdown_engine.specs.Machine.{bytes_of, read_with, view_config};
     ghost use Rattle.markdown_engine.specs.Evaluation.{IsReadingOf};
     ghost use Rattle.markdown_engine.specs.Resolving.{IsNotDone, KeepsDone, found_in, nothing_found, resolve_all, resolve_each};
@@ -56,6 +56,7 @@ impl<'a, M: Machine<T>, T: Tables, A: Allocator + Clone> Tokenizer<'a, M, T, A> 
         requires valid { IsValidUnlessFailed M.seen (M.valid (read_with self.old)) self.old state }
         ensures completed { IfOk result (λ found. Completes M.seen M.step M.resolved self.old.end resolve state self.old self.new (found_in found)) }
         ensures evaluated { IfOk result (λ found. IsReadingOf M.seen M.step M.rank M.resolved self.old.end resolve state self.old self.new (found_in found)) }
+        ensures halts { resolve ≡ false → OnOk result (HaltsWell M.seen M.step M.rank self.old.end state self.old self.new) }
         ensures done { IfOk result IsNotDone }
         ensures whole { OnOk result (IsWhole self.new) }
         ensures err { OnErr result (HasFailed self.new) }
@@ -93,6 +94,7 @@ impl<'a, M: Machine<T>, T: Tables, A: Allocator + Clone> Tokenizer<'a, M, T, A> 
         requires to { IsCut (bytes_of self.old) to }
         requires valid { IsValidUnlessFailed M.seen (M.valid (read_with self.old)) self.old state }
         ensures completed { IfOk result (λ found. Completes M.seen M.step M.resolved to resolve state self.old self.new (found_in found)) }
+        ensures halts { resolve ≡ false → OnOk result (HaltsWell M.seen M.step M.rank to state self.old self.new) }
         ensures done { IfOk result IsNotDone }
         ensures whole { OnOk result (IsWhole self.new) }
         ensures err { OnErr result (HasFailed self.new) }
@@ -117,6 +119,7 @@ impl<'a, M: Machine<T>, T: Tables, A: Allocator + Clone> Tokenizer<'a, M, T, A> 
         requires to { IsCut (bytes_of self.old) to }
         requires valid { IsValid M.seen (M.valid (read_with self.old)) self.old state }
         ensures completed { IfOk result (λ found. Completes M.seen M.step M.resolved to resolve state self.old self.new (found_in found)) }
+        ensures halts { resolve ≡ false → OnOk result (HaltsWell M.seen M.step M.rank to state self.old self.new) }
         ensures done { IfOk result IsNotDone }
         ensures whole { OnOk result (IsWhole self.new) }
         ensures memory { IfErr result IsOutOfMemory }

@@ -414,6 +414,7 @@ impl<'a, M: Machine<T>, T: Tables, A: Allocator> Tokenizer<'a, M, T, A> {
     ghost use Rattle.markdown_engine.specs.Machine.{AreCuts, HasEnded, HasFailed, HasFlushed, OpensRange, HasPushed, HasPushedFrom, ReadWhole};
     ghost use Rattle.markdown_engine.specs.Machine.{HasReached, IsRefused, IsValidAlone, IsValidUnlessFailed, IsValidUnlessRefused, IsWholeUnlessRefused};
     ghost use Rattle.markdown_engine.specs.Machine.{NothingWaits, bytes_of, read_with, view_config, source};
+    ghost use Rattle.markdown_engine.specs.Machine.{HaltsFrom, HasHalted, halt_of};
     ghost use Rattle.markdown_engine.specs.VirtualText.{IsCut, byte_before, place_in, text_to};
     ghost use Rattle.markdown_engine.specs.Outcomes.{HasOutcome, HasRun};
 
@@ -442,6 +443,7 @@ impl<'a, M: Machine<T>, T: Tables, A: Allocator> Tokenizer<'a, M, T, A> {
         requires valid { IsValidUnlessRefused M.seen (M.valid (read_with self.old)) self.old state }
         ensures valid { IsValidUnlessRefused M.seen (M.valid (read_with self.old)) self.new result }
         ensures reads { HasPushed M.seen (M.step (read_with self.old)) to end state self.old self.new result }
+        ensures halts { IsRefused result ⊎ HasHalted M.seen M.step M.rank to end (halt_of M.seen self.old state) self.old self.new result }
         ensures reached { HasReached to self.new result }
         ensures moves_on { MovesOn result }
         ensures ends { end ≡ true → IsRefused result ⊎ HasEnded self.new result }
@@ -508,6 +510,7 @@ impl<'a, M: Machine<T>, T: Tables, A: Allocator> Tokenizer<'a, M, T, A> {
         ensures valid { IsValidUnlessFailed M.seen (M.valid (read_with self.old)) self.new result }
         ensures reads { HasFailed self.new ⊎ HasPushedFrom M.seen (M.step (read_with self.old)) from to state self.old self.new result }
         ensures evaluated { HasFailed self.new ⊎ StaysReadingFrom M.seen M.step M.rank from to state self.old self.new result }
+        ensures halts { HasFailed self.new ⊎ HaltsFrom M.seen M.step M.rank from to state self.old self.new result }
         ensures moves_on { MovesOn result }
         ensures reached { HasReached to self.new result }
         ensures end { self.new.end ≡ to }
@@ -531,6 +534,7 @@ impl<'a, M: Machine<T>, T: Tables, A: Allocator> Tokenizer<'a, M, T, A> {
         requires to { IsCut (bytes_of self.old) to }
         requires valid { IsValidUnlessRefused M.seen (M.valid (read_with self.old)) self.old state }
         ensures reads { IsRefused result ⊎ HasFlushed M.seen (text_to (source self.old) to) (M.step (read_with self.old)) state self.old self.new result }
+        ensures halts { IsRefused result ⊎ HasHalted M.seen M.step M.rank to true (halt_of M.seen self.old state) self.old self.new result }
         ensures valid { IsRefused result ⊎ IsValidAlone M.seen (M.valid (read_with self.old)) self.new result }
         ensures parse_state { self.new.parse_state.now ≡ self.old.parse_state.now }
         ensures total { IsRefused state ⊎ HasOutcome (text_to (source self.old) to) (M.step (read_with self.old)) (view_config M.seen self.old)

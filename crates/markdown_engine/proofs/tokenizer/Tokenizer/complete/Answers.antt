@@ -1,7 +1,7 @@
 use Rattle.std.proofs.Common.{◌≡◌, ◌∙◌, refl, sym, true, false}
 use Rattle.markdown_engine.proofs.Prelude.{found_in, read_with, source, text_to, view_config}
 use Rattle.markdown_engine.proofs.Push.{not_refused, same_read, unless_refused}
-use Rattle.markdown_engine.proofs.Resolves.{read_well, settled_at, completed_all, completed_if, completed_none, all_at}
+use Rattle.markdown_engine.proofs.Resolves.{read_well, settled_at, completed_all, completed_if, completed_none, all_at, halts_well}
 use Rattle.markdown_engine.proofs.tokenizer.Tokenizer.complete.Goals as goal
 use Rattle.markdown_engine.proofs.tokenizer.Tokenizer.complete.Goals.{then-resolve+in_ok-resolve_all, else-resolve}
 
@@ -41,6 +41,7 @@ returns g c =
                 (g.M.Machine.resolved x) c.args.state old w.resolve_all.new.self (found_in w.resolve_all.new.found) true c.args.resolve (sym w.if-resolve.true)
                 (completed_all g.M.Machine.seen (text_to (source old) c.args.to) (g.M.Machine.step x)
                 (g.M.Machine.resolved x) c.args.state old mid w.resolve_all.new.self (found_in w.resolve_all.new.found) well.1 said.0 said.1);
+            halts = λ e. absurd (let f : true ≡ false = sym w.if-resolve.true ∙ e in cc);
             done = w.in_ok-resolve_all.ensures.done ∙ c.in_ok-found.ensures.done;
             whole = w.in_ok-resolve_all.ensures.whole;
             memory = tt;
@@ -50,6 +51,8 @@ returns g c =
             (found_in c.in_ok-found.found) false c.args.resolve (sym w.if-resolve.false)
             (completed_none g.M.Machine.seen (text_to (source old) c.args.to) (g.M.Machine.step x) (g.M.Machine.resolved x) c.args.state old mid mid
             (found_in c.in_ok-found.found) well.1 refl c.in_ok-found.ensures.found);
+        halts = λ e. halts_well g.M.Machine.seen (g.M.Machine.valid x) g.M.Machine.step g.M.Machine.rank c.args.to c.args.state old mid c.finish.result
+            resolving.well (not_refused c.finish.result c.in_default.not-Error) c.finish.ensures.valid c.finish.ensures.reads c.finish.ensures.halts;
         done = c.in_ok-found.ensures.done;
         whole = unless_refused c.finish.result (not_refused c.finish.result c.in_default.not-Error) c.finish.ensures.whole;
         memory = tt;

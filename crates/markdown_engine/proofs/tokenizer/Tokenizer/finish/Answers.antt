@@ -1,7 +1,7 @@
-use Rattle.std.proofs.Common.{refl, length, inl, inr}
+use Rattle.std.proofs.Common.{refl, length, inl, inr, true}
 use Rattle.markdown_engine.proofs.Prelude.{read_with, source, text_to, view_config}
 use Rattle.markdown_engine.proofs.Order.{read_whole}
-use Rattle.markdown_engine.proofs.Push.{ended_valid, flushed, flushed_as}
+use Rattle.markdown_engine.proofs.Push.{ended_valid, flushed, flushed_as, halted_as}
 use Rattle.markdown_engine.proofs.Total.{feeds_to, has_outcome}
 use Rattle.markdown_engine.proofs.tokenizer.Tokenizer.finish.Goals as goal
 
@@ -35,3 +35,10 @@ returns-clause-whole g c =
     let x = read_with c.args.self.now in
     read_whole g.M.Machine.seen (length x.bytes) (g.M.Machine.valid x) (g.M.Machine.step x) (g.M.Machine.rank x)
     (g.met.M.Machine.lawful x) c.read-last.new.self c.read-last.result c.read-last.ensures.valid (c.read-last.ensures.ends refl)
+
+pub returns-clause-halts : goal.returns-clause-halts
+returns-clause-halts g c = elim c.read-last.ensures.halts [
+  | inl r ↦ inl r
+  | inr h ↦ inr (halted_as g.M.Machine.seen g.M.Machine.step g.M.Machine.rank c.args.to true _ c.args.self.now c.read-last.new.self _ c.read-last.result
+      refl (record { parse_state = refl; skips = refl }) h)
+]

@@ -2,7 +2,7 @@ use Rattle.std.proofs.Common.{◌≡◌, ◌∙◌, ◌⊎◌, ℕ, inl, inr, tr
 use Rattle.markdown_engine.proofs.Prelude.{IsRefused, MovesOn, read_with, State, Tokenizer, view_config}
 use Rattle.engine_events.specs.declared.state.State.TheVariants as states
 use Rattle.markdown_engine.specs.Machine.{HasReached}
-use Rattle.markdown_engine.proofs.Push.{not_refused, only_memory, opened_valid, pushed_as, same_cut, same_read, unless_refused, valid_at, valid_or_refused}
+use Rattle.markdown_engine.proofs.Push.{halted_as, halts_from, not_refused, only_memory, opened_valid, pushed_as, same_cut, same_read, unless_refused, valid_at, valid_or_refused}
 use Rattle.markdown_engine.proofs.Computing.{stays_unless}
 use Rattle.markdown_engine.proofs.tokenizer.Tokenizer.push.Goals as goal
 use Rattle.markdown_engine.proofs.tokenizer.Tokenizer.push.Goals.{then-self, else-self, in-Error, in_default}
@@ -176,5 +176,24 @@ returns-clause-evaluated g c =
               rw (w.next-is, w.self-is) (stays_unless g.M.Machine.seen x g.M.Machine.valid g.M.Machine.step g.M.Machine.rank
                   (g.met.M.Machine.lawful x) c.args.to start new c.args.state w.read-next.result at after there n held goes.1),
             ))
+      ]
+    ]
+
+pub returns-clause-halts : goal.returns-clause-halts
+returns-clause-halts g c =
+    let old = c.args.self.now in
+    elim c.match-matches.branch [
+      | in-Error v ↦ inl v.self-is
+      | in_default v ↦ elim c.if-self.branch [
+        | then-self w ↦ absurd (not_refused c.if-self.next v.in_default.not-Error
+            (subst (λ (z : State). IsRefused z) (sym w.next-is) w.out_of_memory-next.ensures))
+        | else-self w ↦ (
+            let start = w.move_to.new.self in
+            let n : IsRefused w.read-next.result → ⊥ =
+            λ r. not_refused c.if-self.next v.in_default.not-Error (subst (λ (z : State). IsRefused z) (sym w.next-is) r) in
+            inr (rw (w.next-is, w.self-is) (halted_as g.M.Machine.seen g.M.Machine.step g.M.Machine.rank c.args.to false _ old w.read-next.new.self _
+            w.read-next.result refl (record { parse_state = refl; skips = refl })
+            (halts_from g.M.Machine.seen g.M.Machine.step g.M.Machine.rank c.args.from c.args.to old start w.read-next.new.self c.args.state
+            w.read-next.result c.requires.from w.move_to.ensures (unless_refused w.read-next.result n w.read-next.ensures.halts)))))
       ]
     ]

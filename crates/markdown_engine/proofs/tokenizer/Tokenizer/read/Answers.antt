@@ -1,10 +1,13 @@
 use Rattle.engine_events.specs.declared.state.State.TheVariants as states
-use Rattle.std.proofs.Common.{◌∙◌, inl, inr, length, true, false, refl, sym}
+use Rattle.std.proofs.Common.{◌∙◌, ℕ, ◌-◌, inl, inr, length, take, true, false, refl, sym, ap, not}
 use Rattle.markdown_engine.proofs.Prelude.{read_with, source, view_config}
 use Rattle.markdown_engine.proofs.tokenizer.Tokenizer.read.Goals as goal
 use Rattle.markdown_engine.proofs.Push.{handing, same_read, shown_resumed, answers_at, valid_at, turn_pop, turn_retry}
 use Rattle.markdown_engine.proofs.Push.{turn_next, smaller_next, smaller_pop, smaller_retry, valid_fed}
 use Rattle.markdown_engine.proofs.Push.{same_cut, same_text, same_stack, at_end, only_memory}
+use Rattle.markdown_engine.proofs.Push.{next_stops, stopped, stopped_alone}
+use Rattle.markdown_engine.proofs.Halts.{none_later}
+use Rattle.markdown_engine.specs.Machine.{halt_of}
 
 pub byte_before-byte-requires : goal.byte_before-byte-requires
 byte_before-byte-requires g c = record { to = same_cut c.args.self.now c.turns.self c.args.to c.turns.invariant.same.parse_state c.requires.to }
@@ -14,6 +17,8 @@ turns-init g c = record {
   same = record { parse_state = refl; skips = refl };
   holds = c.requires.valid;
   reads = inr (λ more limit on. record { back = λ d w o. o });
+  turned = inr (none_later (g.M.Machine.step (read_with c.args.self.now)) (source c.args.self.now) c.args.to c.args.end
+      (halt_of g.M.Machine.seen c.args.self.now c.args.state));
 }
 
 pub turns-smaller-in-Some : goal.turns-smaller-in-Some
@@ -118,7 +123,7 @@ turns-preserved-in-Next g c =
     turn_next g.M.Machine.seen (length x.bytes) (g.M.Machine.valid x) (g.M.Machine.step x) (g.M.Machine.rank x) (g.met.M.Machine.lawful x)
     c.in-Next.name p b c.args.to c.args.end c.args.self.now c.turns.self c.hand.new.self c.call-next.new.tokenizer c.args.state c.turns.next c.call-next.result
     given c.in-Next.is
-    (λ more limit on. same_text (source c.args.self.now) c.args.to more limit c.turns.self.point p c.args.end b given.place given.byte on stop) answers
+    (λ more limit on. same_text (source c.args.self.now) c.args.to more limit c.turns.self.point p c.args.end b given.place given.byte on stop) stop answers
     c.turns.invariant
 
 pub returns-in-None-clause-reads : goal.returns-in-None-clause-reads
@@ -138,3 +143,20 @@ returns-in-Error-clause-ends g c end =
     inl (only_memory (length c.args.self.now.parse_state.now.bytes.now) (g.M.Machine.valid (read_with c.args.self.now))
     (g.M.Machine.step (read_with c.args.self.now)) (g.met.M.Machine.lawful (read_with c.args.self.now)).keeps
     (view_config g.M.Machine.seen c.turns.self) c.turns.self.attempts.items c.turns.next _ c.in-Error.is c.turns.invariant.holds)
+
+pub returns-in-None-clause-halts : goal.returns-in-None-clause-halts
+returns-in-None-clause-halts g c =
+    let old = c.args.self.now in
+    stopped_alone g.M.Machine.seen g.M.Machine.valid g.M.Machine.step g.M.Machine.rank c.args.to c.args.end true old c.turns.self _ c.args.state c.turns.next
+    (g.met.M.Machine.lawful (read_with old)) c.requires.to c.requires.valid c.turns.invariant refl (record { parse_state = refl; skips = refl }) c.in-Ok.is
+    c.in-None.ensures.items (c.in-None.ensures.rest ∙ ap (λ (n : ℕ). take (n - 1) c.turns.self.attempts.items) c.in-None.ensures.cases.0)
+
+pub returns-then-not-end-clause-halts : goal.returns-then-not-end-clause-halts
+returns-then-not-end-clause-halts g c =
+    let old = c.args.self.now in
+    let t = c.turns.self in
+    stopped g.M.Machine.seen g.M.Machine.valid g.M.Machine.step g.M.Machine.rank c.args.to c.args.end old t t c.args.state c.turns.next
+    (g.met.M.Machine.lawful (read_with old)) c.requires.to c.requires.valid c.turns.invariant refl refl (record { parse_state = refl; skips = refl })
+    (next_stops g.M.Machine.seen (g.M.Machine.step (read_with old)) c.args.to c.args.end old t c.in-Next.name c.place-place.result c.byte_before-byte.result
+    c.turns.next c.turns.invariant.same c.place-place.ensures c.byte_before-byte.ensures (c.is_none.ensures ∙ ap not c.if-is_none.true) c.if-not-end.true
+    c.in-Next.is)
