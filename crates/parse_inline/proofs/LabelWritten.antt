@@ -15,10 +15,10 @@ use Rattle.event_grammar.specs.declared.slot.Form.TheVariants.{OfCall, Plain}
 use Rattle.event_grammar.specs.Grammar.{text_row}
 use Rattle.parse_slots.specs.Left.{Fill, IsFilled, MayEndLines}
 use Rattle.parse_slots.proofs.Steps.{may_both}
-use Rattle.parse_references.specs.Leads.{AreBare}
-use Rattle.parse_references.specs.Sound.{AreSound, asked_names}
-use Rattle.parse_references.proofs.Bare.{bare_filled, without_filled}
-use Rattle.parse_references.proofs.Rows.{is_bare, is_without}
+use Rattle.parse_references.specs.Leads.{AreWithout}
+use Rattle.parse_references.specs.Sound.{AreSound, asked_names, outside_strings}
+use Rattle.parse_references.proofs.Bare.{without_filled}
+use Rattle.parse_references.proofs.Rows.{is_without}
 use Rattle.parse_inline.specs.Texts.{FillsText}
 use Rattle.parse_inline.proofs.Labels.{HasLabelRow, IsLabel, Label, call_fill, call_label, call_nodes, call_plain, call_sound, call_spelled, label_filled}
 use Rattle.parse_inline.proofs.Labels.{label_node, own_node}
@@ -27,14 +27,14 @@ use Rattle.parse_inline.proofs.LeavesAlike.{append_none}
 module _ {A : Type 0} (text : List ℕ) (stop : Stop) where
   -- the nodes of a label are written, and its text has the words of the bytes between the brackets
   pub labelled : (name sign : Name) (front here own behind : List ℕ) (ns : Nodes) (outside inside w ended : Walk A) → is_listed text_names sign ≡ false
-      → same_name sign n.Label ≡ false → is_bare 2 Plain sign ≡ true → is_without asked_names 2 Plain sign ≡ true → here ≡ own ++ 93 ∷ behind
+      → same_name sign n.Label ≡ false → is_without outside_strings 2 Plain sign ≡ true → is_without asked_names 2 Plain sign ≡ true → here ≡ own ++ 93 ∷ behind
       → (enters : EntersLabel text name sign front here stop outside inside)
       → WritesInContent text own ns (93 ∷ behind) stop inside w → ArePlain ns → EndsLabel text behind stop w ended
       → (l : Label) × IsLabel l × WritesInContent text ((front ++ own) ++ 93 ∷ []) (one (label_node text l)) behind stop enters.outer ended
       × HaveSameWords (content_codes own) (content_codes (label_text text (own_node text l))) × ◌≡◌ {A = Nodes} l.kids ns
       × ((around : Between) (form : Form) → HasLabelRow sign form → MayEndLines around own → Fill around text_row ns text_row
       → IsFilled around form (label_node text l))
-  labelled name sign front here own behind ns outside inside w ended no_text no_label bare unasked rest enters writes plain ends =
+  labelled name sign front here own behind ns outside inside w ended no_text no_label strings unasked rest enters writes plain ends =
       let first = enters.marks.mark in
       let last = ends.marks.mark in
       let l : Label = record {
@@ -53,8 +53,8 @@ module _ {A : Type 0} (text : List ℕ) (stop : Stop) where
         first = enters.marks.plain;
         last = ends.marks.plain;
         kids = plain;
-        first_bare = bare_filled 2 Lines Plain sign first enters.marks.named bare (enters.marks.filled Lines);
-        last_bare = bare_filled 2 Lines Plain n.LabelEnd last ends.marks.named refl (ends.marks.filled Lines);
+        first_strings = without_filled outside_strings refl refl 2 Lines Plain sign first enters.marks.named strings (enters.marks.filled Lines);
+        last_strings = without_filled outside_strings refl refl 2 Lines Plain n.LabelEnd last ends.marks.named refl (ends.marks.filled Lines);
         first_unasked = without_filled asked_names refl refl 2 Lines Plain sign first enters.marks.named unasked (enters.marks.filled Lines);
         last_unasked = without_filled asked_names refl refl 2 Lines Plain n.LabelEnd last ends.marks.named refl (ends.marks.filled Lines);
       } in
@@ -87,10 +87,10 @@ module _ {A : Type 0} (text : List ℕ) (stop : Stop) where
   pub call_written : (context : InlineContext) (label content after : List ℕ) (to : List InlineCode) (ns : Nodes) (old inside w ended new : Walk A)
       → content ≡ (91 ∷ 94 ∷ []) ++ (label ++ 93 ∷ after) → AreBytesAt after to
       → EntersLabel text n.GfmFootnoteCall n.GfmFootnoteCallLabel (91 ∷ 94 ∷ []) (label ++ 93 ∷ after) stop old inside
-      → WritesInContent text label ns (93 ∷ after) stop inside w → ArePlain ns → AreBare ns → AreSound context.names text ns → FillsText label ns
+      → WritesInContent text label ns (93 ∷ after) stop inside w → ArePlain ns → AreWithout outside_strings ns → AreSound context.names text ns → FillsText label ns
       → EndsLabel text after stop w ended
       → ExitsInContent text n.GfmFootnoteCall after stop ended new → IsWhole new → WritesCall context text (content_codes label) content to stop old new
-  call_written context label content after to ns old inside w ended new parts left enters writes plain bare sound fill ends leaves whole =
+  call_written context label content after to ns old inside w ended new parts left enters writes plain strings sound fill ends leaves whole =
       let (l, is, labels, words, same, label_fills) =
       labelled n.GfmFootnoteCall n.GfmFootnoteCallLabel (91 ∷ 94 ∷ []) (label ++ 93 ∷ after) label after ns old inside w ended refl refl refl refl refl
       enters writes plain ends in
@@ -123,6 +123,6 @@ module _ {A : Type 0} (text : List ℕ) (stop : Stop) where
             call_fill around label text l is (end_in old.out) (end_in ended.out) inside_may
             (label_fills around OfCall call_label inside_may (fill around inside_may));
         sound =
-            call_sound text l is context.names (end_in old.out) (end_in ended.out) (subst AreBare (sym same) bare)
+            call_sound text l is context.names (end_in old.out) (end_in ended.out) (subst (AreWithout outside_strings) (sym same) strings)
             (subst (AreSound context.names text) (sym same) sound);
       }

@@ -25,8 +25,8 @@ use Rattle.event_grammar.specs.Grammar.{one as one_slot, row, text_row}
 use Rattle.event_grammar.specs.Slots.{take_child}
 use Rattle.parse_slots.specs.Left.{Fill, IsFilled, MayEndLines, took}
 use Rattle.parse_slots.proofs.Steps.{fill_both, fill_taken}
-use Rattle.parse_references.specs.Leads.{AreBare, IsBare, IsWithout}
-use Rattle.parse_references.specs.Sound.{AreSound, IsSound, asked_names}
+use Rattle.parse_references.specs.Leads.{AreWithout, IsWithout}
+use Rattle.parse_references.specs.Sound.{AreSound, IsSound, asked_names, outside_strings}
 use Rattle.parse_references.proofs.Sound.{sound_around, sound_one, without_is_sound}
 use Rattle.parse_links.specs.Tails.{FillsTail, tail_slots, title_string}
 use Rattle.parse_strings.specs.Plain.{tail_names}
@@ -53,8 +53,8 @@ pub record IsLabel (l : Label) : Type 0 where
   pub first : ArePlain (one l.first)
   pub last : ArePlain (one l.last)
   pub kids : ArePlain l.kids
-  pub first_bare : IsBare l.first
-  pub last_bare : IsBare l.last
+  pub first_strings : IsWithout outside_strings l.first
+  pub last_strings : IsWithout outside_strings l.last
   pub first_unasked : IsWithout asked_names l.first
   pub last_unasked : IsWithout asked_names l.last
 
@@ -242,11 +242,11 @@ module _ (text : List ℕ) (l : Label) (is : IsLabel l) where
       (no_other text l is Nil (record { definitions = refl; columns = refl }))
 
   -- its label is a string
-  pub call_sound : (names : Names) (from to : End) → AreBare l.kids → AreSound names text l.kids → AreSound names text (call_nodes from to)
-  call_sound names from to bare sound = (
+  pub call_sound : (names : Names) (from to : End) → AreWithout outside_strings l.kids → AreSound names text l.kids → AreSound names text (call_nodes from to)
+  call_sound names from to strings sound = (
     (
       record {
-        call = λ same. ((refl, (is.first_bare, ((refl, bare), (is.last_bare, tt)))), tt);
+        call = λ same. ((refl, (is.first_strings, ((refl, strings), (is.last_strings, tt)))), tt);
         reference = λ same. absurd (true≢false (ap (same_name n.GfmFootnoteCall) same));
         heading = λ same. absurd (true≢false (ap (same_name n.GfmFootnoteCall) same));
       },

@@ -22,8 +22,8 @@ use Rattle.parse_inline.specs.Rows.{Inside, EntersFrame}
 use Rattle.event_grammar.specs.declared.slot.Form.TheVariants.{Plain}
 use Rattle.event_grammar.specs.Grammar.{text_row}
 use Rattle.parse_slots.proofs.Steps.{fill_both, fill_none, may_both}
-use Rattle.parse_references.specs.Sound.{AreSound, asked_names}
-use Rattle.parse_references.proofs.Rows.{is_bare, is_without}
+use Rattle.parse_references.specs.Sound.{AreSound, asked_names, outside_strings}
+use Rattle.parse_references.proofs.Rows.{is_without}
 use Rattle.parse_references.proofs.Sound.{sound_both}
 use Rattle.parse_inline.specs.Texts.{FillsText}
 use Rattle.parse_inline.proofs.Kids.{moved}
@@ -56,9 +56,9 @@ mark_no_label : (kind : LinkedKind) → same_name (mark_name kind) n.Label ≡ f
 mark_no_label Link = refl
 mark_no_label Image = refl
 
-mark_bare : (kind : LinkedKind) → is_bare 2 Plain (mark_name kind) ≡ true
-mark_bare Link = refl
-mark_bare Image = refl
+mark_strings : (kind : LinkedKind) → is_without outside_strings 2 Plain (mark_name kind) ≡ true
+mark_strings Link = refl
+mark_strings Image = refl
 
 mark_unasked : (kind : LinkedKind) → is_without asked_names 2 Plain (mark_name kind) ≡ true
 mark_unasked Link = refl
@@ -250,7 +250,7 @@ module _ {A : Type 0} (context : InlineContext) (text : List ℕ) (stop : Stop) 
         let rest : it.here ≡ p.front ++ 93 ∷ behind = p.both ∙ ap (λ c. p.front ++ c) leaves.bracket in
         let (l, is, label, own_words, same, label_fills) =
         labelled text stop (linked_name kind) (mark_name kind) it.front it.here p.front behind p.nodes it.outside it.inside w leaves.ended (mark_no_text kind)
-        (mark_no_label kind) (mark_bare kind) (mark_unasked kind) rest enters
+        (mark_no_label kind) (mark_strings kind) (mark_unasked kind) rest enters
         (subst (λ c. WritesInContent text p.front p.nodes c stop it.inside w) leaves.bracket p.writes) p.plain leaves.label in
         let all : it.front ++ it.here ≡ (((it.front ++ p.front) ++ 93 ∷ []) ++ front) ++ after =
         ap (λ c. it.front ++ c) rest ∙ sym (append_assoc it.front p.front (93 ∷ behind)) ∙ sym (append_assoc (it.front ++ p.front) (93 ∷ []) behind)

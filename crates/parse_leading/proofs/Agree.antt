@@ -46,7 +46,7 @@ use Rattle.parse_leading.proofs.Calm.{agree_without, agrees_without, calm_kids, 
 use Rattle.parse_leading.proofs.Columns.{calm_values, row_cells, row_columns, values, values_named}
 use Rattle.parse_leading.proofs.Firsts.{between_other, child_here, child_later, first_is}
 use Rattle.parse_leading.proofs.Laid.{Fits, text_fits}
-use Rattle.parse_leading.proofs.Leaves.{AllLeaves, leaves_read, leaves_spelled}
+use Rattle.parse_leading.proofs.Leaves.{AllLeaves, Any, leaves_read, leaves_spelled}
 use Rattle.parse_leading.proofs.Steps.{row_passes}
 use Rattle.parse_leading.proofs.Walk.{all_have, AllHave, Facts, holder_names, is_part}
 
@@ -193,7 +193,7 @@ agree_all cells (Cons node ns) all = agrees_next cells node ns all.0 (agree_all 
 module _ (names : Names) (bytes : List ℕ) where
   table_leaf : (around : Between) (form : Form) (top : Bool) (text : List ℕ) (kids : Nodes) (inner : page.Blocks) (name : Name)
       → is_listed leaf_names name ≡ true → ends (left_by (between_of (row name form) around name) (row name form) kids) ≡ true
-      → AllLeaves HasColumns (block_of names bytes top name text kids inner)
+      → AllLeaves HasColumns Any (block_of names bytes top name text kids inner)
       → (same_name name n.GfmTableDelimiterRow ≡ false) × AgreeInCells 0 kids
   table_leaf around form top text kids inner n.GfmTable listed e all =
       let head = kids_in n.GfmTableHead kids in
@@ -203,7 +203,7 @@ module _ (names : Names) (bytes : List ℕ) where
       (refl, table_agrees (between_of (row n.GfmTable form) around n.GfmTable) 0 kids e fits)
   table_leaf around form top text kids inner name listed e all = absurd (true≢false (sym listed))
 
-  facts : Facts Agrees names bytes HasColumns is_calm leaf_names
+  facts : Facts Agrees names bytes HasColumns Any is_calm leaf_names
   facts = record {
     spaces = refl;
     lines = refl;
@@ -211,11 +211,11 @@ module _ (names : Names) (bytes : List ℕ) where
     quiet = calm_agrees;
     leaf = λ around form top enter exit kids inner listed filled all.
         table_leaf around form top (text_of bytes (Around enter kids exit)) kids inner enter.name listed filled all;
-    holder = λ enter exit kids listed all. (holder_other enter.name listed, agree_all 0 kids all);
+    holder = λ top enter exit kids inner listed spelled all. (holder_other enter.name listed, agree_all 0 kids all);
   }
 
-  nodes_agree : (ns : Nodes) → ends (left_by Lines document_row ns) ≡ true → AllLeaves HasColumns (blocks_of names bytes true ns) → AgreeInCells 0 ns
-  nodes_agree ns e all = agree_all 0 ns (all_have Agrees names bytes HasColumns is_calm leaf_names facts Lines document_row true ns refl e all)
+  nodes_agree : (ns : Nodes) → ends (left_by Lines document_row ns) ≡ true → AllLeaves HasColumns Any (blocks_of names bytes true ns) → AgreeInCells 0 ns
+  nodes_agree ns e all = agree_all 0 ns (all_have Agrees names bytes HasColumns Any is_calm leaf_names facts Lines document_row true ns refl e all)
 
 -- ---- the document
 
@@ -240,5 +240,5 @@ documents_agree tables options text ns bytes of_text e =
     let m = meaning_read tables options text in
     let m' = meaning_spelled tables options text spelled in
     nodes_agree tables.names text ns e
-    (leaves_spelled HasColumns HasColumns m m' (columns_alike m m') (page_read tables options text).blocks spelled.blocks tt
+    (leaves_spelled HasColumns HasColumns Any Any m m' (columns_alike m m') (λ c d own alike. tt) (page_read tables options text).blocks spelled.blocks tt
     (leaves_read Fits HasColumns r (columns_read r) on_page bs (text_fits options.constructs text bytes)) of_text.blocks)

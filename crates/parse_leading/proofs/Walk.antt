@@ -72,8 +72,8 @@ module _ (Fact : Node → Type 0) where
   AllHave Nil = Unit {0}
   AllHave (Cons node ns) = Fact node × AllHave ns
 
-  -- What is quiet has the fact by its row, a leaf with a text by what it spells, and what holds blocks by those in it.
-  module _ (names : Names) (bytes : List ℕ) (P : page.PageLeaf → Type 0) (is_quiet : Form → Name → Bool) (leaf_names : List Name) where
+  -- What is quiet has the fact by its row, a leaf by what it spells, and what holds blocks by what it spells and by those in it.
+  module _ (names : Names) (bytes : List ℕ) (P : page.PageLeaf → Type 0) (C : page.PageContainer → Type 0) (is_quiet : Form → Name → Bool) (leaf_names : List Name) where
     pub record Facts : Type 0 where
       pub spaces : list_all (is_quiet Plain) space_names ≡ true
       pub lines : list_all (is_quiet Plain) line_names ≡ true
@@ -81,8 +81,10 @@ module _ (Fact : Node → Type 0) where
       pub quiet : (around : Between) (form : Form) (node : Node) → is_quiet form (node_name node) ≡ true → is_filled around form node ≡ true → Fact node
       pub leaf : (around : Between) (form : Form) (top : Bool) (enter exit : Event) (kids : Nodes) (inner : page.Blocks)
           → is_listed leaf_names enter.name ≡ true → is_filled around form (Around enter kids exit) ≡ true
-          → AllLeaves P (block_of names bytes top enter.name (text_of bytes (Around enter kids exit)) kids inner) → Fact (Around enter kids exit)
-      pub holder : (enter exit : Event) (kids : Nodes) → is_listed holder_names enter.name ≡ true → AllHave kids → Fact (Around enter kids exit)
+          → AllLeaves P C (block_of names bytes top enter.name (text_of bytes (Around enter kids exit)) kids inner) → Fact (Around enter kids exit)
+      pub holder : (top : Bool) (enter exit : Event) (kids : Nodes) (inner : page.Blocks) → is_listed holder_names enter.name ≡ true
+          → AllLeaves P C (block_of names bytes top enter.name (text_of bytes (Around enter kids exit)) kids inner) → AllHave kids
+          → Fact (Around enter kids exit)
 
     -- what stands between is a part, too
     quiet_parts : (xs : List Name) → list_all (is_quiet Plain) xs ≡ true → list_all (is_part is_quiet leaf_names Plain) xs ≡ true
@@ -95,12 +97,12 @@ module _ (Fact : Node → Type 0) where
 
     -- the blocks in a holder are those that it spells
     held_leaves : (name : Name) (top : Bool) (text : List ℕ) (kids : Nodes) (inner : page.Blocks) → is_listed holder_names name ≡ true
-        → AllLeaves P (block_of names bytes top name text kids inner) → AllLeaves P inner
-    held_leaves n.BlockQuote top text kids inner listed all = all.0
-    held_leaves n.ListItem top text kids inner listed all = all.0
-    held_leaves n.GfmFootnoteDefinition top text kids inner listed all = all.0
-    held_leaves n.ListUnordered top text kids inner listed all = all.0
-    held_leaves n.ListOrdered top text kids inner listed all = all.0
+        → AllLeaves P C (block_of names bytes top name text kids inner) → AllLeaves P C inner
+    held_leaves n.BlockQuote top text kids inner listed all = all.0.1
+    held_leaves n.ListItem top text kids inner listed all = all.0.1
+    held_leaves n.GfmFootnoteDefinition top text kids inner listed all = all.0.1
+    held_leaves n.ListUnordered top text kids inner listed all = all.0.1
+    held_leaves n.ListOrdered top text kids inner listed all = all.0.1
     held_leaves name top text kids inner listed all = absurd (true≢false (sym listed))
 
     -- the blocks in a node, and those that it spells
@@ -135,7 +137,7 @@ module _ (Fact : Node → Type 0) where
 
       mutual
         has_fact : (around : Between) (form : Form) (top : Bool) (node : Node) → is_part is_quiet leaf_names form (node_name node) ≡ true
-            → is_filled around form node ≡ true → AllLeaves P (own top node) → Fact node
+            → is_filled around form node ≡ true → AllLeaves P C (own top node) → Fact node
         has_fact around form top (Around enter kids exit) part filled all =
             elim (or_cases (is_quiet form enter.name) (is_listed leaf_names enter.name || is_listed holder_names enter.name) part) [
               | inl quiet ↦ facts.quiet around form (Around enter kids exit) quiet filled
@@ -143,7 +145,7 @@ module _ (Fact : Node → Type 0) where
                   elim (or_cases (is_listed leaf_names enter.name) (is_listed holder_names enter.name) other) [
                     | inl listed ↦ facts.leaf around form top enter exit kids (inner (Around enter kids exit)) listed filled all
                     | inr listed ↦
-                        facts.holder enter exit kids listed
+                        facts.holder top enter exit kids (inner (Around enter kids exit)) listed all
                         (from_have (between_of (row enter.name form) around enter.name) (start_of enter.name) (row enter.name form) kids
                         (begins_its_row enter.name form listed) (facts.rows enter.name form listed) filled
                         (held_leaves enter.name top (text_of bytes (Around enter kids exit)) kids (inner (Around enter kids exit)) listed all))
@@ -152,12 +154,12 @@ module _ (Fact : Node → Type 0) where
 
         -- blocks, at the top or in a holder
         pub all_have : (around : Between) (slots : List Slot) (top : Bool) (ns : Nodes) → row_passes (is_part is_quiet leaf_names) slots ≡ true
-            → ends (left_by around slots ns) ≡ true → AllLeaves P (blocks_of names bytes top ns) → AllHave ns
+            → ends (left_by around slots ns) ≡ true → AllLeaves P C (blocks_of names bytes top ns) → AllHave ns
         all_have around slots top Nil passing e all = tt
         all_have around slots top (Cons (Around enter kids exit) ns) passing e all =
             let s = part_step around slots (Around enter kids exit) ns passing e in
             let parts =
-            leaves_parts P (own top (Around enter kids exit))
+            leaves_parts P C (own top (Around enter kids exit))
             (blocks_of names bytes top ns) all in (
               has_fact around s.form top (Around enter kids exit) s.passed s.filled parts.0,
               all_have around s.rest top ns s.passing s.left parts.1,
@@ -166,7 +168,7 @@ module _ (Fact : Node → Type 0) where
         -- the children of a holder, before its content begins
         from_have : (around : Between) (start : Name) (slots : List Slot) (ns : Nodes) → begins start slots ≡ true
             → row_passes (is_part is_quiet leaf_names) slots ≡ true → ends (left_by around slots ns) ≡ true
-            → AllLeaves P (blocks_from names bytes start ns) → AllHave ns
+            → AllLeaves P C (blocks_from names bytes start ns) → AllHave ns
         from_have around start slots Nil begun passing e all = tt
         from_have around start slots (Cons (Around enter kids exit) ns) begun passing e all =
             let first = own false (Around enter kids exit) in
@@ -175,8 +177,8 @@ module _ (Fact : Node → Type 0) where
               | inl same ↦
                   let s = part_step around slots (Around enter kids exit) ns passing e in
                   let parts =
-                  leaves_parts P first (blocks_of names bytes false ns)
-                  (subst (AllLeaves P) (cond-true (same_name enter.name start) all_of (blocks_from names bytes start ns) same) all) in (
+                  leaves_parts P C first (blocks_of names bytes false ns)
+                  (subst (AllLeaves P C) (cond-true (same_name enter.name start) all_of (blocks_from names bytes start ns) same) all) in (
                     has_fact around s.form false (Around enter kids exit) s.passed s.filled parts.0,
                     all_have around s.rest false ns s.passing s.left parts.1,
                   )
@@ -185,6 +187,6 @@ module _ (Fact : Node → Type 0) where
                   skipped around slots (Around enter kids exit) ns (take_child slots enter.name) (takes_none enter.name start apart slots begun) e in (
                     s.fact,
                     from_have around start slots ns begun passing s.left
-                        (subst (AllLeaves P) (cond-false (same_name enter.name start) all_of (blocks_from names bytes start ns) apart) all),
+                        (subst (AllLeaves P C) (cond-false (same_name enter.name start) all_of (blocks_from names bytes start ns) apart) all),
                   )
             ]

@@ -6,13 +6,12 @@ use Rattle.parse_open.proofs.Prelude.{append, Around, Event, is_listed, Name, Na
 use Rattle.engine_events.specs.declared.event.Name.TheVariants as n
 use Rattle.event_grammar.specs.Checks.{spot_of}
 use Rattle.event_grammar.specs.Points.{edge}
-use Rattle.event_grammar.specs.References.{media_names}
 use Rattle.event_grammar.specs.Trees.{Cons, tree}
 use Rattle.parse_output.specs.Children.{HaveChildren, may_enter, may_hold}
 use Rattle.parse_output.specs.Forest.{byte_nodes, bytes_from, bytewise, is_nil, node_bytewise}
 use Rattle.parse_output.specs.Open.{Entered, Mark}
 use Rattle.parse_references.specs.Leads.{AreWithout}
-use Rattle.parse_references.specs.Sound.{AreSound, Decode, HoldsAsked, IsRank, IsSound}
+use Rattle.parse_references.specs.Sound.{AreSound, Decode, HoldsAsked, IsRank, IsSound, outside_strings}
 use Rattle.parse_references.proofs.Sound.{asks_nothing, sound_both, sound_parts}
 use Rattle.parse_open.specs.NodeLaws.{DocumentsAreSound}
 use Rattle.parse_open.proofs.FilledBytes.{all_held, AreHeld, tree_is}
@@ -102,7 +101,7 @@ module _ (names : Names) (text : List ℕ) where
   asked_whole : (marks : List Mark) (name : Name) (kids : Nodes) → AreHeld (Entered name ∷ marks) kids → HoldsAsked names text name (bytewise kids)
       → HoldsAsked names text name kids
   asked_whole marks name kids held h = record {
-    call = λ is. without_whole media_names kids refl (h.call is);
+    call = λ is. without_whole outside_strings kids refl (h.call is);
     reference = λ is. decode_whole marks None kids (subst (λ (a : Name). AreHeld (Entered a ∷ marks) kids) is held) (h.reference is);
     heading = λ is. rank_whole kids (h.heading is);
   }

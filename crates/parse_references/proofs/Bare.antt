@@ -1,6 +1,6 @@
 -- Nodes that fill bare rows are bare, and lead on.
-use Rattle.std.proofs.Common.{◌≡◌, ℕ, zero, suc, Bool, true, false, ◌&&◌, ◌||◌, List, [], ◌∷◌, Option, None, Some, refl, sym, ap, ◌∙◌}
-use Rattle.std.proofs.lemmas.Bool.{and_parts, and_right, not-true, or_from, or_parts, true≢false}
+use Rattle.std.proofs.Common.{inl, inr, ◌≡◌, ℕ, zero, suc, Bool, true, false, ◌&&◌, ◌||◌, List, [], ◌∷◌, Option, None, Some, refl, sym, ap, ◌∙◌}
+use Rattle.std.proofs.lemmas.Bool.{and_parts, and_right, cases_Bool, not-true, or_from, or_parts, true≢false}
 use Rattle.std.specs.List.{list_all}
 use Rattle.std.specs.Prelude.{if◌then◌else◌, not}
 use Rattle.engine_events.specs.Names.{same_name, is_listed}
@@ -19,7 +19,7 @@ use Rattle.event_grammar.specs.Trees.{Node, Nodes, Around, Nil, Cons}
 use Rattle.parse_output.specs.Forest.{append}
 use Rattle.parse_slots.specs.Left.{ends, Fill, is_filled, IsFilled, left_after, left_by}
 use Rattle.parse_references.specs.Leads.{AreBare, AreWithout, HoldBareCalls, HoldsBareCalls, IsBare, IsWithout, LeadOn, LeadsOn}
-use Rattle.parse_references.proofs.Rows.{between_passes, if_ends, is_bare, is_without, row_bare, row_without, taken_without}
+use Rattle.parse_references.proofs.Rows.{all_pass, between_passes, if_ends, is_bare, is_without, row_bare, row_without, taken_without}
 
 -- ---- by rows
 
@@ -69,6 +69,22 @@ module _ (off : List Name) where
     pub without_filled : (k : ℕ) (around : Between) (form : Form) (name : Name) (node : Node) → node_name node ≡ name → is_without off k form name ≡ true
         → IsFilled around form node → IsWithout off node
     without_filled k around form name node is without filled = without_node around node k form (ap (is_without off k form) is ∙ without) filled.filled
+
+-- nodes without some names are without fewer
+module _ (off fewer : List Name) (among : list_all (is_listed off) fewer ≡ true) where
+  not_among : (name : Name) → is_listed off name ≡ false → is_listed fewer name ≡ false
+  not_among name other = elim (cases_Bool (is_listed fewer name)) [
+    | inl listed ↦ absurd (true≢false (sym (all_pass (is_listed off) fewer name among listed) ∙ other))
+    | inr none ↦ none
+  ]
+
+  mutual
+    pub is_without_fewer : (node : Node) → IsWithout off node → IsWithout fewer node
+    is_without_fewer (Around enter kids exit) h = (not_among enter.name h.0, are_without_fewer kids h.1)
+
+    pub are_without_fewer : (ns : Nodes) → AreWithout off ns → AreWithout fewer ns
+    are_without_fewer Nil h = tt
+    are_without_fewer (Cons node ns) h = (is_without_fewer node h.0, are_without_fewer ns h.1)
 
 -- ---- bare nodes
 

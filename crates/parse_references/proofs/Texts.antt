@@ -98,17 +98,17 @@ module _ (names : Names) (bytes : List ℕ) (links footnotes : List (List ℕ)) 
   -- children of an event around a text lead on, if the text does
   abbrev Within : (Form → Name → Bool) → Nodes → Type 0
   Within holds kids =
-      (around : Between) (linked inner : Bool) (slots : List Slot) → spells_in holds slots ≡ true → ends (left_by around slots kids) ≡ true
+      (around : Between) (linked inner : Bool) (slots : List Slot) → spells_in media_names holds slots ≡ true → ends (left_by around slots kids) ≡ true
       → Parts linked (text_within names bytes inner kids) → Lead linked kids
 
-  span_claim : (around : Between) (linked inner : Bool) (kids : Nodes) (name : Name) → Within is_text kids → spells_in is_text (row name Plain) ≡ true
+  span_claim : (around : Between) (linked inner : Bool) (kids : Nodes) (name : Name) → Within is_text kids → spells_in media_names is_text (row name Plain) ≡ true
       → ends (left_by (between_of (row name Plain) around name) (row name Plain) kids) ≡ true
       → Parts linked (text_within names bytes (inner || false) kids) → Lead (linked || false) kids
   span_claim around linked inner kids name within spells e h =
       within (between_of (row name Plain) around name) (linked || false) (inner || false) (row name Plain) spells e
       (subst (λ b. Parts b (text_within names bytes (inner || false) kids)) (sym (or_false linked)) h)
 
-  claims : (around : Between) (linked inner : Bool) (kids : Nodes) → Within is_text kids → Within is_text_or_label kids → (name : Name)
+  claims : (around : Between) (linked inner : Bool) (kids : Nodes) → Within is_text kids → Within (is_text_or_label media_names) kids → (name : Name)
       → is_listed holding_names name ≡ true → Claim around linked inner kids name
   claims around linked inner kids within labelled =
       holding_case (Claim around linked inner kids)
@@ -155,11 +155,11 @@ module _ (names : Names) (bytes : List ℕ) (links footnotes : List (List ℕ)) 
 
   -- a label, which holds one
   held_label : (around : Between) (linked inner : Bool) (form : Form) (enter exit : Event) (kids ns : Nodes) → Within is_text kids
-      → is_listed text_names enter.name ≡ false → (same_name enter.name n.Label && spells_in is_text (row enter.name form)) ≡ true
+      → is_listed text_names enter.name ≡ false → (same_name enter.name n.Label && spells_in media_names is_text (row enter.name form)) ≡ true
       → is_filled around form (Around enter kids exit) ≡ true
       → Parts linked (text_within names bytes inner (Cons (Around enter kids exit) ns)) → LeadsOn bytes links footnotes linked (Around enter kids exit)
   held_label around linked inner form enter exit kids ns within other label filled h =
-      let parts = and_parts (same_name enter.name n.Label) (spells_in is_text (row enter.name form)) label in
+      let parts = and_parts (same_name enter.name n.Label) (spells_in media_names is_text (row enter.name form)) label in
       plain_leads linked (Around enter kids exit)
       (subst (λ name. is_listed media_names name ≡ false) (sym (same_true the_type tt enter.name n.Label parts.0)) refl)
       (within (between_of (row enter.name form) around enter.name) linked inner (row enter.name form) parts.1 filled
@@ -168,7 +168,7 @@ module _ (names : Names) (bytes : List ℕ) (links footnotes : List (List ℕ)) 
       ∙ cond-true (same_name enter.name n.Label) (text_within names bytes inner kids) _ parts.0) h))
 
   -- nothing is looked for in an event with a dark name
-  dark_skips : (inner : Bool) (form : Form) (node : Node) (ns : Nodes) → is_dark form (node_name node) ≡ true
+  dark_skips : (inner : Bool) (form : Form) (node : Node) (ns : Nodes) → is_dark media_names form (node_name node) ≡ true
       → text_within names bytes inner (Cons node ns) ≡ text_within names bytes inner ns
   dark_skips inner form (Around enter kids exit) ns dark =
       let parts = and_parts (is_bare depth form enter.name) (not (is_listed text_names enter.name) && not (same_name enter.name n.Label)) dark in
@@ -186,23 +186,23 @@ module _ (names : Names) (bytes : List ℕ) (links footnotes : List (List ℕ)) 
         → LeadsOn bytes links footnotes linked node
 
     abbrev Others : Type 0
-    Others = (slots : List Slot) → spells_in holds slots ≡ true → ends (left_by around slots ns) ≡ true → Parts linked (text_within names bytes inner ns)
+    Others = (slots : List Slot) → spells_in media_names holds slots ≡ true → ends (left_by around slots ns) ≡ true → Parts linked (text_within names bytes inner ns)
         → Lead linked ns
 
-    dark_child : (form : Form) (slots : List Slot) → is_dark form (node_name node) ≡ true → is_filled around form node ≡ true
-        → spells_in holds slots ≡ true → ends (left_by around slots ns) ≡ true → Others → Parts linked (text_within names bytes inner (Cons node ns)) → Both
+    dark_child : (form : Form) (slots : List Slot) → is_dark media_names form (node_name node) ≡ true → is_filled around form node ≡ true
+        → spells_in media_names holds slots ≡ true → ends (left_by around slots ns) ≡ true → Others → Parts linked (text_within names bytes inner (Cons node ns)) → Both
     dark_child form slots dark filled spells left others h =
         let bare = (and_parts (is_bare depth form (node_name node)) _ dark).0 in (
           bare_leads bytes links footnotes linked node (bare_node around node depth form bare filled),
           others slots spells left (subst (Parts linked) (dark_skips inner form node ns dark) h),
         )
 
-    within_child : (slots : List Slot) → spells_in holds slots ≡ true → Own → Others → (t : Option Taken) → take_child slots (node_name node) ≡ t
+    within_child : (slots : List Slot) → spells_in media_names holds slots ≡ true → Own → Others → (t : Option Taken) → take_child slots (node_name node) ≡ t
         → ends (left_after t slots (stands_between around (node_name node)) (λ form. is_filled around form node) (λ rest. left_by around rest ns)) ≡ true
         → Parts linked (text_within names bytes inner (Cons node ns)) → Both
     within_child slots spells own others (Some t) is e h =
         if_ends Both (is_filled around t.form node) (left_by around t.rest ns) ends refl
-        (λ filled left. elim (taken_in holds (node_name node) slots spells t is) [
+        (λ filled left. elim (taken_in media_names holds (node_name node) slots spells t is) [
           | inl dark ↦ dark_child t.form t.rest dark.0 filled dark.1 left others h
           | inr held ↦ (own t.form held.0 filled h, bare_lead bytes links footnotes linked ns (bare_kids around ns depth t.rest held.1 left))
         ]) e
@@ -210,7 +210,7 @@ module _ (names : Names) (bytes : List ℕ) (links footnotes : List (List ℕ)) 
         if_ends Both (stands_between around (node_name node) && is_filled around Plain node) (left_by around slots ns) ends refl
         (λ both left.
         let parts = and_parts (stands_between around (node_name node)) (is_filled around Plain node) both in
-        dark_child Plain slots (between_passes (is_dark Plain) refl refl around (node_name node) parts.0) parts.1 spells left others h) e
+        dark_child Plain slots (between_passes (is_dark media_names Plain) refl refl around (node_name node) parts.0) parts.1 spells left others h) e
 
   -- ---- a text
 
@@ -229,7 +229,7 @@ module _ (names : Names) (bytes : List ℕ) (links footnotes : List (List ℕ)) 
     own_parts =
         text_part names bytes inner enter.name (text_of bytes text_node) kids (text_within names bytes (inner || same_name enter.name n.Link) kids)
 
-    text_leads : Within is_text kids → Within is_text_or_label kids → (same_name enter.name n.GfmFootnoteCall ≡ true → AreBare kids)
+    text_leads : Within is_text kids → Within (is_text_or_label media_names) kids → (same_name enter.name n.GfmFootnoteCall ≡ true → AreBare kids)
         → is_listed grammar.text_names enter.name ≡ true → is_filled around Plain text_node ≡ true → Parts linked own_parts
         → LeadsOn bytes links footnotes linked text_node
     text_leads within labelled calls listed filled h =
@@ -238,7 +238,7 @@ module _ (names : Names) (bytes : List ℕ) (links footnotes : List (List ℕ)) 
           | inr held ↦ claims around linked inner kids within labelled enter.name held filled calls (text_of bytes text_node) h
         ]
 
-    text_child : Within is_text kids → Within is_text_or_label kids → (same_name enter.name n.GfmFootnoteCall ≡ true → AreBare kids)
+    text_child : Within is_text kids → Within (is_text_or_label media_names) kids → (same_name enter.name n.GfmFootnoteCall ≡ true → AreBare kids)
         → (ends (left_by around text_row ns) ≡ true → Lead linked ns) → Parts linked own_parts → (t : Option Taken) → take_child text_row enter.name ≡ t
         → ends (left_after t text_row (stands_between around enter.name) (λ form. is_filled around form text_node) (λ rest. left_by around rest ns)) ≡ true
         → LeadsOn bytes links footnotes linked text_node × Lead linked ns
@@ -279,16 +279,16 @@ module _ (names : Names) (bytes : List ℕ) (links footnotes : List (List ℕ)) 
         (λ slots spells left others. in_text ns calls.1 around linked inner slots spells left others) (take_child slots enter.name) refl e h
 
     -- around a label with a text
-    pub in_label : (kids : Nodes) → HoldBareCalls kids → Within is_text_or_label kids
+    pub in_label : (kids : Nodes) → HoldBareCalls kids → Within (is_text_or_label media_names) kids
     in_label Nil calls around linked inner slots spells e h = tt
     in_label (Cons (Around enter kids exit) ns) calls around linked inner slots spells e h =
-        within_child is_text_or_label around linked inner (Around enter kids exit) ns slots spells
+        within_child (is_text_or_label media_names) around linked inner (Around enter kids exit) ns slots spells
         (λ form held filled own. elim (cases_Bool (is_listed text_names enter.name)) [
           | inl listed ↦
               held_text around linked inner form enter exit kids ns (λ around left parts. texts_lead kids around linked inner left calls.0.1 parts) listed filled own
           | inr other ↦
               held_label around linked inner form enter exit kids ns (in_text kids calls.0.1) other
-              (ap (λ (b : Bool). b || (same_name enter.name n.Label && spells_in is_text (row enter.name form))) (sym other) ∙ held) filled own
+              (ap (λ (b : Bool). b || (same_name enter.name n.Label && spells_in media_names is_text (row enter.name form))) (sym other) ∙ held) filled own
         ])
         (λ slots spells left others. in_label ns calls.1 around linked inner slots spells left others) (take_child slots enter.name) refl e h
 

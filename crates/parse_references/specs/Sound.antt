@@ -7,14 +7,22 @@ use Rattle.engine_events.specs.declared.event.Name.TheVariants as n
 use Rattle.definition_inline.specs.CharacterReference.{Names}
 use Rattle.event_grammar.specs.Checks.{spot_of}
 use Rattle.event_grammar.specs.Facts.{decodes, is_size}
+use Rattle.event_grammar.specs.Grammar.{block_names}
 use Rattle.event_grammar.specs.InGrammar.{node_name}
 use Rattle.event_grammar.specs.Points.{bytes_between}
 use Rattle.event_grammar.specs.Trees.{Node, Nodes, Around, Nil, Cons}
-use Rattle.parse_references.specs.Leads.{AreBare}
+use Rattle.parse_references.specs.Leads.{AreWithout}
 
 -- the names of events of which more is asked
 abbrev pub asked_names : List Name
 asked_names = n.GfmFootnoteCall ∷ n.CharacterReference ∷ n.HeadingAtx ∷ []
+
+-- what no string holds: what stands in texts alone, and blocks
+abbrev pub outside_strings : List Name
+outside_strings =
+    n.Link ∷ n.Image ∷ n.GfmFootnoteCall ∷ n.Emphasis ∷ n.Strong ∷ n.GfmStrikethrough ∷ n.Mark ∷ n.CodeText ∷ n.MathText ∷ n.HtmlText ∷ n.Autolink
+    ∷ n.GfmAutolinkLiteralEmail ∷ n.GfmAutolinkLiteralMailto ∷ n.GfmAutolinkLiteralProtocol ∷ n.GfmAutolinkLiteralWww ∷ n.GfmAutolinkLiteralXmpp
+    ∷ n.HardBreakEscape ∷ n.HardBreakTrailing ∷ n.GfmTaskListItemCheck ∷ n.ListItem ∷ block_names
 
 module _ (names : Names) (text : List ℕ) where
   abbrev pub node_bytes : Node → List ℕ
@@ -40,7 +48,7 @@ module _ (names : Names) (text : List ℕ) where
 
   -- the children of an event of a name are as the grammar asks
   pub record HoldsAsked (name : Name) (kids : Nodes) : Type 0 where
-    pub call : name ≡ n.GfmFootnoteCall → AreBare kids
+    pub call : name ≡ n.GfmFootnoteCall → AreWithout outside_strings kids
     pub reference : name ≡ n.CharacterReference → Decode None kids
     pub heading : name ≡ n.HeadingAtx → IsRank kids
 

@@ -5,8 +5,8 @@ use Rattle.std.proofs.lemmas.List.{get_or-drop, get_or_at}
 use Rattle.engine_events.specs.declared.event.Name.TheVariants as n
 use Rattle.event_grammar.specs.declared.slot.Between.TheVariants.{Lines}
 use Rattle.event_grammar.specs.Grammar.{string_row}
-use Rattle.parse_references.specs.Sound.{AreSound}
-use Rattle.parse_references.proofs.Bare.{bare_fill}
+use Rattle.parse_references.specs.Sound.{AreSound, outside_strings}
+use Rattle.parse_references.proofs.Bare.{without_fill}
 use Rattle.parse_slots.specs.Left.{MayEndLines}
 use Rattle.parse_inline.proofs.Behind.{call_ahead}
 use Rattle.parse_inline.proofs.Calls.{exited_whole, exiting, label_entered, on_ok_both}
@@ -54,7 +54,7 @@ returns-clause-written g c =
     let ends = c.in_ok-label_end.ensures.written text it.after stop writes.stands pushed.whole in
     let leaves = exiting text stop ended new n.GfmFootnoteCall it.after (stays, written) ends.leaves.stands in
     call_written text stop context label content it.after to pushed.nodes old inside w ended new it.parts it.left enters writes pushed.plain
-    (bare_fill 3 Lines string_row string_row pushed.nodes refl (pushed.fill Lines tt) refl)
+    (without_fill outside_strings refl refl 3 Lines string_row string_row pushed.nodes refl (pushed.fill Lines tt) refl)
     (subst (λ by. AreSound by text pushed.nodes) (sym names) pushed.sound)
     (λ around may. string_fills around pushed.nodes (pushed.fill around (subst (MayEndLines around) (sym string) may))) ends leaves
     (exited_whole text stop ended new n.GfmFootnoteCall it.after leaves ends.whole))
