@@ -1,4 +1,4 @@
--- After all rows of a text, its events are in the grammar and spell its page.
+-- After all rows of a text, its events are in the grammar, spell its page, and are of no construct that is off.
 use Rattle.std.proofs.Common.{◌≡◌, ◌<◌, inl, inr, ℕ, List, [], ◌∷◌, true, refl, sym, ap, ◌∙◌, subst, arith, get_or, length}
 use Rattle.std.specs.Str.{is_utf8}
 use Rattle.parse_events.proofs.Prelude.{AreOpen, bare_blocks, Between, document_targets, End, end_in, Event, forest_in, group_items, growth}
@@ -20,6 +20,8 @@ use Rattle.parse_output.specs.Placed.{ArePlaced}
 use Rattle.parse_output.specs.Written.{open_in}
 use Rattle.parse_slots.specs.Left.{ends, left_by}
 use Rattle.parse_references.specs.Sound.{AreSound}
+use Rattle.parse_constructs.specs.Constructs.{NothingIsOff}
+use Rattle.parse_constructs.proofs.Documents.{documents_have_nothing_off}
 use Rattle.parse_leading.proofs.Agree.{documents_agree}
 use Rattle.parse_leading.proofs.Documents.{documents_lead_on}
 use Rattle.parse_matches.proofs.Law.{met_grammar_matches}
@@ -141,6 +143,13 @@ module _ (tables : TextTables) (options : ParseOptions) (text : List ℕ) where
           cells = documents_agree tables options text nodes bytes page filled;
         })
 
+    -- no event is of a construct that is off
+    pub nothing_off : PlacesFit text (spot 0 0) events → NothingIsOff options.constructs events
+    nothing_off places =
+        subst (NothingIsOff options.constructs) (sym are.nested.each)
+        (documents_have_nothing_off tables options text nodes (nodes_spelled places) (nodes_filled nodes are.nested.each are.nested.named) nodes_sound
+        are.nested.named)
+
     pub events_spelled : PlacesFit text (spot 0 0) events → IsPageOfText tables options text (spelled tables.names events text)
     events_spelled places =
         subst (IsPageOfText tables options text) (sym (ap (page_of tables.names text) (tree_nodes events are.nested))) (nodes_spelled places)
@@ -200,4 +209,5 @@ are_events tables options text w bytes out events bytes_are out_is placed tokens
       tokens = own_tokens;
       grammar = nodes_match tables options text w events are numbers utf8 own_placed own_tokens;
       spelled = events_spelled tables options text w events are (places_fit text events utf8 own_placed own_tokens);
+      on = nothing_off tables options text w events are (places_fit text events utf8 own_placed own_tokens);
     }

@@ -10,6 +10,7 @@ use Rattle.event_grammar.specs.Trees.{AreNodes, Nodes, events_of}
 use Rattle.event_tokens.specs.Bytes.{HaveTheirBytes}
 use Rattle.event_meaning.specs.Spelled.{spelled}
 use Rattle.parse_alike.specs.Spelled.{IsPageOfText}
+use Rattle.parse_constructs.specs.Constructs.{NothingIsOff}
 use Rattle.parse_output.specs.Children.{HaveChildren}
 use Rattle.parse_output.specs.Placed.{ArePlaced}
 use Rattle.parse_slots.specs.Left.{ends, left_by}
@@ -18,7 +19,8 @@ use Rattle.parse_events.specs.Labels.{definition_labels, footnote_labels, text_b
 use Rattle.parse_events.specs.Nested.{IsNested}
 use Rattle.parse_events.specs.State.{IsReadBy, definitions_of, footnotes_of}
 
--- these events are placed in the text, well nested and in the grammar, have bytes that their names may have, and spell its page
+-- these events are placed in the text, well nested and in the grammar, have bytes that their names may have, and spell its page; none has the name of a
+-- construct that is off
 pub record AreEventsOf (tables : TextTables) (options : ParseOptions) (text : List ℕ) (events : List Event) : Type 0 where
   pub placed : ArePlaced text events
   pub nested : IsNested events
@@ -26,6 +28,7 @@ pub record AreEventsOf (tables : TextTables) (options : ParseOptions) (text : Li
   pub tokens : HaveTheirBytes text events
   pub grammar : MatchesGrammar tables.names text events
   pub spelled : IsPageOfText tables options text (spelled tables.names events text)
+  pub on : NothingIsOff options.constructs events
 
 -- The nodes of these events fill the row of the document in the grammar.
 abbrev pub FillDocument : List Event → Type 0

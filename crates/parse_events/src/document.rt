@@ -14,6 +14,7 @@ ghost use Rattle.markdown_options.specs.Messages.{IsOutOfMemory};
 ghost use Rattle.block_rows.specs.Rows.{rows_of, rows_size, rows_value, value_with};
 ghost use Rattle.event_check.specs.Matches.{MatchesGrammar};
 ghost use Rattle.parse_output.specs.Placed.{ArePlaced};
+ghost use Rattle.parse_constructs.specs.Constructs.{NothingIsOff};
 ghost use Rattle.parse_output.specs.Children.{HaveChildren, holds_blocks};
 ghost use Rattle.parse_lines.specs.Open.{still_open};
 ghost use Rattle.parse_leaves.specs.Texts.{KnowsTargets, reading_by};
@@ -51,6 +52,8 @@ pub const SIZE_MAX: usize = usize::MAX / 8;
 /// is spaces and tabs, data ends no line, the value of an escape is punctuation. The table is in
 /// `event_tokens`. The bytes are whole characters, so each event begins and ends between characters. If its
 /// name can hold no other, it has at least a byte, or a column of a tab.
+///
+/// No event is of a construct that is off, by the table of names in `parse_constructs`.
 pub fn parse<'a, T: Tables, A: Allocator + Clone>(
     alloc: A,
     value: &'a str,
@@ -66,6 +69,7 @@ pub fn parse<'a, T: Tables, A: Allocator + Clone>(
     ensures grammar { IfOk result (λ parsed. MatchesGrammar (T.reference_of tables.now) value.now parsed.0.items) }
     ensures spelled { IfOk result (λ parsed. let names = T.reference_of tables.now in
         IsPageOfText (text_tables names (T.punctuation_of tables.now)) options.now value.now (spelled names parsed.0.items value.now)) }
+    ensures on { IfOk result (λ parsed. NothingIsOff options.now.constructs parsed.0.items) }
     ensures read_by { IfOk result (λ parsed. IsReadBy parsed.1 options.now tables.now value.now) }
     ensures definitions { IfOk result (λ parsed. definitions_of parsed.1 ≡ definition_labels (text_blocks options.now.constructs value.now)) }
     ensures footnotes { IfOk result (λ parsed. footnotes_of parsed.1 ≡ footnote_labels (text_blocks options.now.constructs value.now)) }

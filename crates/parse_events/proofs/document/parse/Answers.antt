@@ -18,6 +18,9 @@ returns-clause-grammar g c = c.in_ok-parsed.ensures.events.grammar
 pub returns-clause-spelled : goal.returns-clause-spelled
 returns-clause-spelled g c = c.in_ok-parsed.ensures.events.spelled
 
+pub returns-clause-on : goal.returns-clause-on
+returns-clause-on g c = c.in_ok-parsed.ensures.events.on
+
 pub returns-clause-read_by : goal.returns-clause-read_by
 returns-clause-read_by g c = c.in_ok-parsed.ensures.state.read_by
 

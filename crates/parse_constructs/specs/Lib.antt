@@ -1,0 +1,3 @@
+pub mod Constructs
+pub mod Nodes
+pub mod Laws
