@@ -1,0 +1,7 @@
+pub mod Readers
+pub mod Document
+pub mod DocumentStates
+pub mod Blocks
+pub mod BlocksLaws
+pub mod Views
+pub mod ViewLaws

@@ -1,0 +1,70 @@
+//! What reads the lines of a text.
+ghost use Rattle.std.specs.Prelude.{◌≡◌, IfErr, OnOk};
+ghost use Rattle.markdown_options.specs.Messages.{IsOutOfMemory};
+ghost use Rattle.markdown_engine.specs.KeptState.{kept_state};
+ghost use Rattle.state_document.specs.Readers.{Calls};
+
+use markdown_engine::Message;
+use markdown_engine::place::Point;
+use markdown_engine::tokenize_state::TokenizeState;
+use std::alloc::Allocator;
+
+/// Reads the lines of a text after their containers, and keeps where containers begin and end.
+pub trait LineReader {
+    // What is seen of it.
+    ghost Seen: { Type 0 };
+
+    ghost seen: { Self → Seen };
+
+    // What its calls do.
+    ghost calls: { Calls Seen };
+
+    /// The next container that is open goes on.
+    fn go_on<A: Allocator>(&mut self, kept: &TokenizeState<A>, point: Point)
+        ensures { seen self.new ≡ calls.went_on (seen self.old) (kept_state kept.now) point };
+
+    /// A container may begin after so many events.
+    fn mark(&mut self, events: usize)
+        ensures { seen self.new ≡ calls.marked (seen self.old) events };
+
+    /// A container begins: those that don't go on end.
+    fn begin<A: Allocator>(&mut self, kept: &TokenizeState<A>, point: Point) -> Result<(), Message>
+        ensures begun { OnOk result (seen self.new ≡ calls.begun (seen self.old) (kept_state kept.now) point) }
+        ensures memory { IfErr result IsOutOfMemory };
+
+    /// The flow of a line begins here.
+    fn begin_flow<A: Allocator>(
+        &mut self,
+        kept: &TokenizeState<A>,
+        point: Point,
+    ) -> Result<(), Message>
+        ensures begun { OnOk result (seen self.new ≡ calls.flow_begun (seen self.old) (kept_state kept.now) point) }
+        ensures memory { IfErr result IsOutOfMemory };
+
+    /// Reads the flow of a line, which ends here.
+    fn read_flow<A: Allocator>(
+        &mut self,
+        kept: &TokenizeState<A>,
+        point: Point,
+    ) -> Result<(), Message>
+        ensures read { OnOk result (seen self.new ≡ calls.flow_read (seen self.old) (kept_state kept.now) point) }
+        ensures memory { IfErr result IsOutOfMemory };
+
+    /// Reads the flow of the last line, and closes all containers.
+    fn end<A: Allocator>(&mut self, kept: &TokenizeState<A>, point: Point) -> Result<(), Message>
+        ensures ended { OnOk result (seen self.new ≡ calls.ended (seen self.old) (kept_state kept.now) point) }
+        ensures memory { IfErr result IsOutOfMemory };
+
+    /// Whether a container that begins here interrupts a paragraph (CommonMark 5.2).
+    fn is_interrupting<A: Allocator>(&self, kept: &TokenizeState<A>) -> bool
+        ensures { result ≡ calls.interrupts (seen self.now) (kept_state kept.now) };
+
+    /// Whether no container may begin here, as in fenced code and HTML.
+    fn is_concrete<A: Allocator>(&self, kept: &TokenizeState<A>) -> bool
+        ensures { result ≡ calls.is_concrete (seen self.now) (kept_state kept.now) };
+
+    /// Whether the line that was read last goes on a paragraph, so that all containers around it
+    /// stay open (CommonMark 5.1).
+    fn stays_open(&self) -> bool
+        ensures { result ≡ calls.stays_open (seen self.now) };
+}

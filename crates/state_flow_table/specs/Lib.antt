@@ -1,0 +1,4 @@
+pub mod HeadingSetext
+pub mod GfmTable
+pub mod TableStates
+pub mod Cells
