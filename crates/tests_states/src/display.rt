@@ -155,3 +155,23 @@ pub fn assert_events(
         assert_row(rt, table, way, &options, defined, row);
     }
 }
+
+/// Events as a text, or the error.
+fn shown_events(alloc: Global, made: Result<Vec<Event>, Message>) -> Result<String, Message> {
+    Ok(show(alloc, &made?)?)
+}
+
+/// Stops where events aren't those that are wanted, and prints what they are of and what there is.
+pub fn assert_shown(
+    rt: &(impl AllocGlobal + Abort),
+    what: &str,
+    made: Result<Vec<Event>, Message>,
+    wanted: &str,
+) {
+    let out = shown_events(rt.alloc(), made);
+    let is_right = match &out {
+        Ok(events) => events.as_str() == wanted,
+        Err(_) => false,
+    };
+    assert!(rt; is_right, "{what}: {out:?}");
+}

@@ -4,6 +4,8 @@
 #[cfg(test)]
 mod attention;
 #[cfg(test)]
+mod blocks;
+#[cfg(test)]
 mod chunks;
 #[cfg(test)]
 mod display;

@@ -1,0 +1,5 @@
+pub mod HeadingAtx
+pub mod HeadingSetext
+pub mod ListItem
+pub mod GfmTableRow
+pub mod GfmTable
