@@ -1,6 +1,6 @@
 #!/bin/sh
 # Installs the programs that this one is measured beside from the system's packages, where they are missing, and builds
-# the two that need a `main`: md4c, and pulldown-cmark with SIMD. It prints nothing but faults.
+# those that need a `main`: md4c, and pulldown-cmark with SIMD, for pages and for events. It prints nothing but faults.
 #
 #     bench/peers.sh FOLDER
 set -eu
@@ -21,7 +21,8 @@ if [ "$missing" ]; then
 fi
 mkdir -p "$1/pulldown"
 cc -O3 -o "$1/md4c" "$here/peers/md4c.c" -lmd4c-html -lmd4c
-cp "$here/peers/Cargo.toml" "$here/peers/pulldown.rs" "$1/pulldown/"
+cp "$here/peers/Cargo.toml" "$here/peers/pulldown.rs" "$here/peers/offsets.rs" "$1/pulldown/"
 printf '[source.crates-io]\nreplace-with = "debian"\n[source.debian]\ndirectory = "/usr/share/cargo/registry"\n' > "$1/pulldown/config.toml"
 (cd "$1/pulldown" && cargo --config config.toml build --quiet --release --offline)
 cp "$1/pulldown/target/release/pulldown" "$1/pulldown-cmark"
+cp "$1/pulldown/target/release/offsets" "$1/offsets"
