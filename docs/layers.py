@@ -27,7 +27,7 @@ LAYERS = (
     "markdown_program",
     "engine_ markdown_engine",
     "state_",
-    "markdown_inline",
+    "markdown_inline markdown_states",
     "event_",
     "compile_ parse_",
     "markdown_by_events",
