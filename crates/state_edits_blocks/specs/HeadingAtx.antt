@@ -2,8 +2,8 @@
 --
 --     heading_atx ::= 1*6'#' [ 1*space_or_tab text [ 1*space_or_tab 1*'#' ] ]
 --
--- After the opening sequence states read data and further sequences. The text goes from the first of these to the last data. So a sequence behind the last
--- data closes the heading, and without data the heading has no text.
+-- After the opening sequence states read data and further sequences. If the last of these is a sequence, it closes the heading. The text is what is before it,
+-- such as `a #` in `# a # ##`.
 use Rattle.std.specs.Prelude.{ℕ, zero, suc, ◌+◌, ◌-◌, Bool, true, false, not, ◌&&◌, ◌||◌, if◌then◌else◌, is_none, List, [], ◌∷◌, slice_get}
 use Rattle.std.specs.Prelude.{Option, None, Some}
 use Rattle.engine_events.specs.declared.event.Content.TheVariants as contents
@@ -20,7 +20,7 @@ use Rattle.state_edits_blocks.specs.declared.heading_atx.Heading.{Heading}
 
 -- nothing is known: no heading is open, or one begins
 abbrev pub nothing : Heading
-nothing = record { is_opened = false; first = None; last = None }
+nothing = record { is_opened = false; first = None; last = None; closing = None }
 
 -- a heading begins, or ends
 abbrev pub bounds_heading : Event → Bool
@@ -30,13 +30,17 @@ bounds_heading e = same_name e.name names.HeadingAtx
 abbrev pub begins_text : Event → Bool
 begins_text e = is_event Enter names.Data e || is_event Enter names.HeadingAtxSequence e
 
+-- after a sequence that ends at an index: one before it is text
+abbrev pub past_sequence : Heading → ℕ → Heading
+past_sequence h i = if h.is_opened then record h { last = if is_none h.closing then h.last else h.closing; closing = Some i } else record h { is_opened = true }
+
 -- what is known of a heading after an event that has an index
 abbrev pub seen : Heading → Event → ℕ → Heading
 seen h e i =
     if bounds_heading e then nothing
-    else (if is_event Exit names.HeadingAtxSequence e then record h { is_opened = true }
+    else (if is_event Exit names.HeadingAtxSequence e then past_sequence h i
     else (if not h.is_opened then h
-    else (if is_event Exit names.Data e then record h { last = Some i }
+    else (if is_event Exit names.Data e then record h { last = Some i; closing = None }
     else (if is_none h.first && begins_text e then record h { first = Some i } else h))))
 
 abbrev pub seen_if : Heading → ℕ → Option Event → Heading

@@ -4,12 +4,12 @@
 //! heading_atx ::= 1*6'#' [ 1*space_or_tab text [ 1*space_or_tab 1*'#' ] ]
 //! ```
 //!
-//! States read the line as data and further sequences. A sequence before the last data is part of the
-//! text.
+//! States read the line as data and further sequences. If the last of these is a sequence, it closes
+//! the heading. All before it is text.
 ghost use Rattle.std.specs.Prelude.{◌≡◌, OnOk, IfOk, IfErr, length, slice_get};
 ghost use Rattle.markdown_options.specs.Messages.{IsOutOfMemory};
 ghost use Rattle.engine_edits.specs.Edits.{edits_of};
-ghost use Rattle.state_edits_blocks.specs.HeadingAtx.{atx_edits, begins_text, bounds_heading, seen, seen_at, text_edit};
+ghost use Rattle.state_edits_blocks.specs.HeadingAtx.{atx_edits, begins_text, bounds_heading, past_sequence, seen, seen_at, text_edit};
 ghost use Rattle.state_edits_blocks.specs.HeadingAtx.{heading_edit, nothing};
 
 use crate::added::put;
@@ -27,8 +27,10 @@ struct Heading {
     is_opened: bool,
     /// Where its text may begin: the first data or sequence after that.
     first: Option<usize>,
-    /// Where its last data ends.
+    /// Where its text ends, if nothing more belongs to it.
     last: Option<usize>,
+    /// Where the sequence ends that is behind the text: the closing one, if nothing follows.
+    closing: Option<usize>,
 }
 
 /// Nothing is known: no heading is open, or one begins.
@@ -39,6 +41,7 @@ fn nothing() -> Heading
         is_opened: false,
         first: None,
         last: None,
+        closing: None,
     }
 }
 
@@ -57,6 +60,28 @@ fn begins_text(event: &Event) -> bool
         || is_event(Kind::Enter, Name::HeadingAtxSequence, event)
 }
 
+/// What is known after a sequence that ends at an index. One before it belongs to the text.
+fn past_sequence(heading: Heading, index: usize) -> Heading
+    ensures { result ≡ past_sequence heading index }
+{
+    if !heading.is_opened {
+        return Heading {
+            is_opened: true,
+            ..heading
+        };
+    }
+    let last = if heading.closing.is_none() {
+        heading.last
+    } else {
+        heading.closing
+    };
+    Heading {
+        last,
+        closing: Some(index),
+        ..heading
+    }
+}
+
 /// What is known after an event that has an index.
 fn seen(heading: Heading, event: &Event, index: usize) -> Heading
     ensures { result ≡ seen heading event.now index }
@@ -65,10 +90,7 @@ fn seen(heading: Heading, event: &Event, index: usize) -> Heading
         return nothing();
     }
     if is_event(Kind::Exit, Name::HeadingAtxSequence, event) {
-        return Heading {
-            is_opened: true,
-            ..heading
-        };
+        return past_sequence(heading, index);
     }
     if !heading.is_opened {
         return heading;
@@ -76,6 +98,7 @@ fn seen(heading: Heading, event: &Event, index: usize) -> Heading
     if is_event(Kind::Exit, Name::Data, event) {
         return Heading {
             last: Some(index),
+            closing: None,
             ..heading
         };
     }
