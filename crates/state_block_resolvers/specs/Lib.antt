@@ -1,1 +1,2 @@
 pub mod Resolving
+pub mod Content

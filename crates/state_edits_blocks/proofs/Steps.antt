@@ -3,6 +3,7 @@ use Rattle.std.specs.Prelude.{is_none}
 use Rattle.std.proofs.Common.{◌≡◌, ℕ, ◌+◌, if◌then◌else◌, List, [], ◌∷◌, None, refl, ap, add-one}
 use Rattle.engine_events.specs.declared.event.Event.{Event}
 use Rattle.engine_edits.specs.Edits.{EditAt}
+use Rattle.state_edits_blocks.specs.Content.{ending_edit, ending_edits, linked, linked_at}
 use Rattle.state_edits_blocks.specs.HeadingAtx.{atx_edits, heading_edit, known, nothing, seen_at}
 use Rattle.state_edits_blocks.specs.HeadingSetext.{after_at, last, nothing as no_paragraph, setext_edits, underline_edit}
 use Rattle.state_edits_blocks.specs.GfmTable.{after_index, index_edit as table_edit, no_table, table_before, wraps_before}
@@ -102,3 +103,19 @@ pub wraps_more : (events : List Event) (edits : List EditAt) (i : ℕ)
     → wraps_before events edits (i + 1) ≡ table_edit events (table_before events i) i (wraps_before events edits i)
 unfolding wraps_before
 wraps_more events edits i = ap (wraps_before events edits) (add-one i)
+
+pub linked_start : (events : List Event) → linked events 0 ≡ events
+unfolding linked
+linked_start events = refl
+
+pub linked_more : (events : List Event) (i : ℕ) → linked events (i + 1) ≡ linked_at (linked events i) i
+unfolding linked
+linked_more events i = ap (linked events) (add-one i)
+
+pub ending_start : (events : List Event) → ending_edits events 0 ≡ []
+unfolding ending_edits
+ending_start events = refl
+
+pub ending_more : (events : List Event) (i : ℕ) → ending_edits events (i + 1) ≡ ending_edit (linked events i) i (ending_edits events i)
+unfolding ending_edits
+ending_more events i = ap (ending_edits events) (add-one i)

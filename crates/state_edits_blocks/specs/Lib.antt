@@ -3,3 +3,4 @@ pub mod HeadingSetext
 pub mod ListItem
 pub mod GfmTableRow
 pub mod GfmTable
+pub mod Content

@@ -77,7 +77,7 @@ fn with_ending(table: Table) -> Table
 }
 
 /// Whether an event is of the prefix of a line.
-fn is_prefix(event: &Event) -> bool
+pub(crate) fn is_prefix(event: &Event) -> bool
     ensures { result ≡ is_prefix event.now }
 {
     matches!(

@@ -3,8 +3,9 @@ use crate::display::assert_shown;
 use engine_edits::EditMap;
 use markdown_engine::Message;
 use markdown_engine::event::Kind::{Enter, Exit};
-use markdown_engine::event::{Event, Kind, Name};
+use markdown_engine::event::{Event, Kind, Link, Name};
 use markdown_engine::place::Point;
+use state_block_table::links::CONTENT;
 use state_edits_blocks::gfm_table::table_edits;
 use state_edits_blocks::heading_atx::atx_edits;
 use state_edits_blocks::heading_setext::setext_edits;
@@ -12,7 +13,7 @@ use state_edits_blocks::list_item::list_edits;
 use std::alloc::{AllocError, Global};
 
 /// An event, with its index.
-type Part = (Kind, Name, usize);
+pub(crate) type Part = (Kind, Name, usize);
 
 /// What is made.
 #[derive(Clone, Copy)]
@@ -171,8 +172,16 @@ const TABLE_MADE: &str =
      -Data11 -GfmTableCellText11 -GfmTableCell11 -GfmTableRow11 -GfmTableBody11 -GfmTable11 +LineEnding11 \
      -LineEnding12 +BlankLineEnding12 -BlankLineEnding13 ";
 
+/// The link of an event: a line of a paragraph is a chunk.
+fn link_of(kind: Kind, name: Name) -> Option<Link> {
+    if kind == Kind::Enter && name == Name::Content {
+        return Some(CONTENT);
+    }
+    None
+}
+
 /// Events on the first line.
-fn events_of(alloc: Global, parts: &[Part]) -> Result<Vec<Event>, AllocError> {
+pub(crate) fn events_of(alloc: Global, parts: &[Part]) -> Result<Vec<Event>, AllocError> {
     let mut events = Vec::new(alloc);
     for (kind, name, index) in parts {
         let point = Point {
@@ -181,7 +190,7 @@ fn events_of(alloc: Global, parts: &[Part]) -> Result<Vec<Event>, AllocError> {
             index: *index,
             vs: 0,
         };
-        events.push(Event::new(*kind, *name, point, None))?;
+        events.push(Event::new(*kind, *name, point, link_of(*kind, *name)))?;
     }
     Ok(events)
 }

@@ -8,6 +8,8 @@ mod blocks;
 #[cfg(test)]
 mod chunks;
 #[cfg(test)]
+mod content;
+#[cfg(test)]
 mod display;
 #[cfg(test)]
 mod events;
