@@ -51,7 +51,10 @@ fn read_contents<T: Tables, A: Allocator + Clone>(
     ensures memory { IfErr result IsOutOfMemory }
 {
     let alloc = events.allocator().clone()?;
-    if !join_lines(events)? || !are_readable(&alloc, parse_state.bytes, events)? {
+    if !join_lines(events)? {
+        return Ok(false);
+    }
+    if !are_readable(&alloc, parse_state.bytes, events)? {
         return Ok(false);
     }
     subtokenize(events, parse_state, Contents, Some(&Content::Content))?;

@@ -7,7 +7,7 @@
 //!
 //! Flow reads each line as a chunk. The exit of a chunk moves over the line ending that follows, so
 //! that the chain's text has it.
-ghost use Rattle.std.specs.Prelude.{◌≡◌, ◌+◌, ◌<◌, IfErr, IfOk, IfSome, MatchBool, OnOk, length};
+ghost use Rattle.std.specs.Prelude.{◌≡◌, ◌+◌, ◌<◌, ◌≤◌, IfErr, IfOk, IfSome, MatchBool, OnOk, length};
 ghost use Rattle.markdown_options.specs.Messages.{IsOutOfMemory};
 ghost use Rattle.engine_edits.specs.Edits.{edits_of};
 ghost use Rattle.state_edits_blocks.specs.Content.{CanJoin, ending_edit, ending_edits, is_ended_line, joined, line_at, lines_linked, linked, linked_at};
@@ -88,7 +88,6 @@ fn link_line<A: Allocator + Clone>(
     requires { index < length events.old }
     ensures events { OnOk result (events.new ≡ linked_at events.old index) }
     ensures edits { OnOk result (edits_of edits.new ≡ ending_edit events.old index (edits_of edits.old)) }
-    ensures length { length events.new ≡ length events.old }
     ensures memory { IfErr result IsOutOfMemory }
 {
     let Some(next) = next_line(events, index) else {
