@@ -4,7 +4,7 @@
 --
 -- After the opening sequence states read data and further sequences. If the last of these is a sequence, it closes the heading. The text is what is before it,
 -- such as `a #` in `# a # ##`.
-use Rattle.std.specs.Prelude.{ℕ, zero, suc, ◌+◌, ◌-◌, Bool, true, false, not, ◌&&◌, ◌||◌, if◌then◌else◌, is_none, List, [], ◌∷◌, slice_get}
+use Rattle.std.specs.Prelude.{ℕ, zero, suc, ◌-◌, Bool, true, false, not, ◌&&◌, ◌||◌, if◌then◌else◌, is_none, List, [], ◌∷◌, slice_get}
 use Rattle.std.specs.Prelude.{Option, None, Some}
 use Rattle.engine_events.specs.declared.event.Content.TheVariants as contents
 use Rattle.engine_events.specs.declared.event.Event.{Event}

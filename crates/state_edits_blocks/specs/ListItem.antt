@@ -5,7 +5,7 @@
 --
 -- Any other block ends a list, and so does an item with another marker. What is open has a level each, the innermost the last; in a level are the items that
 -- may go on there.
-use Rattle.std.specs.Prelude.{ℕ, zero, suc, ◌+◌, ◌-◌, Bool, true, false, not, ◌==◌, ◌&&◌, ◌||◌, if◌then◌else◌, List, [], ◌∷◌, ◌++◌, length, take}
+use Rattle.std.specs.Prelude.{ℕ, zero, suc, ◌+◌, ◌-◌, Bool, false, ◌==◌, ◌&&◌, ◌||◌, if◌then◌else◌, List, [], ◌∷◌, ◌++◌, length, take}
 use Rattle.std.specs.Prelude.{is_none, slice_get, Option, None, Some}
 use Rattle.definition_text.specs.Ascii.{dot, right_parenthesis}
 use Rattle.engine_events.specs.declared.event.Event.{Event}

@@ -1,5 +1,4 @@
 use Rattle.std.proofs.Common.{◌≡◌, rules}
-use Rattle.std.proofs.lemmas.Bool.{MatchBool-at_true}
 use Rattle.markdown_engine.specs.Context.{context}
 use Rattle.state_resolvers.specs.Whole.{is_whole}
 use Rattle.state_block_resolvers.specs.Content.{ReadsContents}
