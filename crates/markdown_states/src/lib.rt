@@ -10,7 +10,7 @@
 
 pub use state_containers::{block_quote, frontmatter, gfm_footnote_definition, partial_bom};
 pub use state_content::contents::Contents;
-pub use state_content::{content, definition, paragraph};
+pub use state_content::{definition, paragraph};
 pub use state_document::blocks::Blocks;
 pub use state_document::line_reader::LineReader;
 pub use state_flow::flow;
@@ -19,6 +19,14 @@ pub use state_flow_html::html_flow;
 pub use state_flow_leaves::{
     blank_line, code_indented, partial_non_lazy_continuation, raw_flow, thematic_break,
 };
+
+/// Lines of a paragraph, with definitions at their front (CommonMark 4.7 and 4.8).
+pub mod content {
+    pub use state_block_resolvers::content::resolve_content as resolve;
+    pub use state_content::content::{
+        chunk_inside, chunk_start, definition_after, definition_before,
+    };
+}
 
 /// The lines of a text: containers, and then flow.
 pub mod document {
