@@ -29,10 +29,9 @@ use Rattle.parse_constructs.proofs.Parts.{text_of_cell, TextIsOn}
 use Rattle.parse_constructs.proofs.Read.{IsContainerOn, IsLeafOn}
 use Rattle.parse_constructs.proofs.Texts.{AreKnown, in_text, is_quiet, IsKnown, quiet_kids_on, quiet_node_on, texts_on, untold}
 
--- the blocks that hold no others
+-- the blocks that hold no others, but for fenced code and math, which are quiet
 abbrev leaf_names : List Name
-leaf_names =
-    n.Paragraph ∷ n.HeadingAtx ∷ n.HeadingSetext ∷ n.ThematicBreak ∷ n.CodeIndented ∷ n.CodeFenced ∷ n.MathFlow ∷ n.HtmlFlow ∷ n.GfmTable ∷ n.Definition ∷ []
+leaf_names = n.Paragraph ∷ n.HeadingAtx ∷ n.HeadingSetext ∷ n.ThematicBreak ∷ n.CodeIndented ∷ n.HtmlFlow ∷ n.GfmTable ∷ n.Definition ∷ []
 
 holder_rows : (name : Name) (form : Form) → is_listed holder_names name ≡ true → row_passes (is_part is_quiet leaf_names) (row name form) ≡ true
 holder_rows n.BlockQuote form listed = refl
@@ -84,40 +83,36 @@ module _ (on : Constructs) (names : Names) (bytes : List ℕ) where
   abbrev AreSpelled : page.Blocks → Type 0
   AreSpelled bs = AllLeaves (IsLeafOn on) (IsContainerOn on) bs
 
-  -- a leaf of this name is on, and so is what is in it
+  -- a leaf of this name is on, if that is told, and so is what is in it
   abbrev LeafClaim : Between → Form → Nodes → Name → Type 0
   LeafClaim around form kids name =
       ends (left_by (between_of (row name form) around name) (row name form) kids) ≡ true → AreKnown on kids
-      → (same_name name n.Definition ≡ true → on.definition ≡ true) → (is_on on name ≡ true) × AreToldOn on kids
+      → (same_name name n.Definition ≡ true → on.definition ≡ true) → (is_listed told_names name ≡ true → is_on on name ≡ true) × AreToldOn on kids
 
   leaf_is_on : (around : Between) (form : Form) (top : Bool) (text : List ℕ) (kids : Nodes) (inner : page.Blocks) (name : Name)
       → is_listed leaf_names name ≡ true → AreSpelled (block_of names bytes top name text kids inner) → LeafClaim around form kids name
   leaf_is_on around form top text kids inner n.Paragraph listed all e known defined =
-      (refl, texts_on on names bytes kids (between_of (row n.Paragraph form) around n.Paragraph) false e known all.0)
+      (λ told. refl, texts_on on names bytes kids (between_of (row n.Paragraph form) around n.Paragraph) false e known all.0)
   leaf_is_on around form top text kids inner n.HeadingAtx listed all e known defined = (
-    all.0.0,
-    in_text on names bytes kids known (between_of (row n.HeadingAtx form) around n.HeadingAtx) false (row n.HeadingAtx form) refl e all.0.1,
+    λ told. absurd (true≢false (sym told)),
+    in_text on names bytes kids known (between_of (row n.HeadingAtx form) around n.HeadingAtx) false (row n.HeadingAtx form) refl e all.0,
   )
   leaf_is_on around form top text kids inner n.HeadingSetext listed all e known defined = (
-    all.0.0,
-    in_text on names bytes kids known (between_of (row n.HeadingSetext form) around n.HeadingSetext) false (row n.HeadingSetext form) refl e all.0.1,
+    λ told. absurd (true≢false (sym told)),
+    in_text on names bytes kids known (between_of (row n.HeadingSetext form) around n.HeadingSetext) false (row n.HeadingSetext form) refl e all.0,
   )
   leaf_is_on around form top text kids inner n.ThematicBreak listed all e known defined =
-      (all.0, quiet_kids_on on (between_of (row n.ThematicBreak form) around n.ThematicBreak) (row n.ThematicBreak form) kids refl e)
+      (λ told. all.0, quiet_kids_on on (between_of (row n.ThematicBreak form) around n.ThematicBreak) (row n.ThematicBreak form) kids refl e)
   leaf_is_on around form top text kids inner n.CodeIndented listed all e known defined =
-      (all.0, quiet_kids_on on (between_of (row n.CodeIndented form) around n.CodeIndented) (row n.CodeIndented form) kids refl e)
-  leaf_is_on around form top text kids inner n.CodeFenced listed all e known defined =
-      (all.0, quiet_kids_on on (between_of (row n.CodeFenced form) around n.CodeFenced) (row n.CodeFenced form) kids refl e)
-  leaf_is_on around form top text kids inner n.MathFlow listed all e known defined =
-      (all.0, quiet_kids_on on (between_of (row n.MathFlow form) around n.MathFlow) (row n.MathFlow form) kids refl e)
+      (λ told. all.0, quiet_kids_on on (between_of (row n.CodeIndented form) around n.CodeIndented) (row n.CodeIndented form) kids refl e)
   leaf_is_on around form top text kids inner n.HtmlFlow listed all e known defined =
-      (all.0, quiet_kids_on on (between_of (row n.HtmlFlow form) around n.HtmlFlow) (row n.HtmlFlow form) kids refl e)
+      (λ told. all.0, quiet_kids_on on (between_of (row n.HtmlFlow form) around n.HtmlFlow) (row n.HtmlFlow form) kids refl e)
   leaf_is_on around form top text kids inner n.GfmTable listed all e known defined =
       let has =
       table_has Fact names bytes (TextIsOn on) is_quiet cell_facts (between_of (row n.GfmTable form) around n.GfmTable) kids e all.0.1 all.0.2 in
-      (all.0.0, all_told kids has known)
+      (λ told. all.0.0, all_told kids has known)
   leaf_is_on around form top text kids inner n.Definition listed all e known defined =
-      (defined refl, quiet_kids_on on (between_of (row n.Definition form) around n.Definition) (row n.Definition form) kids refl e)
+      (λ told. defined refl, quiet_kids_on on (between_of (row n.Definition form) around n.Definition) (row n.Definition form) kids refl e)
   leaf_is_on around form top text kids inner name listed all e known defined = absurd (true≢false (sym listed))
 
   -- ---- what holds blocks
@@ -138,8 +133,7 @@ module _ (on : Constructs) (names : Names) (bytes : List ℕ) where
     rows = holder_rows;
     quiet = λ around form node quiet filled known. quiet_node_on on around form node quiet filled;
     leaf = λ around form top enter exit kids inner listed filled all known.
-        let own = leaf_is_on around form top (text_of bytes (Around enter kids exit)) kids inner enter.name listed all filled known.2 known.1 in
-        (λ told. own.0, own.1);
+        leaf_is_on around form top (text_of bytes (Around enter kids exit)) kids inner enter.name listed all filled known.2 known.1;
     holder = λ top enter exit kids inner listed spelled all known. (
       λ told. holder_is_on top (text_of bytes (Around enter kids exit)) kids inner enter.name listed spelled,
       all_told kids all known.2,

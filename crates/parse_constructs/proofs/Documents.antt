@@ -57,10 +57,10 @@ module _ (on : Constructs) (m m' : Meaning) where
 
   leaf_alike : (l l' : page.PageLeaf) → IsLeafOn on l → AreLeavesAlike m m' l l' → IsLeafOn on l'
   leaf_alike (page.Paragraph is) (page.Paragraph js) h alike = text_alike on m m' is js h alike
-  leaf_alike (page.Heading rank is) (page.Heading rank' js) h alike = (h.0, text_alike on m m' is js h.1 alike.1)
+  leaf_alike (page.Heading rank is) (page.Heading rank' js) h alike = text_alike on m m' is js h alike.1
   leaf_alike page.Break page.Break h alike = h
   leaf_alike (page.IndentedCode ls) (page.IndentedCode ls') h alike = h
-  leaf_alike (page.FencedCode info is_closed ls) (page.FencedCode info' is_closed' ls') h alike = h
+  leaf_alike (page.FencedCode info is_closed ls) (page.FencedCode info' is_closed' ls') h alike = tt
   leaf_alike (page.Html ls) (page.Html ls') h alike = h
   leaf_alike (page.Table t) (page.Table t') h alike =
       (h.0, cells_alike t.head.cells t'.head.cells h.1 alike.1.0, rows_alike t.rows t'.rows h.2 alike.3)
@@ -109,7 +109,7 @@ module _ (on : Constructs) (names : Names) (text : List ℕ) where
   defined_inside node others false none = none
 
   mutual
-    node_known : (node : Node) → IsSound names text node → DefinesNone (named_in n.Definition node) → IsKnown on node
+    node_known : (node : Node) → IsSound on names text node → DefinesNone (named_in n.Definition node) → IsKnown on node
     node_known (Around enter kids exit) sound none = (
       λ same. sound.0.call (same_true the_type tt enter.name n.GfmFootnoteCall same),
       λ same. defined_here (Around enter kids exit) (named n.Definition kids) (same_name enter.name n.Definition) same none,
@@ -117,7 +117,7 @@ module _ (on : Constructs) (names : Names) (text : List ℕ) where
           (λ off. defined_inside (Around enter kids exit) (named n.Definition kids) (same_name enter.name n.Definition) (none off)),
     )
 
-    nodes_known : (ns : Nodes) → AreSound names text ns → DefinesNone (named n.Definition ns) → AreKnown on ns
+    nodes_known : (ns : Nodes) → AreSound on names text ns → DefinesNone (named n.Definition ns) → AreKnown on ns
     nodes_known Nil sound none = tt
     nodes_known (Cons node ns) sound none = (
       node_known node sound.0 (λ off. no_front (named_in n.Definition node) (named n.Definition ns) (none off)),
@@ -166,4 +166,4 @@ documents_have_nothing_off tables options text ns of_text e sound named_so =
     nodes_known on tables.names text ns sound
     (λ off. none_alike m m' tables.names text (page_read tables options text).definitions (named n.Definition ns)
     (ap (map with_spaces) (defines_none on off bs stands)) of_text.definitions) in
-    events_on on ns (document_on on ns e (blocks_told on tables.names text ns e all known)) named_so
+    events_on on ns (document_on on tables.names text ns e (blocks_told on tables.names text ns e all known) sound) named_so

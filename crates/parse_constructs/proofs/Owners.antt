@@ -1,5 +1,5 @@
 -- Names that stand only in events of some names are on if these are.
-use Rattle.std.proofs.Common.{inl, inr, ◌≡◌, Bool, true, ◌||◌, List, [], ◌∷◌, refl, sym, subst}
+use Rattle.std.proofs.Common.{inl, inr, ◌≡◌, ℕ, Bool, true, ◌||◌, List, [], ◌∷◌, refl, sym, subst}
 use Rattle.std.proofs.lemmas.Bool.{and_parts, or_cases, or_left, or_right, true≢false}
 use denote.Enum.Bare.{same_true}
 use Rattle.markdown_options.specs.declared.configuration.Constructs.{Constructs}
@@ -7,6 +7,7 @@ use Rattle.engine_events.specs.contracts.event.Name.{the_type}
 use Rattle.engine_events.specs.declared.event.Name.{Name}
 use Rattle.engine_events.specs.declared.event.Name.TheVariants as n
 use Rattle.engine_events.specs.Names.{same_name, is_listed}
+use Rattle.definition_inline.specs.CharacterReference.{Names}
 use Rattle.event_grammar.specs.declared.slot.Between.{Between}
 use Rattle.event_grammar.specs.declared.slot.Between.TheVariants.{Lines}
 use Rattle.event_grammar.specs.declared.slot.Form.{Form}
@@ -17,6 +18,7 @@ use Rattle.event_grammar.specs.Grammar.{document_row, row}
 use Rattle.event_grammar.specs.Trees.{Node, Nodes, Around, Nil, Cons}
 use Rattle.event_grammar.proofs.EveryName.{of_each_form}
 use Rattle.parse_slots.specs.Left.{ends, left_by}
+use Rattle.parse_references.specs.Sound.{AreSound, is_asked_on}
 use Rattle.parse_leading.proofs.Steps.{row_passes, Step, step}
 use Rattle.parse_constructs.specs.Constructs.{is_on}
 use Rattle.parse_constructs.specs.Nodes.{AreOn}
@@ -24,10 +26,15 @@ use Rattle.parse_constructs.specs.Nodes.{AreOn}
 -- the names that the page tells: each makes a block or a part of a text of its own
 abbrev pub told_names : List Name
 told_names =
-    n.BlockQuote ∷ n.ListOrdered ∷ n.ListUnordered ∷ n.ListItem ∷ n.GfmFootnoteDefinition ∷ n.ThematicBreak ∷ n.HeadingAtx ∷ n.HeadingSetext
-    ∷ n.CodeIndented ∷ n.CodeFenced ∷ n.MathFlow ∷ n.HtmlFlow ∷ n.Definition ∷ n.GfmTable ∷ n.CodeText ∷ n.MathText ∷ n.Emphasis ∷ n.Strong
-    ∷ n.GfmStrikethrough ∷ n.Mark ∷ n.Link ∷ n.Image ∷ n.GfmFootnoteCall ∷ n.Autolink ∷ n.HardBreakEscape ∷ n.HardBreakTrailing
-    ∷ n.GfmTaskListItemCheck ∷ []
+    n.BlockQuote ∷ n.ListOrdered ∷ n.ListUnordered ∷ n.ListItem ∷ n.GfmFootnoteDefinition ∷ n.ThematicBreak ∷ n.CodeIndented ∷ n.HtmlFlow
+    ∷ n.Definition ∷ n.GfmTable ∷ n.CodeText ∷ n.MathText ∷ n.Emphasis ∷ n.Strong ∷ n.GfmStrikethrough ∷ n.Mark ∷ n.Link ∷ n.Image
+    ∷ n.GfmFootnoteCall ∷ n.Autolink ∷ n.HardBreakEscape ∷ n.HardBreakTrailing ∷ n.GfmTaskListItemCheck ∷ []
+
+-- the names that it doesn't tell, of constructs that are on in what is sound
+abbrev pub untold_names : List Name
+untold_names =
+    n.CharacterEscape ∷ n.CharacterReference ∷ n.GfmAutolinkLiteralEmail ∷ n.GfmAutolinkLiteralMailto ∷ n.GfmAutolinkLiteralProtocol
+    ∷ n.GfmAutolinkLiteralWww ∷ n.GfmAutolinkLiteralXmpp ∷ n.HtmlText ∷ n.HeadingAtx ∷ n.HeadingSetext ∷ n.CodeFenced ∷ n.MathFlow ∷ n.Frontmatter ∷ []
 
 -- Whose construct makes a name, in a form of the name: the name in whose events alone it stands, one that stands for the names of several, or one that is on in
 -- any case.
@@ -98,6 +105,17 @@ owner n.AutolinkEmail form = n.Autolink
 owner n.GfmTaskListItemMarker form = n.GfmTaskListItemCheck
 owner n.GfmTaskListItemValueChecked form = n.GfmTaskListItemCheck
 owner n.GfmTaskListItemValueUnchecked form = n.GfmTaskListItemCheck
+owner n.CharacterEscapeMarker form = n.CharacterEscape
+owner n.CharacterEscapeValue form = n.CharacterEscape
+owner n.CharacterReferenceMarker form = n.CharacterReference
+owner n.CharacterReferenceMarkerNumeric form = n.CharacterReference
+owner n.CharacterReferenceMarkerHexadecimal form = n.CharacterReference
+owner n.CharacterReferenceMarkerSemi form = n.CharacterReference
+owner n.CharacterReferenceValue form = n.CharacterReference
+owner n.HtmlTextData form = n.HtmlText
+owner n.FrontmatterFence form = n.Frontmatter
+owner n.FrontmatterSequence form = n.Frontmatter
+owner n.FrontmatterChunk form = n.Frontmatter
 owner n.BlockQuote form = n.BlockQuote
 owner n.ListOrdered form = n.ListOrdered
 owner n.ListUnordered form = n.ListUnordered
@@ -151,6 +169,15 @@ owner n.ResourceDestinationString form = n.LabelEnd
 owner n.ResourceTitle form = n.LabelEnd
 owner n.ResourceTitleMarker form = n.LabelEnd
 owner n.ResourceTitleString form = n.LabelEnd
+owner n.CharacterEscape form = n.CharacterEscape
+owner n.CharacterReference form = n.CharacterReference
+owner n.GfmAutolinkLiteralEmail form = n.GfmAutolinkLiteralEmail
+owner n.GfmAutolinkLiteralMailto form = n.GfmAutolinkLiteralMailto
+owner n.GfmAutolinkLiteralProtocol form = n.GfmAutolinkLiteralProtocol
+owner n.GfmAutolinkLiteralWww form = n.GfmAutolinkLiteralWww
+owner n.GfmAutolinkLiteralXmpp form = n.GfmAutolinkLiteralXmpp
+owner n.HtmlText form = n.HtmlText
+owner n.Frontmatter form = n.Frontmatter
 owner n.CodeFlowChunk form = n.CodeFlowChunk
 owner n.DefinitionMarker form = n.DefinitionMarker
 owner name form = n.Data
@@ -224,6 +251,17 @@ module _ (on : Constructs) where
   by_owner n.GfmTaskListItemMarker form h = h
   by_owner n.GfmTaskListItemValueChecked form h = h
   by_owner n.GfmTaskListItemValueUnchecked form h = h
+  by_owner n.CharacterEscapeMarker form h = h
+  by_owner n.CharacterEscapeValue form h = h
+  by_owner n.CharacterReferenceMarker form h = h
+  by_owner n.CharacterReferenceMarkerNumeric form h = h
+  by_owner n.CharacterReferenceMarkerHexadecimal form h = h
+  by_owner n.CharacterReferenceMarkerSemi form h = h
+  by_owner n.CharacterReferenceValue form h = h
+  by_owner n.HtmlTextData form h = h
+  by_owner n.FrontmatterFence form h = h
+  by_owner n.FrontmatterSequence form h = h
+  by_owner n.FrontmatterChunk form h = h
   by_owner n.BlockQuote form h = h
   by_owner n.ListOrdered form h = h
   by_owner n.ListUnordered form h = h
@@ -277,6 +315,15 @@ module _ (on : Constructs) where
   by_owner n.ResourceTitle form h = h
   by_owner n.ResourceTitleMarker form h = h
   by_owner n.ResourceTitleString form h = h
+  by_owner n.CharacterEscape form h = h
+  by_owner n.CharacterReference form h = h
+  by_owner n.GfmAutolinkLiteralEmail form h = h
+  by_owner n.GfmAutolinkLiteralMailto form h = h
+  by_owner n.GfmAutolinkLiteralProtocol form h = h
+  by_owner n.GfmAutolinkLiteralWww form h = h
+  by_owner n.GfmAutolinkLiteralXmpp form h = h
+  by_owner n.HtmlText form h = h
+  by_owner n.Frontmatter form h = h
   by_owner n.CodeFlowChunk form h = h
   by_owner n.DefinitionMarker form h = h
   by_owner name form h = refl
@@ -289,11 +336,7 @@ own_told n.ListUnordered form listed = refl
 own_told n.ListItem form listed = refl
 own_told n.GfmFootnoteDefinition form listed = refl
 own_told n.ThematicBreak form listed = refl
-own_told n.HeadingAtx form listed = refl
-own_told n.HeadingSetext form listed = refl
 own_told n.CodeIndented form listed = refl
-own_told n.CodeFenced form listed = refl
-own_told n.MathFlow form listed = refl
 own_told n.HtmlFlow form listed = refl
 own_told n.Definition form listed = refl
 own_told n.GfmTable form listed = refl
@@ -312,6 +355,39 @@ own_told n.HardBreakTrailing form listed = refl
 own_told n.GfmTaskListItemCheck form listed = refl
 own_told name form listed = absurd (true≢false (sym listed))
 
+-- so is it of those that it doesn't tell
+own_untold : (name : Name) (form : Form) → is_listed untold_names name ≡ true → owner name form ≡ name
+own_untold n.CharacterEscape form listed = refl
+own_untold n.CharacterReference form listed = refl
+own_untold n.GfmAutolinkLiteralEmail form listed = refl
+own_untold n.GfmAutolinkLiteralMailto form listed = refl
+own_untold n.GfmAutolinkLiteralProtocol form listed = refl
+own_untold n.GfmAutolinkLiteralWww form listed = refl
+own_untold n.GfmAutolinkLiteralXmpp form listed = refl
+own_untold n.HtmlText form listed = refl
+own_untold n.HeadingAtx form listed = refl
+own_untold n.HeadingSetext form listed = refl
+own_untold n.CodeFenced form listed = refl
+own_untold n.MathFlow form listed = refl
+own_untold n.Frontmatter form listed = refl
+own_untold name form listed = absurd (true≢false (sym listed))
+
+untold_on : (on : Constructs) (name : Name) → is_listed untold_names name ≡ true → is_asked_on on name ≡ true → is_on on name ≡ true
+untold_on on n.CharacterEscape listed h = h
+untold_on on n.CharacterReference listed h = h
+untold_on on n.GfmAutolinkLiteralEmail listed h = h
+untold_on on n.GfmAutolinkLiteralMailto listed h = h
+untold_on on n.GfmAutolinkLiteralProtocol listed h = h
+untold_on on n.GfmAutolinkLiteralWww listed h = h
+untold_on on n.GfmAutolinkLiteralXmpp listed h = h
+untold_on on n.HtmlText listed h = h
+untold_on on n.HeadingAtx listed h = h
+untold_on on n.HeadingSetext listed h = h
+untold_on on n.CodeFenced listed h = h
+untold_on on n.MathFlow listed h = h
+untold_on on n.Frontmatter listed h = h
+untold_on on name listed h = absurd (true≢false (sym listed))
+
 -- a name gives that another is on: one that stands for the names of several is given by each of these
 abbrev gives : Name → Name → Bool
 gives a n.Data = true
@@ -328,9 +404,9 @@ module _ (on : Constructs) where
   label_given n.GfmFootnoteCall given h = (and_parts on.gfm_label_start_footnote on.label_end h).1
   label_given a given h = absurd (true≢false (sym given))
 
-  chunk_given : (a : Name) → gives a n.CodeFlowChunk ≡ true → is_on on a ≡ true → (on.code_indented || (on.code_fenced || on.math_flow)) ≡ true
-  chunk_given n.CodeIndented given h = or_left on.code_indented (on.code_fenced || on.math_flow) h
-  chunk_given n.CodeFenced given h = or_right on.code_indented (on.code_fenced || on.math_flow) h
+  chunk_given : (a : Name) → gives a n.CodeFlowChunk ≡ true → is_on on a ≡ true → (on.code_indented || on.code_fenced) ≡ true
+  chunk_given n.CodeIndented given h = or_left on.code_indented on.code_fenced h
+  chunk_given n.CodeFenced given h = or_right on.code_indented on.code_fenced h
   chunk_given a given h = absurd (true≢false (sym given))
 
   colon_given : (a : Name) → gives a n.DefinitionMarker ≡ true → is_on on a ≡ true → (on.definition || on.gfm_footnote_definition) ≡ true
@@ -345,9 +421,9 @@ module _ (on : Constructs) where
   is_given a n.DefinitionMarker given h = colon_given a given h
   is_given a b given h = subst (λ name. is_on on name ≡ true) (sym (same_true the_type tt b a given)) h
 
--- a child that the page tells, or that the event around it gives, by their forms
-abbrev is_kin : Form → Name → Form → Name → Bool
-is_kin around parent form child = is_listed told_names child || gives (owner parent around) (owner child form)
+-- a child that the page tells, or what is sound, or that the event around it gives, by their forms
+abbrev pub is_kin : Form → Name → Form → Name → Bool
+is_kin around parent form child = is_listed told_names child || (is_listed untold_names child || gives (owner parent around) (owner child form))
 
 kin_rows : (name : Name) (form : Form) → row_passes (is_kin form name) (row name form) ≡ true
 kin_rows name form = of_each_form (λ name form. row_passes (is_kin form name) (row name form)) refl name form
@@ -363,28 +439,32 @@ module _ (on : Constructs) where
     AreToldOn (Cons node ns) = IsToldOn node × AreToldOn ns
 
   child_on : (outer : Form) (parent : Name) (form : Form) (child : Name) → is_on on (owner parent outer) ≡ true → is_kin outer parent form child ≡ true
-      → (is_listed told_names child ≡ true → is_on on child ≡ true) → is_on on (owner child form) ≡ true
-  child_on outer parent form child own kin told =
-      elim (or_cases (is_listed told_names child) (gives (owner parent outer) (owner child form)) kin) [
+      → (is_listed told_names child ≡ true → is_on on child ≡ true) → is_asked_on on child ≡ true → is_on on (owner child form) ≡ true
+  child_on outer parent form child own kin told asked =
+      elim (or_cases (is_listed told_names child) (is_listed untold_names child || gives (owner parent outer) (owner child form)) kin) [
         | inl listed ↦ subst (λ name. is_on on name ≡ true) (sym (own_told child form listed)) (told listed)
-        | inr given ↦ is_given on (owner parent outer) (owner child form) given own
+        | inr other ↦ elim (or_cases (is_listed untold_names child) (gives (owner parent outer) (owner child form)) other) [
+          | inl listed ↦ subst (λ name. is_on on name ≡ true) (sym (own_untold child form listed)) (untold_on on child listed asked)
+          | inr given ↦ is_given on (owner parent outer) (owner child form) given own
+        ]
       ]
 
-  -- then all are, in an event whose owner is on
-  kids_on : (around : Between) (outer : Form) (parent : Name) (slots : List Slot) (ns : Nodes) → is_on on (owner parent outer) ≡ true
-      → row_passes (is_kin outer parent) slots ≡ true → ends (left_by around slots ns) ≡ true → AreToldOn ns → AreOn on ns
-  kids_on around outer parent slots Nil own kin e told = tt
-  kids_on around outer parent slots (Cons (Around enter kids exit) ns) own kin e told =
-      let s : Step (is_kin outer parent) around (Around enter kids exit) ns =
-      step (is_kin outer parent) refl refl around slots (Around enter kids exit) ns kin e in
-      let first = child_on outer parent s.form enter.name own s.passed told.0.0 in (
-        (
-          by_owner on enter.name s.form first,
-          kids_on (between_of (row enter.name s.form) around enter.name) s.form enter.name (row enter.name s.form) kids first (kin_rows enter.name s.form)
-              s.filled told.0.1,
-        ),
-        kids_on around outer parent s.rest ns own s.passing s.left told.1,
-      )
+  module _ (names : Names) (text : List ℕ) where
+    -- then all are in nodes that are sound, in an event whose owner is on
+    kids_on : (around : Between) (outer : Form) (parent : Name) (slots : List Slot) (ns : Nodes) → is_on on (owner parent outer) ≡ true
+        → row_passes (is_kin outer parent) slots ≡ true → ends (left_by around slots ns) ≡ true → AreToldOn ns → AreSound on names text ns → AreOn on ns
+    kids_on around outer parent slots Nil own kin e told sound = tt
+    kids_on around outer parent slots (Cons (Around enter kids exit) ns) own kin e told sound =
+        let s : Step (is_kin outer parent) around (Around enter kids exit) ns =
+        step (is_kin outer parent) refl refl around slots (Around enter kids exit) ns kin e in
+        let first = child_on outer parent s.form enter.name own s.passed told.0.0 sound.0.0.is_on in (
+          (
+            by_owner on enter.name s.form first,
+            kids_on (between_of (row enter.name s.form) around enter.name) s.form enter.name (row enter.name s.form) kids first (kin_rows enter.name s.form)
+                s.filled told.0.1 sound.0.1,
+          ),
+          kids_on around outer parent s.rest ns own s.passing s.left told.1 sound.1,
+        )
 
-  pub document_on : (ns : Nodes) → ends (left_by Lines document_row ns) ≡ true → AreToldOn ns → AreOn on ns
-  document_on ns e told = kids_on Lines Plain n.Data document_row ns refl refl e told
+    pub document_on : (ns : Nodes) → ends (left_by Lines document_row ns) ≡ true → AreToldOn ns → AreSound on names text ns → AreOn on ns
+    document_on ns e told sound = kids_on Lines Plain n.Data document_row ns refl refl e told sound

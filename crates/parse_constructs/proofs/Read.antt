@@ -1,6 +1,6 @@
 -- Blocks whose constructs are on: those of a text, in lists, and as they are read.
-use Rattle.std.proofs.Common.{inl, inr, ◌≡◌, ℕ, Bool, true, false, ◌&&◌, ◌||◌, ◌==◌, List, [], ◌∷◌, Option, None, Some, drop, map, ◌++◌, refl, ap₂}
-use Rattle.std.proofs.lemmas.Bool.{and_parts, both_ways, cond_both, or_left, or_right}
+use Rattle.std.proofs.Common.{◌≡◌, ℕ, Bool, true, false, ◌&&◌, ◌==◌, List, [], ◌∷◌, Option, None, Some, drop, map, ◌++◌, refl, ap₂}
+use Rattle.std.proofs.lemmas.Bool.{and_parts, both_ways, cond_both}
 use Rattle.markdown_options.specs.declared.configuration.Constructs.{Constructs}
 use Rattle.definition_text.specs.BlockLines.{BlockLine}
 use Rattle.definition_text.specs.Columns.{Code, code_byte}
@@ -18,7 +18,7 @@ use Rattle.definition_page.specs.GfmTable.{body_lines, head_line}
 use Rattle.definition_page.specs.Page as page
 use Rattle.definition_page.specs.Read.{Reading, Standing, checked_text, context_of, in_container, next_standing, read_block, read_blocks, read_cell, read_container}
 use Rattle.definition_page.specs.Read.{read_leaf, read_row, standing_in, text_content}
-use Rattle.laws_block.proofs.Occurs.{BlockMayStand, ContainerMayStand, HeadingMayStand, InfoMayStand, LeafBlockMayStand, MayStand}
+use Rattle.laws_block.proofs.Occurs.{BlockMayStand, ContainerMayStand, LeafBlockMayStand, MayStand}
 use Rattle.parse_leading.proofs.Leaves.{AllLeaves, leaves_after}
 use Rattle.parse_leading.proofs.Tables.{CellsHave, RowsHave}
 use Rattle.parse_constructs.proofs.Parts.{cell_is_on, content_is_on, TextIsOn}
@@ -26,13 +26,13 @@ use Rattle.parse_constructs.proofs.Parts.{cell_is_on, content_is_on, TextIsOn}
 module _ (on : Constructs) where
   -- ---- on a page
 
-  -- a leaf, with its text
+  -- a leaf, with its text; which construct made a heading, or fenced code, isn't told
   abbrev pub IsLeafOn : page.PageLeaf → Type 0
   IsLeafOn (page.Paragraph is) = TextIsOn on is
-  IsLeafOn (page.Heading rank is) = ((on.heading_atx || on.heading_setext) ≡ true) × TextIsOn on is
+  IsLeafOn (page.Heading rank is) = TextIsOn on is
   IsLeafOn page.Break = on.thematic_break ≡ true
   IsLeafOn (page.IndentedCode ls) = on.code_indented ≡ true
-  IsLeafOn (page.FencedCode info is_closed ls) = (on.code_fenced || on.math_flow) ≡ true
+  IsLeafOn (page.FencedCode info is_closed ls) = Unit {0}
   IsLeafOn (page.Html ls) = on.html_flow ≡ true
   IsLeafOn (page.Table t) = (on.gfm_table ≡ true) × CellsHave (TextIsOn on) t.head.cells × RowsHave (TextIsOn on) t.rows
   IsLeafOn page.Definition = Unit {0}
@@ -161,21 +161,15 @@ module _ (r : Reading) where
   rows_on [] = tt
   rows_on (l ∷ ls) = (cells_on (line_cells l), rows_on ls)
 
-  heading_on : (rank : ℕ) (ls : List BlockLine) → HeadingMayStand on rank ls → (on.heading_atx || on.heading_setext) ≡ true
-  heading_on rank ls h = elim h [ inl atx ↦ or_left on.heading_atx on.heading_setext atx.0 | inr setext ↦ or_right on.heading_atx on.heading_setext setext.0 ]
-
-  fenced_on : (info : List ℕ) → InfoMayStand on info → (on.code_fenced || on.math_flow) ≡ true
-  fenced_on info h = elim h [ inl code ↦ or_left on.code_fenced on.math_flow code.0 | inr math ↦ or_right on.code_fenced on.math_flow math.0 ]
-
   leaf_on : (standing : Standing) (leaf : tree.LeafBlock) → LeafBlockMayStand on leaf → IsLeafOn on (read_leaf r standing leaf)
   leaf_on standing (tree.Paragraph ls) h =
       let content = without_indent (text_content r ls) in
       let codes = codes_of content in
       checked_on content (check_at on standing.first codes) (check_on standing.first codes)
-  leaf_on standing (tree.Heading rank ls) h = (heading_on rank ls h, text_on (text_content r ls))
+  leaf_on standing (tree.Heading rank ls) h = text_on (text_content r ls)
   leaf_on standing tree.Break h = h
   leaf_on standing (tree.IndentedCode ls) h = h
-  leaf_on standing (tree.FencedCode info is_closed ls) h = fenced_on info h
+  leaf_on standing (tree.FencedCode info is_closed ls) h = tt
   leaf_on standing (tree.Html ls) h = h
   leaf_on standing (tree.Table ls) h = (h, cells_on (line_cells (head_line ls)), rows_on (body_lines ls))
   leaf_on standing (tree.Definition ls label destination title) h = tt

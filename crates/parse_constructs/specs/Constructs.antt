@@ -6,19 +6,18 @@ use Rattle.engine_events.specs.declared.event.Event.{Event}
 use Rattle.engine_events.specs.declared.event.Name.{Name}
 use Rattle.engine_events.specs.declared.event.Name.TheVariants as n
 
--- Whether the construct is on that makes events of this name, or one of two constructs.
+-- Whether the construct is on that makes events of this name. What events of several constructs have in common is on if one of these is.
 --
--- Two constructs share a name where the page that events spell doesn't tell which of them made it: the two kinds of headings print alike, and so do math and
--- fenced code whose info is that of math, written with a character reference.
---
--- A name that is in no case passes. No construct makes the names of the first line. That those of the others come from a construct that is on isn't stated:
+-- A name that is in no case passes. No construct makes the names of the first line. That those of the second come from quotes that are on isn't stated: they may
+-- stand wherever a line begins.
 --   `Paragraph`, `Data`, `SpaceOrTab`, `LineEnding`, `BlankLineEnding`, `ByteOrderMark`, `AttentionSequence`, `Content`;
---   `CharacterEscape`, `CharacterReference`, and those in one: in a destination, a title or an info the page has their characters alone;
---   the five `GfmAutolinkLiteral`: in the text of a link the page has their bytes alone;
---   `HtmlText`, `HtmlTextData`: raw HTML without data is nothing on the page;
---   `Frontmatter`, and those in it: it is nothing on the page;
---   `BlockQuotePrefix`, `BlockQuoteMarker`: they may stand wherever a line begins.
+--   `BlockQuotePrefix`, `BlockQuoteMarker`.
 abbrev pub is_on : Constructs → Name → Bool
+-- frontmatter (in neither standard)
+is_on on n.Frontmatter = on.frontmatter
+is_on on n.FrontmatterFence = on.frontmatter
+is_on on n.FrontmatterSequence = on.frontmatter
+is_on on n.FrontmatterChunk = on.frontmatter
 -- block quotes (CommonMark 5.1)
 is_on on n.BlockQuote = on.block_quote
 -- list items and lists (CommonMark 5.2 and 5.3)
@@ -38,29 +37,31 @@ is_on on n.GfmFootnoteDefinitionLabelString = on.gfm_footnote_definition
 -- thematic breaks (CommonMark 4.1)
 is_on on n.ThematicBreak = on.thematic_break
 is_on on n.ThematicBreakSequence = on.thematic_break
--- headings (CommonMark 4.2 and 4.3)
-is_on on n.HeadingAtx = on.heading_atx || on.heading_setext
-is_on on n.HeadingAtxSequence = on.heading_atx || on.heading_setext
-is_on on n.HeadingAtxText = on.heading_atx || on.heading_setext
-is_on on n.HeadingSetext = on.heading_atx || on.heading_setext
-is_on on n.HeadingSetextText = on.heading_atx || on.heading_setext
-is_on on n.HeadingSetextUnderline = on.heading_atx || on.heading_setext
-is_on on n.HeadingSetextUnderlineSequence = on.heading_atx || on.heading_setext
+-- headings by `#` (CommonMark 4.2)
+is_on on n.HeadingAtx = on.heading_atx
+is_on on n.HeadingAtxSequence = on.heading_atx
+is_on on n.HeadingAtxText = on.heading_atx
+-- headings by an underline (CommonMark 4.3)
+is_on on n.HeadingSetext = on.heading_setext
+is_on on n.HeadingSetextText = on.heading_setext
+is_on on n.HeadingSetextUnderline = on.heading_setext
+is_on on n.HeadingSetextUnderlineSequence = on.heading_setext
 -- indented code (CommonMark 4.4)
 is_on on n.CodeIndented = on.code_indented
--- fenced code (CommonMark 4.5), and math (in neither standard)
-is_on on n.CodeFenced = on.code_fenced || on.math_flow
-is_on on n.CodeFencedFence = on.code_fenced || on.math_flow
-is_on on n.CodeFencedFenceSequence = on.code_fenced || on.math_flow
-is_on on n.CodeFencedFenceInfo = on.code_fenced || on.math_flow
-is_on on n.CodeFencedFenceMeta = on.code_fenced || on.math_flow
-is_on on n.MathFlow = on.code_fenced || on.math_flow
-is_on on n.MathFlowFence = on.code_fenced || on.math_flow
-is_on on n.MathFlowFenceSequence = on.code_fenced || on.math_flow
-is_on on n.MathFlowFenceMeta = on.code_fenced || on.math_flow
-is_on on n.MathFlowChunk = on.code_fenced || on.math_flow
+-- fenced code (CommonMark 4.5)
+is_on on n.CodeFenced = on.code_fenced
+is_on on n.CodeFencedFence = on.code_fenced
+is_on on n.CodeFencedFenceSequence = on.code_fenced
+is_on on n.CodeFencedFenceInfo = on.code_fenced
+is_on on n.CodeFencedFenceMeta = on.code_fenced
 -- lines of code of either kind (CommonMark 4.4 and 4.5)
-is_on on n.CodeFlowChunk = on.code_indented || (on.code_fenced || on.math_flow)
+is_on on n.CodeFlowChunk = on.code_indented || on.code_fenced
+-- math in blocks (in neither standard)
+is_on on n.MathFlow = on.math_flow
+is_on on n.MathFlowFence = on.math_flow
+is_on on n.MathFlowFenceSequence = on.math_flow
+is_on on n.MathFlowFenceMeta = on.math_flow
+is_on on n.MathFlowChunk = on.math_flow
 -- HTML blocks (CommonMark 4.6)
 is_on on n.HtmlFlow = on.html_flow
 is_on on n.HtmlFlowData = on.html_flow
@@ -92,6 +93,17 @@ is_on on n.GfmTableDelimiterCell = on.gfm_table
 is_on on n.GfmTableDelimiterCellValue = on.gfm_table
 is_on on n.GfmTableDelimiterMarker = on.gfm_table
 is_on on n.GfmTableDelimiterFiller = on.gfm_table
+-- escapes (CommonMark 2.4)
+is_on on n.CharacterEscape = on.character_escape
+is_on on n.CharacterEscapeMarker = on.character_escape
+is_on on n.CharacterEscapeValue = on.character_escape
+-- references (CommonMark 2.5)
+is_on on n.CharacterReference = on.character_reference
+is_on on n.CharacterReferenceMarker = on.character_reference
+is_on on n.CharacterReferenceMarkerNumeric = on.character_reference
+is_on on n.CharacterReferenceMarkerHexadecimal = on.character_reference
+is_on on n.CharacterReferenceMarkerSemi = on.character_reference
+is_on on n.CharacterReferenceValue = on.character_reference
 -- code (CommonMark 6.1), and math (in neither standard)
 is_on on n.CodeText = on.code_text
 is_on on n.CodeTextSequence = on.code_text
@@ -143,6 +155,15 @@ is_on on n.Autolink = on.autolink
 is_on on n.AutolinkMarker = on.autolink
 is_on on n.AutolinkProtocol = on.autolink
 is_on on n.AutolinkEmail = on.autolink
+-- links without brackets (GFM 6.9)
+is_on on n.GfmAutolinkLiteralEmail = on.gfm_autolink_literal
+is_on on n.GfmAutolinkLiteralMailto = on.gfm_autolink_literal
+is_on on n.GfmAutolinkLiteralProtocol = on.gfm_autolink_literal
+is_on on n.GfmAutolinkLiteralWww = on.gfm_autolink_literal
+is_on on n.GfmAutolinkLiteralXmpp = on.gfm_autolink_literal
+-- raw HTML (CommonMark 6.6)
+is_on on n.HtmlText = on.html_text
+is_on on n.HtmlTextData = on.html_text
 -- hard line breaks (CommonMark 6.7)
 is_on on n.HardBreakEscape = on.hard_break_escape
 is_on on n.HardBreakTrailing = on.hard_break_trailing

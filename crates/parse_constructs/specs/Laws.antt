@@ -15,4 +15,4 @@ use Rattle.parse_constructs.specs.Constructs.{NothingIsOff}
 abbrev pub DocumentsHaveNothingOff : Type 0
 DocumentsHaveNothingOff =
     (tables : TextTables) (options : ParseOptions) (text : List ℕ) (ns : Nodes) → IsPageOfText tables options text (page_of tables.names text ns)
-    → ends (left_by Lines document_row ns) ≡ true → AreSound tables.names text ns → AreNodes ns → NothingIsOff options.constructs (events_of ns)
+    → ends (left_by Lines document_row ns) ≡ true → AreSound options.constructs tables.names text ns → AreNodes ns → NothingIsOff options.constructs (events_of ns)

@@ -80,7 +80,7 @@ module _ (tables : TextTables) (options : ParseOptions) (text : List ℕ) where
   -- A walk stands after all rows of the text, and these events have its nodes.
   pub record AreOfText {A : Type 0} (w : Walk A) (events : List Event) : Type 0 where
     pub front : Nodes
-    pub is_front : IsFront tables.names text front (text_blocks options text)
+    pub is_front : IsFront options.constructs tables.names text front (text_blocks options text)
     pub stands : Stands text_reading text front all_rows [] (Between []) w
     pub nested : IsNested events
     pub children : HaveChildren events
@@ -109,7 +109,7 @@ module _ (tables : TextTables) (options : ParseOptions) (text : List ℕ) where
         are.children are.same
 
     -- they are sound
-    pub nodes_sound : AreSound tables.names text nodes
+    pub nodes_sound : AreSound options.constructs tables.names text nodes
     nodes_sound =
         documents_are_sound text_reading text are.front (group_items (bare_blocks (text_blocks options text))) [] kids line events nodes are.is_front.sound
         all_spelled are.nested.each are.nested.named are.children are.same
@@ -138,6 +138,7 @@ module _ (tables : TextTables) (options : ParseOptions) (text : List ℕ) where
           utf8 = utf8;
           placed = placed;
           tokens = tokens;
+          on = options.constructs;
           sound = nodes_sound;
           leads = documents_lead_on tables options text nodes page filled nodes_sound;
           cells = documents_agree tables options text nodes bytes page filled;

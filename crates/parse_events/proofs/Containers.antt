@@ -34,7 +34,7 @@ module _ (r : Reading) (text : List ℕ) (front : Nodes) (go : LevelsGoOn r text
       → is_in_list o.outer ≡ is_item (InContainer c goes_on) → IsNamed (InContainer c goes_on) enter.name
       → IsOfList (InContainer c goes_on) (innermost g.outer) → (spot_of enter).index ≤ length text → IsStartName (node_name first)
       → named n.Definition (one first) ≡ [] → HasStart r text front (InContainer c goes_on) enter.name NoBlock (one first)
-      → IsFilled Lines (holder_form (InContainer c goes_on)) first → IsSound r.tables.names text first
+      → IsFilled Lines (holder_form (InContainer c goes_on)) first → IsSound r.parse.constructs r.tables.names text first
       → line_at text (spot_of enter).index ≡ line_at text from → Spells r text front o g (line_at text from)
       → Spells r text front (within (InContainer c goes_on) o) h (line_at text other)
   spells_start o c goes_on enter g mid h space first from other nothing quiet white grown stands is of_list fits start none has filled sound line spells =

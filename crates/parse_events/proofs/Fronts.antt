@@ -8,6 +8,8 @@ use Rattle.markdown_options.specs.declared.beside.Kind.TheVariants.{Whitespace}
 use Rattle.definition_text.specs.Lines.{has_mark}
 use Rattle.definition_inline.specs.CharacterReference.{Names}
 use Rattle.definition_block.specs.Definitions.{DefinitionCut, cut_into}
+use Rattle.definition_block.specs.Frontmatter.{after_metadata_fence, is_metadata_fence}
+use Rattle.definition_text.specs.Ascii.{hyphen, plus}
 use Rattle.definition_block.specs.Tree.{children, children_after, with_paragraph}
 use Rattle.definition_block.specs.Tree as tree
 use Rattle.std.proofs.Math.Seq.{take-append_seam}
@@ -93,22 +95,22 @@ none_after g ns is = ap (λ (x : Growth). with_nodes x ns) is
 
 -- ---- frontmatter
 
-front_is : (names : Names) (text : List ℕ) (bs : Blocks) (mark space : Nodes) (node : Node) (ending : Option LineEnding) (ns : Nodes)
-    → SpellsNothing names text mark → AreQuiet space → node_name node ≡ n.Frontmatter → named n.Definition (one node) ≡ []
-    → IsFilled Lines Plain node → AreEnding text n.LineEnding ending ns → (ending ≡ None → bs ≡ tree.Nil) → IsFront names text (append mark (append space (append (one node) ns))) bs
-front_is names text bs mark space node None ns nothing quiet is none fills are last =
+front_is : (on : Constructs) (names : Names) (text : List ℕ) (bs : Blocks) (mark space : Nodes) (node : Node) (ending : Option LineEnding) (ns : Nodes)
+    → on.frontmatter ≡ true → SpellsNothing on names text mark → AreQuiet space → node_name node ≡ n.Frontmatter → named n.Definition (one node) ≡ []
+    → IsFilled Lines Plain node → AreEnding text n.LineEnding ending ns → (ending ≡ None → bs ≡ tree.Nil) → IsFront on names text (append mark (append space (append (one node) ns))) bs
+front_is on names text bs mark space node None ns made nothing quiet is none fills are last =
     let front = append mark space in
     let nodes : append mark (append space (append (one node) ns)) ≡ append front (one node) =
     ap (λ (xs : Nodes). append mark (append space (append (one node) xs))) are ∙ sym (append-assoc mark space (one node)) in
-    subst (λ (xs : Nodes). IsFront names text xs bs) (sym nodes)
-    (front_alone names text bs front node (nothing_both names text mark space nothing (nothing_mute names text space (quiet_mute space quiet))) is none fills
+    subst (λ (xs : Nodes). IsFront on names text xs bs) (sym nodes)
+    (front_alone on names text made bs front node (nothing_both on names text mark space nothing (nothing_mute on names text space (quiet_mute space quiet))) is none fills
     (last refl))
-front_is names text bs mark space node (Some e) ns nothing quiet is none fills are last =
+front_is on names text bs mark space node (Some e) ns made nothing quiet is none fills are last =
     let front = append mark space in
     let nodes : append mark (append space (append (one node) ns)) ≡ append front (append (one node) (one are.0)) =
     ap (λ (xs : Nodes). append mark (append space (append (one node) xs))) are.1 ∙ sym (append-assoc mark space (append (one node) (one are.0))) in
-    subst (λ (xs : Nodes). IsFront names text xs bs) (sym nodes)
-    (front_ended names text bs front node e are.0 (nothing_both names text mark space nothing (nothing_mute names text space (quiet_mute space quiet))) is none
+    subst (λ (xs : Nodes). IsFront on names text xs bs) (sym nodes)
+    (front_ended on names text made bs front node e are.0 (nothing_both on names text mark space nothing (nothing_mute on names text space (quiet_mute space quiet))) is none
     fills (record { named = are.2; empty = are.3; bytes = are.4 }))
 
 -- it is taken by the row of the document
@@ -130,6 +132,19 @@ no_blocks : (on : Constructs) (before : Kind) (rest : List ℕ) (others : List T
     → blocks on before rest ≡ tree.Nil
 no_blocks on before rest others found none =
     ap (children_after on before (lines rest)) (found ∙ ap (λ (ls : List TextLine). Some ls) none) ∙ no_children on Whitespace
+
+-- frontmatter is read where it is on
+front_on : (on : Constructs) (ls others : List TextLine) → after_frontmatter on ls ≡ Some others → on.frontmatter ≡ true
+front_on on [] others found = absurd (let none : None ≡ Some others = found in cc)
+front_on on (line ∷ ls) others found = elim (cases_Bool on.frontmatter) [
+  | inl is ↦ is
+  | inr off ↦
+      let none : None ≡ Some others =
+      sym (ap (λ (may : Bool). if may && is_metadata_fence hyphen line.content then after_metadata_fence hyphen ls
+      else (if may && is_metadata_fence plus line.content then after_metadata_fence plus ls else None)) off)
+      ∙ found in
+      absurd (cc)
+]
 
 module _ {A : Type 0} where
   -- a walk at the start of a text, whose byte order mark is written then
@@ -163,7 +178,7 @@ module _ {A : Type 0} where
       let st : StandsAt text (Between (unread before (lines rest))) (standing old) = begins text mp.mark before fits refl bytes parts mp.first in
       record {
         front = nodes;
-        nothing = λ names. nothing_mark names text (written_to old) to;
+        nothing = λ names. nothing_mark on names text (written_to old) to;
         fill = filled.mark_fill text (written_to old) to;
         constructs = ap (λ (s : Standing). s.on) same ∙ constructs;
         outside = ap (λ (s : Standing). s.outermost) same ∙ outside;
@@ -182,7 +197,7 @@ module _ {A : Type 0} where
       → StandsAfterMark on text before rest w → StandsBefore on text before rest w
   before_all on text before rest w none was = record {
     front = was.front;
-    is_front = λ names. front_none names text (blocks on before rest) was.front (was.nothing names);
+    is_front = λ names. front_none on names text (blocks on before rest) was.front (was.nothing names);
     fill = filled.before_page was.front was.fill;
     constructs = was.constructs;
     outside = was.outside;
@@ -209,7 +224,8 @@ module _ {A : Type 0} where
       record {
         front = append was.front nodes;
         is_front = λ names.
-            front_is names text (blocks on before rest) was.front written.before written.node written.ending written.nodes (was.nothing names) written.are_quiet
+            front_is on names text (blocks on before rest) was.front written.before written.node written.ending written.nodes
+            (front_on on (lines rest) some.others some.found) (was.nothing names) written.are_quiet
             written.is_front written.definitions written.filled written.are_ending (λ none. no_blocks on before rest some.others some.found (written.last none));
         fill =
             filled.front_fill was.front written.before written.nodes written.node was.fill

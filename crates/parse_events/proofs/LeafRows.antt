@@ -121,7 +121,7 @@ module _ {A : Type 0} (r : Reading) (text : List ℕ) (front : Nodes) where
         elim was.at [
           | inl at ↦
               let s = next_stands o in
-              let written = writes text s.top here left to at.0 at.1 was.order laid in
+              let written = writes text s.top here left to at.0 at.1 was.order was.constructs laid in
               stands_there r text front (opened (join o.kids (one_block (Leaf leaf))) o.outer o.places) outer outer (AtEnding end.0 end.1) to new refl end.2 (
               leaf_stands r text front (always_go_on r text front) o outer here left end.1 end.0 leaf old new bare was (λ top. closed) (
               subst (λ (ds : List LinkDefinition). WritesLeaf r.parse.constructs r.tables.names text s.top (read_leaf r s leaf) ds (AtEnding end.0 end.1) old new) (sym none) (
@@ -138,7 +138,7 @@ module _ {A : Type 0} (r : Reading) (text : List ℕ) (front : Nodes) where
         elim was.at [
           | inl at ↦
               let top : (next_stands o).top ≡ true = top_after (standing_at o.outer) o.kids ∙ ap (λ (ls : List Level). (standing_at ls).top) is in
-              let written = writes.1 (outside o outer (Within here left) old was is) text here left to at.0 at.1 was.order laid in
+              let written = writes.1 (outside o outer (Within here left) old was is) text here left to at.0 at.1 was.order was.constructs laid in
               code_stands r text front (always_go_on r text front) o outer here left to leaf old new is was unclosed top none (
               subst (λ (s : BlockStanding). WritesToEnd r.parse.constructs r.tables.names text (read_leaf r s leaf) to old new) (next_is o true top) written)
           | inr past ↦ absurd past
@@ -149,7 +149,7 @@ module _ {A : Type 0} (r : Reading) (text : List ℕ) (front : Nodes) where
               let s = next_stands o in
               let top : s.top ≡ false =
               top_after (standing_at o.outer) o.kids ∙ ap (λ (ls : List Level). (standing_at ls).top) is ∙ holder_top l.holder in
-              let written = writes.0 (inside o outer (Within here left) old l levels was is bare) text here left to at.0 at.1 was.order laid in
+              let written = writes.0 (inside o outer (Within here left) old l levels was is bare) text here left to at.0 at.1 was.order was.constructs laid in
               let read : WritesLeaf r.parse.constructs r.tables.names text s.top (read_leaf r s leaf) [] to old new =
               subst (λ (t : Bool). WritesLeaf r.parse.constructs r.tables.names text t (read_leaf r s leaf) [] to old new) (sym top) (
               subst (λ (t : BlockStanding). WritesLeaf r.parse.constructs r.tables.names text false (read_leaf r t leaf) [] to old new) (next_is o false top) written) in

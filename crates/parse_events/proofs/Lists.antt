@@ -101,7 +101,7 @@ module _ {A : Type 0} (r : Reading) (text : List ℕ) (front : Nodes) (go : Leve
             (prefix_named text (Item item) start.first start.is_prefix) (prefix_defines text (Item item) start.first start.is_prefix)
             (prefix_start r text front (Item item) goes_on n.ListItem start.first start.is_prefix)
             (prefix_filled text (Item item) goes_on start.first start.is_prefix)
-            (prefix_sound r.tables.names text (Item item) start.first start.is_prefix)
+            (prefix_sound r.parse.constructs r.tables.names text (Item item) start.first start.is_prefix)
             (ap (line_at text) index ∙ was.bare)
             was.spells;
         begun = λ listed none. true≢false (sym listed);

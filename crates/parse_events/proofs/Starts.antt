@@ -5,6 +5,7 @@ use Rattle.parse_events.proofs.Prelude.{if◌then◌else◌, InContainer, innerm
 use Rattle.parse_events.proofs.Prelude.{IsWrittenToRest, Item, kids_of, level, LevelsGoOn, line_at, LineRest, Name, named, NoBlock, Node, node_name, Nodes}
 use Rattle.parse_events.proofs.Prelude.{normal_label, one, Opened, Quote, Reading, rest_start, same_name, standing, Stands, StandsAt, true≢false, Walk, whole}
 use Rattle.parse_events.proofs.Prelude.{with_nodes, Within, within, WritesStart, written_to}
+use Rattle.markdown_options.specs.declared.configuration.Constructs.{Constructs}
 use Rattle.definition_block.specs.ListItem.{number_of}
 use Rattle.definition_inline.specs.CharacterReference.{Names}
 use Rattle.engine_events.specs.declared.event.Name.TheVariants as n
@@ -56,12 +57,12 @@ prefix_filled text Quote goes_on first is = filled_by Lines Plain n.BlockQuotePr
 prefix_filled text (Item item) goes_on first is = item_prefix_filled item.number first is.is_named is.fill
 prefix_filled text (Footnote label) goes_on first is = filled_by Lines Plain n.GfmFootnoteDefinitionPrefix [] first is.is_named is.fill refl
 
--- it holds no reference, call or heading
-pub prefix_sound : (names : Names) (text : List ℕ) (c : Container) (first : Node) → IsPrefixOf text c first → IsSound names text first
-prefix_sound names text Quote first is =
-    sound_filled names text 2 Lines Plain n.BlockQuotePrefix first is.0 refl (filled_by Lines Plain n.BlockQuotePrefix [] first is.0 is.2 refl)
-prefix_sound names text (Item item) first is = others_sound names text item_names first refl is.others
-prefix_sound names text (Footnote label) first is = others_sound names text footnote_names first refl is.others
+-- it holds no name of which more is asked
+pub prefix_sound : (on : Constructs) (names : Names) (text : List ℕ) (c : Container) (first : Node) → IsPrefixOf text c first → IsSound on names text first
+prefix_sound on names text Quote first is =
+    sound_filled on names text 2 Lines Plain n.BlockQuotePrefix first is.0 refl (filled_by Lines Plain n.BlockQuotePrefix [] first is.0 is.2 refl)
+prefix_sound on names text (Item item) first is = others_sound on names text item_names first refl is.others
+prefix_sound on names text (Footnote label) first is = others_sound on names text footnote_names first refl is.others
 
 module _ (r : Reading) (text : List ℕ) (front : Nodes) where
   own_number : (number : Option ℕ) (first : Node) → node_name first ≡ n.ListItemPrefix
@@ -121,7 +122,7 @@ module _ {A : Type 0} (r : Reading) (text : List ℕ) (front : Nodes) (go : Leve
                   (let most = line_in_text text (standing old) at.0.line in omega (arith, most, index, bounds.1))
                   (prefix_named text c start.first start.is_prefix) (prefix_defines text c start.first start.is_prefix)
                   (prefix_start r text front c goes_on name start.first start.is_prefix) (prefix_filled text c goes_on start.first start.is_prefix)
-                  (prefix_sound r.tables.names text c start.first start.is_prefix)
+                  (prefix_sound r.parse.constructs r.tables.names text c start.first start.is_prefix)
                   (ap (line_at text) index ∙ rest_line_at text here left old (bare_end old).index at.0 at.1 bounds.0 bounds.1)
                   was.spells;
               begun = λ listed none. true≢false (sym listed);

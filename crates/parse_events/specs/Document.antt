@@ -34,7 +34,7 @@ use Rattle.parse_events.specs.Stands.{Stands}
 -- A walk stands before the first line of a text, of which this is the rest after its byte order mark: at most that mark is written, and no container is open.
 pub record StandsAfterMark {A : Type 0} (on : Constructs) (text : List ℕ) (before : Kind) (rest : List ℕ) (w : Walk A) : Type 0 where
   pub front : Nodes
-  pub nothing : (names : Names) → SpellsNothing names text front
+  pub nothing : (names : Names) → SpellsNothing on names text front
   pub fill : FillBefore front
   pub constructs : w.on.now ≡ on
   pub outside : (standing w).outermost ≡ []
@@ -47,7 +47,7 @@ pub record StandsAfterMark {A : Type 0} (on : Constructs) (text : List ℕ) (bef
 -- A walk stands before the blocks of such a text: only what is in front of the blocks is written, and no container is open.
 pub record StandsBefore {A : Type 0} (on : Constructs) (text : List ℕ) (before : Kind) (rest : List ℕ) (w : Walk A) : Type 0 where
   pub front : Nodes
-  pub is_front : (names : Names) → IsFront names text front (blocks on before rest)
+  pub is_front : (names : Names) → IsFront on names text front (blocks on before rest)
   pub fill : FillOnPage front
   pub constructs : w.on.now ≡ on
   pub outside : (standing w).outermost ≡ []

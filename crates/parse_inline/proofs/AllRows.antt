@@ -219,7 +219,7 @@ all_written s first held old new size d is does =
     (plain_void s.text n.SpaceOrTab (end_in old.out) (end_after (end_in old.out) (length d.left)) refl refl)
     (λ around may.
     void_between around text_row n.SpaceOrTab s.text (end_in old.out) (end_after (end_in old.out) (length d.left)) refl refl (may_space around d.left may)
-    refl) (void_sound s.context.names s.text n.SpaceOrTab (end_in old.out) (end_after (end_in old.out) (length d.left)) refl) in
+    refl) (void_sound s.context.options.constructs s.context.names s.text n.SpaceOrTab (end_in old.out) (end_after (end_in old.out) (length d.left)) refl) in
     record {
       nodes = all.nodes;
       writes = subst (λ bs. WritesInContent s.text bs all.nodes [] s.stop first new) (sym (all.both ∙ append-nil all.front)) all.writes;

@@ -1,6 +1,7 @@
 -- What is written of an autolink (CommonMark 6.5).
 use Rattle.std.proofs.Common.{◌≡◌, ◌<◌, ℕ, Bool, true, false, ◌||◌, List, [], ◌∷◌, ◌++◌, refl, ap, ap₂, subst, ◌∙◌, append_assoc, length, arith}
 use Rattle.std.proofs.lemmas.Bool.{or_right}
+use Rattle.markdown_options.specs.declared.configuration.Constructs.{Constructs}
 use Rattle.event_tokens.specs.Tokens.{is_email, is_nothing, is_token, is_uri}
 use Rattle.parse_written.specs.Leaves.{is_target}
 use Rattle.parse_lines.proofs.Bytes.{has_bytes}
@@ -76,7 +77,7 @@ address_may true bytes utf8 is = with_characters bytes _ utf8 (or_right (is_noth
 address_may false bytes utf8 is = with_characters bytes _ utf8 (or_right (is_nothing bytes) (is_uri bytes) is)
 
 module _ {A : Type 0} (names : Names) (text : List ℕ) (stop : Stop) where
-  pub autolink_front : (email : Bool) (name : Name) (a b c d e f : Walk A) (address content : List ℕ) (size : ℕ) → name ≡ address_name email
+  pub autolink_front : (on : Constructs) (email : Bool) (name : Name) (a b c d e f : Walk A) (address content : List ℕ) (size : ℕ) → name ≡ address_name email
       → size ≡ length address
       → 0 < length address → list_any ends_line address ≡ false → is_target email address ≡ true → IsUtf8 address
       → StandsInContent text (in_angles address ++ content) stop a → IsWhole a
@@ -84,8 +85,8 @@ module _ {A : Type 0} (names : Names) (text : List ℕ) (stop : Stop) where
       → ((line : List ℕ) → StandsInLine text line a → EntersInLine text n.Autolink line a b) → WritesNext text n.AutolinkMarker 1 b c
       → WritesNext text name size c d
       → WritesNext text n.AutolinkMarker 1 d e → ((line : List ℕ) → StandsInLine text line e → ExitsInLine text n.Autolink line e f)
-      → WritesFront names text (in_angles address) content Anywhere (Autolink email address ∷ []) stop a f
-  autolink_front email name a b c d e f address content size named is some dark target utf8 st whole same enters first value second exits =
+      → WritesFront on names text (in_angles address) content Anywhere (Autolink email address ∷ []) stop a f
+  autolink_front on email name a b c d e f address content size named is some dark target utf8 st whole same enters first value second exits =
       let inner : list_any ends_line (address ++ 62 ∷ []) ≡ false =
       list_any-append ends_line address (62 ∷ []) ∙ ap (λ t. t || list_any ends_line (62 ∷ [])) dark in
       let ahead = line_in_content text stop a (in_angles address) content st inner in
@@ -132,5 +133,5 @@ module _ {A : Type 0} (names : Names) (text : List ℕ) (stop : Stop) where
             autolink_spells names text linked email address i j k (end_in a.out) (end_in e.out)
             (token_text text (address_name email) j address (62 ∷ line) (next_here text (address ++ 62 ∷ line) c at_value whole_c));
         fill = λ around may. fill_taken around text_row n.Autolink Plain text_row node refl refl (filled around);
-        sound = sound_one names text node (sound_filled names text 2 Lines Plain n.Autolink node refl refl (filled Lines));
+        sound = sound_one on names text node (sound_filled on names text 2 Lines Plain n.Autolink node refl refl (filled Lines));
       }

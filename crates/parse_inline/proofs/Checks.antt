@@ -169,14 +169,14 @@ module _ {A : Type 0} (names : Names) (text : List ℕ) (stop : Stop) where
         (fill_both (value_taken Lines done w.node (w.named ∙ is) w.empty) (quiet_fill bracket_slots w.quiet refl refl w.are_quiet));
   }
 
-  pub check_front : (a b c d e f : Walk A) (done : Bool) (value content : List ℕ) → StandsInContent text (91 ∷ (value ++ 93 ∷ content)) stop a → IsWhole a
+  pub check_front : (on : Constructs) (a b c d e f : Walk A) (done : Bool) (value content : List ℕ) → StandsInContent text (91 ∷ (value ++ 93 ∷ content)) stop a → IsWhole a
       → standing b ≡ standing a → ((line : List ℕ) → StandsInLine text line a → EntersInLine text n.GfmTaskListItemCheck line a b) → standing c ≡ standing b
       → WritesNext text n.GfmTaskListItemMarker 1 b c
       → (StandsInContent text (value ++ 93 ∷ content) stop c → IsWhole c → WritesValue text done value (93 ∷ content) stop c d) → standing e ≡ standing d
       → WritesNext text n.GfmTaskListItemMarker 1 d e → standing f ≡ standing e
       → ((line : List ℕ) → StandsInLine text line e → ExitsInLine text n.GfmTaskListItemCheck line e f)
-      → WritesFront names text (91 ∷ (value ++ 93 ∷ [])) content Anywhere (TaskCheck done ∷ []) stop a f
-  check_front a b c d e f done value content st whole same_b enters same_c first valued same_e second same_f exits =
+      → WritesFront on names text (91 ∷ (value ++ 93 ∷ [])) content Anywhere (TaskCheck done ∷ []) stop a f
+  check_front on a b c d e f done value content st whole same_b enters same_c first valued same_e second same_f exits =
       let front = 91 ∷ (value ++ 93 ∷ []) in
       let all : 91 ∷ (value ++ 93 ∷ content) ≡ front ++ content = ap (λ xs. 91 ∷ xs) (sym (append_assoc value (93 ∷ []) content)) in
       let entered = line_enters text stop a b n.GfmTaskListItemCheck (front ++ content) (subst (λ xs. StandsInContent text xs stop a) all st) same_b enters in
@@ -210,7 +210,7 @@ module _ {A : Type 0} (names : Names) (text : List ℕ) (stop : Stop) where
         fill = λ around may.
             fill_taken around text_row n.GfmTaskListItemCheck Plain text_row node refl refl
             (filled around (may_both around value (93 ∷ []) (may_both around (91 ∷ []) (value ++ 93 ∷ []) may).1).0);
-        sound = sound_one names text node (sound_filled names text 2 Lines Plain n.GfmTaskListItemCheck node refl refl (filled Lines tt));
+        sound = sound_one on names text node (sound_filled on names text 2 Lines Plain n.GfmTaskListItemCheck node refl refl (filled Lines tt));
       }
 
 -- ---- where a check is
@@ -344,9 +344,9 @@ module _ {A : Type 0} (names : Names) (text : List ℕ) (stop : Stop) where
       is ∙ ap (λ xs. xs ++ after) p.front_is ∙ ap (λ xs. 91 ∷ xs) (append_assoc p.value (93 ∷ []) after) in
       let next : later ≡ p.value ++ 93 ∷ after = later_is ∙ ap (drop 1) all in
       let of : IsValueOf done later p.value (93 ∷ after) = record { mark = p.mark; is = p.is; parts = next; codes = p.codes; others = after; bracket = refl } in
-      let w = check_front names text stop a b c d e f done p.value after (subst (λ xs. StandsInContent text xs stop a) all st) whole same_b enters same_c first
+      let w = check_front names text stop on a b c d e f done p.value after (subst (λ xs. StandsInContent text xs stop a) all st) whole same_b enters same_c first
       (λ here outside. valued p.value (93 ∷ after) of (subst (λ xs. StandsInContent text xs stop c) (sym next) here) outside) same_e second same_f exits in
-      let here = subst (λ xs. WritesFront names text xs after Anywhere (TaskCheck done ∷ []) stop a f) (sym p.front_is) w in (
+      let here = subst (λ xs. WritesFront on names text xs after Anywhere (TaskCheck done ∷ []) stop a f) (sym p.front_is) w in (
         record {
           nodes = here.nodes;
           writes = here.writes;

@@ -15,6 +15,7 @@ use Rattle.std.proofs.lemmas.List.Folds.{list_all-append}
 use Rattle.std.proofs.Math.Seq.{take-suc}
 use Rattle.std.proofs.lemmas.Grind.{flat_map-append}
 use Rattle.std.proofs.lemmas.List.{length-take}
+use Rattle.markdown_options.specs.declared.configuration.Constructs.{Constructs}
 use Rattle.engine_events.specs.declared.event.Name.TheVariants as n
 use Rattle.definition_inline.specs.CharacterReference.{reference_text}
 use Rattle.definition_inline.specs.Inline as inline
@@ -52,9 +53,9 @@ module _ (names : Names) (text : List ℕ) where
       ∙ sym (append-nil (string_part names text (node_name node) (text_of text node) (kids_of node)))
       ∙ spells
 
-  module _ {A : Type 0} (stop : Stop) where
-    escape_front : (a b : Walk A) (byte : ℕ) (content : List ℕ) → WritesNodeIn names text n.CharacterEscape (92 ∷ byte ∷ []) (byte ∷ []) content stop a b
-        → WritesFront names text (92 ∷ byte ∷ []) content Anywhere (Escape byte ∷ []) stop a b
+  module _ {A : Type 0} (on : Constructs) (stop : Stop) where
+    escape_front : (a b : Walk A) (byte : ℕ) (content : List ℕ) → WritesNodeIn on names text n.CharacterEscape (92 ∷ byte ∷ []) (byte ∷ []) content stop a b
+        → WritesFront on names text (92 ∷ byte ∷ []) content Anywhere (Escape byte ∷ []) stop a b
     escape_front a b byte content w = record {
       nodes = one w.node;
       writes = w.writes;
@@ -64,11 +65,11 @@ module _ (names : Names) (text : List ℕ) where
           node_spells linked n.CharacterEscape w.node w.named
           ∙ ap (λ (xs : List ℕ). texts.append (leaves (map Escape xs)) inline.Nil) (string_spells n.CharacterEscape w.node (byte ∷ []) w.named w.spells);
       fill = λ around may. fill_taken around text_row n.CharacterEscape Plain text_row w.node w.named refl (w.filled around);
-      sound = sound_one names text w.node w.sound;
+      sound = sound_one on names text w.node w.sound;
     }
 
-    pub reference_front : (a b : Walk A) (front string content : List ℕ) → WritesNodeIn names text n.CharacterReference front string content stop a b
-        → WritesFront names text front content Anywhere (Character string ∷ []) stop a b
+    pub reference_front : (a b : Walk A) (front string content : List ℕ) → WritesNodeIn on names text n.CharacterReference front string content stop a b
+        → WritesFront on names text front content Anywhere (Character string ∷ []) stop a b
     reference_front a b front string content w = record {
       nodes = one w.node;
       writes = w.writes;
@@ -78,11 +79,11 @@ module _ (names : Names) (text : List ℕ) where
           node_spells linked n.CharacterReference w.node w.named
           ∙ ap (λ t. leaves (Character t ∷ [])) (string_spells n.CharacterReference w.node string w.named w.spells);
       fill = λ around may. fill_taken around text_row n.CharacterReference Plain text_row w.node w.named refl (w.filled around);
-      sound = sound_one names text w.node w.sound;
+      sound = sound_one on names text w.node w.sound;
     }
 
     pub no_escapes : (a : Walk A) (front content : List ℕ) → StandsInContent text (escaped front ++ content) stop a → IsWhole a
-        → WritesFront names text [] (escaped front ++ content) Anywhere [] stop a a
+        → WritesFront on names text [] (escaped front ++ content) Anywhere [] stop a a
     no_escapes a front content st whole = record {
       nodes = Nil;
       writes = contents_none text stop a (escaped front ++ content) st;
@@ -93,12 +94,12 @@ module _ (names : Names) (text : List ℕ) where
       sound = tt;
     }
 
-    pub escapes_more : (a b c : Walk A) (front content : List ℕ) (done next : ℕ) → done < length front → next ≡ done + 1 → list_all is_ascii_punctuation front ≡ true
-        → WritesFront names text (escaped (take done front)) (escaped (drop done front) ++ content) Anywhere (map Escape (take done front)) stop a b
-        → ((after : List ℕ) (byte : ℕ) → is_ascii_punctuation byte ≡ true → StandsInContent text (92 ∷ byte ∷ after) stop b → IsWhole b
-        → WritesNodeIn names text n.CharacterEscape (92 ∷ byte ∷ []) (byte ∷ []) after stop b c)
-        → WritesFront names text (escaped (take next front)) (escaped (drop next front) ++ content) Anywhere (map Escape (take next front)) stop a c
-    escapes_more a b c front content done next within is marks w more =
+    pub escapes_more : (a b c : Walk A) (front content : List ℕ) (done next : ℕ) → (0 < length front → on.character_escape ≡ true) → done < length front → next ≡ done + 1 → list_all is_ascii_punctuation front ≡ true
+        → WritesFront on names text (escaped (take done front)) (escaped (drop done front) ++ content) Anywhere (map Escape (take done front)) stop a b
+        → ((after : List ℕ) (byte : ℕ) → on.character_escape ≡ true → is_ascii_punctuation byte ≡ true → StandsInContent text (92 ∷ byte ∷ after) stop b → IsWhole b
+        → WritesNodeIn on names text n.CharacterEscape (92 ∷ byte ∷ []) (byte ∷ []) after stop b c)
+        → WritesFront on names text (escaped (take next front)) (escaped (drop next front) ++ content) Anywhere (map Escape (take next front)) stop a c
+    escapes_more a b c front content done next is_on within is marks w more =
         let byte = get_or front done 0 in
         let left = drop (suc done) front in
         let first = take done front in
@@ -108,19 +109,19 @@ module _ (names : Names) (text : List ℕ) where
         let tests = sym (list_all-append is_ascii_punctuation first (byte ∷ left)) ∙ ap (list_all is_ascii_punctuation) (sym parts) ∙ marks in
         let later = and_parts (list_all is_ascii_punctuation first) (list_all is_ascii_punctuation (byte ∷ left)) tests in
         let mark : is_ascii_punctuation byte ≡ true = (and_parts (is_ascii_punctuation byte) (list_all is_ascii_punctuation left) later.1).0 in
-        let here = subst (λ xs. WritesFront names text (escaped first) (escaped xs ++ content) Anywhere (map Escape first) stop a b) split w in
-        let one_more = escape_front b c byte (escaped left ++ content) (more (escaped left ++ content) byte mark here.writes.stands here.whole) in
+        let here = subst (λ xs. WritesFront on names text (escaped first) (escaped xs ++ content) Anywhere (map Escape first) stop a b) split w in
+        let one_more = escape_front b c byte (escaped left ++ content) (more (escaped left ++ content) byte (is_on (omega (arith, within))) mark here.writes.stands here.whole) in
         let all =
-        fronts_both names text stop a b c (escaped first) (92 ∷ byte ∷ []) (escaped left ++ content) Anywhere (map Escape first)
+        fronts_both names text stop on a b c (escaped first) (92 ∷ byte ∷ []) (escaped left ++ content) Anywhere (map Escape first)
         (Escape byte ∷ []) here one_more in
         let fronts : escaped first ++ (92 ∷ byte ∷ []) ≡ escaped (take (suc done) front) =
         sym (ap escaped taken ∙ flat_map-append (λ b. 92 ∷ b ∷ []) first (byte ∷ [])) in
         let ls : map Escape first ++ Escape byte ∷ [] ≡ map Escape (take (suc done) front) =
         sym (ap (map Escape) taken ∙ map-append Escape first (byte ∷ [])) in
-        let step = subst (λ xs. WritesFront names text xs (escaped left ++ content) Anywhere (map Escape first ++ Escape byte ∷ []) stop a c) fronts all in
-        let last = subst (λ xs. WritesFront names text (escaped (take (suc done) front)) (escaped left ++ content) Anywhere xs stop a c) ls step in
+        let step = subst (λ xs. WritesFront on names text xs (escaped left ++ content) Anywhere (map Escape first ++ Escape byte ∷ []) stop a c) fronts all in
+        let last = subst (λ xs. WritesFront on names text (escaped (take (suc done) front)) (escaped left ++ content) Anywhere xs stop a c) ls step in
         let there : suc done ≡ next = omega (arith, is) in
-        subst (λ k. WritesFront names text (escaped (take k front)) (escaped (drop k front) ++ content) Anywhere
+        subst (λ k. WritesFront on names text (escaped (take k front)) (escaped (drop k front) ++ content) Anywhere
         (map Escape (take k front)) stop a c) there last
 
     -- a reference
@@ -133,8 +134,8 @@ module _ (names : Names) (text : List ℕ) where
         → length value ≤ 31 → list_all is_ascii_alphanumeric value ≡ true → marked_decodes names marks value ≡ true
         → size ≡ length marks + length value + 2 → list_any ends_line (38 ∷ (marks ++ (value ++ 59 ∷ []))) ≡ false
         → StandsInContent text ((38 ∷ (marks ++ (value ++ 59 ∷ []))) ++ content) stop a → IsWhole a
-        → WritesNodeIn names text n.CharacterReference (38 ∷ (marks ++ (value ++ 59 ∷ []))) (marked_text names marks value) content stop a b)
-        → WritesLeaves names text bytes Anywhere (Character printed ∷ []) to stop a b
+        → WritesNodeIn on names text n.CharacterReference (38 ∷ (marks ++ (value ++ 59 ∷ []))) (marked_text names marks value) content stop a b)
+        → WritesLeaves on names text bytes Anywhere (Character printed ∷ []) to stop a b
     reference_written a b context printed bytes from to size by small form at sized st whole written =
         let (front, is_written, parts) = read_is_written (codes_of from) _ form.form in
         let m = marked names front form.name is_written in
@@ -171,7 +172,7 @@ module _ (names : Names) (text : List ℕ) where
         (subst (λ xs. StandsInContent text xs stop a) parts_here st) whole in
         let printed_is : marked_text names marks value ≡ printed =
         sym m.text ∙ ap (λ (others : Names). unwrap_or (reference_text others form.name) []) (sym by) ∙ ap (λ o. unwrap_or o []) form.known in
-        leaves_of_front names text stop a b bytes whole_front after Anywhere (Character printed ∷ []) (Character printed ∷ []) to parts_here (sym cut.last)
-        (subst (λ t. WritesFront names text whole_front after Anywhere (Character t ∷ []) stop a b) printed_is
+        leaves_of_front names text stop on a b bytes whole_front after Anywhere (Character printed ∷ []) (Character printed ∷ []) to parts_here (sym cut.last)
+        (subst (λ t. WritesFront on names text whole_front after Anywhere (Character t ∷ []) stop a b) printed_is
         (reference_front a b whole_front (marked_text names marks value) after w))
         (λ first second. leaf_alike first second (Character printed) (leaves (Character printed ∷ [])) refl)

@@ -18,7 +18,7 @@ use Rattle.event_grammar.specs.Void.{is_empty}
 use Rattle.parse_slots.specs.Left.{Fill, is_filled, IsFilled, left_after, left_by, MayEndLines, TakesNoBetween, took}
 use Rattle.parse_slots.proofs.Steps.{filled_by, left_between, left_taken}
 use Rattle.parse_slots.proofs.Voids.{void_taken}
-use Rattle.parse_references.specs.Sound.{asked_names}
+use Rattle.parse_references.specs.Sound.{holding_names}
 use Rattle.parse_inline.proofs.Kids.{moved}
 
 -- ---- what is in an event
@@ -46,7 +46,7 @@ filled_around around form name slots rest bytes node is row_is some lines may fi
 pub record IsTextToken (name : Name) : Type 0 where
   pub taken : take_child text_row name ≡ Some (took Plain text_row)
   pub void : may_end (row name Plain) ≡ true
-  pub unasked : is_listed asked_names name ≡ false
+  pub unasked : is_listed holding_names name ≡ false
 
 -- a row takes a token of some size
 pub next_taken : (around : Between) (slots : List Slot) (name : Name) (rest : List Slot) (text : List ℕ) (e : End) (size : ℕ) → 0 < size

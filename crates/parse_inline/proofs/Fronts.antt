@@ -10,12 +10,14 @@ use Rattle.parse_inline.proofs.Prelude.{line_in_content, list_any, Meaning, Name
 use Rattle.parse_inline.proofs.Prelude.{plain_none, plain_one, same_end, same_name, sought_names, standing, StandsInContent, StandsInLine, still_whole, Stop}
 use Rattle.parse_inline.proofs.Prelude.{text_of, text_part, text_within, token, token_text, void_nodes, void_one, Walk, whole_end, WritesFront}
 use Rattle.parse_inline.proofs.Prelude.{WritesInContent, WritesInLine, WritesLeaves}
+use Rattle.markdown_options.specs.declared.configuration.Constructs.{Constructs}
 use Rattle.engine_events.specs.declared.event.Name.TheVariants as n
 use Rattle.definition_inline.specs.Inline as inline
 use Rattle.event_meaning.specs.Texts as texts
 use Rattle.event_grammar.specs.Grammar.{text_row}
 use Rattle.parse_slots.proofs.Steps.{fill_both, may_both}
-use Rattle.parse_references.proofs.Sound.{sound_around, sound_both, sound_one}
+use Rattle.parse_references.specs.Sound.{is_asked_on}
+use Rattle.parse_references.proofs.Sound.{sound_both, sound_of_on, sound_one}
 use Rattle.parse_strings.proofs.Fills.{token_taken}
 use Rattle.parse_inline.proofs.Fills.{IsTextToken}
 use Rattle.parse_inline.proofs.LeavesAlike.{inlines_append}
@@ -64,10 +66,10 @@ next_here text line w st whole = subst (λ e. AreNext text e line) (sym st.at �
 
 module _ {A : Type 0} (names : Names) (text : List ℕ) (stop : Stop) where
   -- some bytes, and then others
-  pub fronts_both : (a b c : Walk A) (front after content : List ℕ) (MayBe : Bool → Type 0) (ls ks : List InlineLeaf)
-      → WritesFront names text front (after ++ content) MayBe ls stop a b → WritesFront names text after content MayBe ks stop b c
-      → WritesFront names text (front ++ after) content MayBe (ls ++ ks) stop a c
-  fronts_both a b c front after content MayBe ls ks first second = record {
+  pub fronts_both : (on : Constructs) (a b c : Walk A) (front after content : List ℕ) (MayBe : Bool → Type 0) (ls ks : List InlineLeaf)
+      → WritesFront on names text front (after ++ content) MayBe ls stop a b → WritesFront on names text after content MayBe ks stop b c
+      → WritesFront on names text (front ++ after) content MayBe (ls ++ ks) stop a c
+  fronts_both on a b c front after content MayBe ls ks first second = record {
     nodes = append first.nodes second.nodes;
     writes = contents_both text stop a b c front after content first.nodes second.nodes first.writes second.writes;
     whole = second.whole;
@@ -77,15 +79,15 @@ module _ {A : Type 0} (names : Names) (text : List ℕ) (stop : Stop) where
         ∙ ap₂ texts.append (first.spells linked may) (second.spells linked may)
         ∙ sym (leaves_append ls ks);
     fill = λ around may. let both = may_both around front after may in fill_both (first.fill around both.0) (second.fill around both.1);
-    sound = sound_both names text first.nodes second.nodes first.sound second.sound;
+    sound = sound_both on names text first.nodes second.nodes first.sound second.sound;
   }
 
   -- so they are the first of the bytes that are ahead
-  pub leaves_of_front : (a b : Walk A) (bytes front after : List ℕ) (MayBe : Bool → Type 0) (ls parts : List InlineLeaf) (to : List InlineCode)
+  pub leaves_of_front : (on : Constructs) (a b : Walk A) (bytes front after : List ℕ) (MayBe : Bool → Type 0) (ls parts : List InlineLeaf) (to : List InlineCode)
       → bytes ≡ front ++ after
-      → AreBytesAt after to → WritesFront names text front after MayBe ls stop a b
-      → ((m m' : Meaning) → ArePartsAlike m m' (leaves parts) (leaves ls)) → WritesLeaves names text bytes MayBe parts to stop a b
-  leaves_of_front a b bytes front after MayBe ls parts to is left writes alike = record {
+      → AreBytesAt after to → WritesFront on names text front after MayBe ls stop a b
+      → ((m m' : Meaning) → ArePartsAlike m m' (leaves parts) (leaves ls)) → WritesLeaves on names text bytes MayBe parts to stop a b
+  leaves_of_front on a b bytes front after MayBe ls parts to is left writes alike = record {
     front = front;
     after = after;
     parts = is;
@@ -121,13 +123,13 @@ module _ {A : Type 0} (names : Names) (text : List ℕ) (stop : Stop) where
         read = token_text text name e.index front ahead.line (next_here text (front ++ ahead.line) a ahead.stands whole);
       }
 
-  pub token_front : (a b : Walk A) (name : Name) (front content : List ℕ) (size : ℕ) (MayBe : Bool → Type 0) (ls : List InlineLeaf) → size ≡ length front
+  pub token_front : (on : Constructs) (a b : Walk A) (name : Name) (front content : List ℕ) (size : ℕ) (MayBe : Bool → Type 0) (ls : List InlineLeaf) → size ≡ length front
       → 0 < length front → list_any ends_line front ≡ false → same_name name n.Data ≡ false → same_name name n.BlockQuotePrefix ≡ false
-      → is_listed sought_names name ≡ false → IsTextToken name → is_token name front ≡ true
+      → is_listed sought_names name ≡ false → IsTextToken name → is_asked_on on name ≡ true → is_token name front ≡ true
       → ((linked : Bool) → MayBe linked → texts.append (text_part names text linked name front Nil inline.Nil) inline.Nil ≡ leaves ls)
       → StandsInContent text (front ++ content) stop a → IsWhole a → standing b ≡ standing a → WritesNext text name size a b
-      → WritesFront names text front content MayBe ls stop a b
-  token_front a b name front content size MayBe ls is some dark no_data no_prefix unsought known may spells st whole same written =
+      → WritesFront on names text front content MayBe ls stop a b
+  token_front on a b name front content size MayBe ls is some dark no_data no_prefix unsought known made may spells st whole same written =
       let t = token_in a b name front content size is some dark no_data no_prefix may st whole same written in
       let node = token text name (end_in a.out).index (length front) in
       record {
@@ -137,5 +139,5 @@ module _ {A : Type 0} (names : Names) (text : List ℕ) (stop : Stop) where
         plain = plain_one node unsought plain_none;
         spells = λ linked may. void_spells names text linked name front node refl refl t.read ∙ spells linked may;
         fill = λ around may. token_taken around text_row name text_row text (end_in a.out).index (length front) known.taken known.void;
-        sound = sound_one names text node (sound_around names text node known.unasked tt);
+        sound = sound_one on names text node (sound_of_on on names text node known.unasked made tt);
       }

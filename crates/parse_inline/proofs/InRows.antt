@@ -73,7 +73,7 @@ module _ {A : Type 0} (s : Setting) (first : Walk A) where
     pub more_row : (js : Inlines) (ns : Nodes) (front after : List ℕ) → found.after ≡ laid_levels st.levels
         → filled (map hole_of st.levels) (append st.kids js) found.left ≡ s.is → AreLinkable (links st.levels) found.left → st.left ≡ front ++ after
         → WritesInContent s.text front ns after s.stop old new → IsWhole new → AreBytesAt after found.next
-        → AreAlike s.context s.text (in_link (links st.levels)) js ns → ArePlain ns → FillsText front ns → AreSound s.context.names s.text ns
+        → AreAlike s.context s.text (in_link (links st.levels)) js ns → ArePlain ns → FillsText front ns → AreSound s.context.options.constructs s.context.names s.text ns
         → IsInRows s first others held new
     more_row js ns front after open_same tree linkable both writes whole codes alike plain fill sound = record {
       levels = st.levels;
@@ -94,7 +94,7 @@ module _ {A : Type 0} (s : Setting) (first : Walk A) where
     -- leaves
     pub leaves_row : (ls : List InlineLeaf) (ns : Nodes) (front after : List ℕ) → found.after ≡ laid_levels st.levels → AreHeld ls st.steps found.left
         → st.left ≡ front ++ after → WritesInContent s.text front ns after s.stop old new → IsWhole new → AreBytesAt after found.next
-        → AreAlike s.context s.text (in_link (links st.levels)) (leaves ls) ns → ArePlain ns → FillsText front ns → AreSound s.context.names s.text ns
+        → AreAlike s.context s.text (in_link (links st.levels)) (leaves ls) ns → ArePlain ns → FillsText front ns → AreSound s.context.options.constructs s.context.names s.text ns
         → IsInRows s first others held new
     leaves_row ls ns front after open_same own both writes whole codes alike plain fill sound =
         more_row (leaves ls) ns front after open_same
@@ -121,11 +121,11 @@ module _ {A : Type 0} (s : Setting) (first : Walk A) where
         (data_alike m m' text))
         (data_plain s.text (end_in old.out) (end_after (end_in old.out) (length text)))
         (λ around may. data_fill around TextPart [] s.text (end_in old.out) (end_after (end_in old.out) (length text)) refl)
-        (data_sound s.context.names s.text (end_in old.out) (end_after (end_in old.out) (length text)))
+        (data_sound s.context.options.constructs s.context.names s.text (end_in old.out) (end_after (end_in old.out) (length text)))
 
     -- what a construct writes
     pub written_row : (ls : List InlineLeaf) (MayBe : Bool → Type 0) → found.after ≡ laid_levels st.levels → AreHeld ls st.steps found.left
-        → WritesLeaves s.context.names s.text st.left MayBe ls found.next s.stop old new → MayBe (in_link (links st.levels)) → IsInRows s first others held new
+        → WritesLeaves s.context.options.constructs s.context.names s.text st.left MayBe ls found.next s.stop old new → MayBe (in_link (links st.levels)) → IsInRows s first others held new
     written_row ls MayBe open_same own w may =
         leaves_row ls w.nodes w.front w.after open_same own w.parts w.writes w.whole w.left (λ m m' meant. w.spells (in_link (links st.levels)) may m m')
         w.plain w.fill w.sound
@@ -149,7 +149,7 @@ module _ {A : Type 0} (s : Setting) (first : Walk A) where
 
   pub leaf_passes : (p : LeafPart) (others : List InlineRow) (held : List opened.Open) (old new : Walk A) (content : List ℕ) → s.content ≡ content
       → ((context : InlineContext) (text bytes : List ℕ) (from to : List InlineCode) (stop : Stop) → bytes ≡ drop old.place content → IsPartLaid context p from to
-      → AreBytesAt bytes from → StandsInContent text bytes stop old → IsWhole old → WritesPart context.names text bytes p to stop old new)
+      → AreBytesAt bytes from → StandsInContent text bytes stop old → IsWhole old → WritesPart context.options.constructs context.names text bytes p to stop old new)
       → IsInRows s first (rows.Leaf p ∷ others) held old → IsInRows s first others held new
   leaf_passes p others held old new content over does st =
       let f = found (rows.Leaf p) others held old new st in
@@ -161,7 +161,7 @@ module _ {A : Type 0} (s : Setting) (first : Walk A) where
   pub spelled_passes : (leaf : SpelledLeaf) (others : List InlineRow) (held : List opened.Open) (old new : Walk A) (content : List ℕ) → s.content ≡ content
       → ((context : InlineContext) (text bytes : List ℕ) (from to : List InlineCode) (stop : Stop) → bytes ≡ drop old.place content
       → IsLeafLaid context (spelled_view leaf) from to → AreBytesAt bytes from → StandsInContent text bytes stop old → IsWhole old
-      → WritesSpelled context.names text bytes leaf to stop old new)
+      → WritesSpelled context.options.constructs context.names text bytes leaf to stop old new)
       → IsInRows s first (rows.Spelled leaf ∷ others) held old → IsInRows s first others held new
   spelled_passes leaf others held old new content over does st =
       let f = found (rows.Spelled leaf) others held old new st in

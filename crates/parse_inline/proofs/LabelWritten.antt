@@ -87,7 +87,7 @@ module _ {A : Type 0} (text : List ℕ) (stop : Stop) where
   pub call_written : (context : InlineContext) (label content after : List ℕ) (to : List InlineCode) (ns : Nodes) (old inside w ended new : Walk A)
       → content ≡ (91 ∷ 94 ∷ []) ++ (label ++ 93 ∷ after) → AreBytesAt after to
       → EntersLabel text n.GfmFootnoteCall n.GfmFootnoteCallLabel (91 ∷ 94 ∷ []) (label ++ 93 ∷ after) stop old inside
-      → WritesInContent text label ns (93 ∷ after) stop inside w → ArePlain ns → AreWithout outside_strings ns → AreSound context.names text ns → FillsText label ns
+      → WritesInContent text label ns (93 ∷ after) stop inside w → ArePlain ns → AreWithout outside_strings ns → AreSound context.options.constructs context.names text ns → FillsText label ns
       → EndsLabel text after stop w ended
       → ExitsInContent text n.GfmFootnoteCall after stop ended new → IsWhole new → WritesCall context text (content_codes label) content to stop old new
   call_written context label content after to ns old inside w ended new parts left enters writes plain strings sound fill ends leaves whole =
@@ -123,6 +123,6 @@ module _ {A : Type 0} (text : List ℕ) (stop : Stop) where
             call_fill around label text l is (end_in old.out) (end_in ended.out) inside_may
             (label_fills around OfCall call_label inside_may (fill around inside_may));
         sound =
-            call_sound text l is context.names (end_in old.out) (end_in ended.out) (subst (AreWithout outside_strings) (sym same) strings)
-            (subst (AreSound context.names text) (sym same) sound);
+            call_sound text l is context.options.constructs context.names (end_in old.out) (end_in ended.out) (subst (AreWithout outside_strings) (sym same) strings)
+            (subst (AreSound context.options.constructs context.names text) (sym same) sound);
       }

@@ -1,5 +1,6 @@
 -- What the nodes of links, images and calls spell.
 use Rattle.std.proofs.Common.{◌≡◌, ◌||◌, ℕ, Bool, true, false, List, [], ◌∷◌, ◌++◌, Option, None, Some, inl, inr, refl, sym, ap, ap₂, subst, ◌∙◌}
+use Rattle.markdown_options.specs.declared.configuration.Constructs.{Constructs}
 use Rattle.parse_inline.proofs.Prelude.{AreMeanings, ArePlain, Around, Code, cond-false, cond-true, Cons, content_codes, cut, End, enter_at, exit_at}
 use Rattle.parse_inline.proofs.Prelude.{HaveSameWords, HaveTextsOfBytes, if◌then◌else◌, Image, InlineContext, inlines_of, InLinked, is_link, is_listed}
 use Rattle.parse_inline.proofs.Prelude.{mark_name}
@@ -108,11 +109,11 @@ module _ (text : List ℕ) where
     }
 
     -- a label with a sound text is sound
-    pub label_sound : (names : Names) → AreSound names text l.kids → IsSound names text (label_node l)
-    label_sound names sound =
-        sound_around names text (label_node l) refl (
-          without_is_sound names text l.first is.first_unasked,
-          (sound_around names text (own_node l) refl sound, (without_is_sound names text l.last is.last_unasked, tt)),
+    pub label_sound : (on : Constructs) (names : Names) → AreSound on names text l.kids → IsSound on names text (label_node l)
+    label_sound on names sound =
+        sound_around on names text (label_node l) refl (
+          without_is_sound on names text l.first is.first_unasked,
+          (sound_around on names text (own_node l) refl sound, (without_is_sound on names text l.last is.last_unasked, tt)),
         )
 
     -- ---- what it spells
@@ -218,14 +219,14 @@ module _ (text : List ℕ) where
     linked_plain Image from to none =
         plain_media (enter_at text n.Image from) (exit_at text n.Image to) (Cons (label_node l) ns) refl refl refl (no_other none)
 
-    pub linked_sound : (names : Names) (kind : LinkedKind) (from to : End) → AreSound names text l.kids → AreSound names text ns
-        → AreSound names text (linked_nodes kind from to)
-    linked_sound names Link from to sound tail =
+    pub linked_sound : (on : Constructs) (names : Names) (kind : LinkedKind) (from to : End) → AreSound on names text l.kids → AreSound on names text ns
+        → AreSound on names text (linked_nodes kind from to)
+    linked_sound on names Link from to sound tail =
         let node = Around (enter_at text n.Link from) (Cons (label_node l) ns) (exit_at text n.Link to) in
-        sound_one names text node (sound_around names text node refl (label_sound names sound, tail))
-    linked_sound names Image from to sound tail =
+        sound_one on names text node (sound_around on names text node refl (label_sound on names sound, tail))
+    linked_sound on names Image from to sound tail =
         let node = Around (enter_at text n.Image from) (Cons (label_node l) ns) (exit_at text n.Image to) in
-        sound_one names text node (sound_around names text node refl (label_sound names sound, tail))
+        sound_one on names text node (sound_around on names text node refl (label_sound on names sound, tail))
 
 -- a call, behind whose label nothing is
 module _ (text : List ℕ) (l : Label) (is : IsLabel l) where
@@ -242,15 +243,16 @@ module _ (text : List ℕ) (l : Label) (is : IsLabel l) where
       (no_other text l is Nil (record { definitions = refl; columns = refl }))
 
   -- its label is a string
-  pub call_sound : (names : Names) (from to : End) → AreWithout outside_strings l.kids → AreSound names text l.kids → AreSound names text (call_nodes from to)
-  call_sound names from to strings sound = (
+  pub call_sound : (on : Constructs) (names : Names) (from to : End) → AreWithout outside_strings l.kids → AreSound on names text l.kids → AreSound on names text (call_nodes from to)
+  call_sound on names from to strings sound = (
     (
       record {
+        is_on = refl;
         call = λ same. ((refl, (is.first_strings, ((refl, strings), (is.last_strings, tt)))), tt);
         reference = λ same. absurd (true≢false (ap (same_name n.GfmFootnoteCall) same));
         heading = λ same. absurd (true≢false (ap (same_name n.GfmFootnoteCall) same));
       },
-      (label_sound text l is Nil names sound, tt),
+      (label_sound text l is Nil on names sound, tt),
     ),
     tt,
   )

@@ -12,6 +12,7 @@ use Rattle.event_grammar.specs.declared.slot.Child.TheVariants.{TextPart}
 use Rattle.event_grammar.specs.Grammar.{text_row}
 use Rattle.parse_slots.proofs.Steps.{fill_none}
 use Rattle.parse_slots.proofs.Voids.{data_fill}
+use Rattle.parse_references.specs.Sound.{is_asked_on}
 use Rattle.parse_references.proofs.Sound.{data_sound}
 use Rattle.parse_lines.specs.Content.{HasBytes}
 use Rattle.parse_inline.proofs.Prelude.{Anywhere, AreBytesAt, AreCodes, AreCutBetween, ArePartsAlike, bare, cases_Bool, codes_of, codes_split, content_codes}
@@ -21,6 +22,7 @@ use Rattle.parse_inline.proofs.Prelude.{is_listed, is_white, IsApart, IsData, Is
 use Rattle.parse_inline.proofs.Prelude.{line_end, line_ending_code, line_in_content, LineEnding, list_any, Meaning, Name, Names, Nil, part, plain_none}
 use Rattle.parse_inline.proofs.Prelude.{same_name, slice_index, sought_names, spelled_view, SpelledLeaf, standing, StandsInContent, StandsInLine, still_whole}
 use Rattle.parse_inline.proofs.Prelude.{Stop, take-append-drop, text_part, true≢false, Walk, WritesFront, WritesInLine, WritesLeaves, WritesPart, WritesSpelled}
+use Rattle.markdown_options.specs.declared.configuration.Constructs.{Constructs}
 use Rattle.markdown_options.specs.declared.line_ending.LineEnding.TheVariants as endings
 use Rattle.engine_events.specs.declared.event.Name.TheVariants as n
 use Rattle.definition_inline.specs.Inline as inline
@@ -111,6 +113,7 @@ record LiteralName (kind : LiteralKind) (name : Name) : Type 0 where
   no_prefix : same_name name n.BlockQuotePrefix ≡ false
   unsought : is_listed sought_names name ≡ false
   token : IsTextToken name
+  made : (on : Constructs) → on.gfm_autolink_literal ≡ true → is_asked_on on name ≡ true
   spells : (names : Names) (text front : List ℕ) (linked : Bool) → linked ≡ false
       → texts.append (text_part names text linked name front Nil inline.Nil) inline.Nil ≡ leaves (inline.Literal (kind_view kind) front ∷ [])
 
@@ -127,6 +130,7 @@ literal_of_kind Www name listed =
       no_prefix = refl;
       unsought = refl;
       token = record { taken = refl; void = refl; unasked = refl };
+      made = λ on is. is;
       spells = λ names text front linked is. outside inline.Www front linked is;
     })
     (λ none. absurd (true≢false (sym none))) listed
@@ -137,6 +141,7 @@ literal_of_kind Email name listed =
       no_prefix = refl;
       unsought = refl;
       token = record { taken = refl; void = refl; unasked = refl };
+      made = λ on is. is;
       spells = λ names text front linked is. outside inline.Email front linked is;
     })
     (λ none. absurd (true≢false (sym none))) listed
@@ -147,6 +152,7 @@ literal_of_kind Protocol name listed =
       no_prefix = refl;
       unsought = refl;
       token = record { taken = refl; void = refl; unasked = refl };
+      made = λ on is. is;
       spells = λ names text front linked is. outside inline.Protocol front linked is;
     })
     (one_of (LiteralName Protocol) n.GfmAutolinkLiteralXmpp (n.GfmAutolinkLiteralProtocol ∷ []) name
@@ -155,6 +161,7 @@ literal_of_kind Protocol name listed =
       no_prefix = refl;
       unsought = refl;
       token = record { taken = refl; void = refl; unasked = refl };
+      made = λ on is. is;
       spells = λ names text front linked is. outside inline.Protocol front linked is;
     })
     (one_of (LiteralName Protocol) n.GfmAutolinkLiteralProtocol [] name
@@ -163,6 +170,7 @@ literal_of_kind Protocol name listed =
       no_prefix = refl;
       unsought = refl;
       token = record { taken = refl; void = refl; unasked = refl };
+      made = λ on is. is;
       spells = λ names text front linked is. outside inline.Protocol front linked is;
     })
     (λ none. absurd (true≢false (sym none))))) listed
@@ -170,11 +178,11 @@ literal_of_kind Protocol name listed =
 -- a construct of this shape, where these bytes are ahead
 pub part_from : {A : Type 0} (context : InlineContext) (text bytes xs : List ℕ) (of shape : LeafPart) (from to : List InlineCode) (stop : Stop) (a b : Walk A) → xs ≡ bytes
     → of ≡ shape → IsPartLaid context of from to → AreBytesAt bytes from → StandsInContent text bytes stop a
-    → (HasPartForm context shape from to → AreBytesAt xs from → StandsInContent text xs stop a → WritesPart context.names text xs shape to stop a b)
-    → WritesPart context.names text bytes of to stop a b
+    → (HasPartForm context shape from to → AreBytesAt xs from → StandsInContent text xs stop a → WritesPart context.options.constructs context.names text xs shape to stop a b)
+    → WritesPart context.options.constructs context.names text bytes of to stop a b
 part_from context text bytes xs of shape from to stop a b same is laid at st written =
-    subst (λ ys. WritesPart context.names text ys of to stop a b) same
-    (subst (λ p. WritesPart context.names text xs p to stop a b) (sym is)
+    subst (λ ys. WritesPart context.options.constructs context.names text ys of to stop a b) same
+    (subst (λ p. WritesPart context.options.constructs context.names text xs p to stop a b) (sym is)
     (written (parts_law context shape from to (subst (λ p. IsPartLaid context p from to) is laid)) (subst (λ ys. AreBytesAt ys from) (sym same) at)
     (subst (λ ys. StandsInContent text ys stop a) (sym same) st)))
 
@@ -190,29 +198,29 @@ pub spelled_from : {A : Type 0} (context : InlineContext) (text bytes xs : List 
     (a b : Walk A)
     → xs ≡ bytes → of ≡ shape → IsLeafLaid context (spelled_view of) from to → AreBytesAt bytes from → StandsInContent text bytes stop a
     → (HasForm context (spelled_view shape) from to → AreBytesAt xs from → StandsInContent text xs stop a
-    → WritesSpelled context.names text xs shape to stop a b)
-    → WritesSpelled context.names text bytes of to stop a b
+    → WritesSpelled context.options.constructs context.names text xs shape to stop a b)
+    → WritesSpelled context.options.constructs context.names text bytes of to stop a b
 spelled_from context text bytes xs of shape from to stop a b same is laid at st written =
-    subst (λ ys. WritesSpelled context.names text ys of to stop a b) same
-    (subst (λ p. WritesSpelled context.names text xs p to stop a b) (sym is)
+    subst (λ ys. WritesSpelled context.options.constructs context.names text ys of to stop a b) same
+    (subst (λ p. WritesSpelled context.options.constructs context.names text xs p to stop a b) (sym is)
     (written (laid_form context shape from to (subst (λ p. IsLeafLaid context (spelled_view p) from to) is laid))
     (subst (λ ys. AreBytesAt ys from) (sym same) at)
     (subst (λ ys. StandsInContent text ys stop a) (sym same) st)))
 
-module _ {A : Type 0} (names : Names) (text bytes : List ℕ) (from to : List InlineCode) (stop : Stop) (a b : Walk A) (at : AreBytesAt bytes from)
+module _ {A : Type 0} (on : Constructs) (names : Names) (text bytes : List ℕ) (from to : List InlineCode) (stop : Stop) (a b : Walk A) (at : AreBytesAt bytes from)
     (st : StandsInContent text bytes stop a) (whole : IsWhole a) where
   -- what is written of the first bytes
   leaves_first : (front : List ℕ) (MayBe : Bool → Type 0) (ls : List InlineLeaf) → IsFirst front bytes to
-      → (StandsInContent text (front ++ drop (length front) bytes) stop a → WritesFront names text front (drop (length front) bytes) MayBe ls stop a b)
-      → (parts : List InlineLeaf) → ((m m' : Meaning) → ArePartsAlike m m' (leaves parts) (leaves ls)) → WritesLeaves names text bytes MayBe parts to stop a b
+      → (StandsInContent text (front ++ drop (length front) bytes) stop a → WritesFront on names text front (drop (length front) bytes) MayBe ls stop a b)
+      → (parts : List InlineLeaf) → ((m m' : Meaning) → ArePartsAlike m m' (leaves parts) (leaves ls)) → WritesLeaves on names text bytes MayBe parts to stop a b
   leaves_first front MayBe ls first written parts alike =
-      leaves_of_front names text stop a b bytes front (drop (length front) bytes) MayBe ls parts to first.parts first.left
+      leaves_of_front names text stop on a b bytes front (drop (length front) bytes) MayBe ls parts to first.parts first.left
       (written (subst (λ xs. StandsInContent text xs stop a) first.parts st)) alike
 
   pub escape_part : (front : List ℕ) → AreEscapes front from to
       → ((content : List ℕ) → list_all is_ascii_punctuation front ≡ true → StandsInContent text (escaped front ++ content) stop a → IsWhole a
-      → WritesFront names text (escaped front) content Anywhere (map Escape front) stop a b)
-      → WritesLeaves names text bytes Anywhere (map Escape front) to stop a b
+      → WritesFront on names text (escaped front) content Anywhere (map Escape front) stop a b)
+      → WritesLeaves on names text bytes Anywhere (map Escape front) to stop a b
   escape_part front is written =
       leaves_first (escaped front) Anywhere (map Escape front) (codes_first (escaped front) bytes from to at is.marked.codes is.marked.inline)
       (λ here. written (drop (length (escaped front)) bytes) is.marks here whole) (map Escape front)
@@ -222,7 +230,7 @@ module _ {A : Type 0} (names : Names) (text bytes : List ℕ) (from to : List In
       → ((xs line : List ℕ) → size ≡ length xs → StandsInLine text (xs ++ line) a
       → HasBytes text n.Data size a
       → WritesInLine text xs (data_nodes text (end_in a.out) (end_after (end_in a.out) size)) line a b)
-      → WritesLeaves names text bytes Anywhere (map Data front) to stop a b
+      → WritesLeaves on names text bytes Anywhere (map Data front) to stop a b
   data_part front size sized utf8 is same written =
       let content = drop (length front) bytes in
       let dark = dark_text front is.inline in
@@ -238,7 +246,7 @@ module _ {A : Type 0} (names : Names) (text bytes : List ℕ) (from to : List In
         whole = ap (λ (e : End). e.owed) w.end ∙ still_whole (end_in a.out) (length front) whole;
         plain = data_plain text (end_in a.out) (end_after (end_in a.out) (length front));
         fill = λ around may. data_fill around TextPart [] text (end_in a.out) (end_after (end_in a.out) (length front)) refl;
-        sound = data_sound names text (end_in a.out) (end_after (end_in a.out) (length front));
+        sound = data_sound on names text (end_in a.out) (end_after (end_in a.out) (length front));
         spells = λ linked may. data_spells names text linked stop a front content here dark whole;
       })
       (map Data front) (λ m m'. data_alike m m' front)
@@ -246,8 +254,8 @@ module _ {A : Type 0} (names : Names) (text bytes : List ℕ) (from to : List In
   pub autolink_part : (email : Bool) (address : List ℕ) → IsUtf8 address → IsAutolink email address from to
       → ((content : List ℕ) → 0 < length address → list_any ends_line address ≡ false → is_target email address ≡ true → IsUtf8 address
       → StandsInContent text (in_angles address ++ content) stop a → IsWhole a
-      → WritesFront names text (in_angles address) content Anywhere (inline.Autolink email address ∷ []) stop a b)
-      → WritesLeaves names text bytes Anywhere (inline.Autolink email address ∷ []) to stop a b
+      → WritesFront on names text (in_angles address) content Anywhere (inline.Autolink email address ∷ []) stop a b)
+      → WritesLeaves on names text bytes Anywhere (inline.Autolink email address ∷ []) to stop a b
   autolink_part email address utf8 is written =
       let inside = line_append address (62 ∷ []) is.inline (refl, tt) in
       leaves_first (in_angles address) Anywhere (inline.Autolink email address ∷ []) (codes_first (in_angles address) bytes from to at is.codes (refl, inside))
@@ -257,37 +265,37 @@ module _ {A : Type 0} (names : Names) (text bytes : List ℕ) (from to : List In
   pub token_part : (name : Name) (front : List ℕ) (MayBe : Bool → Type 0) (l : InlineLeaf) → IsText front from to → ((m m' : Meaning)
       → ArePartsAlike m m' (leaves (l ∷ [])) (leaves (l ∷ [])))
       → same_name name n.Data ≡ false → same_name name n.BlockQuotePrefix ≡ false → is_listed sought_names name ≡ false → IsTextToken name
-      → is_token name front ≡ true
+      → is_asked_on on name ≡ true → is_token name front ≡ true
       → ((linked : Bool) → MayBe linked → texts.append (text_part names text linked name front Nil inline.Nil) inline.Nil ≡ leaves (l ∷ []))
-      → standing b ≡ standing a → WritesNext text name (length front) a b → WritesLeaves names text bytes MayBe (l ∷ []) to stop a b
-  token_part name front MayBe l is alike no_data no_prefix unsought token may spells same written =
+      → standing b ≡ standing a → WritesNext text name (length front) a b → WritesLeaves on names text bytes MayBe (l ∷ []) to stop a b
+  token_part name front MayBe l is alike no_data no_prefix unsought token made may spells same written =
       leaves_first front MayBe (l ∷ []) (codes_first front bytes from to at is.codes is.inline)
-      (λ here. token_front names text stop a b name front (drop (length front) bytes) (length front) MayBe (l ∷ []) refl is.some
+      (λ here. token_front names text stop on a b name front (drop (length front) bytes) (length front) MayBe (l ∷ []) refl is.some
       (dark_text front is.inline) no_data no_prefix
-      unsought token may spells here whole same written)
+      unsought token made may spells here whole same written)
       (l ∷ []) alike
 
   pub literal_part : (kind : LiteralKind) (name : Name) (front : List ℕ) → is_listed (literal_names kind) name ≡ true
-      → (is_literal (kind_view kind) front ≡ true → is_token name front ≡ true) → IsLiteral (kind_view kind) front from to
+      → (is_literal (kind_view kind) front ≡ true → is_token name front ≡ true) → IsLiteral on (kind_view kind) front from to
       → standing b ≡ standing a
       → WritesNext text name (length front) a b
-      → WritesLeaves names text bytes (λ linked. linked ≡ false) (inline.Literal (kind_view kind) front ∷ []) to stop a b
+      → WritesLeaves on names text bytes (λ linked. linked ≡ false) (inline.Literal (kind_view kind) front ∷ []) to stop a b
   literal_part kind name front listed may is same written =
       let known = literal_of_kind kind name listed in
       let l = inline.Literal (kind_view kind) front in
       token_part name front (λ linked. linked ≡ false) l is.text (λ m m'. leaf_alike m m' l (leaves (l ∷ [])) refl) known.no_data known.no_prefix
-      known.unsought known.token (may is.form)
+      known.unsought known.token (known.made on is.is_on) (may is.form)
       (λ linked outer. known.spells names text front linked outer) same written
 
   pub escaped_break_part : IsText (92 ∷ []) from to → standing b ≡ standing a → WritesNext text n.HardBreakEscape 1 a b
-      → WritesLeaves names text bytes Anywhere (inline.EscapedBreak ∷ []) to stop a b
+      → WritesLeaves on names text bytes Anywhere (inline.EscapedBreak ∷ []) to stop a b
   escaped_break_part is same written =
       token_part n.HardBreakEscape (92 ∷ []) Anywhere inline.EscapedBreak is
       (λ m m'. leaf_alike m m' inline.EscapedBreak (leaves (inline.EscapedBreak ∷ [])) refl) refl refl
-      refl (record { taken = refl; void = refl; unasked = refl }) refl (λ linked may. refl) same written
+      refl (record { taken = refl; void = refl; unasked = refl }) refl refl (λ linked may. refl) same written
 
   pub break_part : (size : ℕ) → size ≡ indent bytes → AreAllSpaces from to → standing b ≡ standing a → WritesNext text n.HardBreakTrailing size a b
-      → WritesLeaves names text bytes Anywhere (inline.TrailingBreak ∷ []) to stop a b
+      → WritesLeaves on names text bytes Anywhere (inline.TrailingBreak ∷ []) to stop a b
   break_part size is all same written =
       let front = take (indent bytes) bytes in
       let marks = replicate all.size 32 in
@@ -296,18 +304,18 @@ module _ {A : Type 0} (names : Names) (text bytes : List ℕ) (from to : List In
       let may : is_token n.HardBreakTrailing front ≡ true =
       ap (λ k. is_token n.HardBreakTrailing (take k bytes)) (sym marked) ∙ ap (is_token n.HardBreakTrailing) passes.front ∙ spaces_may all.size all.some in
       let some : 0 < length front = omega (arith, all.some, all.all, ap indent at, prefix_codes is_white refl refl bytes, indent_size bytes) in
-      leaves_of_front names text stop a b bytes front (bare bytes) Anywhere (inline.TrailingBreak ∷ []) (inline.TrailingBreak ∷ []) to
+      leaves_of_front names text stop on a b bytes front (bare bytes) Anywhere (inline.TrailingBreak ∷ []) (inline.TrailingBreak ∷ []) to
       (sym (indent_parts bytes))
       (break_bytes_law bytes from to at all)
-      (token_front names text stop a b n.HardBreakTrailing front (bare bytes) size Anywhere (inline.TrailingBreak ∷ []) (is ∙ indent_size bytes) some
-      (indent_dark bytes) refl refl refl (record { taken = refl; void = refl; unasked = refl }) may
+      (token_front names text stop on a b n.HardBreakTrailing front (bare bytes) size Anywhere (inline.TrailingBreak ∷ []) (is ∙ indent_size bytes) some
+      (indent_dark bytes) refl refl refl (record { taken = refl; void = refl; unasked = refl }) refl may
       (λ linked may. refl) (subst (λ xs. StandsInContent text xs stop a) (sym (indent_parts bytes)) st) whole same written)
       (λ m m'. leaf_alike m m' inline.TrailingBreak (leaves (inline.TrailingBreak ∷ [])) refl)
 
   pub line_end_part : (ending : LineEnding) → AreSmall bytes → EndsLine (line_ending_code ending) from to
       → ((rest : List ℕ) → drop (indent bytes) bytes ≡ ending_bytes ending ++ rest → IsApart ending rest → StandsInContent text bytes stop a → IsWhole a
-      → WritesFront names text (line_end bytes ending rest) (bare rest) Anywhere (inline.LineEnd (line_ending_code ending) ∷ []) stop a b)
-      → WritesLeaves names text bytes Anywhere (inline.LineEnd (line_ending_code ending) ∷ []) to stop a b
+      → WritesFront on names text (line_end bytes ending rest) (bare rest) Anywhere (inline.LineEnd (line_ending_code ending) ∷ []) stop a b)
+      → WritesLeaves on names text bytes Anywhere (inline.LineEnd (line_ending_code ending) ∷ []) to stop a b
   line_end_part ending small is written =
       let law = line_bytes_law ending bytes from to small at is in
       let start : codes_of is.start ≡ content_codes (drop (indent bytes) bytes) =
@@ -322,15 +330,15 @@ module _ {A : Type 0} (names : Names) (text bytes : List ℕ) (from to : List In
       ∙ sym (append_assoc (ending_bytes ending) (take (indent law.rest) law.rest) (bare law.rest)))
       ∙ sym (append_assoc (take (indent bytes) bytes) (ending_bytes ending ++ take (indent law.rest) law.rest) (bare law.rest)) in
       let l = inline.LineEnd (line_ending_code ending) in
-      leaves_of_front names text stop a b bytes front (bare law.rest) Anywhere (l ∷ []) (l ∷ []) to parts law.left
+      leaves_of_front names text stop on a b bytes front (bare law.rest) Anywhere (l ∷ []) (l ∷ []) to parts law.left
       (written law.rest law.parts (apart_by ending law.rest (codes_of is.line.rest) codes) st whole) (λ m m'. leaf_alike m m' l (leaves (l ∷ [])) refl)
 
   pub html_part : (html region : List ℕ) → IsUtf8 html → AreSmall html → AreSmall bytes → region ≡ take (length html) bytes
       → IsHtml (content_codes html) from to
       → ((front content : List ℕ) → region ≡ front ++ 62 ∷ [] → IsUtf8 region → AreCutBetween region content
       → StandsInContent text (region ++ content) stop a → IsWhole a
-      → WritesFront names text region content Anywhere (html_leaves (content_codes region)) stop a b)
-      → WritesLeaves names text bytes Anywhere (inline.Html (content_codes html) ∷ []) to stop a b
+      → WritesFront on names text region content Anywhere (html_leaves (content_codes region)) stop a b)
+      → WritesLeaves on names text bytes Anywhere (inline.Html (content_codes html) ∷ []) to stop a b
   html_part html region utf8 small_html small region_is is written =
       let p = text_bytes_law html bytes from to small_html small at is.codes in
       let content = drop (length html) bytes in
@@ -344,11 +352,11 @@ module _ {A : Type 0} (names : Names) (text bytes : List ℕ) (from to : List In
       ∙ codes_are (content_codes html) from to is.codes
       ∙ ap₂ (λ (xs ys : List ℕ). xs ++ ys) (ap content_codes (sym same)) p.left in
       let l = inline.Html (content_codes html) in
-      leaves_of_front names text stop a b bytes region content Anywhere (html_leaves (content_codes region)) (l ∷ []) to parts p.left
+      leaves_of_front names text stop on a b bytes region content Anywhere (html_leaves (content_codes region)) (l ∷ []) to parts p.left
       (written front content (same ∙ closed) (subst IsUtf8 (sym same) utf8) cut (subst (λ xs. StandsInContent text xs stop a) parts st) whole)
       (λ m m'. leaf_alike m m' l (leaves (html_leaves (content_codes region))) (ap (λ xs. leaves (html_leaves (content_codes xs))) same))
 
-  pub nothing_part : from ≡ to → WritesLeaves names text bytes Anywhere [] to stop a a
+  pub nothing_part : from ≡ to → WritesLeaves on names text bytes Anywhere [] to stop a a
   nothing_part is = record {
     front = [];
     after = bytes;

@@ -106,7 +106,7 @@ module _ {A : Type 0} (context : InlineContext) (text : List ℕ) (stop : Stop) 
 
   pub more_parts : (linked : Bool) (is js : Inlines) (bytes content front after : List ℕ) (old mid new : Walk A) (ns : Nodes)
       → WritesParts context text linked is bytes content stop old mid → content ≡ front ++ after → WritesInContent text front ns after stop mid new
-      → AreAlike context text linked js ns → ArePlain ns → FillsText front ns → AreSound context.names text ns
+      → AreAlike context text linked js ns → ArePlain ns → FillsText front ns → AreSound context.options.constructs context.names text ns
       → WritesParts context text linked (append is js) bytes after stop old new
   more_parts linked is js bytes content front after old mid new ns p both writes alike plain fill sound = record {
     front = p.front ++ front;
@@ -121,7 +121,7 @@ module _ {A : Type 0} (context : InlineContext) (text : List ℕ) (stop : Stop) 
         (p.spells m m' meant) (alike m m' meant));
     plain = plain_both p.nodes ns p.plain plain;
     fill = λ around may. let each = may_both around p.front front may in fill_both (p.fill around each.0) (fill around each.1);
-    sound = sound_both context.names text p.nodes ns p.sound sound;
+    sound = sound_both context.options.constructs context.names text p.nodes ns p.sound sound;
   }
 
   module _ (bytes : List ℕ) (first : Walk A) where
@@ -131,7 +131,7 @@ module _ {A : Type 0} (context : InlineContext) (text : List ℕ) (stop : Stop) 
     -- more in the innermost that is open
     pub more_written : (levels : List Level) (kids js : Inlines) (content front after : List ℕ) (w new : Walk A) (ns : Nodes) → Written levels kids content w
         → content ≡ front ++ after → WritesInContent text front ns after stop w new → AreAlike context text (in_link (links levels)) js ns → ArePlain ns
-        → FillsText front ns → AreSound context.names text ns → Written levels (append kids js) after new
+        → FillsText front ns → AreSound context.options.constructs context.names text ns → Written levels (append kids js) after new
     more_written _ _ js _ front after _ new ns (Outside kids content w p) both writes alike plain fill sound =
         Outside (append kids js) after new (more_parts false kids js bytes content front after first w new ns p both writes alike plain fill sound)
     more_written _ _ js _ front after _ new ns (Inside l ls kids enter here content outside inside w outer enters p) both writes alike plain fill
@@ -230,7 +230,7 @@ module _ {A : Type 0} (context : InlineContext) (text : List ℕ) (stop : Stop) 
         (end_after (end_in leaves.inner.out) (length front)) p.nodes
         (moved (end_in enters.outer.out).index (end_in enters.outer.out).owed (length it.front) begins)
         (moved (end_in leaves.inner.out).index (end_in leaves.inner.out).owed (length front) some) own_may (p.fill around own_may))
-        (span_sound context.names text s (end_in it.outside.out) (end_in leaves.outer.out) (end_in enters.outer.out)
+        (span_sound context.options.constructs context.names text s (end_in it.outside.out) (end_in leaves.outer.out) (end_in enters.outer.out)
         (end_after (end_in enters.outer.out) (length it.front)) (end_in enters.inner.out) (end_in w.out) (end_in leaves.inner.out)
         (end_after (end_in leaves.inner.out) (length front)) p.nodes p.sound)
 
@@ -293,5 +293,5 @@ module _ {A : Type 0} (context : InlineContext) (text : List ℕ) (stop : Stop) 
         let own_may = (may_both around it.front p.front (may_both around (it.front ++ p.front) (93 ∷ []) parts.0).0).1 in
         linked_fill around p.front text l is (end_in it.outside.out) (end_in leaves.last.out) own_may leaves.tail.nodes kind
         (label_fills around (label_form kind) (linked_label kind) own_may (p.fill around own_may)) (leaves.tail.fill around parts.1))
-        (linked_sound text l is leaves.tail.nodes context.names kind (end_in it.outside.out) (end_in leaves.last.out)
-        (subst (AreSound context.names text) (sym same) p.sound) leaves.tail.sound)
+        (linked_sound text l is leaves.tail.nodes context.options.constructs context.names kind (end_in it.outside.out) (end_in leaves.last.out)
+        (subst (AreSound context.options.constructs context.names text) (sym same) p.sound) leaves.tail.sound)

@@ -8,6 +8,7 @@ pub mod RawTexts
 pub mod RawSpans
 pub mod Escapes
 pub mod Data
+pub mod LeavesOn
 pub mod LeafParts
 pub mod Checks
 pub mod HtmlLines

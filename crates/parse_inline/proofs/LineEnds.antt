@@ -2,6 +2,7 @@
 use Rattle.std.proofs.Common.{◌≡◌, ℕ, zero, suc, ◌≤◌, Bool, false, List, [], ◌∷◌, ◌++◌, refl, sym, ap, ap₂, subst, ◌∙◌, append_assoc, take, drop, length, arith}
 use Rattle.std.proofs.Common.{true}
 use Rattle.std.specs.List.{list_all}
+use Rattle.markdown_options.specs.declared.configuration.Constructs.{Constructs}
 use Rattle.parse_lines.proofs.Bytes.{has_kind}
 use Rattle.parse_lines.proofs.White.{all_prefix}
 use Rattle.parse_inline.proofs.Prelude.{after_bytes, after_tab, Anywhere, append, ArePlain, bare, Cons, contents_both, drop-append_seam, End, end_after}
@@ -104,14 +105,14 @@ module _ {A : Type 0} (text : List ℕ) (stop : Stop) where
       (quiet_spells names text linked w.quiet w.are_quiet)
       ∙ append_none (leaves (LineEnd (line_ending_code ending) ∷ []))
 
-  pub line_end_front : (names : Names) (a b c d : Walk A) (bytes rest : List ℕ) (ending : LineEnding) (before after : ℕ) → before ≡ indent bytes
+  pub line_end_front : (on : Constructs) (names : Names) (a b c d : Walk A) (bytes rest : List ℕ) (ending : LineEnding) (before after : ℕ) → before ≡ indent bytes
       → after ≡ indent rest
       → drop (indent bytes) bytes ≡ ending_bytes ending ++ rest → StandsInContent text bytes stop a → standing b ≡ standing a
       → WritesNext text n.SpaceOrTab before a b
       → (StandsInContent text (ending_bytes ending ++ rest) stop b → WritesEndingIn text n.LineEnding ending rest stop b c)
       → standing d ≡ standing c → WritesNext text n.SpaceOrTab after c d
-      → WritesFront names text (line_end bytes ending rest) (bare rest) Anywhere (LineEnd (line_ending_code ending) ∷ []) stop a d
-  line_end_front names a b c d bytes rest ending before after size later parts st same_b first ends same_d last =
+      → WritesFront on names text (line_end bytes ending rest) (bare rest) Anywhere (LineEnd (line_ending_code ending) ∷ []) stop a d
+  line_end_front on names a b c d bytes rest ending before after size later parts st same_b first ends same_d last =
       let white = take (indent bytes) bytes in
       let more = take (indent rest) rest in
       let eb = ending_bytes ending in
@@ -154,7 +155,7 @@ module _ {A : Type 0} (text : List ℕ) (stop : Stop) where
             (fill_both (ending_between b c ending rest ended text_row text_between)
             (void_between Lines text_row n.SpaceOrTab text c_end d_end refl refl refl refl)));
         sound =
-            sound_both names text v (append ending_nodes u) (void_sound names text n.SpaceOrTab a_end b_end refl)
-            (sound_both names text ending_nodes u (ending_sound names text ended.node ended.quiet ended.named ended.empty ended.are_quiet)
-            (void_sound names text n.SpaceOrTab c_end d_end refl));
+            sound_both on names text v (append ending_nodes u) (void_sound on names text n.SpaceOrTab a_end b_end refl)
+            (sound_both on names text ending_nodes u (ending_sound on names text ended.node ended.quiet ended.named ended.empty ended.are_quiet)
+            (void_sound on names text n.SpaceOrTab c_end d_end refl));
       }

@@ -1,5 +1,6 @@
 -- What is looked for in events that are written around nodes.
 use Rattle.std.proofs.Common.{◌≡◌, ◌&&◌, ℕ, true, false, List, [], ◌∷◌, Option, None, Some, cond, refl, sym, ap, subst, ◌∙◌}
+use Rattle.markdown_options.specs.declared.configuration.Constructs.{Constructs}
 use Rattle.parse_inline.proofs.Prelude.{append-nil, ArePlain, Around, cond-false, cut, End, enter_at, exit_at, is_listed, Name, named, named_in, Node, Nodes}
 use Rattle.parse_inline.proofs.Prelude.{Names, one, option_or, own, own_in, plain_one, same_name, sought_names}
 use Rattle.engine_events.specs.declared.event.Event.{Event}
@@ -55,10 +56,10 @@ plain_event text name from to kids other no_data p =
     (plain_one (Around (enter_at text name from) kids (exit_at text name to)) other p)
 
 -- and around sound ones
-pub sound_event : (names : Names) (text : List ℕ) (name : Name) (from to : End) (kids : Nodes) → is_listed asked_names name ≡ false
-    → same_name name n.Data ≡ false → AreSound names text kids
-    → AreSound names text (cut (Around (enter_at text name from) kids (exit_at text name to)))
-sound_event names text name from to kids unasked no_data sound =
+pub sound_event : (on : Constructs) (names : Names) (text : List ℕ) (name : Name) (from to : End) (kids : Nodes) → is_listed asked_names name ≡ false
+    → same_name name n.Data ≡ false → AreSound on names text kids
+    → AreSound on names text (cut (Around (enter_at text name from) kids (exit_at text name to)))
+sound_event on names text name from to kids unasked no_data sound =
     let node = Around (enter_at text name from) kids (exit_at text name to) in
-    subst (AreSound names text) (sym (cut_one (enter_at text name from) (exit_at text name to) kids no_data))
-    (sound_one names text node (sound_around names text node unasked sound))
+    subst (AreSound on names text) (sym (cut_one (enter_at text name from) (exit_at text name to) kids no_data))
+    (sound_one on names text node (sound_around on names text node unasked sound))

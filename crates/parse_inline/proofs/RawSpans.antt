@@ -2,6 +2,7 @@
 use Rattle.std.proofs.Common.{inl, inr, ◌≡◌, ◌⊎◌, ℕ, suc, ◌+◌, ◌-◌, ◌≤◌, ◌<◌, Bool, true, false, not, ◌&&◌, ◌||◌, List, [], ◌∷◌, ◌++◌, Some, refl}
 use Rattle.std.proofs.Common.{sym, ap, ap₂, subst, ◌∙◌, append_assoc, drop, take, length, arith}
 use Rattle.std.specs.Prelude.{codes}
+use Rattle.markdown_options.specs.declared.configuration.Constructs.{Constructs}
 use Rattle.event_tokens.specs.Tokens.{is_token}
 use Rattle.parse_lines.proofs.Runs.{run_fits}
 use Rattle.parse_inline.proofs.Prelude.{after_return_code, and_parts, Anywhere, append, AreBytesAt, AreCutBetween, ArePartsAlike, Around, cases_Bool, code_of}
@@ -287,7 +288,7 @@ cut_before (b ∷ bs) m others dark =
         ]
 
 module _ {A : Type 0} (names : Names) (text : List ℕ) (stop : Stop) where
-  pub raw_written : (a b c d e f : Walk A) (name sequence chunk : Name) (marker : ℕ) (printed bytes inside end inner : List ℕ) (to : List InlineCode) (size : ℕ)
+  pub raw_written : (on : Constructs) (a b c d e f : Walk A) (name sequence chunk : Name) (marker : ℕ) (printed bytes inside end inner : List ℕ) (to : List InlineCode) (size : ℕ)
       → are_raw_names marker name sequence chunk ≡ true → is_raw_marker marker ≡ true → IsRawInBytes marker printed bytes to → IsUtf8 bytes
       → size ≡ run marker bytes
       → inside ≡ drop size bytes
@@ -298,8 +299,8 @@ module _ {A : Type 0} (names : Names) (text : List ℕ) (stop : Stop) where
       → WritesLines names text chunk false inner content stop c d)
       → standing e ≡ standing d → WritesNext text sequence size d e → standing f ≡ standing e
       → ((line : List ℕ) → StandsInLine text line e → ExitsInLine text name line e f)
-      → WritesLeaves names text bytes Anywhere (raw_leaf name printed ∷ []) to stop a f
-  raw_written a b c d e f name sequence chunk marker printed bytes inside end inner to size are marks raw utf8 size_is inside_is end_is inner_is st whole
+      → WritesLeaves on names text bytes Anywhere (raw_leaf name printed ∷ []) to stop a f
+  raw_written on a b c d e f name sequence chunk marker printed bytes inside end inner to size are marks raw utf8 size_is inside_is end_is inner_is st whole
       same_b enters same_c first lines same_e second same_f exits =
       let known = raw_names marker name sequence chunk are in
       let dark = marker_dark marker marks in
@@ -389,5 +390,5 @@ module _ {A : Type 0} (names : Names) (text : List ℕ) (stop : Stop) where
         fill = λ around may.
             fill_taken around text_row name Plain text_row node refl known.has_row.taken
             (filled around (may_both around inner closing (may_both around opening (inner ++ closing) may).1).0);
-        sound = sound_one names text node (sound_filled names text 2 Lines Plain name node refl known.has_row.unasked (filled Lines tt));
+        sound = sound_one on names text node (sound_filled on names text 2 Lines Plain name node refl known.has_row.unasked (filled Lines tt));
       }

@@ -1,6 +1,7 @@
 -- What is written of lines of raw text, and of raw HTML (CommonMark 6.1 and 6.6).
 use Rattle.std.proofs.Common.{◌≡◌, ℕ, zero, suc, ◌+◌, ◌<◌, Bool, true, false, List, [], ◌∷◌, ◌++◌, refl, sym, ap, subst, ◌∙◌, append_assoc, drop}
 use Rattle.std.proofs.Common.{take, length, map, arith}
+use Rattle.markdown_options.specs.declared.configuration.Constructs.{Constructs}
 use Rattle.parse_inline.proofs.Prelude.{Anywhere, append, append-nil, Around, BeginsDark, code_parts, code_space, cond-false, content_codes, contents_around}
 use Rattle.parse_inline.proofs.Prelude.{contents_both, contents_none, End, end_in, enter_at, EntersInLine, exit_at, ExitsInLine, fold, html_leaves, html_parts}
 use Rattle.parse_inline.proofs.Prelude.{indent, is_white, IsWhole, leaves, line_enters, line_exits, line_names, Name, Names, Nil, Nodes, one, owed_indent}
@@ -19,7 +20,7 @@ use Rattle.event_grammar.specs.declared.slot.Slot.{Slot}
 use Rattle.event_grammar.specs.Grammar.{many, text_row}
 use Rattle.parse_slots.specs.Left.{IsFilled, MayEndLines, TakesNoBetween}
 use Rattle.parse_slots.proofs.Steps.{fill_both, fill_none, fill_taken, may_both}
-use Rattle.parse_references.proofs.Sound.{sound_filled, sound_one}
+use Rattle.parse_references.proofs.Sound.{sound_filled_on, sound_one}
 use Rattle.parse_inline.proofs.Fills.{filled_around}
 use Rattle.parse_inline.proofs.Kids.{code_append, html_append, named_both}
 use Rattle.parse_inline.proofs.LeavesAlike.{append_append, append_none}
@@ -128,13 +129,13 @@ module _ {A : Type 0} (names : Names) (text : List ℕ) where
       }
 
   -- raw HTML
-  pub html_front : (a b c d : Walk A) (front bytes content : List ℕ) (stop : Stop) → bytes ≡ front ++ 62 ∷ []
+  pub html_front : (on : Constructs) (a b c d : Walk A) (front bytes content : List ℕ) (stop : Stop) → on.html_text ≡ true → bytes ≡ front ++ 62 ∷ []
       → StandsInContent text (bytes ++ content) stop a → IsWhole a
       → standing b ≡ standing a → ((line : List ℕ) → StandsInLine text line a → EntersInLine text n.HtmlText line a b)
       → (StandsInContent text (bytes ++ content) stop b → WritesLines names text n.HtmlTextData true bytes content stop b c) → standing d ≡ standing c
       → ((line : List ℕ) → StandsInLine text line c → ExitsInLine text n.HtmlText line c d)
-      → WritesFront names text bytes content Anywhere (html_leaves (content_codes bytes)) stop a d
-  html_front a b c d front bytes content stop closed st whole same_b enters lines same_d exits =
+      → WritesFront on names text bytes content Anywhere (html_leaves (content_codes bytes)) stop a d
+  html_front on a b c d front bytes content stop is_on closed st whole same_b enters lines same_d exits =
       let entered = line_enters text stop a b n.HtmlText (bytes ++ content) st same_b enters in
       let w = lines entered.stands in
       let exited = line_exits text stop c d n.HtmlText content w.writes.stands same_d exits in
@@ -151,5 +152,5 @@ module _ {A : Type 0} (names : Names) (text : List ℕ) where
         plain = plain_one node refl w.plain;
         spells = λ linked may. append_none (html_parts names text w.nodes) ∙ w.html refl refl whole_b;
         fill = λ around may. fill_taken around text_row n.HtmlText Plain text_row node refl refl (filled around may);
-        sound = sound_one names text node (sound_filled names text 2 Lines Plain n.HtmlText node refl refl (filled Lines tt));
+        sound = sound_one on names text node (sound_filled_on on names text 2 Lines Plain n.HtmlText node refl refl is_on refl (filled Lines tt));
       }

@@ -1,5 +1,6 @@
 -- What the nodes of a span spell.
 use Rattle.std.proofs.Common.{◌≡◌, ◌||◌, ℕ, Bool, true, false, List, [], ◌∷◌, Some, refl, sym, ap, subst, ◌∙◌}
+use Rattle.markdown_options.specs.declared.configuration.Constructs.{Constructs}
 use Rattle.parse_inline.proofs.Prelude.{append, ArePlain, Around, cond-false, cond_both, cut, End, enter_at, exit_at, inlines_of, is_listed, Name, Names, Nil}
 use Rattle.parse_inline.proofs.Prelude.{Nodes, part, plain_both, plain_void, same_end, same_name, sequence_name, sought_names, Span, span_name, span_view}
 use Rattle.parse_inline.proofs.Prelude.{text_name, text_names, text_within, void_nodes}
@@ -115,19 +116,19 @@ span_plain text s from to a b c d e f kids p =
 
 -- ---- sound nodes
 
-pub span_sound : (names : Names) (text : List ℕ) (s : Span) (from to a b c d e f : End) (kids : Nodes) → AreSound names text kids
-    → AreSound names text (span_nodes text s from (inside_span text s a b c kids d e f) to)
-span_sound names text s from to a b c d e f kids sound =
+pub span_sound : (on : Constructs) (names : Names) (text : List ℕ) (s : Span) (from to a b c d e f : End) (kids : Nodes) → AreSound on names text kids
+    → AreSound on names text (span_nodes text s from (inside_span text s a b c kids d e f) to)
+span_sound on names text s from to a b c d e f kids sound =
     let sequence = (unsought_sequence s).unasked in
     let own = unsought_text s in
     let whole = unsought_span s in
     let first = void_nodes text (sequence_name s) a b in
     let last = void_nodes text (sequence_name s) e f in
-    sound_event names text (span_name s) from to (inside_span text s a b c kids d e f) whole.unasked whole.no_data
-    (sound_both names text (append first (text_nodes text s c kids d)) last
-    (sound_both names text first (text_nodes text s c kids d) (void_sound names text (sequence_name s) a b sequence)
-    (sound_event names text (text_name s) c d kids own.unasked own.no_data sound))
-    (void_sound names text (sequence_name s) e f sequence))
+    sound_event on names text (span_name s) from to (inside_span text s a b c kids d e f) whole.unasked whole.no_data
+    (sound_both on names text (append first (text_nodes text s c kids d)) last
+    (sound_both on names text first (text_nodes text s c kids d) (void_sound on names text (sequence_name s) a b sequence)
+    (sound_event on names text (text_name s) c d kids own.unasked own.no_data sound))
+    (void_sound on names text (sequence_name s) e f sequence))
 
 -- ---- the rows of the grammar
 

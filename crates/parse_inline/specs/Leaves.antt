@@ -1,5 +1,6 @@
 -- What is written of a construct that holds no other (CommonMark 2.4, 2.5, 6.1 and 6.5 to 6.8).
 use Rattle.std.specs.Prelude.{◌≡◌, ℕ, Bool, false, true, List, [], ◌∷◌, ◌++◌, take}
+use Rattle.markdown_options.specs.declared.configuration.Constructs.{Constructs}
 use Rattle.markdown_options.specs.LineEndings.{ending_bytes}
 use Rattle.markdown_options.specs.declared.line_ending.LineEnding.{LineEnding}
 use Rattle.engine_events.specs.declared.event.Name.{Name}
@@ -61,19 +62,19 @@ abbrev pub Anywhere : Bool → Type 0
 Anywhere linked = Unit {0}
 
 -- nodes are written for these bytes, which spell leaves in a text in which these may be, and the bytes after them are ahead
-pub record WritesFront {A : Type 0} (names : Names) (text front content : List ℕ) (MayBe : Bool → Type 0) (ls : List InlineLeaf) (stop : Stop)
-    (old new : Walk A) : Type 0 where
+pub record WritesFront {A : Type 0} (on : Constructs) (names : Names) (text front content : List ℕ) (MayBe : Bool → Type 0) (ls : List InlineLeaf)
+    (stop : Stop) (old new : Walk A) : Type 0 where
   pub nodes : Nodes
   pub writes : WritesInContent text front nodes content stop old new
   pub whole : IsWhole new
   pub plain : ArePlain nodes
   pub spells : (linked : Bool) → MayBe linked → inlines_of names text linked nodes ≡ leaves ls
   pub fill : FillsText front nodes
-  pub sound : AreSound names text nodes
+  pub sound : AreSound on names text nodes
 
 -- nodes are written for the first of these bytes, the others are ahead, and the nodes spell these leaves in a text in which they may be
-pub record WritesLeaves {A : Type 0} (names : Names) (text bytes : List ℕ) (MayBe : Bool → Type 0) (ls : List InlineLeaf) (to : List InlineCode) (stop : Stop)
-    (old new : Walk A) : Type 0 where
+pub record WritesLeaves {A : Type 0} (on : Constructs) (names : Names) (text bytes : List ℕ) (MayBe : Bool → Type 0) (ls : List InlineLeaf)
+    (to : List InlineCode) (stop : Stop) (old new : Walk A) : Type 0 where
   pub front : List ℕ
   pub after : List ℕ
   pub parts : bytes ≡ front ++ after
@@ -84,12 +85,12 @@ pub record WritesLeaves {A : Type 0} (names : Names) (text bytes : List ℕ) (Ma
   pub plain : ArePlain nodes
   pub spells : (linked : Bool) → MayBe linked → (m m' : Meaning) → ArePartsAlike m m' (leaves ls) (inlines_of names text linked nodes)
   pub fill : FillsText front nodes
-  pub sound : AreSound names text nodes
+  pub sound : AreSound on names text nodes
 
 -- a construct is written
-abbrev pub WritesPart : {A : Type 0} → Names → List ℕ → List ℕ → LeafPart → List InlineCode → Stop → Walk A → Walk A → Type 0
-WritesPart names text bytes part to stop old new = WritesLeaves names text bytes (λ linked. MayBeIn linked part) (parts_of part) to stop old new
+abbrev pub WritesPart : {A : Type 0} → Constructs → Names → List ℕ → List ℕ → LeafPart → List InlineCode → Stop → Walk A → Walk A → Type 0
+WritesPart on names text bytes part to stop old new = WritesLeaves on names text bytes (λ linked. MayBeIn linked part) (parts_of part) to stop old new
 
 -- a construct that a list of events spells is written
-abbrev pub WritesSpelled : {A : Type 0} → Names → List ℕ → List ℕ → SpelledLeaf → List InlineCode → Stop → Walk A → Walk A → Type 0
-WritesSpelled names text bytes leaf to stop old new = WritesLeaves names text bytes Anywhere (spelled_view leaf ∷ []) to stop old new
+abbrev pub WritesSpelled : {A : Type 0} → Constructs → Names → List ℕ → List ℕ → SpelledLeaf → List InlineCode → Stop → Walk A → Walk A → Type 0
+WritesSpelled on names text bytes leaf to stop old new = WritesLeaves on names text bytes Anywhere (spelled_view leaf ∷ []) to stop old new

@@ -121,7 +121,7 @@ pub record WritesBehind {A : Type 0} (context : InlineContext) (text : List ℕ)
   pub left : AreBytesAt after to
   pub leads : SpellsTarget context text target own_text nodes
   pub fill : (around : Between) → MayEndLines around front → FillsTail around nodes
-  pub sound : AreSound context.names text nodes
+  pub sound : AreSound context.options.constructs context.names text nodes
 
 -- a link or an image is exited, after the end of its label and what is behind that
 pub record LeavesLinked {A : Type 0} (context : InlineContext) (text : List ℕ) (name : Name) (target : Target) (own_text : List Code) (content : List ℕ)
@@ -148,7 +148,7 @@ pub record WritesCall {A : Type 0} (context : InlineContext) (text : List ℕ) (
   pub spells : (linked : Bool) (m m' : Meaning) → ArePartsAlike m m' (Inlines.Cons (Inline.Call label) Inlines.Nil) (inlines_of context.names text linked nodes)
   pub plain : ArePlain nodes
   pub fill : FillsText front nodes
-  pub sound : AreSound context.names text nodes
+  pub sound : AreSound context.options.constructs context.names text nodes
 
 -- ---- what is open
 
@@ -221,7 +221,7 @@ pub record WritesParts {A : Type 0} (context : InlineContext) (text : List ℕ) 
       → ArePartsAlike m m' is (inlines_of context.names text linked nodes)
   pub plain : ArePlain nodes
   pub fill : FillsText front nodes
-  pub sound : AreSound context.names text nodes
+  pub sound : AreSound context.options.constructs context.names text nodes
 
 -- parts are written in what is open, the innermost first, since the first of these bytes
 pub data AreWritten {A : Type 0} (context : InlineContext) (text bytes : List ℕ) (stop : Stop) (first : Walk A)

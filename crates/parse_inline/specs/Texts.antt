@@ -30,7 +30,7 @@ pub record WritesText {A : Type 0} (on : Constructs) (names : Names) (text front
   pub spells : (m m' : Meaning) → AreMeanings on names m m' → ArePartsAlike m m' is (inlines_of names text false nodes)
   pub plain : ArePlain nodes
   pub fill : FillsText front nodes
-  pub sound : AreSound names text nodes
+  pub sound : AreSound on names text nodes
 
 -- a walk stands in a text: these bytes of the content are ahead, which are at a place of it
 pub record StandsInText {A : Type 0} (text content bytes : List ℕ) (at : List InlineCode) (stop : Stop) (w : Walk A) : Type 0 where

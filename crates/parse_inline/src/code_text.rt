@@ -3,6 +3,7 @@
 //!     raw ::= run text run, of the same size
 ghost use Rattle.std.specs.Prelude.{◌≡◌, ◌<◌, ◌≤◌, ◌∷◌, [], ℕ, List, OnOk, false, length, true, unwrap_or};
 ghost use Rattle.std.specs.Str.{IsUtf8};
+ghost use Rattle.markdown_options.specs.declared.configuration.Constructs.{Constructs};
 ghost use Rattle.definition_inline.specs.CharacterReference.{Names};
 ghost use Rattle.definition_inline.specs.CodeText.{run_of};
 ghost use Rattle.definition_text.specs.Runs.{run as run_size};
@@ -61,9 +62,9 @@ pub(crate) fn push_raw<A: Allocator>(
 ) -> Result<(), AllocError>
     requires child { may_enter (still_open walk.old) raw.now.text ≡ true }
     ensures open { OnOk result (still_open walk.new ≡ still_open walk.old) }
-    ensures written { OnOk result ((names : Names) (text printed : List ℕ) (to : List InlineCode) (stop : Stop) → IsRawInBytes raw.now.marker printed bytes.now to
+    ensures written { OnOk result ((on : Constructs) (names : Names) (text printed : List ℕ) (to : List InlineCode) (stop : Stop) → IsRawInBytes raw.now.marker printed bytes.now to
         → IsUtf8 bytes.now → StandsInContent text bytes.now stop walk.old → IsWhole walk.old
-        → WritesLeaves names text bytes.now Anywhere (raw_leaf raw.now.text printed ∷ []) to stop walk.old walk.new) }
+        → WritesLeaves on names text bytes.now Anywhere (raw_leaf raw.now.text printed ∷ []) to stop walk.old walk.new) }
 {
     let size = run(raw.marker, bytes);
     let inside = from(bytes, size);

@@ -3,6 +3,7 @@ ghost use Rattle.std.specs.Prelude.{◌≡◌, ◌<◌, ◌++◌, ◌∷◌, [],
 ghost use Rattle.std.specs.Char.{is_ascii_punctuation};
 ghost use Rattle.std.specs.List.{list_all, list_any};
 ghost use Rattle.std.specs.Str.{IsUtf8};
+ghost use Rattle.markdown_options.specs.declared.configuration.Constructs.{Constructs};
 ghost use Rattle.markdown_options.specs.LineEndings.{ending_bytes};
 ghost use Rattle.markdown_options.specs.declared.line_ending.LineEnding.{LineEnding};
 ghost use Rattle.definition_text.specs.Ascii.{greater_than};
@@ -53,7 +54,8 @@ pub(crate) fn push_leaf<T, A: Allocator>(
     ensures open { OnOk result (still_open walk.new ≡ still_open walk.old) }
     ensures written { OnOk result ((context : InlineContext) (text bytes : List ℕ) (from to : List InlineCode) (stop : Stop)
         → bytes ≡ drop walk.old.place reading.now.content.now → IsPartLaid context part.entry from to → AreBytesAt bytes from
-        → StandsInContent text bytes stop walk.old → IsWhole walk.old → WritesPart context.names text bytes part.entry to stop walk.old walk.new) }
+        → StandsInContent text bytes stop walk.old → IsWhole walk.old
+        → WritesPart context.options.constructs context.names text bytes part.entry to stop walk.old walk.new) }
 {
     let bytes = bytes_from(reading.content.as_bytes(), walk.place());
     match part {
@@ -87,7 +89,8 @@ pub(crate) fn push_spelled<T, A: Allocator>(
     ensures open { OnOk result (still_open walk.new ≡ still_open walk.old) }
     ensures written { OnOk result ((context : InlineContext) (text bytes : List ℕ) (from to : List InlineCode) (stop : Stop)
         → bytes ≡ drop walk.old.place reading.now.content.now → IsLeafLaid context (spelled_view leaf.entry) from to → AreBytesAt bytes from
-        → StandsInContent text bytes stop walk.old → IsWhole walk.old → WritesSpelled context.names text bytes leaf.entry to stop walk.old walk.new) }
+        → StandsInContent text bytes stop walk.old → IsWhole walk.old
+        → WritesSpelled context.options.constructs context.names text bytes leaf.entry to stop walk.old walk.new) }
 {
     let bytes = bytes_from(reading.content.as_bytes(), walk.place());
     match leaf {
@@ -102,9 +105,10 @@ pub(crate) fn push_spelled<T, A: Allocator>(
 fn push_escapes<A: Allocator>(walk: &mut Walk<'_, A>, count: usize) -> Result<(), AllocError>
     requires child { may_enter (still_open walk.old) CharacterEscape ≡ true }
     ensures open { OnOk result (still_open walk.new ≡ still_open walk.old) }
-    ensures written { OnOk result ((names : Names) (text front content : List ℕ) (stop : Stop) → count ≡ length front → list_all is_ascii_punctuation front ≡ true
+    ensures written { OnOk result ((on : Constructs) (names : Names) (text front content : List ℕ) (stop : Stop) → count ≡ length front
+        → (0 < length front → on.character_escape ≡ true) → list_all is_ascii_punctuation front ≡ true
         → StandsInContent text (escaped front ++ content) stop walk.old → IsWhole walk.old
-        → WritesFront names text (escaped front) content Anywhere (map Escape front) stop walk.old walk.new) }
+        → WritesFront on names text (escaped front) content Anywhere (map Escape front) stop walk.old walk.new) }
 {
     for _done in 0..count {
         push_escape(walk)?;
@@ -116,9 +120,9 @@ fn push_escapes<A: Allocator>(walk: &mut Walk<'_, A>, count: usize) -> Result<()
 fn push_character<A: Allocator>(walk: &mut Walk<'_, A>, bytes: &[u8]) -> Result<(), AllocError>
     requires child { may_enter (still_open walk.old) CharacterReference ≡ true }
     ensures open { OnOk result (still_open walk.new ≡ still_open walk.old) }
-    ensures written { OnOk result ((context : InlineContext) (text printed : List ℕ) (from to : List InlineCode) (stop : Stop) → IsReference context printed from to
-        → AreBytesAt bytes.now from → StandsInContent text bytes.now stop walk.old → IsWhole walk.old
-        → WritesLeaves context.names text bytes.now Anywhere (Character printed ∷ []) to stop walk.old walk.new) }
+    ensures written { OnOk result ((context : InlineContext) (text printed : List ℕ) (from to : List InlineCode) (stop : Stop)
+        → context.options.constructs.character_reference ≡ true → IsReference context printed from to → AreBytesAt bytes.now from → StandsInContent text bytes.now stop walk.old → IsWhole walk.old
+        → WritesLeaves context.options.constructs context.names text bytes.now Anywhere (Character printed ∷ []) to stop walk.old walk.new) }
 {
     push_reference(walk, bytes, reference_size(bytes))
 }
@@ -132,10 +136,10 @@ fn push_autolink<A: Allocator>(
 ) -> Result<(), AllocError>
     requires child { may_enter (still_open walk.old) Autolink ≡ true }
     ensures open { OnOk result (still_open walk.new ≡ still_open walk.old) }
-    ensures written { OnOk result ((names : Names) (text address content : List ℕ) (stop : Stop) → size ≡ length address → 0 < length address
+    ensures written { OnOk result ((on : Constructs) (names : Names) (text address content : List ℕ) (stop : Stop) → size ≡ length address → 0 < length address
         → list_any ends_line address ≡ false → is_target email address ≡ true → IsUtf8 address
         → StandsInContent text (in_angles address ++ content) stop walk.old → IsWhole walk.old
-        → WritesFront names text (in_angles address) content Anywhere (inline.Autolink email address ∷ []) stop walk.old walk.new) }
+        → WritesFront on names text (in_angles address) content Anywhere (inline.Autolink email address ∷ []) stop walk.old walk.new) }
 {
     walk.enter(Name::Autolink)?;
     walk.text(Name::AutolinkMarker, 1)?;
@@ -162,9 +166,9 @@ fn address_name(email: bool) -> Name
 fn push_html<A: Allocator>(walk: &mut Walk<'_, A>, bytes: &[u8]) -> Result<(), AllocError>
     requires child { may_enter (still_open walk.old) HtmlText ≡ true }
     ensures open { OnOk result (still_open walk.new ≡ still_open walk.old) }
-    ensures written { OnOk result ((names : Names) (text front content : List ℕ) (stop : Stop) → bytes.now ≡ front ++ greater_than ∷ [] → IsUtf8 bytes.now
-        → AreCutBetween bytes.now content → StandsInContent text (bytes.now ++ content) stop walk.old → IsWhole walk.old
-        → WritesFront names text bytes.now content Anywhere (html_leaves (content_codes bytes.now)) stop walk.old walk.new) }
+    ensures written { OnOk result ((on : Constructs) (names : Names) (text front content : List ℕ) (stop : Stop) → on.html_text ≡ true
+        → bytes.now ≡ front ++ greater_than ∷ [] → IsUtf8 bytes.now → AreCutBetween bytes.now content → StandsInContent text (bytes.now ++ content) stop walk.old → IsWhole walk.old
+        → WritesFront on names text bytes.now content Anywhere (html_leaves (content_codes bytes.now)) stop walk.old walk.new) }
 {
     walk.enter(Name::HtmlText)?;
     push_lines(walk, Name::HtmlTextData, bytes, true)?;
@@ -181,9 +185,9 @@ fn push_line_end<A: Allocator>(
 ) -> Result<(), AllocError>
     requires lines { holds_lines (still_open walk.old) ≡ true }
     ensures open { OnOk result (still_open walk.new ≡ still_open walk.old) }
-    ensures written { OnOk result ((names : Names) (text rest : List ℕ) (ending : LineEnding) (stop : Stop) → size ≡ length (ending_bytes ending)
+    ensures written { OnOk result ((on : Constructs) (names : Names) (text rest : List ℕ) (ending : LineEnding) (stop : Stop) → size ≡ length (ending_bytes ending)
         → drop (indent bytes.now) bytes.now ≡ ending_bytes ending ++ rest → IsApart ending rest → StandsInContent text bytes.now stop walk.old → IsWhole walk.old
-        → WritesFront names text (line_end bytes.now ending rest) (bare rest) Anywhere (LineEnd (line_ending_code ending) ∷ []) stop walk.old walk.new) }
+        → WritesFront on names text (line_end bytes.now ending rest) (bare rest) Anywhere (LineEnd (line_ending_code ending) ∷ []) stop walk.old walk.new) }
 {
     let before = white_size(bytes);
     walk.text(Name::SpaceOrTab, before)?;

@@ -2,6 +2,7 @@
 use Rattle.std.proofs.Common.{◌≡◌, ◌||◌, ℕ, Bool, true, false, List, [], ◌∷◌, map, refl, sym, ap, subst, ◌∙◌}
 use Rattle.std.proofs.lemmas.Bool.{true≢false}
 use Rattle.std.specs.List.{AllZip}
+use Rattle.markdown_options.specs.declared.configuration.Constructs.{Constructs}
 use denote.Enum.Bare.{same_true}
 use Rattle.engine_events.specs.contracts.event.Name.{the_type}
 use Rattle.engine_events.specs.declared.event.Name.{Name}
@@ -58,15 +59,15 @@ use Rattle.parse_leading.proofs.Walk.{all_have, AllHave, Facts, holder_names, is
 
 -- ---- calls are bare in what is sound
 
-module _ (names : Names) (text : List ℕ) where
+module _ (on : Constructs) (names : Names) (text : List ℕ) where
   mutual
-    sound_calls_in : (node : Node) → IsSound names text node → HoldsBareCalls node
+    sound_calls_in : (node : Node) → IsSound on names text node → HoldsBareCalls node
     sound_calls_in (Around enter kids exit) sound = (
       λ same. are_without_fewer outside_strings media_names refl kids (sound.0.call (same_true the_type tt enter.name n.GfmFootnoteCall same)),
       sound_calls kids sound.1,
     )
 
-    sound_calls : (ns : Nodes) → AreSound names text ns → HoldBareCalls ns
+    sound_calls : (ns : Nodes) → AreSound on names text ns → HoldBareCalls ns
     sound_calls Nil sound = tt
     sound_calls (Cons node ns) sound = (sound_calls_in node sound.0, sound_calls ns sound.1)
 
@@ -278,7 +279,7 @@ module _ (tables : TextTables) (options : ParseOptions) (text : List ℕ) (ns : 
       leaves_read (λ l. Unit {0}) (LeafLeads r.is_defined r.is_footnote) r (λ standing l own. read_leaves_lead r standing l) on_page (group_items bs)
       (each_leaf (λ l. Unit {0}) (λ l. tt) (group_items bs))
 
-  document_leads : AreSound tables.names text ns → LeadOn text (link_labels text ns) (footnote_labels text ns) false ns
+  document_leads : AreSound options.constructs tables.names text ns → LeadOn text (link_labels text ns) (footnote_labels text ns) false ns
   document_leads sound =
       nodes_lead tables.names text (link_labels text ns) (footnote_labels text ns) ns e
       (leaves_spelled (LeafLeads (is_label_of p.definitions) (is_footnote_of p.footnotes))
@@ -286,7 +287,7 @@ module _ (tables : TextTables) (options : ParseOptions) (text : List ℕ) (ns : 
       (leaf_alike (is_label_of p.definitions) (is_footnote_of p.footnotes) (is_among (link_labels text ns)) (is_among (footnote_labels text ns))
       defined called m m')
       (λ c d own alike. tt) p.blocks spelled.blocks tt read_lead of_text.blocks)
-      (sound_calls tables.names text ns sound)
+      (sound_calls options.constructs tables.names text ns sound)
 
 pub documents_lead_on : DocumentsLeadOn
 documents_lead_on tables options text ns of_text e sound = document_leads tables options text ns of_text e sound

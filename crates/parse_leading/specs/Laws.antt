@@ -18,7 +18,7 @@ use Rattle.parse_references.specs.Sound.{AreSound}
 abbrev pub DocumentsLeadOn : Type 0
 DocumentsLeadOn =
     (tables : TextTables) (options : ParseOptions) (text : List ℕ) (ns : Nodes) → IsPageOfText tables options text (page_of tables.names text ns)
-    → ends (left_by Lines document_row ns) ≡ true → AreSound tables.names text ns
+    → ends (left_by Lines document_row ns) ≡ true → AreSound options.constructs tables.names text ns
     → LeadOn text (link_labels text ns) (footnote_labels text ns) false ns
 
 -- Nodes that spell the page of a text of bytes, and fill the row of a document: each row of delimiters among them has as many cells as the head before it.

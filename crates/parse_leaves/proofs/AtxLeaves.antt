@@ -15,11 +15,13 @@ use Rattle.event_grammar.specs.declared.slot.Between.TheVariants.{Lines, Spaces}
 use Rattle.event_grammar.specs.declared.slot.Form.TheVariants.{Plain}
 use Rattle.parse_laid.specs.Leaves.{IsAtxLaid}
 use Rattle.std.specs.Prelude.{codes}
+use Rattle.engine_events.specs.Names.{is_listed}
 use Rattle.event_grammar.specs.declared.slot.Slot.{Slot}
 use Rattle.event_grammar.specs.Facts.{is_size}
 use Rattle.event_grammar.specs.Grammar.{opt}
-use Rattle.parse_references.specs.Sound.{AreSound, IsRank}
-use Rattle.parse_references.proofs.Sound.{sound_both, sound_fill}
+use Rattle.event_grammar.specs.Trees.{Nil}
+use Rattle.parse_references.specs.Sound.{AreSound, asked_names, IsRank}
+use Rattle.parse_references.proofs.Sound.{asks_nothing, sound_both, sound_fill}
 use Rattle.parse_links.specs.Tails.{FillsTo, MayEnd}
 use Rattle.parse_lines.proofs.Runs.{run_fits}
 use Rattle.parse_leaves.specs.Atx.{EndsHeading, TakesClosing}
@@ -43,15 +45,16 @@ module _ (names : Names) (text : List ℕ) where
   sequence_rank index (b ∷ bs) line ms some next size =
       (λ same. ap (is_size 6) (token_text text n.HeadingAtxSequence index (b ∷ bs) line next) ∙ size, λ other. absurd (true≢false other))
 
-  tokens_sound : (name : Name) (index : ℕ) (front : List ℕ) → AreSound names text (tokens text name index front)
-  tokens_sound name index [] = tt
-  tokens_sound name index (b ∷ bs) = ((record { call = λ same. tt; reference = λ same. tt; heading = λ same. tt }, tt), tt)
+module _ (on : Constructs) (names : Names) (text : List ℕ) where
+  tokens_sound : (name : Name) (index : ℕ) (front : List ℕ) → is_listed asked_names name ≡ false → AreSound on names text (tokens text name index front)
+  tokens_sound name index [] other = tt
+  tokens_sound name index (b ∷ bs) other = ((asks_nothing on names text name Nil other, tt), tt)
 
   -- what follows the text is sound, by its row
-  closing_sound : (ns : Nodes) → ((slots : List Slot) → TakesClosing slots → FillsTo slots MayEnd Spaces ns) → AreSound names text ns
+  closing_sound : (ns : Nodes) → ((slots : List Slot) → TakesClosing slots → FillsTo slots MayEnd Spaces ns) → AreSound on names text ns
   closing_sound ns fills =
       let slots = opt n.HeadingAtxSequence ∷ [] in
-      let up = fills slots (record { sequence = refl; space = refl; may = refl }) in sound_fill names text 2 Spaces slots up.rest ns refl up.fill up.ends
+      let up = fills slots (record { sequence = refl; space = refl; may = refl }) in sound_fill on names text 2 Spaces slots up.rest ns refl up.fill up.ends
 
 first_codes : List BlockLine → List ℕ
 first_codes [] = []
@@ -69,9 +72,10 @@ module _ (on : Constructs) (names : Names) (text : List ℕ) (top : Bool) (rank 
 
   pub atx_spells : (start end : End) → 0 < length hashes → AreNext text (end_at i 0) (hashes ++ line) → rank ≡ length hashes
       → ((m m' : Meaning) → AreMeanings on names m m' → ArePartsAlike m m' is (text_within names text false (append inner last)))
-      → named n.Definition inner ≡ [] → named n.Definition last ≡ [] → is_size 6 hashes ≡ true → AreSound names text inner → AreSound names text last
+      → named n.Definition inner ≡ [] → named n.Definition last ≡ [] → is_size 6 hashes ≡ true → on.heading_atx ≡ true → AreSound on names text inner
+      → AreSound on names text last
       → SpellsLeaf on names text top (page.Heading rank is) [] (Around (enter_at text n.HeadingAtx start) atx_kids (exit_at text n.HeadingAtx end))
-  atx_spells start end some next size spells none_inner none_last sized sound_inner sound_last =
+  atx_spells start end some next size spells none_inner none_last sized made sound_inner sound_last =
       let rank_is : rank ≡ length (text_in text n.HeadingAtxSequence atx_kids) =
       size ∙ sym (ap length (sequence_size text i hashes line (append (tokens text n.SpaceOrTab j white) (append inner last)) some next)) in
       let within : text_within names text false atx_kids ≡ text_within names text false (append inner last) =
@@ -86,14 +90,15 @@ module _ (on : Constructs) (names : Names) (text : List ℕ) (top : Bool) (rank 
         definitions = λ m m' means. none_alike m m' names text (named n.Definition atx_kids) none;
         sound = (
           record {
+            is_on = made;
             call = λ same. absurd (true≢false (ap (same_name n.HeadingAtx) same));
             reference = λ same. absurd (true≢false (ap (same_name n.HeadingAtx) same));
             heading = λ same. sequence_rank names text i hashes line (append (tokens text n.SpaceOrTab j white) (append inner last)) some next sized;
           },
-          sound_both names text (tokens text n.HeadingAtxSequence i hashes) (append (tokens text n.SpaceOrTab j white) (append inner last))
-              (tokens_sound names text n.HeadingAtxSequence i hashes)
-              (sound_both names text (tokens text n.SpaceOrTab j white) (append inner last) (tokens_sound names text n.SpaceOrTab j white)
-              (sound_both names text inner last sound_inner sound_last)),
+          sound_both on names text (tokens text n.HeadingAtxSequence i hashes) (append (tokens text n.SpaceOrTab j white) (append inner last))
+              (tokens_sound on names text n.HeadingAtxSequence i hashes refl)
+              (sound_both on names text (tokens text n.SpaceOrTab j white) (append inner last) (tokens_sound on names text n.SpaceOrTab j white refl)
+              (sound_both on names text inner last sound_inner sound_last)),
         );
       }
 
@@ -109,11 +114,11 @@ module _ {A : Type 0} (text : List ℕ) where
       → WritesHeadingText r.parse.constructs r.tables.names text (read_text r (own_lines (piece_line piece ∷ []))) here.beside.ending left behind d e)
       → closing ≡ drop (length piece.text.now) after
       → (EndsHeading closing → IsOnLine text here.beside.ending left closing e → WritesClosing text here.beside.ending left e f) → ExitCall text n.HeadingAtx f new
-      → StandsAt text (Within here left) (standing old) → IsWrittenToRest old → IsInOrder text old.out
+      → StandsAt text (Within here left) (standing old) → IsWrittenToRest old → IsInOrder text old.out → old.on.now ≡ r.parse.constructs
       → IsAtxLaid old.on.now (around (standing old)) rank (own_lines (piece_line piece ∷ [])) (Within here left) to
       → WritesLeaf r.parse.constructs r.tables.names text top (page.Heading rank (read_text r (own_lines (piece_line piece ∷ [])))) [] to old new
   atx_written r top rank size here left to piece bytes rest after closing old a b c d e f new is_size to_bare is_bytes enter token is_rest is_after
-      writes_d writes_e is_closing writes_f exit at at_rest order laid =
+      writes_d writes_e is_closing writes_f exit at at_rest order by laid =
       let on = r.parse.constructs in
       let names = r.tables.names in
       let is = read_text r (own_lines (piece_line piece ∷ [])) in
@@ -178,7 +183,8 @@ module _ {A : Type 0} (text : List ℕ) where
             atx_spells on names text top rank is i j hashes (take m rest) (drop size bytes) t.nodes cl.nodes from last
             (omega (arith, hash_size, size_is, info.some)) (next_parts text b bytes size on_b.before) (omega (arith, is_size, hash_size))
             (λ m m' means. t.spells cl.nodes (cl.none names) m m' means) t.definitions cl.definitions
-            (ap (λ (x : ℕ). nat_le 1 x && nat_le x 6) (hash_size ∙ size_is) ∙ info.sized) t.sound (closing_sound names text cl.nodes cl.fill);
+            (ap (λ (x : ℕ). nat_le 1 x && nat_le x 6) (hash_size ∙ size_is) ∙ info.sized)
+            (subst (λ (c : Constructs). c.heading_atx ≡ true) by info.made) t.sound (closing_sound on names text cl.nodes cl.fill);
         writes = writes_both text old.out a.out new.out white.quiet.nodes (one node) white.quiet.writes whole.writes;
         stands = whole.on.at;
         around =

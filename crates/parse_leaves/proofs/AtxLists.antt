@@ -84,7 +84,8 @@ atx_front bs =
 
 -- ---- a heading on a line
 
-pub record IsAtxOf (bs : List ℕ) (found : Atx) : Type 0 where
+pub record IsAtxOf (on : Constructs) (bs : List ℕ) (found : Atx) : Type 0 where
+  pub made : on.heading_atx ≡ true
   pub rank : found.rank ≡ run number_sign bs
   pub some : 0 < run number_sign bs
   pub sized : (leb 1 (run number_sign bs) && leb (run number_sign bs) 6) ≡ true
@@ -105,7 +106,7 @@ both_first true true s h = refl
 both_first true false s h = absurd (true≢false (sym h))
 both_first false q s h = absurd (true≢false (sym h))
 
-pub atx_on : (on : Constructs) (rest : Rest) (found : Atx) → heading_atx on rest ≡ Some found → IsAtxOf (bytes_of (bare rest)) found
+pub atx_on : (on : Constructs) (rest : Rest) (found : Atx) → heading_atx on rest ≡ Some found → IsAtxOf on (bytes_of (bare rest)) found
 atx_on on rest found is =
     let bs = bytes_of (bare rest) in
     let rank = run number_sign bs in
@@ -119,6 +120,7 @@ atx_on on rest found is =
             | inl good ↦
                 let same : here ≡ found = some_atx here found (sym (cond-true test (Some here) None good) ∙ of) in
                 record {
+                  made = (and_parts on.heading_atx (small_indent on rest) holds).0;
                   rank = ap (λ (a : Atx). a.rank) (sym same);
                   some = some_rank rank (leb rank 6) (begins_apart (after_run number_sign bs)) good;
                   sized = both_first (leb 1 rank) (leb rank 6) (begins_apart (after_run number_sign bs)) good;

@@ -173,5 +173,5 @@ module _ {A : Type 0} (text : List ℕ) (ending : Option LineEnding) (left : Lis
               (t.fill Spaces (ap₂ (λ (k : ℕ) bs. list_any ends_line (drop k bs)) begins.0 (sym is_content) ∙ dark)));
           ends = record { sequence = refl; space = refl; may = refl };
         };
-        sound = ((asks_nothing r.tables.names text n.HeadingAtxText t.nodes refl, t.sound), tt);
+        sound = ((asks_nothing r.parse.constructs r.tables.names text n.HeadingAtxText t.nodes refl, t.sound), tt);
       }

@@ -95,7 +95,7 @@ module _ (on : Constructs) (names : Names) (text : List ℕ) (d : Definition) (n
       (subst IsOfBytes place_is (spells.place.destination_bytes texts))
       (subst IsOfBytes (title_same on names m m' means d.title) (spells.place.end.title_bytes texts)) alike)
 
-  pub definition_spells : (top : Bool) → HaveTextsOfBytes names → AreSound names text ns
+  pub definition_spells : (top : Bool) → HaveTextsOfBytes names → AreSound on names text ns
       → SpellsLeaf on names text top page.Definition (definition d.label d.destination d.title [] ∷ []) node
   definition_spells top texts sound = record {
     is_block = refl;
@@ -104,7 +104,7 @@ module _ (on : Constructs) (names : Names) (text : List ℕ) (d : Definition) (n
         let only : named n.Definition (one node) ≡ node ∷ [] = ap (λ (xs : List Node). (node ∷ xs) ++ []) spells.place.end.definitions in
         subst (λ xs. AreDefinitionsAlike m m' (definition d.label d.destination d.title [] ∷ []) (map (definition_of names text) xs)) (sym only)
         (definition_alike texts m m' means, tt);
-    sound = (asks_nothing names text n.Definition ns refl, sound);
+    sound = (asks_nothing on names text n.Definition ns refl, sound);
   }
 
 -- ---- codes
@@ -331,7 +331,7 @@ module _ {A : Type 0} (text : List ℕ) where
       → WritesInLine text front (void_nodes text n.SpaceOrTab (end_in s.out) (end_after (end_in s.out) white)) line s t)
       → standing a ≡ standing t → ((line : List ℕ) → StandsInLine text line t → EntersInLine text n.Definition line t a)
       → ((d : Definition) (stop : Stop) → IsDefinition (content_codes rest) d → StandsInContent text rest stop a → IsWhole a
-      → WritesParts names text rest (SpellsDefinition on names text d) FillsDefinition stop a b)
+      → WritesParts on names text rest (SpellsDefinition on names text d) FillsDefinition stop a b)
       → standing c ≡ standing b → ((line : List ℕ) → StandsInLine text line b → ExitsInLine text n.Definition line b c)
       → standing e ≡ standing c
       → ((front line : List ℕ) → size ≡ length front → same_name n.SpaceOrTab n.BlockQuotePrefix ≡ false → StandsInLine text (front ++ line) c → HasBytes text n.SpaceOrTab size c

@@ -25,7 +25,7 @@ module _ {A : Type 0} (on : Constructs) (names : Names) (text : List ℕ) (stop 
     spells = λ m m' means. subst (ArePartsAlike m m' is) (sym (after_quiet names text false ns second.nodes quiet)) (second.spells m m' means);
     plain = plain_both ns second.nodes (plain_quiet ns quiet) second.plain;
     fill = λ around may. let both = may_both around front after may in fill_both (fill around both.0) (second.fill around both.1);
-    sound = sound_both names text ns second.nodes (quiet_sound names text ns quiet) second.sound;
+    sound = sound_both on names text ns second.nodes (quiet_sound on names text ns quiet) second.sound;
   }
 
   -- some of a text, and then all that is left of it
@@ -42,5 +42,5 @@ module _ {A : Type 0} (on : Constructs) (names : Names) (text : List ℕ) (stop 
         (first.spells m m' means) (second.spells m m' means));
     plain = plain_both first.nodes second.nodes first.plain second.plain;
     fill = λ around may. let both = may_both around front after may in fill_both (first.fill around both.0) (second.fill around both.1);
-    sound = sound_both names text first.nodes second.nodes first.sound second.sound;
+    sound = sound_both on names text first.nodes second.nodes first.sound second.sound;
   }

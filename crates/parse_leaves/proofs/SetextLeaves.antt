@@ -30,7 +30,7 @@ use Rattle.parse_laid.specs.Places.{InAll, IsOn}
 use Rattle.parse_slots.specs.Left.{IsFilled}
 use Rattle.parse_slots.proofs.Steps.{filled_by}
 use Rattle.parse_references.specs.Sound.{AreSound}
-use Rattle.parse_references.proofs.Sound.{asks_nothing, sound_both, sound_filled, sound_one, void_sound}
+use Rattle.parse_references.proofs.Sound.{asks_construct, asks_nothing, sound_both, sound_filled, sound_one, void_sound}
 use Rattle.parse_strings.proofs.SoundNodes.{quiet_sound}
 use Rattle.parse_lines.specs.Ends.{WritesNextLine, line_after}
 use Rattle.parse_lines.specs.Steps.{PassesLine}
@@ -93,9 +93,13 @@ underline_bytes bs rank is = elim (cases_Bool (is_run 1 61 bs)) [
   ]
 ]
 
-underlined : (on : Constructs) (rest : Rest) (rank : ℕ) → underline on rest ≡ Some rank → underline_of (bytes_of (bare rest)) ≡ Some rank
+underlined : (on : Constructs) (rest : Rest) (rank : ℕ) → underline on rest ≡ Some rank
+    → (underline_of (bytes_of (bare rest)) ≡ Some rank) × (on.heading_setext ≡ true)
 underlined on rest rank is = elim (cases_Bool (on.heading_setext && small_indent on rest)) [
-  | inl may ↦ sym (cond-true (on.heading_setext && small_indent on rest) (underline_of (bytes_of (bare rest))) None may) ∙ is
+  | inl may ↦ (
+    sym (cond-true (on.heading_setext && small_indent on rest) (underline_of (bytes_of (bare rest))) None may) ∙ is,
+    (and_parts on.heading_setext (small_indent on rest) may).0,
+  )
   | inr fails ↦ absurd (none_some rank (sym (cond-false (on.heading_setext && small_indent on rest) (underline_of (bytes_of (bare rest))) None fails) ∙ is))
 ]
 
@@ -133,9 +137,9 @@ module _ (on : Constructs) (names : Names) (text : List ℕ) (top : Bool) (rank 
       → (if eqb (get_or (text_in text n.HeadingSetextUnderlineSequence (kids_of under)) 0 0) 45 then 2 else 1) ≡ rank
       → named n.Definition (one under) ≡ [] → ArePlain ns
       → ((m m' : Meaning) → AreMeanings on names m m' → ArePartsAlike m m' is (inlines_of names text false ns))
-      → IsFilled Lines Plain under → AreSound names text ns
+      → IsFilled Lines Plain under → on.heading_setext ≡ true → AreSound on names text ns
       → SpellsLeaf on names text top (page.Heading rank is) [] (Around (enter_at text n.HeadingSetext start) kids (exit_at text n.HeadingSetext end))
-  setext_spells start end are_quiet are_before is_under is_rank none plain spells filled sound =
+  setext_spells start end are_quiet are_before is_under is_rank none plain spells filled made sound =
       let void = void_nodes text n.LineEnding from to in
       let void_child : child n.HeadingSetextUnderline void ≡ None =
       void_cases (λ ms. child n.HeadingSetextUnderline ms ≡ None) text n.LineEnding from to refl (λ h. refl) (λ h. refl) in
@@ -155,17 +159,17 @@ module _ (on : Constructs) (names : Names) (text : List ℕ) (top : Bool) (rank 
       let others : named n.Definition (append (append void quiet) (append before (one under))) ≡ [] =
       named_both n.Definition (append void quiet) (append before (one under))
       ∙ ap (λ ds. ds ++ named n.Definition (append before (one under))) middle ∙ end_named in
-      let sound_end = sound_both names text before (one under) (quiet_sound names text before are_before)
-      (sound_one names text under (sound_filled names text 2 Lines Plain n.HeadingSetextUnderline under is_under refl filled)) in
-      let sound_others = sound_both names text (append void quiet) (append before (one under))
-      (sound_both names text void quiet (void_sound names text n.LineEnding from to refl) (quiet_sound names text quiet are_quiet)) sound_end in
+      let sound_end = sound_both on names text before (one under) (quiet_sound on names text before are_before)
+      (sound_one on names text under (sound_filled on names text 2 Lines Plain n.HeadingSetextUnderline under is_under refl filled)) in
+      let sound_others = sound_both on names text (append void quiet) (append before (one under))
+      (sound_both on names text void quiet (void_sound on names text n.LineEnding from to refl) (quiet_sound on names text quiet are_quiet)) sound_end in
       record {
         is_block = refl;
         blocks = λ m m' means. ((rank_is, spells m m' means), tt);
         definitions = λ m m' means.
             none_alike m m' names text (named n.Definition kids)
             (ap (λ ds. ds ++ named n.Definition (append (append void quiet) (append before (one under)))) plain.definitions ∙ others);
-        sound = (asks_nothing names text n.HeadingSetext kids refl, ((asks_nothing names text n.HeadingSetextText ns refl, sound), sound_others));
+        sound = (asks_construct on names text n.HeadingSetext kids refl made, ((asks_nothing on names text n.HeadingSetextText ns refl, sound), sound_others));
       }
 
 -- ---- the whole
@@ -175,16 +179,16 @@ module _ {A : Type 0} (text : List ℕ) where
       (content : List ℕ) (old a b c d new : Walk A) (under : LineRest) (others : List LineRest)
       → EntersAt text n.HeadingSetext content (record { place = AtEnding ending after; behind = 0 }) old a
       → WritesContentIn r n.HeadingSetextText content is a b → PassesLine (standing b) (standing c) → WritesNextLine b c
-      → HasSameOpen (standing b) (standing c) → IsOn old.on.now (around (standing old)) (Between after) (InAll under) others
+      → HasSameOpen (standing b) (standing c) → old.on.now ≡ r.parse.constructs → IsOn old.on.now (around (standing old)) (Between after) (InAll under) others
       → underline old.on.now under.rest ≡ Some rank
       → ((here : LineRest) (left : List LineRest) → StandsAt text (Within here left) (standing c) → IsWrittenToRest c → IsInOrder text c.out
       → 0 < length (bytes_of (bare here.rest)) → AreUnderline (bytes_of (bare here.rest)) → WritesUnderline text here left c d)
       → standing new ≡ standing d → written_to new ≡ written_to d → (IsInOrder text d.out → Exits text n.HeadingSetext d.out new.out)
       → WritesLeaf r.parse.constructs r.tables.names text top (page.Heading rank is) [] (AtEnding under.beside.ending others) old new
-  setext_on r top rank is here left [] ending content old a b c d new under others entered writes passes next_written kept is_on found
+  setext_on r top rank is here left [] ending content old a b c d new under others entered writes passes next_written kept by is_on found
       under_written same end exits =
       absurd is_on
-  setext_on r top rank is here left (next ∷ after) ending content old a b c d new under others entered writes passes next_written kept is_on found
+  setext_on r top rank is here left (next ∷ after) ending content old a b c d new under others entered writes passes next_written kept by is_on found
       under_written same end exits =
       let on = r.parse.constructs in
       let names = r.tables.names in
@@ -202,8 +206,9 @@ module _ {A : Type 0} (text : List ℕ) where
       subst (λ l. StandsAt text (Within l others) (standing c)) line
       (subst (λ ls. StandsAt text (Within (line_left (prefixed b.on.now (around (standing b)) next)) ls) (standing c)) is_on.1
       (passes text ending next after t.at)) in
-      let rank_found = rank_of (bytes_of (bare under.rest)) rank (underlined old.on.now under.rest rank found) in
-      let are = underline_bytes (bytes_of (bare under.rest)) rank (underlined old.on.now under.rest rank found) in
+      let line_is = underlined old.on.now under.rest rank found in
+      let rank_found = rank_of (bytes_of (bare under.rest)) rank line_is.0 in
+      let are = underline_bytes (bytes_of (bare under.rest)) rank line_is.0 in
       let u = under_written under others within done.4 done.1.order rank_found.0 are in
       let void = void_nodes text n.LineEnding (written_to b) to in
       let text_node = Around (enter_at text n.HeadingSetextText t.from) t.nodes (exit_at text n.HeadingSetextText t.to) in
@@ -222,7 +227,8 @@ module _ {A : Type 0} (text : List ℕ) where
         node = node;
         spells =
             setext_spells on names text top rank is t.nodes quiet u.before u.node (written_to b) to t.from t.to from last done.2 u.are_quiet u.is_underline
-            (ap (λ k. if eqb k 45 then 2 else 1) u.marker ∙ rank_found.1) u.definitions t.plain t.spells u.filled t.sound;
+            (ap (λ k. if eqb k 45 then 2 else 1) u.marker ∙ rank_found.1) u.definitions t.plain t.spells u.filled
+            (subst (λ (c : Constructs). c.heading_setext ≡ true) by line_is.1) t.sound;
         writes =
             writes_both text old.out entered.space new.out entered.before (one node) entered.writes
             (subst (Writes text entered.space new.out) (cut_one text n.HeadingSetext from last kids refl)
@@ -243,19 +249,19 @@ module _ {A : Type 0} (text : List ℕ) where
 
   pub setext_written : (r : Reading) (top : Bool) (rank : ℕ) (here : LineRest) (left : List LineRest) (to : Place) (ls : List BlockLine)
       (old a b c d new : Walk A) → StandsAt text (Within here left) (standing old) → IsWrittenToRest old → IsInOrder text old.out
-      → IsSetextLaid old.on.now (around (standing old)) rank (own_lines ls) (Within here left) to → EntersText n.HeadingSetext old a
+      → old.on.now ≡ r.parse.constructs → IsSetextLaid old.on.now (around (standing old)) rank (own_lines ls) (Within here left) to → EntersText n.HeadingSetext old a
       → WritesContentIn r n.HeadingSetextText (content_text ls) (read_content r false (inline_content r.tables.is_punctuation Whitespace (own_lines ls))) a b
       → PassesLine (standing b) (standing c) → WritesNextLine b c → HasSameOpen (standing b) (standing c)
       → ((here : LineRest) (left : List LineRest) → StandsAt text (Within here left) (standing c) → IsWrittenToRest c → IsInOrder text c.out
       → 0 < length (bytes_of (bare here.rest)) → AreUnderline (bytes_of (bare here.rest)) → WritesUnderline text here left c d)
       → standing new ≡ standing d → written_to new ≡ written_to d → (IsInOrder text d.out → Exits text n.HeadingSetext d.out new.out)
       → WritesLeaf r.parse.constructs r.tables.names text top (page.Heading rank (read_text r (own_lines ls))) [] to old new
-  setext_written r top rank here left to ls old a b c d new at to_rest order laid enters writes passes next kept under same end exits =
+  setext_written r top rank here left to ls old a b c d new at to_rest order by laid enters writes passes next kept under same end exits =
       let taken = laid.0 in
       let entered = enters_lines text n.HeadingSetext old a here left ls taken laid.1 at to_rest order enters laid.4 laid.5 in
       let is = read_text r (own_lines ls) in
       let on_line : IsOn old.on.now (around (standing old)) (Between entered.0) (InAll laid.2) laid.3 =
       subst (λ p. IsOn old.on.now (around (standing old)) p (InAll laid.2) laid.3) entered.1 laid.6 in
       subst (λ p. WritesLeaf r.parse.constructs r.tables.names text top (page.Heading rank is) [] p old new) (sym laid.8)
-      (setext_on r top rank is here left entered.0 (last_ending taken) (content_text ls) old a b c d new laid.2 laid.3 entered.2 writes passes next kept on_line
+      (setext_on r top rank is here left entered.0 (last_ending taken) (content_text ls) old a b c d new laid.2 laid.3 entered.2 writes passes next kept by on_line
       laid.7 under same end exits)

@@ -35,13 +35,13 @@ none_alike m m' names text ds none = subst (λ (xs : List Node). AreDefinitionsA
 
 -- a paragraph spells its text
 pub paragraph_spells : (on : Constructs) (names : Names) (text : List ℕ) (top : Bool) (is : Inlines) (ns : Nodes) (from to : End) → ArePlain ns
-    → ((m m' : Meaning) → AreMeanings on names m m' → ArePartsAlike m m' is (inlines_of names text false ns)) → AreSound names text ns
+    → ((m m' : Meaning) → AreMeanings on names m m' → ArePartsAlike m m' is (inlines_of names text false ns)) → AreSound on names text ns
     → SpellsLeaf on names text top (page.Paragraph is) [] (Around (enter_at text n.Paragraph from) ns (exit_at text n.Paragraph to))
 paragraph_spells on names text top is ns from to plain spells sound = record {
   is_block = refl;
   blocks = λ m m' means. (spells m m' means, tt);
   definitions = λ m m' means. none_alike m m' names text (named n.Definition ns) plain.definitions;
-  sound = (asks_nothing names text n.Paragraph ns refl, sound);
+  sound = (asks_nothing on names text n.Paragraph ns refl, sound);
 }
 
 pub open_both : (a b c : Standing) → HasSameOpen a b → HasSameOpen b c → HasSameOpen a c
@@ -70,7 +70,7 @@ module _ {A : Type 0} (text : List ℕ) where
       → standing new ≡ standing b
       → written_to new ≡ written_to b
       → ((ns : Nodes) (from to : End) → ArePlain ns
-      → ((m m' : Meaning) → AreMeanings on names m m' → ArePartsAlike m m' is (inlines_of names text false ns)) → AreSound names text ns
+      → ((m m' : Meaning) → AreMeanings on names m m' → ArePartsAlike m m' is (inlines_of names text false ns)) → AreSound on names text ns
       → SpellsLeaf on names text top leaf [] (Around (enter_at text name from) ns (exit_at text name to)))
       → row name Plain ≡ text_row → one_line Lines name ≡ Lines
       → WritesLeaf on names text top leaf [] stop.place old new

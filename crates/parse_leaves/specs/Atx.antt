@@ -47,7 +47,7 @@ pub record WritesHeadingText {A : Type 0} (on : Constructs) (names : Names) (tex
       → ArePartsAlike m m' is (text_within names text false (append nodes others))
   pub definitions : named n.Definition nodes ≡ []
   pub fill : FillsTo atx_rest TakesClosing Spaces nodes
-  pub sound : AreSound names text nodes
+  pub sound : AreSound on names text nodes
 
 -- spaces and tabs, a run of `#`, and again spaces and tabs: what may follow the text
 abbrev pub EndsHeading : List ℕ → Type 0

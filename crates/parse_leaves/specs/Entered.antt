@@ -78,7 +78,7 @@ pub record WritesTextIn {A : Type 0} (on : Constructs) (names : Names) (text : L
   pub whole : (end_in new.out).owed ≡ 0
   pub index : (end_in new.out).index + stop.behind ≡ new.line_end
   pub around : HasSameOpen (standing old) (standing new)
-  pub sound : AreSound names text nodes
+  pub sound : AreSound on names text nodes
 
 -- from a walk that stands in a content it is written so
 abbrev pub WritesContentIn : {A : Type 0} → Reading → Name → List ℕ → Inlines → Walk A → Walk A → Type 0

@@ -225,7 +225,7 @@ has_string on names text string (Some node) some holds = record { node = node; i
 module _ {A : Type 0} (text : List ℕ) (stop : Stop) (on : Constructs) (names : Names) where
   -- no title
   pub no_title : (a : Walk A) (content : List ℕ) (title : Option (List Code)) → title ≡ None → next_line (content_codes content) ≡ Some []
-      → StandsInContent text content stop a → IsWhole a → WritesParts names text content (SpellsEnd on names text title) FillsEnd stop a a
+      → StandsInContent text content stop a → IsWhole a → WritesParts on names text content (SpellsEnd on names text title) FillsEnd stop a a
   no_title a content title none ends st whole = record {
     front = [];
     after = content;
@@ -248,7 +248,7 @@ module _ {A : Type 0} (text : List ℕ) (stop : Stop) (on : Constructs) (names :
       → WritesWhite text content rest stop a b → rest ≡ front ++ after
       → WritesQuoted on names text n.DefinitionTitle n.DefinitionTitleMarker n.DefinitionTitleString string front after stop b c
       → content_codes string ≡ read → title ≡ Some read → next_line (content_codes after) ≡ Some []
-      → WritesParts names text content (SpellsEnd on names text title) FillsEnd stop a c
+      → WritesParts on names text content (SpellsEnd on names text title) FillsEnd stop a c
   title_in a b c content rest front after string title read bytes white parts w read_is some ends =
       let ns = white.nodes in
       let node = w.node in
@@ -288,8 +288,8 @@ module _ {A : Type 0} (text : List ℕ) (stop : Stop) (on : Constructs) (names :
               ends = refl;
             };
         sound =
-            sound_both names text ns (one node) (white_sound names text white)
-            (sound_one names text node
+            sound_both on names text ns (one node) (white_sound on names text white)
+            (sound_one on names text node
             (marked_sound on names text n.DefinitionTitle n.DefinitionTitleMarker n.DefinitionTitleString (opt n.DefinitionTitleString) string node
             definition_title w.is));
       }
@@ -349,8 +349,8 @@ module _ {A : Type 0} (text : List ℕ) (stop : Stop) (on : Constructs) (names :
   -- a destination, and what is behind it
   pub target_in : (q : PlaceNames) (a b c : Walk A) (content front after string : List ℕ) (read : List Code) (title : Option (List Code)) → AreOfDefinition q
       → AreBytes string → content ≡ front ++ after → WritesDestination on names text q string front after stop a b → content_codes string ≡ read
-      → WritesParts names text after (SpellsEnd on names text title) FillsEnd stop b c
-      → WritesParts names text content (SpellsPlace on names text read title) FillsPlace stop a c
+      → WritesParts on names text after (SpellsEnd on names text title) FillsEnd stop b c
+      → WritesParts on names text content (SpellsPlace on names text read title) FillsPlace stop a c
   target_in q a b c content front after string read title are bytes parts w read_is end =
       let is = place_spells q string front after a b end.nodes are w in
       let titled_is : child n.DefinitionTitle (append (one w.node) end.nodes) ≡ child n.DefinitionTitle end.nodes =
@@ -386,8 +386,8 @@ module _ {A : Type 0} (text : List ℕ) (stop : Stop) (on : Constructs) (names :
               ends = more.ends;
             };
         sound =
-            sound_both names text (one w.node) end.nodes
-            (sound_one names text w.node
+            sound_both on names text (one w.node) end.nodes
+            (sound_one on names text w.node
             (place_sound on names text q string w.node w.inner
             (place_renamed are.destination are.literal are.marker are.raw are.string definition_place) w.named w.kids w.is))
             end.sound;
@@ -398,8 +398,8 @@ module _ {A : Type 0} (text : List ℕ) (stop : Stop) (on : Constructs) (names :
       → 0 < length string → content_codes string ≡ found.label
       → WritesQuoted on names text n.DefinitionLabel n.DefinitionLabelMarker n.DefinitionLabelString string front (58 ∷ inside) stop a b
       → WritesToken text stop n.DefinitionMarker (58 ∷ []) inside b c → WritesWhite text inside rest stop c d
-      → WritesParts names text rest (SpellsPlace on names text found.destination found.title) FillsPlace stop d e
-      → WritesParts names text content (SpellsDefinition on names text found) FillsDefinition stop a e
+      → WritesParts on names text rest (SpellsPlace on names text found.destination found.title) FillsPlace stop d e
+      → WritesParts on names text content (SpellsDefinition on names text found) FillsDefinition stop a e
   definition_in a b c d e content front inside rest string found parts some label_is w colon white place =
       let label = w.node in
       let tail = append white.nodes place.nodes in
@@ -473,11 +473,11 @@ module _ {A : Type 0} (text : List ℕ) (stop : Stop) (on : Constructs) (names :
               ends = behind_fill.ends;
             };
         sound =
-            sound_both names text (one label) more
-            (sound_one names text label
+            sound_both on names text (one label) more
+            (sound_one on names text label
             (marked_sound on names text n.DefinitionLabel n.DefinitionLabelMarker n.DefinitionLabelString (one_slot n.DefinitionLabelString) string label
             definition_label w.is))
-            (sound_both names text (one colon.node) tail
-            (sound_one names text colon.node (empty_sound names text colon.node n.DefinitionMarker colon.void.0 colon.void.1 refl))
-            (sound_both names text white.nodes place.nodes (white_sound names text white) place.sound));
+            (sound_both on names text (one colon.node) tail
+            (sound_one on names text colon.node (empty_sound on names text colon.node n.DefinitionMarker colon.void.0 colon.void.1 refl))
+            (sound_both on names text white.nodes place.nodes (white_sound on names text white) place.sound));
       }

@@ -279,7 +279,7 @@ module _ {A : Type 0} (text : List ℕ) (stop : Stop) (on : Constructs) (names :
   pub title_tail : (a b c : Walk A) (content front after rest string : List ℕ) (read left : List Code) → IsOfBytes string → content ≡ front ++ after
       → WritesQuoted on names text n.ResourceTitle n.ResourceTitleMarker n.ResourceTitleString string front after stop a b
       → WritesWhite text after rest stop b c → content_codes rest ≡ left → content_codes string ≡ read
-      → WritesTail names text content (SpellsTitle on names text read) FillsTitle left stop a c
+      → WritesTail on names text content (SpellsTitle on names text read) FillsTitle left stop a c
   title_tail a b c content front after rest string read left bytes parts w white left_is read_is =
       let quoted =
       finds_quoted on names text n.ResourceTitle n.ResourceTitleMarker n.ResourceTitleString string w.node
@@ -317,11 +317,11 @@ module _ {A : Type 0} (text : List ℕ) (stop : Stop) (on : Constructs) (names :
               ends = refl;
             };
         sound =
-            sound_both names text (one w.node) white.nodes
-            (sound_one names text w.node
+            sound_both on names text (one w.node) white.nodes
+            (sound_one on names text w.node
             (marked_sound on names text n.ResourceTitle n.ResourceTitleMarker n.ResourceTitleString (opt n.ResourceTitleString) string w.node
             resource_title w.is))
-            (white_sound names text white);
+            (white_sound on names text white);
       }
 
   -- a destination, and white space
@@ -353,17 +353,17 @@ module _ {A : Type 0} (text : List ℕ) (stop : Stop) (on : Constructs) (names :
             (place_renamed are.destination are.literal are.marker are.raw are.string resource_place) w.named w.kids w.is w.dark))
             (white.fill around title_slots both.1 (record { space = refl; ending = refl; blank = refl; quote = refl }));
         sound =
-            sound_both names text (one w.node) white.nodes
-            (sound_one names text w.node
+            sound_both on names text (one w.node) white.nodes
+            (sound_one on names text w.node
             (place_sound on names text q string w.node w.inner
             (place_renamed are.destination are.literal are.marker are.raw are.string resource_place) w.named w.kids w.is))
-            (white_sound names text white);
+            (white_sound on names text white);
       }
 
   -- without a title
   pub target_none : (a b : Walk A) (place : Part) (content rest : List ℕ) (r : LinkResource) (left : List Code)
       → WritesPlace on names text place content rest stop a b → after_white place.rest ≡ left → r.destination ≡ place.text → r.title ≡ None
-      → WritesTail names text content (SpellsTarget on names text r) FillsTarget left stop a b
+      → WritesTail on names text content (SpellsTarget on names text r) FillsTarget left stop a b
   target_none a b place content rest r left w left_is read_is none = record {
     front = w.front;
     after = rest;
@@ -386,8 +386,8 @@ module _ {A : Type 0} (text : List ℕ) (stop : Stop) (on : Constructs) (names :
 
   -- and a title
   pub target_title : (a b c : Walk A) (place : Part) (content rest : List ℕ) (r : LinkResource) (read left : List Code)
-      → WritesPlace on names text place content rest stop a b → WritesTail names text rest (SpellsTitle on names text read) FillsTitle left stop b c
-      → r.destination ≡ place.text → r.title ≡ Some read → WritesTail names text content (SpellsTarget on names text r) FillsTarget left stop a c
+      → WritesPlace on names text place content rest stop a b → WritesTail on names text rest (SpellsTitle on names text read) FillsTitle left stop b c
+      → r.destination ≡ place.text → r.title ≡ Some read → WritesTail on names text content (SpellsTarget on names text r) FillsTarget left stop a c
   target_title a b c place content rest r read left w title read_is some = record {
     front = w.front ++ title.front;
     after = title.after;
@@ -418,7 +418,7 @@ module _ {A : Type 0} (text : List ℕ) (stop : Stop) (on : Constructs) (names :
         let both = may_both around w.front title.front may in
         let more = title.fill around both.1 in
         record { rest = more.rest; fill = fill_both (w.fill around both.0) more.fill; ends = more.ends };
-    sound = sound_both names text w.nodes title.nodes w.sound title.sound;
+    sound = sound_both on names text w.nodes title.nodes w.sound title.sound;
   }
     where
       or_nothing : (o : Option Node) → option_or o None ≡ o
@@ -427,7 +427,7 @@ module _ {A : Type 0} (text : List ℕ) (stop : Stop) (on : Constructs) (names :
 
   -- nothing between the parentheses
   pub target_nothing : (a : Walk A) (content : List ℕ) (r : LinkResource) → r.destination ≡ [] → r.title ≡ None → content_codes content ≡ 41 ∷ r.rest
-      → StandsInContent text content stop a → IsWhole a → WritesTail names text content (SpellsTarget on names text r) FillsTarget (41 ∷ r.rest) stop a a
+      → StandsInContent text content stop a → IsWhole a → WritesTail on names text content (SpellsTarget on names text r) FillsTarget (41 ∷ r.rest) stop a a
   target_nothing a content r destination none codes st whole = record {
     front = [];
     after = content;
@@ -453,10 +453,10 @@ module _ {A : Type 0} (text : List ℕ) (stop : Stop) (on : Constructs) (names :
   -- a resource between its parentheses
   pub resource_tail : (a b c d e f g : Walk A) (content inside : List ℕ) (others : List ℕ) (r : LinkResource) → content ≡ 40 ∷ others
       → EntersInContent text n.Resource content stop a b → WritesToken text stop n.ResourceMarker (40 ∷ []) others b c
-      → WritesWhite text others inside stop c d → (tail : WritesTail names text inside (SpellsTarget on names text r) FillsTarget (41 ∷ r.rest) stop d e)
+      → WritesWhite text others inside stop c d → (tail : WritesTail on names text inside (SpellsTarget on names text r) FillsTarget (41 ∷ r.rest) stop d e)
       → (last : List ℕ)
       → tail.after ≡ 41 ∷ last → WritesToken text stop n.ResourceMarker (41 ∷ []) last e f → content_codes last ≡ r.rest
-      → ExitsInContent text n.Resource last stop f g → WritesTail names text content (SpellsResource on names text r) FillsTail r.rest stop a g
+      → ExitsInContent text n.Resource last stop f g → WritesTail on names text content (SpellsResource on names text r) FillsTail r.rest stop a g
   resource_tail a b c d e f g content inside others r is enters first white tail last closes closed codes exits =
       let before = append (one first.node) white.nodes in
       let after = one closed.node in
@@ -479,8 +479,8 @@ module _ {A : Type 0} (text : List ℕ) (stop : Stop) (on : Constructs) (names :
       let marker_is : IsUnsought n.ResourceMarker = record { media = refl; sought = refl; tail = refl; definition = refl; column = refl } in
       let one_is = plain_both (one first.node) white.nodes (void_plain first.node n.ResourceMarker marker_is first.void) white.plain in
       let two_is = void_plain closed.node n.ResourceMarker marker_is closed.void in
-      let marker_sound : (marker : Node) → IsVoidOf n.ResourceMarker marker → AreSound names text (one marker) =
-      λ marker void. sound_one names text marker (empty_sound names text marker n.ResourceMarker void.0 void.1 refl) in
+      let marker_sound : (marker : Node) → IsVoidOf n.ResourceMarker marker → AreSound on names text (one marker) =
+      λ marker void. sound_one on names text marker (empty_sound on names text marker n.ResourceMarker void.0 void.1 refl) in
       let found : (name : Name) → is_listed tail_names name ≡ true → same_name n.Resource name ≡ false → own name (one node) ≡ own name tail.nodes =
       λ name listed other. own_around node name refl other ∙ wrapped_own name before tail.nodes after listed one_is two_is in
       record {
@@ -528,9 +528,9 @@ module _ {A : Type 0} (text : List ℕ) (stop : Stop) (on : Constructs) (names :
               ends = refl;
             };
         sound =
-            sound_one names text node
-            (sound_around names text node refl
-            (sound_both names text before (append tail.nodes after)
-            (sound_both names text (one first.node) white.nodes (marker_sound first.node first.void) (white_sound names text white))
-            (sound_both names text tail.nodes after tail.sound (marker_sound closed.node closed.void))));
+            sound_one on names text node
+            (sound_around on names text node refl
+            (sound_both on names text before (append tail.nodes after)
+            (sound_both on names text (one first.node) white.nodes (marker_sound first.node first.void) (white_sound on names text white))
+            (sound_both on names text tail.nodes after tail.sound (marker_sound closed.node closed.void))));
       }

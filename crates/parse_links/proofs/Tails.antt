@@ -77,11 +77,11 @@ held_label on names text (Some label) string None has holds = absurd (omega (ari
 held_label on names text (Some label) string (Some node) has holds = (node, refl, ap words (sym has.0) ∙ holds.words)
 
 module _ {A : Type 0} (text : List ℕ) (stop : Stop) where
-  pub no_reference : (names : Names) (a : Walk A) (content : List ℕ) → IsShortcut content → StandsInContent text content stop a → IsWhole a
-      → WritesTail names text content (SpellsReference text (label_at (content_codes content))) FillsTail
+  pub no_reference : (on : Constructs) (names : Names) (a : Walk A) (content : List ℕ) → IsShortcut content → StandsInContent text content stop a → IsWhole a
+      → WritesTail on names text content (SpellsReference text (label_at (content_codes content))) FillsTail
       (after_reference (label_at (content_codes content)) (content_codes content))
       stop a a
-  no_reference names a content is st whole = record {
+  no_reference on names a content is st whole = record {
     front = [];
     after = content;
     parts = refl;
@@ -98,7 +98,7 @@ module _ {A : Type 0} (text : List ℕ) (stop : Stop) where
     pub reference_tail : (a b : Walk A) (content front after string : List ℕ) (label : Option Part) (left : List Code) → content ≡ front ++ after
         → content_codes after ≡ left → HasCodes label string
         → WritesQuoted on names text n.Reference n.ReferenceMarker n.ReferenceString string front after stop a b
-        → WritesTail names text content (SpellsReference text label) FillsTail left stop a b
+        → WritesTail on names text content (SpellsReference text label) FillsTail left stop a b
     reference_tail a b content front after string label left parts rest has w =
         let finds = finds_quoted on names text n.Reference n.ReferenceMarker n.ReferenceString string w.node outer_is marker_is reference_is w.is in
         record {
@@ -123,7 +123,7 @@ module _ {A : Type 0} (text : List ℕ) (stop : Stop) where
             ends = refl;
           };
           sound =
-              sound_one names text w.node
+              sound_one on names text w.node
               (marked_sound on names text n.Reference n.ReferenceMarker n.ReferenceString (opt n.ReferenceString) string w.node reference w.is);
         }
 

@@ -61,8 +61,8 @@ abbrev pub FillsDefinition : Between → Nodes → Type 0
 FillsDefinition = FillsTo (row n.Definition Plain) MayEnd
 
 -- nodes are written that spell something and fill slots, up to white space at the end of a definition
-pub record WritesParts {A : Type 0} (names : Names) (text content : List ℕ) (Spells : Nodes → Type 0) (Fills : Between → Nodes → Type 0) (stop : Stop)
-    (old new : Walk A) : Type 0 where
+pub record WritesParts {A : Type 0} (on : Constructs) (names : Names) (text content : List ℕ) (Spells : Nodes → Type 0) (Fills : Between → Nodes → Type 0)
+    (stop : Stop) (old new : Walk A) : Type 0 where
   pub front : List ℕ
   pub after : List ℕ
   pub parts : content ≡ front ++ after
@@ -72,7 +72,7 @@ pub record WritesParts {A : Type 0} (names : Names) (text content : List ℕ) (S
   pub whole : IsWhole new
   pub spells : Spells nodes
   pub fill : (around : Between) → MayEndLines around front → Fills around nodes
-  pub sound : AreSound names text nodes
+  pub sound : AreSound on names text nodes
 
 module _ (on : Constructs) (names : Names) (text : List ℕ) where
   -- what the nodes in a destination spell, with brackets or without

@@ -50,7 +50,7 @@ pub record IsStringNode (on : Constructs) (names : Names) (text : List ℕ) (nam
   pub plain : ArePlain (kids_of node)
   pub fill : (around : Between) → MayEndLines around string → Fill around string_row (kids_of node) string_row
   pub words : HaveSameWords (content_codes string) (content_codes (label_text text node))
-  pub sound : AreSound names text (kids_of node)
+  pub sound : AreSound on names text (kids_of node)
 
 -- an empty string has no node
 abbrev pub Holds : Constructs → Names → List ℕ → Name → List ℕ → Option Node → Type 0

@@ -117,8 +117,8 @@ FillsTitle = FillsTo title_slots MayClose
 -- ---- what is written
 
 -- nodes are written that spell something and fill slots, up to what has these codes
-pub record WritesTail {A : Type 0} (names : Names) (text content : List ℕ) (Spells : Nodes → Type 0) (Fills : Between → Nodes → Type 0) (left : List Code)
-    (stop : Stop) (old new : Walk A) : Type 0 where
+pub record WritesTail {A : Type 0} (on : Constructs) (names : Names) (text content : List ℕ) (Spells : Nodes → Type 0) (Fills : Between → Nodes → Type 0)
+    (left : List Code) (stop : Stop) (old new : Walk A) : Type 0 where
   pub front : List ℕ
   pub after : List ℕ
   pub parts : content ≡ front ++ after
@@ -128,7 +128,7 @@ pub record WritesTail {A : Type 0} (names : Names) (text content : List ℕ) (Sp
   pub whole : IsWhole new
   pub spells : Spells nodes
   pub fill : (around : Between) → MayEndLines around front → Fills around nodes
-  pub sound : AreSound names text nodes
+  pub sound : AreSound on names text nodes
 
 -- two brackets come first
 abbrev pub is_collapsed : List ℕ → Bool
@@ -168,4 +168,4 @@ pub record WritesPlace {A : Type 0} (on : Constructs) (names : Names) (text : Li
   pub definitions : named n.Definition nodes ≡ []
   pub columns : named n.GfmTableDelimiterCellValue nodes ≡ []
   pub fill : (around : Between) → MayEndLines around front → Fill around target_slots nodes title_slots
-  pub sound : AreSound names text nodes
+  pub sound : AreSound on names text nodes

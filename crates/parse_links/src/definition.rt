@@ -43,7 +43,7 @@ pub fn push_definition<T: Tables, A: Allocator>(
     ensures written { OnOk result ((bytes : List ℕ) (d : LinkDefinition) (stop : Stop) → IsDefinition (content_codes text.now) d
         → StandsInContent bytes text.now stop walk.old → IsWhole walk.old
         → let names = T.reference_of tables.now in
-        WritesParts names bytes text.now (SpellsDefinition on.now names bytes d) FillsDefinition stop walk.old walk.new) }
+        WritesParts on.now names bytes text.now (SpellsDefinition on.now names bytes d) FillsDefinition stop walk.old walk.new) }
 {
     let Some(found) = label(text.as_bytes()) else {
         return Ok(());
@@ -75,7 +75,7 @@ fn push_target<T: Tables, A: Allocator>(
     ensures written { OnOk result ((bytes place : List ℕ) (title : Option (List ℕ)) (stop : Stop) → IsTarget (content_codes text.now) place title
         → StandsInContent bytes text.now stop walk.old → IsWhole walk.old
         → let names = T.reference_of tables.now in
-        WritesParts names bytes text.now (SpellsPlace on.now names bytes place title) FillsPlace stop walk.old walk.new) }
+        WritesParts on.now names bytes text.now (SpellsPlace on.now names bytes place title) FillsPlace stop walk.old walk.new) }
 {
     let Some(place) = destination(text.as_bytes(), None) else {
         return Ok(());
@@ -104,7 +104,7 @@ fn push_title<T: Tables, A: Allocator>(
     ensures written { OnOk result ((bytes : List ℕ) (title : Option (List ℕ)) (stop : Stop) → EndsWithTitle title (content_codes text.now)
         → StandsInContent bytes text.now stop walk.old → IsWhole walk.old
         → let names = T.reference_of tables.now in
-        WritesParts names bytes text.now (SpellsEnd on.now names bytes title) FillsEnd stop walk.old walk.new) }
+        WritesParts on.now names bytes text.now (SpellsEnd on.now names bytes title) FillsEnd stop walk.old walk.new) }
 {
     let Some(found) = title_at(white(text.as_bytes())) else {
         return Ok(());

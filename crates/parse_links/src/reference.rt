@@ -30,7 +30,7 @@ pub fn push_link_reference<T: Tables, A: Allocator>(
     ensures open { OnOk result (still_open walk.new ≡ still_open walk.old) }
     ensures written { OnOk result ((bytes : List ℕ) (stop : Stop) → StandsInContent bytes text.now stop walk.old → IsWhole walk.old
         → let names = T.reference_of tables.now in let content = content_codes text.now in let label = label_at content in
-        WritesTail names bytes text.now (SpellsReference bytes label) FillsTail (after_reference label content) stop walk.old walk.new) }
+        WritesTail on.now names bytes text.now (SpellsReference bytes label) FillsTail (after_reference label content) stop walk.old walk.new) }
 {
     let Some(reference) = reference_front(text) else {
         return Ok(());

@@ -41,7 +41,7 @@ pub fn push_resource<T: Tables, A: Allocator>(
     ensures written { OnOk result ((bytes : List ℕ) (stop : Stop) → Some (resource_of found.now) ≡ resource_at (content_codes text.now)
         → StandsInContent bytes text.now stop walk.old → IsWhole walk.old
         → let names = T.reference_of tables.now in let Spells = SpellsResource on.now names bytes (resource_of found.now) in
-        WritesTail names bytes text.now Spells FillsTail (content_codes found.now.rest.now) stop walk.old walk.new) }
+        WritesTail on.now names bytes text.now Spells FillsTail (content_codes found.now.rest.now) stop walk.old walk.new) }
 {
     walk.enter(Name::Resource)?;
     walk.text(Name::ResourceMarker, 1)?;
@@ -67,7 +67,7 @@ fn push_inside<T: Tables, A: Allocator>(
     ensures written { OnOk result ((bytes : List ℕ) (stop : Stop) → Some (resource_of found.now) ≡ resource_inside (content_codes text.now)
         → StandsInContent bytes text.now stop walk.old → IsWhole walk.old
         → let names = T.reference_of tables.now in let Spells = SpellsTarget on.now names bytes (resource_of found.now) in
-        WritesTail names bytes text.now Spells FillsTarget (right_parenthesis ∷ content_codes found.now.rest.now) stop walk.old walk.new) }
+        WritesTail on.now names bytes text.now Spells FillsTarget (right_parenthesis ∷ content_codes found.now.rest.now) stop walk.old walk.new) }
 {
     if first(text.as_bytes()) == b')' {
         return Ok(());
@@ -91,7 +91,7 @@ fn push_target<T: Tables, A: Allocator>(
     ensures written { OnOk result ((bytes : List ℕ) (place : Part) (stop : Stop) → destination_at (Some 32) (content_codes text.now) ≡ Some place
         → Some (resource_of found.now) ≡ after_destination place → StandsInContent bytes text.now stop walk.old → IsWhole walk.old
         → let names = T.reference_of tables.now in let Spells = SpellsTarget on.now names bytes (resource_of found.now) in
-        WritesTail names bytes text.now Spells FillsTarget (right_parenthesis ∷ content_codes found.now.rest.now) stop walk.old walk.new) }
+        WritesTail on.now names bytes text.now Spells FillsTarget (right_parenthesis ∷ content_codes found.now.rest.now) stop walk.old walk.new) }
 {
     let rest = push_place(walk, on, tables, text, found.destination)?;
     match found.title {
@@ -135,7 +135,7 @@ fn push_title<T: Tables, A: Allocator>(
     ensures written { OnOk result ((bytes : List ℕ) (read : Part) (stop : Stop) → title_at (content_codes text.now) ≡ Some read
         → content_codes title.now ≡ read.text → StandsInContent bytes text.now stop walk.old → IsWhole walk.old
         → let names = T.reference_of tables.now in let Spells = SpellsTitle on.now names bytes read.text in
-        WritesTail names bytes text.now Spells FillsTitle (after_white read.rest) stop walk.old walk.new) }
+        WritesTail on.now names bytes text.now Spells FillsTitle (after_white read.rest) stop walk.old walk.new) }
 {
     let size = title.len().saturating_add(2);
     push_quoted(walk, on, tables, &RESOURCE.title, up_to(text, size))?;

@@ -2,6 +2,7 @@
 use Rattle.std.proofs.Common.{◌≡◌, ℕ, Bool, true, false, not, ◌&&◌, ◌||◌, if◌then◌else◌, List, [], ◌∷◌, Option, None, Some, inl, inr, refl, sym, ap, subst, ◌∙◌}
 use Rattle.std.proofs.lemmas.Bool.{and_parts, cases_Bool, not-true, or_cases, or_right, true≢false}
 use denote.Enum.Bare.{same_true, true_same}
+use Rattle.markdown_options.specs.declared.configuration.Constructs.{Constructs}
 use Rattle.engine_events.specs.contracts.event.Name.{the_type}
 use Rattle.engine_events.specs.Names.{is_listed, same_name}
 use Rattle.engine_events.specs.declared.event.Name.{Name}
@@ -178,9 +179,9 @@ module _ (names : Names) (text : List ℕ) where
 
   -- ---- the children of an event
 
-  pub kids_answer : (around : Between) (name : Name) (form : Form) (kids : Nodes) → HoldsAsked names text name kids
+  pub kids_answer : (on : Constructs) (around : Between) (name : Name) (form : Form) (kids : Nodes) → HoldsAsked on names text name kids
       → ends (left_by (between_of (row name form) around name) (row name form) kids) ≡ true → HaveAnswers None (row name form) kids
-  kids_answer around name form kids asked e =
+  kids_answer on around name form kids asked e =
       elim (cases_Bool (is_listed asking_names name)) [
         | inl listed ↦ elim (or_cases (same_name n.CharacterReference name) (is_listed (n.HeadingAtx ∷ []) name) listed) [
           | inl same ↦ of_reference (sym (same_true the_type tt n.CharacterReference name same))

@@ -2,6 +2,7 @@
 use Rattle.std.proofs.Common.{◌≡◌, ℕ, Bool, true, false, not, ◌||◌, List, Option, None, Some, refl, ap, subst}
 use Rattle.std.proofs.lemmas.Bool.{not-true}
 use Rattle.std.specs.Prelude.{if◌then◌else◌}
+use Rattle.markdown_options.specs.declared.configuration.Constructs.{Constructs}
 use Rattle.engine_events.specs.Names.{is_listed, same_name}
 use Rattle.engine_events.specs.declared.event.Event.{Event}
 use Rattle.engine_events.specs.declared.event.Name.TheVariants as n
@@ -32,19 +33,19 @@ use Rattle.parse_matches.proofs.Passing.{is_known, row_passes, rows_known, taken
 use Rattle.parse_matches.proofs.Places.{places_fit}
 use Rattle.parse_matches.proofs.Voids.{AreFit, IsFit, nodes_fit, suits}
 
-module _ (names : Names) (text : List ℕ) (links footnotes : List (List ℕ)) where
+module _ (on : Constructs) (names : Names) (text : List ℕ) (links footnotes : List (List ℕ)) where
   -- what is known of nodes, where they are in a link or a call, or not, and after a row of so many cells
   record IsMet (linked : Bool) (node : Node) : Type 0 where
     paired : IsNode node
     fit : IsFit text node
-    sound : IsSound names text node
+    sound : IsSound on names text node
     leads : LeadsOn text links footnotes linked node
     cells : AgreesInside node
 
   record AreMet (linked : Bool) (above : ℕ) (ns : Nodes) : Type 0 where
     paired : AreNodes ns
     fit : AreFit text ns
-    sound : AreSound names text ns
+    sound : AreSound on names text ns
     leads : LeadOn text links footnotes linked ns
     cells : AgreeInCells above ns
 
@@ -95,7 +96,7 @@ module _ (names : Names) (text : List ℕ) (links footnotes : List (List ℕ)) w
       cells,
       has_fact names text form b.sibling (Around enter kids exit) (suits text x.around form enter exit kids filled met.fit) answers,
       kids_hold (inside x enter.name form) (before None 0) (row enter.name form) kids (rows_known enter.name form) filled
-          (kids_answer names text x.around enter.name form kids met.sound.0 filled) (kids_met x.linked enter exit kids met),
+          (kids_answer names text on x.around enter.name form kids met.sound.0 filled) (kids_met x.linked enter exit kids met),
     )
 
     kids_hold : (x : Within) (b : Before) (slots : List Slot) (ns : Nodes) → row_passes is_known slots ≡ true → ends (left_by x.around slots ns) ≡ true
@@ -125,7 +126,7 @@ module _ (names : Names) (text : List ℕ) (links footnotes : List (List ℕ)) w
 pub met_grammar_matches : MetGrammarMatches
 met_grammar_matches names text events met =
     let ns = met.nodes in
-    let are : AreMet names text (link_labels text ns) (footnote_labels text ns) false 0 ns = record {
+    let are : AreMet met.on names text (link_labels text ns) (footnote_labels text ns) false 0 ns = record {
       paired = met.paired;
       fit = nodes_fit text ns met.paired (subst (λ es. are_fit text es ≡ true) met.nested met.tokens);
       sound = met.sound;
@@ -133,6 +134,6 @@ met_grammar_matches names text events met =
       cells = met.cells;
     } in
     filled_lists_match names text events ns met.nested met.filled
-    (kids_hold names text (link_labels text ns) (footnote_labels text ns) (within Lines false) (before None 0) document_row ns refl met.filled
+    (kids_hold met.on names text (link_labels text ns) (footnote_labels text ns) (within Lines false) (before None 0) document_row ns refl met.filled
     (plain_row names text Lines None document_row ns refl met.filled) are)
     (places_fit text events met.utf8 met.placed met.tokens) (nodes_lead_on.defined text ns met.leads)

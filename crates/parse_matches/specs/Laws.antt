@@ -1,6 +1,7 @@
 -- How what is known of the nodes of a text makes its list of events one that matches the grammar.
 use Rattle.std.specs.Prelude.{◌≡◌, ℕ, true, false, List}
 use Rattle.std.specs.Str.{is_utf8}
+use Rattle.markdown_options.specs.declared.configuration.Constructs.{Constructs}
 use Rattle.engine_events.specs.declared.event.Event.{Event}
 use Rattle.definition_inline.specs.CharacterReference.{Names}
 use Rattle.event_check.specs.Matches.{MatchesGrammar}
@@ -26,7 +27,8 @@ pub record MeetsGrammar (names : Names) (text : List ℕ) (events : List Event) 
   pub utf8 : is_utf8 text ≡ true
   pub placed : ArePlaced text events
   pub tokens : HaveTheirBytes text events
-  pub sound : AreSound names text nodes
+  pub on : Constructs
+  pub sound : AreSound on names text nodes
   pub leads : LeadOn text (link_labels text nodes) (footnote_labels text nodes) false nodes
   pub cells : AgreeInCells 0 nodes
 

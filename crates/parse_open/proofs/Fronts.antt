@@ -2,6 +2,7 @@
 use Rattle.std.proofs.Common.{◌≡◌, inl, inr, ℕ, Bool, true, false, List, [], ◌∷◌, ◌++◌, refl, ap, ap₂, ◌∙◌}
 use Rattle.parse_open.proofs.Prelude.{append, AreMute, Around, block_of, blocks_from, blocks_of, cut, ending_bytes, ending_of, ends_in, if◌then◌else◌}
 use Rattle.parse_open.proofs.Prelude.{IsEndingNode, IsFront, LineEnding, Name, named, Names, Nil, Node, node_name, Nodes, one, same_name, start_of, text_of}
+use Rattle.markdown_options.specs.declared.configuration.Constructs.{Constructs}
 use Rattle.markdown_options.specs.declared.line_ending.LineEnding.TheVariants.{CarriageReturnLineFeed, CarriageReturn, LineFeed}
 use Rattle.engine_events.specs.declared.event.Name.TheVariants as n
 use Rattle.definition_block.specs.Tree as tree
@@ -14,40 +15,40 @@ use Rattle.event_grammar.specs.declared.slot.Between.TheVariants.{Lines}
 use Rattle.event_grammar.specs.declared.slot.Form.TheVariants.{Plain}
 use Rattle.parse_slots.specs.Left.{IsFilled}
 use Rattle.parse_references.specs.Sound.{AreSound}
-use Rattle.parse_references.proofs.Sound.{sound_both, sound_filled, sound_one, void_sound}
+use Rattle.parse_references.proofs.Sound.{sound_both, sound_filled_on, sound_one, void_sound}
 use Rattle.parse_open.specs.Fronts.{SpellsNothing}
 use Rattle.parse_open.proofs.Ends.{ends_after, ends_one, mute_ends}
 use Rattle.parse_open.proofs.Nodes.{blocks_both, mute_blocks, mute_named, named_both}
 use Rattle.parse_open.proofs.Sound.{ending_sound, mute_sound}
 
-module _ (names : Names) (text : List ℕ) where
-  pub nothing_none : SpellsNothing names text Nil
+module _ (on : Constructs) (names : Names) (text : List ℕ) where
+  pub nothing_none : SpellsNothing on names text Nil
   nothing_none = record { blocks = refl; none = refl; other = refl; sound = tt }
 
-  pub nothing_mute : (ns : Nodes) → AreMute ns → SpellsNothing names text ns
+  pub nothing_mute : (ns : Nodes) → AreMute ns → SpellsNothing on names text ns
   nothing_mute ns are =
-      record { blocks = mute_blocks names text true ns are; none = mute_named ns are; other = mute_ends ns are; sound = mute_sound names text ns are }
+      record { blocks = mute_blocks names text true ns are; none = mute_named ns are; other = mute_ends ns are; sound = mute_sound on names text ns are }
 
-  pub nothing_both : (ns ms : Nodes) → SpellsNothing names text ns → SpellsNothing names text ms → SpellsNothing names text (append ns ms)
+  pub nothing_both : (ns ms : Nodes) → SpellsNothing on names text ns → SpellsNothing on names text ms → SpellsNothing on names text (append ns ms)
   nothing_both ns ms p q =
       record {
         blocks = blocks_both names text true ns ms ∙ ap₂ spelled.join p.blocks q.blocks;
         none = named_both n.Definition ns ms ∙ ap₂ (λ (xs ys : List Node). xs ++ ys) p.none q.none;
         other = ends_after n.BlankLineEnding false ns ms ∙ ap (λ (b : Bool). ends_in n.BlankLineEnding b ms) p.other ∙ q.other;
-        sound = sound_both names text ns ms p.sound q.sound;
+        sound = sound_both on names text ns ms p.sound q.sound;
       }
 
   mark_if : (b : Bool) (from to : End)
-      → AreSound names text (if b then Nil else cut (Around (enter_at text n.ByteOrderMark from) Nil (exit_at text n.ByteOrderMark to)))
-      → SpellsNothing names text (if b then Nil else cut (Around (enter_at text n.ByteOrderMark from) Nil (exit_at text n.ByteOrderMark to)))
+      → AreSound on names text (if b then Nil else cut (Around (enter_at text n.ByteOrderMark from) Nil (exit_at text n.ByteOrderMark to)))
+      → SpellsNothing on names text (if b then Nil else cut (Around (enter_at text n.ByteOrderMark from) Nil (exit_at text n.ByteOrderMark to)))
   mark_if true from to sound = nothing_none
   mark_if false from to sound = record { blocks = refl; none = refl; other = refl; sound = sound }
 
   -- a byte order mark, if there is one
-  pub nothing_mark : (from to : End) → SpellsNothing names text (void_nodes text n.ByteOrderMark from to)
-  nothing_mark from to = mark_if (same_end to from) from to (void_sound names text n.ByteOrderMark from to refl)
+  pub nothing_mark : (from to : End) → SpellsNothing on names text (void_nodes text n.ByteOrderMark from to)
+  nothing_mark from to = mark_if (same_end to from) from to (void_sound on names text n.ByteOrderMark from to refl)
 
-  pub front_none : (bs : tree.Blocks) (front : Nodes) → SpellsNothing names text front → IsFront names text front bs
+  pub front_none : (bs : tree.Blocks) (front : Nodes) → SpellsNothing on names text front → IsFront on names text front bs
   front_none bs front is = record { blocks = inl is.blocks; none = is.none; other = is.other; sound = is.sound }
 
   -- ---- frontmatter
@@ -57,22 +58,23 @@ module _ (names : Names) (text : List ℕ) where
       let t = text_of text (Around enter kids exit) in
       ap (λ (a : Name). spelled.join (block_of names text true a t kids (blocks_from names text (start_of a) kids)) page.Nil) is
 
-  front_sound : (node : Node) → node_name node ≡ n.Frontmatter → IsFilled Lines Plain node → AreSound names text (one node)
-  front_sound node is filled = sound_one names text node (sound_filled names text 3 Lines Plain n.Frontmatter node is refl filled)
+  front_sound : on.frontmatter ≡ true → (node : Node) → node_name node ≡ n.Frontmatter → IsFilled Lines Plain node → AreSound on names text (one node)
+  front_sound is_on node is filled =
+      sound_one on names text node (sound_filled_on on names text 2 Lines Plain n.Frontmatter node is refl is_on refl filled)
 
   not_blank : (name : Name) (node : Node) → node_name node ≡ name → same_name name n.BlankLineEnding ≡ false
       → same_name (node_name node) n.BlankLineEnding ≡ false
   not_blank name node is other = ap (λ (a : Name). same_name a n.BlankLineEnding) is ∙ other
 
   -- whose last line has no ending
-  pub front_alone : (bs : tree.Blocks) (before : Nodes) (node : Node) → SpellsNothing names text before → node_name node ≡ n.Frontmatter
-      → named n.Definition (one node) ≡ [] → IsFilled Lines Plain node → bs ≡ tree.Nil → IsFront names text (append before (one node)) bs
-  front_alone bs before node nothing is none filled empty =
+  pub front_alone : on.frontmatter ≡ true → (bs : tree.Blocks) (before : Nodes) (node : Node) → SpellsNothing on names text before → node_name node ≡ n.Frontmatter
+      → named n.Definition (one node) ≡ [] → IsFilled Lines Plain node → bs ≡ tree.Nil → IsFront on names text (append before (one node)) bs
+  front_alone is_on bs before node nothing is none filled empty =
       record {
         blocks = inr (inr (blocks_both names text true before (one node) ∙ ap₂ spelled.join nothing.blocks (front_blocks node is), empty));
         none = named_both n.Definition before (one node) ∙ ap₂ (λ (xs ys : List Node). xs ++ ys) nothing.none none;
         other = ends_one before node (not_blank n.Frontmatter node is refl);
-        sound = sound_both names text before (one node) nothing.sound (front_sound node is filled);
+        sound = sound_both on names text before (one node) nothing.sound (front_sound is_on node is filled);
       }
 
   ending_same : (e : LineEnding) → ending_of (ending_bytes e) ≡ e
@@ -95,10 +97,10 @@ module _ (names : Names) (text : List ℕ) where
       ∙ ap (λ (ks : Nodes). named n.Definition ks ++ []) is.empty
 
   -- and with it
-  pub front_ended : (bs : tree.Blocks) (before : Nodes) (node : Node) (e : LineEnding) (ending : Node) → SpellsNothing names text before
+  pub front_ended : on.frontmatter ≡ true → (bs : tree.Blocks) (before : Nodes) (node : Node) (e : LineEnding) (ending : Node) → SpellsNothing on names text before
       → node_name node ≡ n.Frontmatter → named n.Definition (one node) ≡ [] → IsFilled Lines Plain node → IsEndingNode text n.LineEnding e ending
-      → IsFront names text (append before (append (one node) (one ending))) bs
-  front_ended bs before node e ending nothing is none filled ends =
+      → IsFront on names text (append before (append (one node) (one ending))) bs
+  front_ended is_on bs before node e ending nothing is none filled ends =
       let both = append (one node) (one ending) in
       record {
         blocks = inr (inl (
@@ -114,6 +116,6 @@ module _ (names : Names) (text : List ℕ) where
             ends_after n.BlankLineEnding false before both
             ∙ not_blank n.LineEnding ending ends.named refl;
         sound =
-            sound_both names text before both nothing.sound
-            (sound_both names text (one node) (one ending) (front_sound node is filled) (ending_sound names text n.LineEnding e ending refl ends));
+            sound_both on names text before both nothing.sound
+            (sound_both on names text (one node) (one ending) (front_sound is_on node is filled) (ending_sound on names text n.LineEnding e ending refl ends));
       }

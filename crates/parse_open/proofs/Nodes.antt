@@ -105,7 +105,7 @@ module _ (r : Reading) (text : List ℕ) (front : Nodes) where
             (sym (named_both n.Definition ns ms ∙ ap (λ (xs : List Node). named n.Definition ns ++ xs) (mute_named ms are)
             ∙ append-nil (named n.Definition ns)))
             (spell.defined m m' means);
-        sound = sound_both names text ns ms spell.sound (mute_sound names text ms are);
+        sound = sound_both r.parse.constructs names text ns ms spell.sound (mute_sound r.parse.constructs names text ms are);
       }
 
   -- nodes spell one more block
@@ -114,7 +114,7 @@ module _ (r : Reading) (text : List ℕ) (front : Nodes) where
         → AreBlocksAlike m m' more (blocks_of r.tables.names text standing.top ms)
     pub defined : (m m' : Meaning) → AreMeanings r.parse.constructs r.tables.names m m'
         → AreDefinitionsAlike m m' (definitions (tree.one b)) (map (definition_of r.tables.names text) (named n.Definition ms))
-    pub sound : AreSound r.tables.names text ms
+    pub sound : AreSound r.parse.constructs r.tables.names text ms
 
   pub spell_more : (standing : Standing) (bs : tree.Blocks) (b : tree.Block) (more : page.Blocks) (ns ms : Nodes)
       → read_blocks r standing (tree.join bs (tree.one b)) ≡ join (read_blocks r standing bs) more → SpellMore standing b more ms
@@ -136,5 +136,5 @@ module _ (r : Reading) (text : List ℕ) (front : Nodes) where
             alike_blocks_compose.defined m m' (definitions bs) (map define (named n.Definition ns)) (definitions (tree.one b))
             (map define (named n.Definition ms))
             (spell.defined m m' means) (own.defined m m' means)));
-        sound = sound_both names text ns ms spell.sound own.sound;
+        sound = sound_both r.parse.constructs names text ns ms spell.sound own.sound;
       }

@@ -24,7 +24,7 @@ module _ (tables : TextTables) (options : ParseOptions) (text : List ℕ) (bs : 
   read_none none = ap (λ (xs : tree.Blocks). (page_of tables options xs).blocks) none
 
   -- what is in front, and then the blocks
-  front_blocks : (m m' : Meaning) (front : Nodes) (read found : page.Blocks) → IsFront tables.names text front bs → (bs ≡ tree.Nil → read ≡ page.Nil)
+  front_blocks : (m m' : Meaning) (front : Nodes) (read found : page.Blocks) → IsFront options.constructs tables.names text front bs → (bs ≡ tree.Nil → read ≡ page.Nil)
       → AreBlocksAlike m m' read found
       → AreBlocksAlike m m' read (spelled.join (blocks_of tables.names text true front) found)
       ⊎ AreAlikeAfterFront m m' read (spelled.join (blocks_of tables.names text true front) found)
@@ -40,7 +40,7 @@ module _ (tables : TextTables) (options : ParseOptions) (text : List ℕ) (bs : 
             (none_alike m m' found (subst (λ (xs : page.Blocks). AreBlocksAlike m m' xs found) nothing alike))))
       ]
 
-  page_spelled : (front ns : Nodes) (line : ℕ) → IsFront tables.names text front bs
+  page_spelled : (front ns : Nodes) (line : ℕ) → IsFront options.constructs tables.names text front bs
       → Spells (reading tables options (document_targets bs)) text front (opened (group_items (bare_blocks bs)) [] []) (growth ns []) line
       → IsSpelledPage tables options text bs (events.page_of tables.names text ns)
   page_spelled front ns line is spells =

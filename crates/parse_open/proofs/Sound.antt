@@ -5,6 +5,7 @@ use Rattle.std.specs.List.{list_all}
 use Rattle.std.specs.Prelude.{not, Some, None}
 use Rattle.parse_open.proofs.Prelude.{AreMute, Around, Event, Footnote, Holder, InContainer, InList, is_listed, IsEndingNode, Item, LineEnding, Name, named}
 use Rattle.parse_open.proofs.Prelude.{Names, Nil, Node, Nodes, one, Quote, same_name}
+use Rattle.markdown_options.specs.declared.configuration.Constructs.{Constructs}
 use Rattle.engine_events.specs.declared.event.Name.TheVariants as n
 use Rattle.event_grammar.specs.declared.slot.Between.TheVariants.{Lines}
 use Rattle.event_grammar.specs.declared.slot.Form.TheVariants.{Plain}
@@ -64,29 +65,29 @@ module _ (off : List Name) where
 
 -- ---- what is sound
 
-module _ (names : Names) (text : List ℕ) where
+module _ (on : Constructs) (names : Names) (text : List ℕ) where
   -- a node in which all names are among these, of which nothing is asked
   pub others_sound : (all : List Name) (node : Node) → list_all (λ name. not (is_listed all name)) asked_names ≡ true
-      → ((name : Name) → is_listed all name ≡ false → named name (one node) ≡ []) → IsSound names text node
+      → ((name : Name) → is_listed all name ≡ false → named name (one node) ≡ []) → IsSound on names text node
   others_sound all node apart others =
-      without_is_sound names text node (others_without asked_names (one node) (λ name listed.
+      without_is_sound on names text node (others_without asked_names (one node) (λ name listed.
       others name (not-true (is_listed all name) (all_pass (λ a. not (is_listed all a)) asked_names name apart listed)))).0
 
-  pub mute_sound : (ns : Nodes) → AreMute ns → AreSound names text ns
+  pub mute_sound : (ns : Nodes) → AreMute ns → AreSound on names text ns
   mute_sound Nil are = tt
   mute_sound (Cons node ns) (inl is, none, more, filled) =
-      (sound_filled names text 2 Lines Plain n.SpaceOrTab node is refl filled, mute_sound ns more)
+      (sound_filled on names text 2 Lines Plain n.SpaceOrTab node is refl filled, mute_sound ns more)
   mute_sound (Cons node ns) (inr is, none, more, filled) =
-      (sound_filled names text 2 Lines Plain n.BlockQuotePrefix node is refl filled, mute_sound ns more)
+      (sound_filled on names text 2 Lines Plain n.BlockQuotePrefix node is refl filled, mute_sound ns more)
 
   pub ending_sound : (name : Name) (e : LineEnding) (node : Node) → is_listed asked_names name ≡ false → IsEndingNode text name e node
-      → AreSound names text (one node)
+      → AreSound on names text (one node)
   ending_sound name e node other is =
-      sound_one names text node (
-      sound_around names text node (ap (is_listed asked_names) is.named ∙ other) (subst (AreSound names text) (sym is.empty) tt))
+      sound_one on names text node (
+      sound_around on names text node (ap (is_listed asked_names) is.named ∙ other) (subst (AreSound on names text) (sym is.empty) tt))
 
   -- a container or a list around nodes that are sound
-  pub holder_sound : (h : Holder) (enter exit : Event) (kids : Nodes) → IsNamed h enter.name → AreSound names text kids
-      → AreSound names text (one (Around enter kids exit))
+  pub holder_sound : (h : Holder) (enter exit : Event) (kids : Nodes) → IsNamed h enter.name → AreSound on names text kids
+      → AreSound on names text (one (Around enter kids exit))
   holder_sound h enter exit kids is sound =
-      sound_one names text (Around enter kids exit) (sound_around names text (Around enter kids exit) (unasked h enter.name is) sound)
+      sound_one on names text (Around enter kids exit) (sound_around on names text (Around enter kids exit) (unasked h enter.name is) sound)

@@ -3,6 +3,7 @@ use Rattle.std.proofs.Common.{◌≡◌, ◌+◌, ◌-◌, ℕ, zero, suc, Bool,
 use Rattle.std.proofs.lemmas.Bool.{and_parts, true≢false}
 use denote.Enum.Bare.{same_true}
 use Rattle.parse_open.proofs.Prelude.{append, Around, Event, is_listed, Name, Names, Nil, Nodes, one, same_name, the_type}
+use Rattle.markdown_options.specs.declared.configuration.Constructs.{Constructs}
 use Rattle.engine_events.specs.declared.event.Name.TheVariants as n
 use Rattle.event_grammar.specs.Checks.{spot_of}
 use Rattle.event_grammar.specs.Points.{edge}
@@ -96,36 +97,38 @@ module _ (names : Names) (text : List ℕ) where
       decode_cut (is_cut enter.name inner) sibling enter exit kids inner ns (bytewise ns)
       (λ is. no_data marks enter.name held.0.0 (cut_named enter.name inner is)) (λ s. decode_whole marks s ns held.1) h
 
+module _ (on : Constructs) (names : Names) (text : List ℕ) where
   -- ---- all nodes
 
-  asked_whole : (marks : List Mark) (name : Name) (kids : Nodes) → AreHeld (Entered name ∷ marks) kids → HoldsAsked names text name (bytewise kids)
-      → HoldsAsked names text name kids
+  asked_whole : (marks : List Mark) (name : Name) (kids : Nodes) → AreHeld (Entered name ∷ marks) kids → HoldsAsked on names text name (bytewise kids)
+      → HoldsAsked on names text name kids
   asked_whole marks name kids held h = record {
+    is_on = h.is_on;
     call = λ is. without_whole outside_strings kids refl (h.call is);
-    reference = λ is. decode_whole marks None kids (subst (λ (a : Name). AreHeld (Entered a ∷ marks) kids) is held) (h.reference is);
-    heading = λ is. rank_whole kids (h.heading is);
+    reference = λ is. decode_whole names text marks None kids (subst (λ (a : Name). AreHeld (Entered a ∷ marks) kids) is held) (h.reference is);
+    heading = λ is. rank_whole names text kids (h.heading is);
   }
 
-  nil_sound : (ns : Nodes) → is_nil ns ≡ true → AreSound names text ns
+  nil_sound : (ns : Nodes) → is_nil ns ≡ true → AreSound on names text ns
   nil_sound Nil is = tt
   nil_sound (Cons node ns) is = absurd (true≢false (sym is))
 
-  data_is_sound : (enter exit : Event) (inner : Nodes) → is_cut enter.name inner ≡ true → IsSound names text (Around enter inner exit)
+  data_is_sound : (enter exit : Event) (inner : Nodes) → is_cut enter.name inner ≡ true → IsSound on names text (Around enter inner exit)
   data_is_sound enter exit inner is = (
-    subst (λ (a : Name). HoldsAsked names text a inner) (sym (cut_named enter.name inner is)) (asks_nothing names text n.Data inner refl),
+    subst (λ (a : Name). HoldsAsked on names text a inner) (sym (cut_named enter.name inner is)) (asks_nothing on names text n.Data inner refl),
     nil_sound inner (cut_empty enter.name inner is),
   )
 
-  sound_cut : (b : Bool) (enter exit : Event) (inner : Nodes) → (b ≡ true → IsSound names text (Around enter inner exit))
-      → AreSound names text (if b then bytes_from enter exit else one (Around enter inner exit)) → IsSound names text (Around enter inner exit)
+  sound_cut : (b : Bool) (enter exit : Event) (inner : Nodes) → (b ≡ true → IsSound on names text (Around enter inner exit))
+      → AreSound on names text (if b then bytes_from enter exit else one (Around enter inner exit)) → IsSound on names text (Around enter inner exit)
   sound_cut true enter exit inner is h = is refl
   sound_cut false enter exit inner is h = h.0
 
-  pub sound_whole : (marks : List Mark) (ns : Nodes) → AreHeld marks ns → AreSound names text (bytewise ns) → AreSound names text ns
+  pub sound_whole : (marks : List Mark) (ns : Nodes) → AreHeld marks ns → AreSound on names text (bytewise ns) → AreSound on names text ns
   sound_whole marks Nil held h = tt
   sound_whole marks (Cons (Around enter kids exit) ns) held h =
       let inner = bytewise kids in
-      let parts = sound_parts names text (node_bytewise (Around enter kids exit)) (bytewise ns) h in
+      let parts = sound_parts on names text (node_bytewise (Around enter kids exit)) (bytewise ns) h in
       let own = sound_cut (is_cut enter.name inner) enter exit inner (data_is_sound enter exit inner) parts.0 in (
         (asked_whole marks enter.name kids held.0.1 own.0, sound_whole (Entered enter.name ∷ marks) kids held.0.1 own.1),
         sound_whole marks ns held.1 parts.1,
@@ -135,8 +138,9 @@ module _ (names : Names) (text : List ℕ) where
 
 pub documents_are_sound : DocumentsAreSound
 documents_are_sound = λ r text front bs places kids line events ns before spells nested named children same.
+    let on = r.parse.constructs in
     let names = r.tables.names in
     let own = spells.kids in
-    let all : AreSound names text kids = subst (AreSound names text) (sym own.parts) (sound_both names text front own.left before own.spell.sound) in
+    let all : AreSound on names text kids = subst (AreSound on names text) (sym own.parts) (sound_both on names text front own.left before own.spell.sound) in
     let bytes : bytewise ns ≡ kids = ap bytewise (sym (ap tree nested ∙ tree_is ns named)) ∙ same in
-    sound_whole names text [] ns (all_held ns named (subst HaveChildren nested children)) (subst (AreSound names text) (sym bytes) all)
+    sound_whole on names text [] ns (all_held ns named (subst HaveChildren nested children)) (subst (AreSound on names text) (sym bytes) all)

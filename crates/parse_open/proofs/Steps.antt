@@ -250,7 +250,7 @@ module _ (r : Reading) (text : List ℕ) (front : Nodes) where
         blocks = λ m m' means.
             subst (AreBlocksAlike m m' (page.Cons (page.Ending e) page.Nil)) (sym (ending_blocks standing.top e node is)) (refl, tt);
         defined = λ m m' means. none_defined (Ending (Some e)) (one node) refl (ending_named n.LineEnding e node refl is) m m';
-        sound = ending_sound r.tables.names text n.LineEnding e node refl is;
+        sound = ending_sound r.parse.constructs r.tables.names text n.LineEnding e node refl is;
       }
 
   spell_blank : (standing : Standing) (bs : Blocks) (e : LineEnding) (node : Node) → IsEndingNode text n.BlankLineEnding e node
@@ -260,7 +260,7 @@ module _ (r : Reading) (text : List ℕ) (front : Nodes) where
         blocks = λ m m' means.
             subst (AreBlocksAlike m m' (page.Cons (page.Blank e) page.Nil)) (sym (blank_blocks standing.top e node is)) (tt, tt);
         defined = λ m m' means. none_defined (Blank (Some e)) (one node) refl (ending_named n.BlankLineEnding e node refl is) m m';
-        sound = ending_sound r.tables.names text n.BlankLineEnding e node refl is;
+        sound = ending_sound r.parse.constructs r.tables.names text n.BlankLineEnding e node refl is;
       }
 
   ending_child : (h : Holder) → has (holder_child h) n.LineEnding ≡ false
@@ -362,7 +362,7 @@ module _ (r : Reading) (text : List ℕ) (front : Nodes) where
         defined = λ m m' means.
             subst (λ (ds : List Definition). AreDefinitionsAlike m m' ds (map (definition_of r.tables.names text) (named n.Definition (one node))))
             (sym (append-nil (leaf_definitions leaf))) (own.defined m m' means);
-        sound = sound_one r.tables.names text node own.sound;
+        sound = sound_one r.parse.constructs r.tables.names text node own.sound;
       }
 
   -- a block that is no item, where no list is the innermost
@@ -420,7 +420,7 @@ module _ (r : Reading) (text : List ℕ) (front : Nodes) where
   start_named (Footnote label) goes_on name first start = start.0
 
   in_first : (c : Container) (goes_on : Bool) (name : Name) (first : Node) (line : ℕ) → IsStartName (node_name first)
-      → named n.Definition (one first) ≡ [] → HasStart r text front (InContainer c goes_on) name NoBlock (one first) → IsSound r.tables.names text first
+      → named n.Definition (one first) ≡ [] → HasStart r text front (InContainer c goes_on) name NoBlock (one first) → IsSound r.parse.constructs r.tables.names text first
       → AreIn r text front (InContainer c goes_on) name NoBlock (one first) line
   in_first c goes_on name first line is none start sound =
       record {
@@ -429,7 +429,7 @@ module _ (r : Reading) (text : List ℕ) (front : Nodes) where
               blocks = λ m m' means. subst (AreBlocksAlike m m' page.Nil) (sym (start_blocks (standing_in c).top first is)) tt;
               defined = λ m m' means.
                   subst (λ (xs : List Node). AreDefinitionsAlike m m' [] (map (definition_of r.tables.names text) xs)) (sym none) tt;
-              sound = sound_one r.tables.names text first sound;
+              sound = sound_one r.parse.constructs r.tables.names text first sound;
             };
         spread =
             spread_blocks_compose.quiet text BlockChild NoBlock Nil line first (start_child (node_name first) is)
@@ -527,7 +527,7 @@ module _ (r : Reading) (text : List ℕ) (front : Nodes) where
             (sym (append-nil (definitions kids))) (
             subst (λ (xs : List Node). AreDefinitionsAlike m m' (definitions kids) (map (definition_of r.tables.names text) xs))
             (sym (holder_defined (InContainer c goes_on) enter exit ns is)) (own.spell.defined m m' means));
-        sound = holder_sound r.tables.names text (InContainer c goes_on) enter exit ns is own.spell.sound;
+        sound = holder_sound r.parse.constructs r.tables.names text (InContainer c goes_on) enter exit ns is own.spell.sound;
       }
 
   -- ---- an item ends in its list
@@ -654,7 +654,7 @@ module _ (r : Reading) (text : List ℕ) (front : Nodes) where
             (sym (append-nil (definitions items))) (
             subst (λ (xs : List Node). AreDefinitionsAlike m m' (definitions items) (map (definition_of r.tables.names text) xs))
             (sym (holder_defined InList enter exit ns is)) (own.spell.defined m m' means));
-        sound = holder_sound r.tables.names text InList enter exit ns is own.spell.sound;
+        sound = holder_sound r.parse.constructs r.tables.names text InList enter exit ns is own.spell.sound;
       }
 
   joined_some : (bs : Blocks) (b : Block) → join bs (one_block b) ≡ NoBlock → ⊥

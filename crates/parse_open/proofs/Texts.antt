@@ -13,7 +13,7 @@ module _ (tables : TextTables) (options : ParseOptions) (text : List ℕ) where
   text_meanings : (p : page.Page) → AreMeanings options.constructs tables.names (meaning_read tables options text) (meaning_spelled tables options text p)
   text_meanings p = record { on = refl; names = refl; spelled_on = refl; spelled_names = refl }
 
-  nodes_spelled : (front ns : Nodes) (line : ℕ) → IsFront tables.names text front (text_blocks options text)
+  nodes_spelled : (front ns : Nodes) (line : ℕ) → IsFront options.constructs tables.names text front (text_blocks options text)
       → Spells (reading tables options (document_targets (text_blocks options text))) text front
       (opened (group_items (bare_blocks (text_blocks options text))) [] []) (growth ns []) line
       → ends_in_blank ns ≡ ends_blank false (group_items (bare_blocks (text_blocks options text)))

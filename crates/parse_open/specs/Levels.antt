@@ -97,7 +97,7 @@ module _ (r : Reading) (text : List ℕ) (front : Nodes) where
         → AreBlocksAlike m m' (read_blocks r standing bs) (blocks_of r.tables.names text standing.top ns)
     pub defined : (m m' : Meaning) → AreMeanings r.parse.constructs r.tables.names m m'
         → AreDefinitionsAlike m m' (definitions bs) (map (definition_of r.tables.names text) (named n.Definition ns))
-    pub sound : AreSound r.tables.names text ns
+    pub sound : AreSound r.parse.constructs r.tables.names text ns
 
   -- the number of a list, by the name of its event
   abbrev pub spelled_number : Name → Nodes → Option ℕ

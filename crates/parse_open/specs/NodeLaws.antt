@@ -28,7 +28,7 @@ LevelsAlwaysGoOn = (r : Reading) (text : List ℕ) (front : Nodes) → LevelsGoO
 -- Where nothing is open after all rows of a document, the nodes spell a page that is alike to that of its blocks.
 abbrev pub PagesAreSpelled : Type 0
 PagesAreSpelled =
-    (tables : TextTables) (options : ParseOptions) (text : List ℕ) (bs : Blocks) (front ns : Nodes) (line : ℕ) → IsFront tables.names text front bs
+    (tables : TextTables) (options : ParseOptions) (text : List ℕ) (bs : Blocks) (front ns : Nodes) (line : ℕ) → IsFront options.constructs tables.names text front bs
     → Spells (reading tables options (document_targets bs)) text front (opened (group_items (bare_blocks bs)) [] []) (growth ns []) line
     → IsSpelledPage tables options text bs (page_of tables.names text ns)
 
@@ -45,5 +45,5 @@ DocumentsAreFilled =
 abbrev pub DocumentsAreSound : Type 0
 DocumentsAreSound =
     (r : Reading) (text : List ℕ) (front : Nodes) (bs : Blocks) (places : List Place) (kids : Nodes) (line : ℕ) (events : List Event) (ns : Nodes)
-    → AreSound r.tables.names text front → Spells r text front (opened bs [] places) (growth kids []) line → events ≡ events_of ns → AreNodes ns
-    → HaveChildren events → bytewise (tree events) ≡ kids → AreSound r.tables.names text ns
+    → AreSound r.parse.constructs r.tables.names text front → Spells r text front (opened bs [] places) (growth kids []) line → events ≡ events_of ns → AreNodes ns
+    → HaveChildren events → bytewise (tree events) ≡ kids → AreSound r.parse.constructs r.tables.names text ns

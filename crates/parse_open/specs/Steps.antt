@@ -61,7 +61,7 @@ module _ (r : Reading) (text : List ℕ) (front : Nodes) where
     pub defined : (m m' : Meaning) → AreMeanings r.parse.constructs r.tables.names m m'
         → AreDefinitionsAlike m m' (leaf_definitions leaf) (map (definition_of r.tables.names text) (named n.Definition (one node)))
     pub filled : IsFilled Lines Plain node
-    pub sound : IsSound r.tables.names text node
+    pub sound : IsSound r.parse.constructs r.tables.names text node
 
   -- what is written spells what is open, after one more row or a part of its nodes
   pub record LevelsGoOn : Type 0 where
@@ -92,7 +92,7 @@ module _ (r : Reading) (text : List ℕ) (front : Nodes) where
         → is_in_list o.outer ≡ is_item (InContainer c goes_on) → IsNamed (InContainer c goes_on) enter.name
         → IsOfList (InContainer c goes_on) (innermost g.outer) → (spot_of enter).index ≤ length text → IsStartName (node_name first)
         → named n.Definition (one first) ≡ [] → HasStart r text front (InContainer c goes_on) enter.name NoBlock (one first)
-        → IsFilled Lines (holder_form (InContainer c goes_on)) first → IsSound r.tables.names text first
+        → IsFilled Lines (holder_form (InContainer c goes_on)) first → IsSound r.parse.constructs r.tables.names text first
         → Spells r text front o g (line_at text (spot_of enter).index)
         → Spells r text front (within (InContainer c goes_on) o) (with_nodes (entered g enter) (one first)) line
     pub list : (o : Opened) (g : Growth) (line : ℕ) (number : Option ℕ) (enter : Event) → is_in_list o.outer ≡ false → enter.name ≡ list_name number

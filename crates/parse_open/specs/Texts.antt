@@ -22,7 +22,7 @@ text_blocks options text = blocks options.constructs (kind_before_text text) (wi
 abbrev pub TextsAreSpelled : Type 0
 TextsAreSpelled =
     (tables : TextTables) (options : ParseOptions) (text : List ℕ) (front ns : Nodes) (line : ℕ)
-    → IsFront tables.names text front (text_blocks options text)
+    → IsFront options.constructs tables.names text front (text_blocks options text)
     → Spells (reading tables options (document_targets (text_blocks options text))) text front
     (opened (group_items (bare_blocks (text_blocks options text))) [] []) (growth ns []) line
     → ends_in_blank ns ≡ ends_blank false (group_items (bare_blocks (text_blocks options text)))

@@ -33,7 +33,7 @@ module _ {A : Type 0} where
       → PassesBreakPart bytes (drop size bytes) a b
   space_part bytes size a b some le white same ends writes text left =
       let w =
-      token_void n.SpaceOrTab bytes size a b (record { no_data = refl; no_definition = refl; no_code = refl; no_math = refl }) le white same ends writes text left in
+      token_void n.SpaceOrTab bytes size a b (record { no_data = refl; no_definition = refl; no_code = refl; no_math = refl; unasked = refl }) le white same ends writes text left in
       record {
         tokens = w.tokens;
         more =
@@ -49,7 +49,7 @@ module _ {A : Type 0} where
       → PassesBreakPart bytes (drop size bytes) a b
   sequence_part bytes size a b some le may same ends writes text left =
       let w =
-      token_void n.ThematicBreakSequence bytes size a b (record { no_data = refl; no_definition = refl; no_code = refl; no_math = refl }) le may same ends writes
+      token_void n.ThematicBreakSequence bytes size a b (record { no_data = refl; no_definition = refl; no_code = refl; no_math = refl; unasked = refl }) le may same ends writes
       text left in
       let from = written_to a in
       let to = end_at ((written_to a).index + size) 0 in

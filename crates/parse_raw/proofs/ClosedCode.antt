@@ -21,8 +21,8 @@ use Rattle.event_grammar.specs.Slots.{may_end, take_child}
 use Rattle.event_meaning.specs.Blocks.{code_fenced_of, math_flow_of}
 use Rattle.parse_slots.specs.Left.{Fill, IsFilled, took}
 use Rattle.parse_slots.proofs.Steps.{fill_both, fill_taken, filled_by}
-use Rattle.parse_references.specs.Sound.{AreSound, IsSound, asked_names}
-use Rattle.parse_references.proofs.Sound.{sound_around, sound_fill}
+use Rattle.parse_references.specs.Sound.{AreSound, holding_names, is_asked_on, IsSound}
+use Rattle.parse_references.proofs.Sound.{sound_fill, sound_of_on}
 use Rattle.parse_lines.proofs.Quiet.{quiet_fill}
 use Rattle.parse_laid.specs.Leaves.{IsClosedLaid}
 use Rattle.parse_laid.specs.Places.{IsOn}
@@ -95,15 +95,16 @@ block_filled false node first others rest named kids first_is filled fill may =
     (subst (λ (ns : Nodes). Fill Lines (row n.CodeFenced Plain) ns rest) (sym kids)
     (fill_both (fill_taken Lines (row n.CodeFenced Plain) n.CodeFencedFence Plain (chunk_slots false) first first_is refl filled) fill)) may
 
--- where its fence is sound, it is: no string follows that fence
-pub block_sound : (names : Names) (text : List ℕ) (math : Bool) (node first : Node) (others : Nodes) (rest : List Slot) → node_name node ≡ block_name math
-    → kids_of node ≡ Cons first others → IsSound names text first → Fill Lines (chunk_slots math) others rest → may_end rest ≡ true → IsSound names text node
-block_sound names text true node first others rest named kids sound fill may =
-    sound_around names text node (ap (is_listed asked_names) named)
-    (subst (AreSound names text) (sym kids) (sound, sound_fill names text 2 Lines (chunk_slots true) rest others refl fill may))
-block_sound names text false node first others rest named kids sound fill may =
-    sound_around names text node (ap (is_listed asked_names) named)
-    (subst (AreSound names text) (sym kids) (sound, sound_fill names text 2 Lines (chunk_slots false) rest others refl fill may))
+-- where its construct is on, and its fence is sound, it is: no string follows that fence
+pub block_sound : (on : Constructs) (names : Names) (text : List ℕ) (math : Bool) (node first : Node) (others : Nodes) (rest : List Slot)
+    → is_asked_on on (block_name math) ≡ true → node_name node ≡ block_name math → kids_of node ≡ Cons first others → IsSound on names text first
+    → Fill Lines (chunk_slots math) others rest → may_end rest ≡ true → IsSound on names text node
+block_sound on names text true node first others rest made named kids sound fill may =
+    sound_of_on on names text node (ap (is_listed holding_names) named) (ap (is_asked_on on) named ∙ made)
+    (subst (AreSound on names text) (sym kids) (sound, sound_fill on names text 2 Lines (chunk_slots true) rest others refl fill may))
+block_sound on names text false node first others rest made named kids sound fill may =
+    sound_of_on on names text node (ap (is_listed holding_names) named) (ap (is_asked_on on) named ∙ made)
+    (subst (AreSound on names text) (sym kids) (sound, sound_fill on names text 2 Lines (chunk_slots false) rest others refl fill may))
 
 module _ (names : Names) (text : List ℕ) (top : Bool) where
   abbrev pub leaf_of : Bool → Nodes → page.PageLeaf
@@ -159,15 +160,15 @@ first_some text ls (y ∷ ys) next others old here fence st taken =
 
 module _ {A : Type 0} (r : Reading) (first : Bool) (text : List ℕ) (top : Bool) (fence_names : FenceNames) where
   closed_by : (info : List ℕ) (ls : List BlockLine) (here own : LineRest) (left : List LineRest) (to : Place) (fence : Fence) (end : LineRest) (follow after : List LineRest)
-      (old l x e d : Walk A) → StandsAt text (Within here left) (standing old) → info ≡ fence.info
+      (old l x e d : Walk A) → old.on.now ≡ r.parse.constructs → StandsAt text (Within here left) (standing old) → info ≡ fence.info
       → WritesOpened r.parse.constructs r.tables.names text fence here.beside.ending ls after fence_names old l
       → AreTaken old.on.now (around (standing old)) (IsFenceLine old.on.now fence) ls (Between left) (Between after)
       → IsOn old.on.now (around (standing old)) (Between after) (InAll end) follow → is_fence_end old.on.now fence end.rest ≡ true → to ≡ AtEnding end.beside.ending follow
       → PassesLine (standing l) (standing x) → WritesNextLine l x → HasSameOpen (standing l) (standing x) → WritesClosing fence_names x e
       → (IsInOrder text e.out → Exits text fence_names.block e.out d.out) → standing d ≡ standing e → written_to d ≡ written_to e
       → WritesLeaf r.parse.constructs r.tables.names text top (read_leaf r (record { top = top; first = first }) (FencedCode info true ls)) [] to old d
-  closed_by info ls here own left to fence end follow [] old l x e d st info_is o taken on is_end to_is passes writes kept closes exits same_d end_d = absurd on
-  closed_by info ls here own left to fence end follow (next ∷ others) old l x e d st info_is o taken on is_end to_is passes writes kept closes exits same_d end_d =
+  closed_by info ls here own left to fence end follow [] old l x e d by st info_is o taken on is_end to_is passes writes kept closes exits same_d end_d = absurd on
+  closed_by info ls here own left to fence end follow (next ∷ others) old l x e d by st info_is o taken on is_end to_is passes writes kept closes exits same_d end_d =
       let last = last_ending_or here.beside.ending ls in
       let passed = next_written text l x last next others o.lines.stands o.lines.written o.lines.writes.order passes writes in
       let on_l : l.on.now ≡ old.on.now = o.lines.around.0 ∙ o.around.0 in
@@ -186,6 +187,7 @@ module _ {A : Type 0} (r : Reading) (first : Bool) (text : List ℕ) (top : Bool
       writes_both text o.fenced.out cl.space.out e.out inner (one cl.node) inner_writes cl.writes) in
       let exited = exits cl.writes.order in
       let block = block_is fence_names o.math o.are in
+      let made = subst (λ (c : Constructs). is_asked_on c (block_name o.math) ≡ true) by o.made in
       let none : named n.Definition kids ≡ [] =
       named_append n.Definition (one o.node) (append inner (one cl.node))
       ∙ ap₂ (λ (xs ys : List Node). xs ++ ys) o.definitions (
@@ -220,16 +222,16 @@ module _ {A : Type 0} (r : Reading) (first : Bool) (text : List ℕ) (top : Bool
       subst (StandsAt text (AtEnding end.beside.ending others)) (sym same_d) cl.stands))
       (ap (λ (s : Standing). s.on) same ∙ kept.0 ∙ on_l, ap (λ (s : Standing). s.outermost) same ∙ kept.1 ∙ open_l)
       end_d (cl.written ∙ ap (λ (s : Standing). end_at s.line_end 0) (sym same_d)) o.starts o.begins
-      filled (block_sound r.tables.names text o.math node o.node (append inner (one cl.node)) [] block.0 refl o.sound others_fill refl)
+      filled (block_sound r.parse.constructs r.tables.names text o.math node o.node (append inner (one cl.node)) [] made block.0 refl o.sound others_fill refl)
 
   pub closed_written : (info : List ℕ) (ls : List BlockLine) (here : LineRest) (left : List LineRest) (to : Place) (count : ℕ) (old l x e d : Walk A) → count ≡ length ls
-      → StandsAt text (Within here left) (standing old) → IsWrittenToRest old → IsInOrder text old.out
+      → StandsAt text (Within here left) (standing old) → IsWrittenToRest old → IsInOrder text old.out → old.on.now ≡ r.parse.constructs
       → IsClosedLaid old.on.now (around (standing old)) info ls (Within here left) to
       → WritesOpening r.parse.constructs r.tables.names count fence_names old l
       → PassesLine (standing l) (standing x) → WritesNextLine l x → HasSameOpen (standing l) (standing x) → WritesClosing fence_names x e
       → (IsInOrder text e.out → Exits text fence_names.block e.out d.out) → standing d ≡ standing e → written_to d ≡ written_to e
       → WritesLeaf r.parse.constructs r.tables.names text top (read_leaf r (record { top = top; first = first }) (FencedCode info true ls)) [] to old d
-  closed_written info ls here left to count old l x e d size st at order laid opens =
+  closed_written info ls here left to count old l x e d size st at order by laid opens =
       let on = old.on.now in
       let cs = around (standing old) in
       let fence = laid.0 in
@@ -240,5 +242,5 @@ module _ {A : Type 0} (r : Reading) (first : Bool) (text : List ℕ) (top : Bool
       subst (AreTaken on cs (IsFenceLine on fence) ls (Between fenced.0)) more.1 fenced.3) in
       let starts = subst (λ (k : LineRest). (fence_start on k.rest ≡ Some fence) ⊎ (math_start on k.rest ≡ Some fence)) own fenced.2 in
       let opened = opens text fence here left more.0 ls size st at order starts taken in
-      closed_by info ls here laid.1 left to fence laid.2 laid.4 more.0 old l x e d st laid.5 opened taken
+      closed_by info ls here laid.1 left to fence laid.2 laid.4 more.0 old l x e d by st laid.5 opened taken
       (subst (λ (p : Place). IsOn on cs p (InAll laid.2) laid.4) more.1 laid.7) laid.8 laid.9

@@ -92,7 +92,7 @@ pub ending_raw : (text : List ℕ) (ending : Option LineEnding) (ns : Nodes) →
 ending_raw text None ns are = subst AreRaw (sym are) raw_none
 ending_raw text (Some ending) ns are =
     subst AreRaw (sym are.1) (
-    raw_one are.0 n.LineEnding are.2 are.3 (record { no_data = refl; no_definition = refl; no_code = refl; no_math = refl })
+    raw_one are.0 n.LineEnding are.2 are.3 (record { no_data = refl; no_definition = refl; no_code = refl; no_math = refl; unasked = refl })
     )
 
 -- and no white space

@@ -118,9 +118,9 @@ module _ (names : Names) where
       ap (λ (ms : Nodes). info_of names text (child n.CodeFencedFenceInfo ms)) is.1
       ∙ ap (info_of names text) (cond-false (same_name (node_name is.0) n.CodeFencedFenceInfo) (Some is.0) None apart)
 
-module _ {A : Type 0} (names : Names) where
+module _ {A : Type 0} (on : Constructs) (names : Names) where
   -- nothing
-  pub parts_none : (slots : List Slot) (bytes : List ℕ) (w : Walk A) → LeadsTo names None slots slots bytes bytes w w
+  pub parts_none : (slots : List Slot) (bytes : List ℕ) (w : Walk A) → LeadsTo on names None slots slots bytes bytes w w
   parts_none slots bytes w text ending left before = record {
     nodes = Nil;
     writes = writes_none text w.out before.order;
@@ -133,8 +133,8 @@ module _ {A : Type 0} (names : Names) where
   }
 
   -- parts without an info, and then others
-  pub parts_both : (info : Option (List ℕ)) (slots mid more : List Slot) (xs ys zs : List ℕ) (a b c : Walk A) → LeadsTo names None slots mid xs ys a b
-      → LeadsTo names info mid more ys zs b c → LeadsTo names info slots more xs zs a c
+  pub parts_both : (info : Option (List ℕ)) (slots mid more : List Slot) (xs ys zs : List ℕ) (a b c : Walk A) → LeadsTo on names None slots mid xs ys a b
+      → LeadsTo on names info mid more ys zs b c → LeadsTo on names info slots more xs zs a c
   parts_both info slots mid more xs ys zs a b c first second text ending left before =
       let one = first text ending left before in
       let two = second text ending left one.before in
@@ -148,12 +148,12 @@ module _ {A : Type 0} (names : Names) where
         around = (two.around.0 ∙ one.around.0, two.around.1 ∙ one.around.1);
         before = two.before;
         fill = fill_both one.fill two.fill;
-        sound = sound_both names text one.nodes two.nodes one.sound two.sound;
+        sound = sound_both on names text one.nodes two.nodes one.sound two.sound;
       }
 
   -- an info, and then parts without one
-  pub parts_after : (info : Option (List ℕ)) (slots mid more : List Slot) (xs ys zs : List ℕ) (a b c : Walk A) → LeadsTo names info slots mid xs ys a b
-      → LeadsTo names None mid more ys zs b c → LeadsTo names info slots more xs zs a c
+  pub parts_after : (info : Option (List ℕ)) (slots mid more : List Slot) (xs ys zs : List ℕ) (a b c : Walk A) → LeadsTo on names info slots mid xs ys a b
+      → LeadsTo on names None mid more ys zs b c → LeadsTo on names info slots more xs zs a c
   parts_after info slots mid more xs ys zs a b c first second text ending left before =
       let one = first text ending left before in
       let two = second text ending left one.before in
@@ -165,7 +165,7 @@ module _ {A : Type 0} (names : Names) where
         around = (two.around.0 ∙ one.around.0, two.around.1 ∙ one.around.1);
         before = two.before;
         fill = fill_both one.fill two.fill;
-        sound = sound_both names text one.nodes two.nodes one.sound two.sound;
+        sound = sound_both on names text one.nodes two.nodes one.sound two.sound;
       }
 
   -- an event that holds no other
@@ -174,7 +174,7 @@ module _ {A : Type 0} (names : Names) where
       → is_token name front ≡ true → size ≡ length front → standing b ≡ standing a
       → ((written_to a).index + size < 2 ^ 64 → written_to b ≡ end_at ((written_to a).index + size) 0)
       → ((written_to a).index + size < 2 ^ 64 → WritesUpTo name (end_at ((written_to a).index + size) 0) a b)
-      → LeadsTo names None slots more (front ++ rest) rest a b
+      → LeadsTo on names None slots more (front ++ rest) rest a b
   token_part name slots more front rest size a b fills raw other may count same ends writes text ending left before =
       let i = (end_in a.out).index in
       let at : end_in a.out ≡ end_at i 0 = ap (end_at i) before.whole in
@@ -211,14 +211,14 @@ module _ {A : Type 0} (names : Names) where
           dark = (dark_both front rest before.dark).1;
         };
         fill = fills text (end_in a.out);
-        sound = sound_void names text name (end_in a.out) to raw.no_data;
+        sound = sound_void on names text name (end_in a.out) to raw.no_data raw.unasked;
       }
 
   -- all that is left
   pub all_part : (name : Name) (slots more : List Slot) (bytes : List ℕ) (a b : Walk A) → FillsToken name (length bytes) slots more → IsRawName name
       → same_name name n.CodeFencedFenceInfo ≡ false → is_token name bytes ≡ true
       → standing b ≡ standing a → written_to b ≡ end_at a.line_end 0 → WritesUpTo name (end_at a.line_end 0) a b
-      → LeadsTo names None slots more bytes [] a b
+      → LeadsTo on names None slots more bytes [] a b
   all_part name slots more bytes a b fills raw other may same ends writes text ending left before =
       let i = (end_in a.out).index in
       let there : a.line_end ≡ i + length bytes = sym before.end in
@@ -228,12 +228,12 @@ module _ {A : Type 0} (names : Names) where
       (subst (λ (xs : List ℕ). IsBefore text ending left xs a) (sym (append-nil bytes)) before)
 
   -- a string, as the info of code or as something else
-  pub info_part : (on : Constructs) (slots more : List Slot) (string rest : List ℕ) (a b : Walk A)
+  pub info_part : (slots more : List Slot) (string rest : List ℕ) (a b : Walk A)
       → take_child slots n.CodeFencedFenceInfo ≡ Some (took Plain more)
       → ((text : List ℕ) (ending : Option LineEnding) (left : List LineRest) → IsBefore text ending left (string ++ rest) a
       → WritesPart on names text ending left n.CodeFencedFenceInfo string rest a b)
-      → LeadsTo names (info_by on names string) slots (after_string string slots more) (string ++ rest) rest a b
-  info_part on slots more string rest a b takes writes text ending left before =
+      → LeadsTo on names (info_by on names string) slots (after_string string slots more) (string ++ rest) rest a b
+  info_part slots more string rest a b takes writes text ending left before =
       let done = writes text ending left before in
       record {
         nodes = done.nodes;
@@ -246,12 +246,12 @@ module _ {A : Type 0} (names : Names) where
         sound = done.sound;
       }
 
-  pub other_part : (on : Constructs) (name : Name) (slots more : List Slot) (string rest : List ℕ) (a b : Walk A) → same_name name n.CodeFencedFenceInfo ≡ false
+  pub other_part : (name : Name) (slots more : List Slot) (string rest : List ℕ) (a b : Walk A) → same_name name n.CodeFencedFenceInfo ≡ false
       → (0 < length string → take_child slots name ≡ Some (took Plain more))
       → ((text : List ℕ) (ending : Option LineEnding) (left : List LineRest) → IsBefore text ending left (string ++ rest) a
       → WritesPart on names text ending left name string rest a b)
-      → LeadsTo names None slots (after_string string slots more) (string ++ rest) rest a b
-  other_part on name slots more string rest a b other takes writes text ending left before =
+      → LeadsTo on names None slots (after_string string slots more) (string ++ rest) rest a b
+  other_part name slots more string rest a b other takes writes text ending left before =
       let done = writes text ending left before in
       record {
         nodes = done.nodes;

@@ -9,13 +9,13 @@ use Rattle.engine_events.specs.declared.event.Name.TheVariants as n
 use Rattle.event_grammar.specs.declared.slot.Between.TheVariants.{Lines, Spaces}
 use Rattle.event_grammar.specs.declared.slot.Form.TheVariants.{Closing, Plain}
 use Rattle.event_grammar.specs.declared.slot.Slot.{Slot}
-use Rattle.event_grammar.specs.Grammar.{opt, row, string_row}
+use Rattle.event_grammar.specs.Grammar.{opt, row}
 use Rattle.event_grammar.specs.Slots.{may_end, take_child}
 use Rattle.event_tokens.specs.Tokens.{is_among}
 use Rattle.parse_slots.specs.Left.{Fill, IsFilled, took}
 use Rattle.parse_slots.proofs.Steps.{fill_none, fill_taken, filled_in_line}
 use Rattle.parse_slots.proofs.Voids.{further_apart, void_between, void_taken}
-use Rattle.parse_references.specs.Sound.{AreSound, HoldsAsked, IsSound, asked_names}
+use Rattle.parse_references.specs.Sound.{AreSound, IsSound, asked_names}
 use Rattle.parse_references.proofs.Sound.{sound_around}
 use Rattle.parse_raw.specs.FenceParts.{after_string, BeginsBare, fence_slots, info_size, info_slots, meta_slots}
 
@@ -105,21 +105,10 @@ closing_filled true node rest named fill may = filled_in_line Lines Closing n.Ma
 closing_filled false node rest named fill may = filled_in_line Lines Closing n.CodeFencedFence rest node named refl refl fill may
 
 -- where what it holds is sound, it is
-pub fence_sound : (names : Names) (text : List ℕ) (math : Bool) (node : Node) → node_name node ≡ fence_name math → AreSound names text (kids_of node)
-    → IsSound names text node
-fence_sound names text true node named sound = sound_around names text node (ap (is_listed asked_names) named) sound
-fence_sound names text false node named sound = sound_around names text node (ap (is_listed asked_names) named) sound
-
--- nothing more is asked of what holds strings alone
-pub string_holds : (names : Names) (text : List ℕ) (name : Name) (kids : Nodes) → row name Plain ≡ string_row → HoldsAsked names text name kids
-string_holds names text name kids row_is =
-    let never : (asked : Name) → may_end (row asked Plain) ≡ false → name ≡ asked → ⊥ =
-    λ asked other same. false≢true (sym other ∙ ap (λ (x : Name). may_end (row x Plain)) (sym same) ∙ ap may_end row_is) in
-    record {
-      call = λ same. absurd (never n.GfmFootnoteCall refl same);
-      reference = λ same. absurd (never n.CharacterReference refl same);
-      heading = λ same. absurd (never n.HeadingAtx refl same);
-    }
+pub fence_sound : (on : Constructs) (names : Names) (text : List ℕ) (math : Bool) (node : Node) → node_name node ≡ fence_name math → AreSound on names text (kids_of node)
+    → IsSound on names text node
+fence_sound on names text true node named sound = sound_around on names text node (ap (is_listed asked_names) named) sound
+fence_sound on names text false node named sound = sound_around on names text node (ap (is_listed asked_names) named) sound
 
 -- the sequence of a fence in its row
 pub record HasSequence (math : Bool) (name : Name) : Type 0 where

@@ -28,7 +28,8 @@ use Rattle.parse_slots.specs.Left.{Fill, IsFilled, took}
 use Rattle.parse_slots.proofs.Steps.{filled_by}
 use Rattle.parse_raw.specs.FenceParts.{after_string, BeginsBare, fence_slots, info_size, info_slots, IsPartName, meta_slots}
 use Rattle.parse_raw.proofs.FenceParts.{dark_both, info_part, other_part, parts_after, parts_both, parts_none, token_part, white_boundary, word_boundary, word_same}
-use Rattle.parse_raw.proofs.FenceRows.{info_stops, meta_takes, space_fills, string_holds}
+use Rattle.parse_raw.proofs.FenceRows.{info_stops, meta_takes, space_fills}
+use Rattle.parse_references.proofs.Sound.{asks_nothing}
 use Rattle.parse_raw.proofs.Nodes.{raw_none}
 
 in_line : (bs : List ℕ) → list_any ends_line bs ≡ false → IsInLine bs
@@ -109,7 +110,7 @@ module _ {A : Type 0} (on : Constructs) (names : Names) (text rest : List ℕ) (
           end = omega (arith, ap (λ (e : End). e.index) end_d, ends.3, line_end);
           dark = (dark_both string rest before.dark).1;
         };
-        sound = ((string_holds names text name done.nodes part.row_is, done.sound), tt);
+        sound = ((asks_nothing on names text name done.nodes raw.unasked, done.sound), tt);
       }
 
 -- ---- the info
@@ -121,17 +122,17 @@ size_boundary text false utf8 bytes = word_boundary text bytes
 meta_other : (fence : FenceNames) (math : Bool) → AreNames math fence → (same_name fence.meta n.CodeFencedFenceInfo ≡ false) × IsPartName fence.meta
 meta_other fence true are =
     subst (λ (name : Name). (same_name name n.CodeFencedFenceInfo ≡ false) × IsPartName name) (sym are.meta)
-    (refl, record { raw = record { no_data = refl; no_definition = refl; no_code = refl; no_math = refl }; row_is = refl })
+    (refl, record { raw = record { no_data = refl; no_definition = refl; no_code = refl; no_math = refl; unasked = refl }; row_is = refl })
 meta_other fence false are =
     subst (λ (name : Name). (same_name name n.CodeFencedFenceInfo ≡ false) × IsPartName name) (sym are.meta)
-    (refl, record { raw = record { no_data = refl; no_definition = refl; no_code = refl; no_math = refl }; row_is = refl })
+    (refl, record { raw = record { no_data = refl; no_definition = refl; no_code = refl; no_math = refl; unasked = refl }; row_is = refl })
 
 module _ {A : Type 0} (names : Names) (on : Constructs) (fence : FenceNames) (text tail : List ℕ) where
   -- math has none
   pub info_absent : (math : Bool) (w : Walk A) → AreNames math fence → fence.info ≡ None
       → (0 ≡ info_size math text)
-      × LeadsTo names (info_in math on names text) (fence_slots math) (info_slots math text) (text ++ tail) (drop (info_size math text) text ++ tail) w w
-  info_absent true w are none = (refl, parts_none names (fence_slots true) (text ++ tail) w)
+      × LeadsTo on names (info_in math on names text) (fence_slots math) (info_slots math text) (text ++ tail) (drop (info_size math text) text ++ tail) w w
+  info_absent true w are none = (refl, parts_none on names (fence_slots true) (text ++ tail) w)
   info_absent false w are none = let is = sym are.info ∙ none in absurd (cc)
 
   -- code has one
@@ -141,7 +142,7 @@ module _ {A : Type 0} (names : Names) (on : Constructs) (fence : FenceNames) (te
       → ((t rest : List ℕ) (ending : Option LineEnding) (left : List LineRest) → IsPartName info → IsBefore t ending left (string ++ rest) a
       → WritesPart on names t ending left info string rest a b)
       → (size ≡ info_size math text)
-      × LeadsTo names (info_in math on names text) (fence_slots math) (info_slots math text) (text ++ tail) (drop (info_size math text) text ++ tail) a b
+      × LeadsTo on names (info_in math on names text) (fence_slots math) (info_slots math text) (text ++ tail) (drop (info_size math text) text ++ tail) a b
   info_present true size string info a b are some dark bytes count cut writes = let is = sym some ∙ are.info in absurd (cc)
   info_present false size string info a b are some dark bytes count cut writes =
       let n1 = position_or_len is_white text in
@@ -156,13 +157,13 @@ module _ {A : Type 0} (names : Names) (on : Constructs) (fence : FenceNames) (te
       let named = subst (λ (name : Name). (t : List ℕ) (ending : Option LineEnding) (left : List LineRest) → IsBefore t ending left (string ++ rest) a
       → WritesPart on names t ending left name string rest a b) is_info (λ t ending left before. writes t rest ending left (
       subst IsPartName (sym is_info)
-      (record { raw = record { no_data = refl; no_definition = refl; no_code = refl; no_math = refl }; row_is = refl })) before) in
+      (record { raw = record { no_data = refl; no_definition = refl; no_code = refl; no_math = refl; unasked = refl }; row_is = refl })) before) in
       let more = opt n.CodeFencedFenceMeta ∷ [] in
-      let done = info_part names on (fence_slots false) more string rest a b refl named in (
+      let done = info_part on names (fence_slots false) more string rest a b refl named in (
         size_is,
-        subst (λ (xs : List ℕ). LeadsTo names (info_by on names (take n1 text)) (fence_slots false) (info_slots false text) xs rest a b) whole (
+        subst (λ (xs : List ℕ). LeadsTo on names (info_by on names (take n1 text)) (fence_slots false) (info_slots false text) xs rest a b) whole (
             subst (λ (xs : List ℕ).
-            LeadsTo names (info_by on names xs) (fence_slots false) (after_string xs (fence_slots false) more) (string ++ rest) rest a b)
+            LeadsTo on names (info_by on names xs) (fence_slots false) (after_string xs (fence_slots false) more) (string ++ rest) rest a b)
             string_is done
             ),
       )
@@ -171,14 +172,14 @@ module _ {A : Type 0} (names : Names) (on : Constructs) (fence : FenceNames) (te
 
   pub meta_written : (math : Bool) (size white : ℕ) (rest string : List ℕ) (a b c d : Walk A) → AreNames math fence → BeginsBare text → IsUtf8 text
       → ((k : ℕ) → get_or text k 0 < 256) → IsUtf8 rest → size ≡ info_size math text → (IsCharBoundary text size → rest ≡ drop size text)
-      → LeadsTo names (info_in math on names text) (fence_slots math) (info_slots math text) (text ++ tail) (drop (info_size math text) text ++ tail) a b
+      → LeadsTo on names (info_in math on names text) (fence_slots math) (info_slots math text) (text ++ tail) (drop (info_size math text) text ++ tail) a b
       → white ≡ indent rest → standing c ≡ standing b
       → ((written_to b).index + white < 2 ^ 64 → written_to c ≡ end_at ((written_to b).index + white) 0)
       → ((written_to b).index + white < 2 ^ 64 → WritesUpTo n.SpaceOrTab (end_at ((written_to b).index + white) 0) b c)
       → (IsCharBoundary rest white → string ≡ drop white rest)
       → ((t after : List ℕ) (ending : Option LineEnding) (left : List LineRest) → IsPartName fence.meta → IsBefore t ending left (string ++ after) c
       → WritesPart on names t ending left fence.meta string after c d)
-      → LeadsTo names (info_in math on names text) (fence_slots math) (meta_slots math text) (text ++ tail) tail a d
+      → LeadsTo on names (info_in math on names text) (fence_slots math) (meta_slots math text) (text ++ tail) tail a d
   meta_written math size white rest string a b c d are begins utf8 bytes utf8_rest size_is cut info white_is same ends token cut_rest writes =
       let k = info_size math text in
       let slots = info_slots math text in
@@ -189,18 +190,18 @@ module _ {A : Type 0} (names : Names) (on : Constructs) (fence : FenceNames) (te
       let string_is : string ≡ drop white rest = cut_rest (subst (IsCharBoundary rest) (sym white_is) (white_boundary rest utf8_rest rest_bytes)) in
       let count : white ≡ length (take white rest) =
       sym (length-take-le white rest (omega (arith, white_is, prefix_len-le-length is_white rest))) in
-      let spaces = token_part names n.SpaceOrTab slots slots (take white rest) (string ++ tail) white b c (space_fills white slots (info_stops math text).space)
-      (record { no_data = refl; no_definition = refl; no_code = refl; no_math = refl }) refl (all_prefix is_white white rest (omega (arith, white_is))) count
+      let spaces = token_part on names n.SpaceOrTab slots slots (take white rest) (string ++ tail) white b c (space_fills white slots (info_stops math text).space)
+      (record { no_data = refl; no_definition = refl; no_code = refl; no_math = refl; unasked = refl }) refl (all_prefix is_white white rest (omega (arith, white_is))) count
       same ends token in
       let joined : take white rest ++ (string ++ tail) ≡ drop k text ++ tail =
       ap (λ (xs : List ℕ). take white rest ++ (xs ++ tail)) string_is ∙ sym (append_assoc (take white rest) (drop white rest) tail)
       ∙ ap (λ (xs : List ℕ). xs ++ tail) (take-append-drop white rest ∙ rest_is) in
-      let spaces_there = subst (λ (xs : List ℕ). LeadsTo names None slots slots xs (string ++ tail) b c) joined spaces in
+      let spaces_there = subst (λ (xs : List ℕ). LeadsTo on names None slots slots xs (string ++ tail) b c) joined spaces in
       let other = meta_other fence math are in
       let string_bare : string ≡ bare (drop k text) = string_is ∙ ap (λ (i : ℕ). drop i rest) white_is ∙ ap bare rest_is in
       let takes : 0 < length string → take_child slots fence.meta ≡ Some (took Plain []) =
       λ some. meta_takes fence math text are begins (subst (λ (xs : List ℕ). 0 < length xs) string_bare some) in
-      let meta = other_part names on fence.meta slots [] string tail c d other.0 takes (λ t ending left before. writes t tail ending left other.1 before) in
-      let meta_there = subst (λ (xs : List ℕ). LeadsTo names None slots (after_string xs slots []) (string ++ tail) tail c d) string_bare meta in
-      parts_after names (info_in math on names text) (fence_slots math) slots (meta_slots math text) (text ++ tail) (drop k text ++ tail) tail a b d info
-      (parts_both names None slots slots (meta_slots math text) (drop k text ++ tail) (string ++ tail) tail b c d spaces_there meta_there)
+      let meta = other_part on names fence.meta slots [] string tail c d other.0 takes (λ t ending left before. writes t tail ending left other.1 before) in
+      let meta_there = subst (λ (xs : List ℕ). LeadsTo on names None slots (after_string xs slots []) (string ++ tail) tail c d) string_bare meta in
+      parts_after on names (info_in math on names text) (fence_slots math) slots (meta_slots math text) (text ++ tail) (drop k text ++ tail) tail a b d info
+      (parts_both on names None slots slots (meta_slots math text) (drop k text ++ tail) (string ++ tail) tail b c d spaces_there meta_there)

@@ -15,6 +15,8 @@ use Rattle.definition_page.specs.Page as page
 use Rattle.event_meaning.specs.Blocks.{fenced_of}
 use Rattle.parse_output.proofs.Forests.{append-nil}
 use Rattle.parse_alike.specs.BlockLines.{has_lines}
+use Rattle.parse_references.specs.Sound.{is_asked_on}
+use Rattle.parse_raw.specs.FenceParts.{block_name}
 use Rattle.parse_raw.proofs.Nodes.{before_append, before_none, child_append}
 
 -- ---- the page's leaf
@@ -80,12 +82,13 @@ math_string on names = string_by on names on.character_escape on.character_refer
 
 -- ---- what is known of a fence
 
-pub record FenceFacts (rest : Rest) (fence : Fence) : Type 0 where
+pub record FenceFacts (on : Constructs) (rest : Rest) (fence : Fence) : Type 0 where
   pub byte : ℕ
   pub ascii : byte < 128
   pub first : get_or (bytes_of (bare rest)) 0 0 ≡ byte
   pub indent : fence.indent ≡ indent rest
   pub mark : is_among (fence_marks (eqb byte 36)) byte ≡ true
+  pub made : is_asked_on on (block_name (eqb byte 36)) ≡ true
   pub own : fence.byte ≡ byte
   pub some : 0 < fence.run
   pub info : cond (eqb byte 36) (fence.info ≡ math_info) (fence.info ≡ first_word (after_run byte (bytes_of (bare rest))))
@@ -93,8 +96,9 @@ pub record FenceFacts (rest : Rest) (fence : Fence) : Type 0 where
 first_by : (byte : ℕ) (bytes : List ℕ) → 0 < run byte bytes → get_or bytes 0 0 ≡ byte
 first_by byte bytes some = eqb-true (get_or bytes 0 0) byte (prefix_len_passes (λ (b : ℕ). eqb b byte) bytes 0 0 some)
 
-code_by : (columns : ℕ) (rest : Rest) (fence : Fence) → columns ≡ indent rest → fence_of columns (bytes_of (bare rest)) ≡ Some fence → FenceFacts rest fence
-code_by columns rest fence at is =
+code_by : (on : Constructs) (columns : ℕ) (rest : Rest) (fence : Fence) → on.code_fenced ≡ true → columns ≡ indent rest
+    → fence_of columns (bytes_of (bare rest)) ≡ Some fence → FenceFacts on rest fence
+code_by on columns rest fence made at is =
     let bytes = bytes_of (bare rest) in
     let backticks = leb 3 (run 96 bytes) && list_all (λ (b : ℕ). not (eqb b 96)) (after_run 96 bytes) in
     elim (cases_Bool backticks) [
@@ -108,6 +112,7 @@ code_by columns rest fence at is =
             first = first_by 96 bytes (omega (arith, some));
             indent = ap (λ (f : Fence). f.indent) same ∙ at;
             mark = refl;
+            made = made;
             own = ap (λ (f : Fence). f.byte) same;
             some = omega (arith, some, ap (λ (f : Fence). f.run) same);
             info = ap (λ (f : Fence). f.info) same;
@@ -125,6 +130,7 @@ code_by columns rest fence at is =
                   first = first_by 126 bytes (omega (arith, some));
                   indent = ap (λ (f : Fence). f.indent) same ∙ at;
                   mark = refl;
+                  made = made;
                   own = ap (λ (f : Fence). f.byte) same;
                   some = omega (arith, some, ap (λ (f : Fence). f.run) same);
                   info = ap (λ (f : Fence). f.info) same;
@@ -133,8 +139,9 @@ code_by columns rest fence at is =
           ]
     ]
 
-math_by : (columns : ℕ) (rest : Rest) (fence : Fence) → columns ≡ indent rest → math_fence_of columns (bytes_of (bare rest)) ≡ Some fence → FenceFacts rest fence
-math_by columns rest fence at is =
+math_by : (on : Constructs) (columns : ℕ) (rest : Rest) (fence : Fence) → on.math_flow ≡ true → columns ≡ indent rest
+    → math_fence_of columns (bytes_of (bare rest)) ≡ Some fence → FenceFacts on rest fence
+math_by on columns rest fence made at is =
     let bytes = bytes_of (bare rest) in
     let dollars = leb 2 (run 36 bytes) && list_all (λ (b : ℕ). not (eqb b 36)) (after_run 36 bytes) in
     let own : Fence = record { byte = 36; run = run 36 bytes; indent = columns; info = math_info } in
@@ -149,6 +156,7 @@ math_by columns rest fence at is =
             first = first_by 36 bytes (omega (arith, some));
             indent = ap (λ (f : Fence). f.indent) same ∙ at;
             mark = refl;
+            made = made;
             own = ap (λ (f : Fence). f.byte) same;
             some = omega (arith, some, ap (λ (f : Fence). f.run) same);
             info = ap (λ (f : Fence). f.info) same;
@@ -156,16 +164,16 @@ math_by columns rest fence at is =
       | inr h ↦ let none : None ≡ Some fence = sym (cond-false dollars _ _ h) ∙ is in absurd (cc)
     ]
 
-pub fence_facts : (on : Constructs) (rest : Rest) (fence : Fence) → (fence_start on rest ≡ Some fence) ⊎ (math_start on rest ≡ Some fence) → FenceFacts rest fence
+pub fence_facts : (on : Constructs) (rest : Rest) (fence : Fence) → (fence_start on rest ≡ Some fence) ⊎ (math_start on rest ≡ Some fence) → FenceFacts on rest fence
 fence_facts on rest fence (inl is) =
     let may = on.code_fenced && small_indent on rest in
     elim (cases_Bool may) [
-      | inl h ↦ code_by (indent rest) rest fence refl (sym (cond-true may _ _ h) ∙ is)
+      | inl h ↦ code_by on (indent rest) rest fence (and_parts on.code_fenced (small_indent on rest) h).0 refl (sym (cond-true may _ _ h) ∙ is)
       | inr h ↦ let none : None ≡ Some fence = sym (cond-false may _ _ h) ∙ is in absurd (cc)
     ]
 fence_facts on rest fence (inr is) =
     let may = on.math_flow && small_indent on rest in
     elim (cases_Bool may) [
-      | inl h ↦ math_by (indent rest) rest fence refl (sym (cond-true may _ _ h) ∙ is)
+      | inl h ↦ math_by on (indent rest) rest fence (and_parts on.math_flow (small_indent on rest) h).0 refl (sym (cond-true may _ _ h) ∙ is)
       | inr h ↦ let none : None ≡ Some fence = sym (cond-false may _ _ h) ∙ is in absurd (cc)
     ]

@@ -105,6 +105,7 @@ module _ {A : Type 0} (on : Constructs) (names : Names) (fence_names : FenceName
         starts = white.starts;
         begins = white.begins;
         mark = ap (is_among (fence_marks math)) facts.own ∙ facts.mark;
+        made = facts.made;
         some = facts.some;
         filled = opened.filled;
         sound = opened.sound;

@@ -56,7 +56,7 @@ module _ {A : Type 0} where
       → LeadsFilled slots slots bytes [] a b
   white_filled slots bytes a b may same ends writes takes text left =
       let w =
-      all_void n.SpaceOrTab bytes a b (record { no_data = refl; no_definition = refl; no_code = refl; no_math = refl }) may same ends writes text left in
+      all_void n.SpaceOrTab bytes a b (record { no_data = refl; no_definition = refl; no_code = refl; no_math = refl; unasked = refl }) may same ends writes text left in
       record {
         tokens = w.tokens;
         fill =

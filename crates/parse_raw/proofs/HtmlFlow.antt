@@ -82,7 +82,7 @@ module _ {A : Type 0} (text : List ℕ) where
         ap (λ (s : Standing). s.outermost) same_d ∙ all.around.1 ∙ ap (λ (s : Standing). s.outermost) same_b,
       )
       end_d (all.written ∙ ap (λ (k : ℕ). end_at k 0) (sym line_end)) (omega arith) (rest_within text old here left st at)
-      filled (sound_filled names text 2 Lines Plain n.HtmlFlow node refl refl filled)
+      filled (sound_filled on names text 2 Lines Plain n.HtmlFlow node refl refl filled)
 
   pub html_written : (on : Constructs) (names : Names) (top : Bool) (ls : List BlockLine) (count more : ℕ) (here : LineRest) (left : List LineRest) (to : Place)
       (old b c e d : Walk A) → count ≡ length ls → more ≡ count - 1 → StandsAt text (Within here left) (standing old) → IsWrittenToRest old

@@ -43,7 +43,7 @@ line_in_text text s line =
 pub spelled : (text : List ℕ) (on : Constructs) (names : Names) (top : Bool) (leaf : page.PageLeaf) (name : Name) (kids : Nodes) (from to : End)
     → is_listed block_names name ≡ true → same_name name n.Definition ≡ false → named n.Definition kids ≡ []
     → ((m m' : Meaning) → AreBlocksAlike m m' (one_block (page.Leaf leaf)) (blocks_of names text top (one (Around (enter_at text name from) kids (exit_at text name to)))))
-    → IsSound names text (Around (enter_at text name from) kids (exit_at text name to))
+    → IsSound on names text (Around (enter_at text name from) kids (exit_at text name to))
     → SpellsLeaf on names text top leaf [] (Around (enter_at text name from) kids (exit_at text name to))
 spelled text on names top leaf name kids from to block other none alike sound =
     let node = Around (enter_at text name from) kids (exit_at text name to) in
@@ -118,7 +118,7 @@ module _ {A : Type 0} (text : List ℕ) where
       → StandsAt text to (standing d) → HasSameOpen (standing old) (standing d) → written_to d ≡ written_to c → written_to c ≡ end_at d.line_end 0
       → (written_to old).index ≤ (written_to a).index → (written_to a).index ≤ old.line_end
       → IsFilled Lines Plain (Around (enter_at text name (end_in a.out)) kids (exit_at text name (end_in c.out)))
-      → IsSound names text (Around (enter_at text name (end_in a.out)) kids (exit_at text name (end_in c.out)))
+      → IsSound on names text (Around (enter_at text name (end_in a.out)) kids (exit_at text name (end_in c.out)))
       → WritesLeaf on names text top leaf [] to old d
   leaf_written on names top leaf to old a b c d name kids quiet enters writes exits block other no_data none alike stands kept same at starts begins filled sound =
       let node = Around (enter_at text name (end_in a.out)) kids (exit_at text name (end_in c.out)) in

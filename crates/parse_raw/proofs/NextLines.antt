@@ -165,7 +165,7 @@ module _ {A : Type 0} (text : List ℕ) where
       record {
         nodes = append first done.0;
         writes = done.1;
-        raw = raw_append first done.0 (raw_void text n.LineEnding (written_to a) to (record { no_data = refl; no_definition = refl; no_code = refl; no_math = refl }))
+        raw = raw_append first done.0 (raw_void text n.LineEnding (written_to a) to (record { no_data = refl; no_definition = refl; no_code = refl; no_math = refl; unasked = refl }))
             (raw_quiet done.0 done.2);
         parts =
             raw_parts_append text first done.0 ∙ ap₂ (λ (ps qs : List RawPart). ps ++ qs) parts (quiet_parts text done.0 done.2)

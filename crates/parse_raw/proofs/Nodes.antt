@@ -4,10 +4,13 @@ use Rattle.parse_raw.proofs.Prelude.{after_child, append, AreRaw, Around, before
 use Rattle.parse_raw.proofs.Prelude.{enter_at, exit_at, kids_of, Name, named, Nil, Node, node_name, Nodes, one, raw_part, raw_parts, RawPart, same_end}
 use Rattle.parse_raw.proofs.Prelude.{same_name, void_nodes}
 use Rattle.engine_events.specs.declared.event.Name.TheVariants as n
+use Rattle.markdown_options.specs.declared.configuration.Constructs.{Constructs}
+use Rattle.engine_events.specs.Names.{is_listed}
 use Rattle.definition_inline.specs.CharacterReference.{Names}
 use Rattle.event_grammar.specs.References.{named_in}
 use Rattle.parse_lines.specs.Quiet.{AreOfPrefix, AreQuiet, IsQuiet}
-use Rattle.parse_references.specs.Sound.{AreSound}
+use Rattle.parse_references.specs.Sound.{AreSound, asked_names}
+use Rattle.parse_references.proofs.Sound.{asks_nothing}
 pub use Rattle.parse_raw.specs.RawLines.{IsRawName}
 
 -- ---- one after another
@@ -89,11 +92,11 @@ raw_void text name from to is =
     })
 
 -- nothing more is asked of it
-pub sound_void : (names : Names) (text : List ℕ) (name : Name) (from to : End) → same_name name n.Data ≡ false
-    → AreSound names text (void_nodes text name from to)
-sound_void names text name from to other =
-    void_cases (AreSound names text) text name from to other (λ h. tt)
-    (λ h. ((record { call = λ same. tt; reference = λ same. tt; heading = λ same. tt }, tt), tt))
+pub sound_void : (on : Constructs) (names : Names) (text : List ℕ) (name : Name) (from to : End) → same_name name n.Data ≡ false
+    → is_listed asked_names name ≡ false → AreSound on names text (void_nodes text name from to)
+sound_void on names text name from to other unasked =
+    void_cases (AreSound on names text) text name from to other (λ h. tt)
+    (λ h. ((asks_nothing on names text name Nil unasked, tt), tt))
 
 void_definition : (node : Node) (name : Name) → node_name node ≡ name → kids_of node ≡ Nil → same_name name n.Definition ≡ false → named_in n.Definition node ≡ []
 void_definition (Around enter kids exit) name is none other =

@@ -3,7 +3,7 @@ use Rattle.std.proofs.Common.{◌≡◌, ◌⊎◌, ℕ, ◌<◌, Bool, true, fa
 use Rattle.parse_raw.proofs.Prelude.{AreFencedAlike, AreRaw, AreTaken, around, at_ending, AtEnding, Between, BlockLine, child, chunk_name, code_parts}
 use Rattle.parse_raw.proofs.Prelude.{Around, cond-true, Cons, end_at, end_in, end_part, EndPart, ends_in, enter_at, exit_at, Exits, Fence, fence_name}
 use Rattle.parse_raw.proofs.Prelude.{fence_start, fenced_lines, FencedCode, FenceNames, HasSameOpen, info_of, inside_of, IsFenceLine, IsInOrder}
-use Rattle.parse_raw.proofs.Prelude.{IsWrittenToRest, kids_in, kids_of}
+use Rattle.parse_raw.proofs.Prelude.{Constructs, IsWrittenToRest, kids_in, kids_of}
 use Rattle.parse_raw.proofs.Prelude.{last_ending_or, line_left, LineEnding, LineRest, math_info, math_start, Name, named, Names, Node, node_name, Nodes, one}
 use Rattle.parse_raw.proofs.Prelude.{own_lines, parts_after, Place, raw_lines_are_alike, raw_parts, RawPart, read_leaf, Reading, same_name, Standing, standing}
 use Rattle.parse_raw.proofs.Prelude.{StandsAt, Walk, Within, writes_both, WritesLeaf, WritesOpened, WritesOpening, written_to}
@@ -11,6 +11,8 @@ use Rattle.engine_events.specs.declared.event.Name.TheVariants as n
 use Rattle.definition_text.specs.BlockLines.{block_line}
 use Rattle.definition_page.specs.Page as page
 use Rattle.parse_laid.specs.Leaves.{IsUnclosedLaid}
+use Rattle.parse_references.specs.Sound.{is_asked_on}
+use Rattle.parse_raw.specs.FenceParts.{block_name}
 use Rattle.parse_raw.proofs.ClosedCode.{block_alike, block_filled, block_is, block_row, block_sound, chunk_slots, ending_some, found_of, info_found, leaf_of}
 use Rattle.parse_raw.proofs.ClosingFence.{chunk_same}
 use Rattle.parse_raw.proofs.FencedCode.{open_leaf}
@@ -74,16 +76,17 @@ pub record BeginsCode {A : Type 0} (r : Reading) (text info : List ℕ) (ls : Li
   pub after : List LineRest
   pub info_is : info ≡ fence.info
   pub opened : WritesOpened r.parse.constructs r.tables.names text fence here.beside.ending ls after fence_names old new
+  pub made : is_asked_on r.parse.constructs (block_name opened.math) ≡ true
   pub some : 0 < length ls → (own : LineEnding) × (here.beside.ending ≡ Some own)
   pub last : to ≡ AtEnding (last_ending_or here.beside.ending ls) after
   pub kept : HasSameOpen (standing old) (standing new)
 
 pub begins_code : {A : Type 0} (r : Reading) (text info : List ℕ) (ls : List BlockLine) (here : LineRest) (left : List LineRest) (to : Place)
     (fence_names : FenceNames) (count : ℕ) (old l : Walk A) → count ≡ length ls
-    → StandsAt text (Within here left) (standing old) → IsWrittenToRest old → IsInOrder text old.out
+    → StandsAt text (Within here left) (standing old) → IsWrittenToRest old → IsInOrder text old.out → old.on.now ≡ r.parse.constructs
     → IsUnclosedLaid old.on.now (around (standing old)) info ls (Within here left) to
     → WritesOpening r.parse.constructs r.tables.names count fence_names old l → BeginsCode r text info ls here to fence_names old l
-begins_code r text info ls here left to fence_names count old l size st at order laid opens =
+begins_code r text info ls here left to fence_names count old l size st at order by laid opens =
     let on = old.on.now in
     let cs = around (standing old) in
     let fence = laid.0 in
@@ -97,6 +100,7 @@ begins_code r text info ls here left to fence_names count old l size st at order
       after = laid.2;
       info_is = laid.3;
       opened = o;
+      made = subst (λ (c : Constructs). is_asked_on c (block_name o.math) ≡ true) by o.made;
       some = fence_end text ls left laid.2 old here fence st taken;
       last = laid.5 ∙ ap (λ (k : LineRest). AtEnding (last_ending_or k.beside.ending ls) laid.2) own;
       kept = (o.lines.around.0 ∙ o.around.0, o.lines.around.1 ∙ o.around.1);
@@ -132,4 +136,4 @@ module _ {A : Type 0} (r : Reading) (first : Bool) (text : List ℕ) (fence_name
       subst (StandsAt text (AtEnding (last_ending_or here.beside.ending ls) begins.after)) (sym same_d) o.lines.stands))
       (ap (λ (s : Standing). s.on) same_d ∙ begins.kept.0, ap (λ (s : Standing). s.outermost) same_d ∙ begins.kept.1)
       end_d (o.lines.written ∙ ap (λ (s : Standing). end_at s.line_end 0) (sym same_d)) o.starts o.begins
-      filled (block_sound r.tables.names text o.math node o.node o.lines.nodes (chunk_slots o.math) block.0 refl o.sound lines_fill has.ends)
+      filled (block_sound r.parse.constructs r.tables.names text o.math node o.node o.lines.nodes (chunk_slots o.math) begins.made block.0 refl o.sound lines_fill has.ends)

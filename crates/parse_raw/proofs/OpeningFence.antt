@@ -19,8 +19,8 @@ use Rattle.parse_raw.proofs.FenceParts.{all_part, dark_both, parts_after, parts_
 use Rattle.parse_raw.proofs.FenceRows.{fence_filled, fence_sound, fence_stops, mark_some, meta_stops, sequence_fills, sequence_row, space_fills, trim_begins}
 
 pub sequence_other : (fence : FenceNames) (math : Bool) → AreNames math fence → (same_name fence.sequence n.CodeFencedFenceInfo ≡ false) × IsRawName fence.sequence
-sequence_other fence true are = subst (λ (name : Name). (same_name name n.CodeFencedFenceInfo ≡ false) × IsRawName name) (sym are.sequence) (refl, record { no_data = refl; no_definition = refl; no_code = refl; no_math = refl })
-sequence_other fence false are = subst (λ (name : Name). (same_name name n.CodeFencedFenceInfo ≡ false) × IsRawName name) (sym are.sequence) (refl, record { no_data = refl; no_definition = refl; no_code = refl; no_math = refl })
+sequence_other fence true are = subst (λ (name : Name). (same_name name n.CodeFencedFenceInfo ≡ false) × IsRawName name) (sym are.sequence) (refl, record { no_data = refl; no_definition = refl; no_code = refl; no_math = refl; unasked = refl })
+sequence_other fence false are = subst (λ (name : Name). (same_name name n.CodeFencedFenceInfo ≡ false) × IsRawName name) (sym are.sequence) (refl, record { no_data = refl; no_definition = refl; no_code = refl; no_math = refl; unasked = refl })
 
 pub fence_is : (fence : FenceNames) (math : Bool) → AreNames math fence
     → (fence.fence ≡ fence_name math) × (same_name fence.fence n.Data ≡ false) × (same_name fence.fence n.Definition ≡ false)
@@ -54,7 +54,7 @@ module _ {A : Type 0} (on : Constructs) (names : Names) (fence : FenceNames) (ma
       → ((written_to c).index + white < 2 ^ 64 → WritesUpTo n.SpaceOrTab (end_at ((written_to c).index + white) 0) c d)
       → trimmed ≡ trim rest
       → ((math : Bool) (tail : List ℕ) → AreNames math fence → list_any ends_line trimmed ≡ false → BeginsBare trimmed
-      → LeadsTo names (info_in math on names trimmed) (fence_slots math) (meta_slots math trimmed) (trimmed ++ tail) tail d e)
+      → LeadsTo on names (info_in math on names trimmed) (fence_slots math) (meta_slots math trimmed) (trimmed ++ tail) tail d e)
       → standing f ≡ standing e → written_to f ≡ end_at e.line_end 0 → WritesUpTo n.SpaceOrTab (end_at e.line_end 0) e f
       → (IsInOrder text f.out → Exits text fence.fence f.out g.out) → standing g ≡ standing f → written_to g ≡ written_to f
       → WritesFenceOf on names math byte bare text ending left a g
@@ -74,8 +74,8 @@ module _ {A : Type 0} (on : Constructs) (names : Names) (fence : FenceNames) (ma
       let last_slots = meta_slots math trimmed in
       let has = sequence_row fence math are in
       let some : 0 < size = omega (arith, size_is, run_some bare byte (mark_some math byte bare mark marked) (sym marked)) in
-      let first = subst (λ (xs : List ℕ). LeadsTo names None own slots xs rest b c) bare_is (
-      token_part names fence.sequence own slots (take size bare) rest size b c
+      let first = subst (λ (xs : List ℕ). LeadsTo on names None own slots xs rest b c) bare_is (
+      token_part on names fence.sequence own slots (take size bare) rest size b c
       (sequence_fills fence.sequence size own slots some seq.1.no_data has.opening has.void) seq.1 seq.0 sequence count same_c end_c token_c
       ) in
       let parts = trim_parts rest in
@@ -84,21 +84,21 @@ module _ {A : Type 0} (on : Constructs) (names : Names) (fence : FenceNames) (ma
       ap (λ (k : ℕ). take k rest ++ (trimmed ++ tail)) white_is ∙ ap (λ (xs : List ℕ). take (indent rest) rest ++ (xs ++ tail)) trim_is ∙ sym parts.1 in
       let white_count : white ≡ length (take white rest) =
       sym (length-take-le white rest (omega (arith, white_is, prefix_len-le-length is_white rest))) in
-      let second = subst (λ (xs : List ℕ). LeadsTo names None slots slots xs (trimmed ++ tail) c d) rest_parts (
-      token_part names n.SpaceOrTab slots slots (take white rest) (trimmed ++ tail) white c d (space_fills white slots (fence_stops math).space)
-      (record { no_data = refl; no_definition = refl; no_code = refl; no_math = refl }) refl
+      let second = subst (λ (xs : List ℕ). LeadsTo on names None slots slots xs (trimmed ++ tail) c d) rest_parts (
+      token_part on names n.SpaceOrTab slots slots (take white rest) (trimmed ++ tail) white c d (space_fills white slots (fence_stops math).space)
+      (record { no_data = refl; no_definition = refl; no_code = refl; no_math = refl; unasked = refl }) refl
       (all_prefix is_white white rest (omega (arith, white_is))) white_count
       same_d end_d token_d
       ) in
       let dark_rest = (dark_both (take size bare) rest (ap (list_any ends_line) bare_is ∙ before.dark)).1 in
       let dark_trim = (dark_both trimmed tail (dark_both (take white rest) (trimmed ++ tail) (ap (list_any ends_line) rest_parts ∙ dark_rest)).1).0 in
       let third = info math tail are dark_trim (subst BeginsBare (sym trim_is) (trim_begins rest)) in
-      let last = all_part names n.SpaceOrTab last_slots last_slots tail e f (space_fills (length tail) last_slots (meta_stops math trimmed).space)
-      (record { no_data = refl; no_definition = refl; no_code = refl; no_math = refl }) refl parts.2 same_f end_f all_f in
+      let last = all_part on names n.SpaceOrTab last_slots last_slots tail e f (space_fills (length tail) last_slots (meta_stops math trimmed).space)
+      (record { no_data = refl; no_definition = refl; no_code = refl; no_math = refl; unasked = refl }) refl parts.2 same_f end_f all_f in
       let found = info_in math on names trimmed in
-      let all = parts_both names found own slots last_slots bare rest [] b c f first (
-      parts_both names found slots slots last_slots rest (trimmed ++ tail) [] c d f second
-      (parts_after names found slots last_slots last_slots (trimmed ++ tail) tail [] d e f third last)) in
+      let all = parts_both on names found own slots last_slots bare rest [] b c f first (
+      parts_both on names found slots slots last_slots rest (trimmed ++ tail) [] c d f second
+      (parts_after on names found slots last_slots last_slots (trimmed ++ tail) tail [] d e f third last)) in
       let done = all text ending left before_b in
       let exited = exits done.writes.order in
       let is = fence_is fence math are in
@@ -118,5 +118,5 @@ module _ {A : Type 0} (on : Constructs) (names : Names) (fence : FenceNames) (ma
         );
         before = before_entered text ending left [] f g done.before exited.order same_g end_g;
         filled = fence_filled math node last_slots is.0 done.fill (meta_stops math trimmed).ends;
-        sound = fence_sound names text math node is.0 done.sound;
+        sound = fence_sound on names text math node is.0 done.sound;
       }

@@ -162,10 +162,10 @@ module _ (text before content after : List ℕ) (line_end m : ℕ) (line : IsLin
   pub chunk_nodes : (name : Name) → IsChunkName name
       → (raw_parts text (void_nodes text name (rest_start line_end left) (end_at line_end 0)) ≡ chunk_parts name (block_codes left))
       × AreRaw (void_nodes text name (rest_start line_end left) (end_at line_end 0))
-  chunk_nodes name (inl is) = subst (λ (x : Name). HasParts x) (sym is) (code_by n.CodeFlowChunk refl (λ node. refl), raw_by n.CodeFlowChunk (record { no_data = refl; no_definition = refl; no_code = refl; no_math = refl }))
-  chunk_nodes name (inr (inl is)) = subst (λ (x : Name). HasParts x) (sym is) (code_by n.MathFlowChunk refl (λ node. refl), raw_by n.MathFlowChunk (record { no_data = refl; no_definition = refl; no_code = refl; no_math = refl }))
-  chunk_nodes name (inr (inr (inl is))) = subst (λ (x : Name). HasParts x) (sym is) (html_by, raw_by n.HtmlFlowData (record { no_data = refl; no_definition = refl; no_code = refl; no_math = refl }))
-  chunk_nodes name (inr (inr (inr is))) = subst (λ (x : Name). HasParts x) (sym is) (front_by, raw_by n.FrontmatterChunk (record { no_data = refl; no_definition = refl; no_code = refl; no_math = refl }))
+  chunk_nodes name (inl is) = subst (λ (x : Name). HasParts x) (sym is) (code_by n.CodeFlowChunk refl (λ node. refl), raw_by n.CodeFlowChunk (record { no_data = refl; no_definition = refl; no_code = refl; no_math = refl; unasked = refl }))
+  chunk_nodes name (inr (inl is)) = subst (λ (x : Name). HasParts x) (sym is) (code_by n.MathFlowChunk refl (λ node. refl), raw_by n.MathFlowChunk (record { no_data = refl; no_definition = refl; no_code = refl; no_math = refl; unasked = refl }))
+  chunk_nodes name (inr (inr (inl is))) = subst (λ (x : Name). HasParts x) (sym is) (html_by, raw_by n.HtmlFlowData (record { no_data = refl; no_definition = refl; no_code = refl; no_math = refl; unasked = refl }))
+  chunk_nodes name (inr (inr (inr is))) = subst (λ (x : Name). HasParts x) (sym is) (front_by, raw_by n.FrontmatterChunk (record { no_data = refl; no_definition = refl; no_code = refl; no_math = refl; unasked = refl }))
 
 -- ---- in a row of the grammar
 
@@ -183,7 +183,7 @@ chunk_void name (inr (inr (inr is))) = subst IsChunk (sym is) (refl, refl)
 -- white space, up to a rest further on
 space_raw : (text : List ℕ) (from to : End) → AreRaw (void_nodes text n.SpaceOrTab from to) × (raw_parts text (void_nodes text n.SpaceOrTab from to) ≡ [])
 space_raw text from to = (
-  raw_void text n.SpaceOrTab from to (record { no_data = refl; no_definition = refl; no_code = refl; no_math = refl }),
+  raw_void text n.SpaceOrTab from to (record { no_data = refl; no_definition = refl; no_code = refl; no_math = refl; unasked = refl }),
   void_cases (λ (ns : Nodes). raw_parts text ns ≡ []) text n.SpaceOrTab from to refl (λ h. refl) (λ h. refl),
 )
 

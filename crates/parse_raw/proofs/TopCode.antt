@@ -107,7 +107,7 @@ module _ {A : Type 0} (r : Reading) (first : Bool) (text : List ℕ) (fence_name
             (λ m m'. block_alike r.tables.names text true m m' o.math fence_names.block kids (end_in o.space.out) (end_in e.out) leaf
             (page.FencedCode found false lines) block.0 (open_is r.tables.names text true o.math o.node inner o.named_so raw)
             (info_found r text true o.math info begins.fence o.node begins.info_is o.info, refl, alike.0, alike.1))
-            (block_sound r.tables.names text o.math node o.node inner slots block.0 refl o.sound inner_fill has.ends);
+            (block_sound r.parse.constructs r.tables.names text o.math node o.node inner slots begins.made block.0 refl o.sound inner_fill has.ends);
         writes = writes_both text old.out o.space.out d.out o.quiet.nodes (one node) o.quiet.writes writes_node;
         ending = last;
         left = begins.after;
@@ -132,23 +132,23 @@ module _ {A : Type 0} (r : Reading) (first : Bool) (info : List ℕ) (ls : List 
       → HasSameOpen (standing l) (standing e) → ((text : List ℕ) → IsInOrder text e.out → Exits text fence_names.block e.out d.out)
       → standing d ≡ standing e → written_to d ≡ written_to e → WritesReadUnclosed r first (FencedCode info false ls) old d
   outside_read e d outermost ends writes kept exits same_d end_d = (
-    λ some text here left to st at order laid.
-        let begins = begins_code r text info ls here left to fence_names count old l size st at order laid opens in
+    λ some text here left to st at order by laid.
+        let begins = begins_code r text info ls here left to fence_names count old l size st at order by laid opens in
         let none : length (standing old).outermost ≡ 0 = ap length (sym begins.kept.1 ∙ outermost) in
         absurd (omega (arith, some, none)),
-    λ top text here left to st at order laid.
+    λ top text here left to st at order by laid.
         outside_written r first text fence_names info ls here to old l e d
-        (begins_code r text info ls here left to fence_names count old l size st at order laid opens) top ends writes kept (exits text) same_d end_d,
+        (begins_code r text info ls here left to fence_names count old l size st at order by laid opens) top ends writes kept (exits text) same_d end_d,
   )
 
   pub inside_read : (d : Walk A) → 0 < length (standing l).outermost → ((text : List ℕ) → IsInOrder text l.out → Exits text fence_names.block l.out d.out)
       → standing d ≡ standing l → written_to d ≡ written_to l → WritesReadUnclosed r first (FencedCode info false ls) old d
   inside_read d some exits same_d end_d = (
-    λ own text here left to st at order laid.
+    λ own text here left to st at order by laid.
         inside_written r first text fence_names info ls here to old l d
-        (begins_code r text info ls here left to fence_names count old l size st at order laid opens) (exits text) same_d end_d,
-    λ top text here left to st at order laid.
-        let begins = begins_code r text info ls here left to fence_names count old l size st at order laid opens in
+        (begins_code r text info ls here left to fence_names count old l size st at order by laid opens) (exits text) same_d end_d,
+    λ top text here left to st at order by laid.
+        let begins = begins_code r text info ls here left to fence_names count old l size st at order by laid opens in
         let none : length (standing l).outermost ≡ 0 = ap length (begins.kept.1 ∙ top) in
         absurd (omega (arith, some, none)),
   )

@@ -39,7 +39,7 @@ use Rattle.parse_raw.specs.declared.fence_names.FenceNames.{FenceNames}
 use Rattle.parse_raw.specs.Bytes.{AreClosing, fence_marks}
 use Rattle.parse_raw.specs.RawLines.{AreRaw, IsRawName, WritesLines}
 use Rattle.parse_slots.specs.Left.{Fill, IsFilled}
-use Rattle.parse_references.specs.Sound.{AreSound, IsSound}
+use Rattle.parse_references.specs.Sound.{AreSound, is_asked_on, IsSound}
 
 -- ---- names
 
@@ -69,8 +69,8 @@ info_by on names [] = None
 info_by on names (b ∷ bs) = Some (string_text on names (b ∷ bs))
 
 -- Parts of a fence are written up to these bytes, with this info among them. They lead its row from slots to others.
-pub record WritesParts {A : Type 0} (names : Names) (text : List ℕ) (ending : Option LineEnding) (left : List LineRest) (info : Option (List ℕ))
-    (slots more : List Slot) (bytes : List ℕ) (old new : Walk A) : Type 0 where
+pub record WritesParts {A : Type 0} (on : Constructs) (names : Names) (text : List ℕ) (ending : Option LineEnding) (left : List LineRest)
+    (info : Option (List ℕ)) (slots more : List Slot) (bytes : List ℕ) (old new : Walk A) : Type 0 where
   pub nodes : Nodes
   pub writes : Writes text old.out new.out nodes
   pub raw : AreRaw nodes
@@ -78,13 +78,13 @@ pub record WritesParts {A : Type 0} (names : Names) (text : List ℕ) (ending : 
   pub around : HasSameOpen (standing old) (standing new)
   pub before : IsBefore text ending left bytes new
   pub fill : Fill Spaces slots nodes more
-  pub sound : AreSound names text nodes
+  pub sound : AreSound on names text nodes
 
 -- From a walk before these bytes, parts are written up to others.
-abbrev pub LeadsTo : {A : Type 0} → Names → Option (List ℕ) → List Slot → List Slot → List ℕ → List ℕ → Walk A → Walk A → Type 0
-LeadsTo names info slots more from to old new =
+abbrev pub LeadsTo : {A : Type 0} → Constructs → Names → Option (List ℕ) → List Slot → List Slot → List ℕ → List ℕ → Walk A → Walk A → Type 0
+LeadsTo on names info slots more from to old new =
     (text : List ℕ) (ending : Option LineEnding) (left : List LineRest) → IsBefore text ending left from old
-    → WritesParts names text ending left info slots more to old new
+    → WritesParts on names text ending left info slots more to old new
 
 -- a name of a string in a fence
 pub record IsPartName (name : Name) : Type 0 where
@@ -107,7 +107,7 @@ pub record WritesPart {A : Type 0} (on : Constructs) (names : Names) (text : Lis
   pub raw : AreRaw nodes
   pub around : HasSameOpen (standing old) (standing new)
   pub before : IsBefore text ending left bytes new
-  pub sound : AreSound names text nodes
+  pub sound : AreSound on names text nodes
 
 -- how many bytes of a text are the info: math has none
 abbrev pub info_size : Bool → List ℕ → ℕ
@@ -157,7 +157,7 @@ pub record WritesFenceOf {A : Type 0} (on : Constructs) (names : Names) (math : 
   pub around : HasSameOpen (standing old) (standing new)
   pub before : IsBefore text ending left [] new
   pub filled : IsFilled Lines Plain node
-  pub sound : IsSound names text node
+  pub sound : IsSound on names text node
 
 abbrev pub WritesFence : {A : Type 0} → Constructs → Names → Bool → ℕ → List ℕ → Walk A → Walk A → Type 0
 WritesFence on names math byte bare old new =
@@ -200,9 +200,11 @@ pub record WritesOpened {A : Type 0} (on : Constructs) (names : Names) (text : L
   pub begins : (written_to space).index ≤ old.line_end
   -- which lines may close it
   pub mark : is_among (fence_marks math) fence.byte ≡ true
+  -- the construct is on by which the lines are read
+  pub made : is_asked_on old.on.now (block_name math) ≡ true
   pub some : 0 < fence.run
   pub filled : IsFilled Lines Plain node
-  pub sound : IsSound names text node
+  pub sound : IsSound on names text node
 
 -- Where a fence begins, it is written so, with lines that it doesn't close.
 abbrev pub WritesOpening : {A : Type 0} → Constructs → Names → ℕ → FenceNames → Walk A → Walk A → Type 0

@@ -47,7 +47,7 @@ pub record IsFenceRead (r : Reading) (on : Constructs) (names : Names) (count : 
 abbrev pub WritesReadInside : {A : Type 0} → Reading → Bool → LeafBlock → Walk A → Walk A → Type 0
 WritesReadInside r first leaf old new =
     (text : List ℕ) (here : LineRest) (left : List LineRest) (to : Place) → StandsAt text (Within here left) (standing old) → IsWrittenToRest old
-    → IsInOrder text old.out → IsLeafLaid old.on.now (around (standing old)) leaf (Within here left) to
+    → IsInOrder text old.out → old.on.now ≡ r.parse.constructs → IsLeafLaid old.on.now (around (standing old)) leaf (Within here left) to
     → WritesLeaf r.parse.constructs r.tables.names text false (read_leaf r (record { top = false; first = first }) leaf) [] to old new
 
 -- Outside of containers the node is written with the ending of its last line in it, if there is one. The walk stands after that line then.
@@ -72,7 +72,7 @@ pub record WritesToEnd {A : Type 0} (on : Constructs) (names : Names) (text : Li
 abbrev pub WritesReadToEnd : {A : Type 0} → Reading → Bool → LeafBlock → Walk A → Walk A → Type 0
 WritesReadToEnd r first leaf old new =
     (text : List ℕ) (here : LineRest) (left : List LineRest) (to : Place) → StandsAt text (Within here left) (standing old) → IsWrittenToRest old
-    → IsInOrder text old.out → IsLeafLaid old.on.now (around (standing old)) leaf (Within here left) to
+    → IsInOrder text old.out → old.on.now ≡ r.parse.constructs → IsLeafLaid old.on.now (around (standing old)) leaf (Within here left) to
     → WritesToEnd r.parse.constructs r.tables.names text (read_leaf r (record { top = true; first = first }) leaf) to old new
 
 -- fenced code that no fence closes: in a container it ends before the ending of its last line, outside of containers after it

@@ -2,7 +2,7 @@
 use Rattle.std.specs.Prelude.{◌≡◌, ◌⊎◌, ℕ, ◌<◌, true, false, List, [], ◌∷◌, ◌++◌, Option, None, Some, length, map}
 use Rattle.std.specs.List.{list_all}
 use Rattle.markdown_options.specs.declared.line_ending.LineEnding.{LineEnding}
-use Rattle.engine_events.specs.Names.{same_name}
+use Rattle.engine_events.specs.Names.{is_listed, same_name}
 use Rattle.engine_events.specs.declared.event.Name.{Name}
 use Rattle.engine_events.specs.declared.event.Name.TheVariants as n
 use Rattle.definition_text.specs.BlockLines.{BlockLine, last_ending_or}
@@ -19,6 +19,7 @@ use Rattle.event_meaning.specs.Children.{child, ends_in}
 use Rattle.event_meaning.specs.Raw.{Chunk, RawPart, raw_parts}
 use Rattle.parse_output.specs.Ends.{end_at}
 use Rattle.parse_output.specs.Written.{IsInOrder, Writes}
+use Rattle.parse_references.specs.Sound.{asked_names}
 use Rattle.parse_alike.specs.Raw.{chunk, end_part, has_codes, is_there}
 use Rattle.parse_laid.specs.Leaves.{AreTaken}
 use Rattle.parse_laid.specs.Places.{AtEnding, Between, InAll, LineRest, Prefixed, Within}
@@ -39,6 +40,7 @@ pub record IsRawName (name : Name) : Type 0 where
   pub no_definition : same_name name n.Definition ≡ false
   pub no_code : same_name name n.CodeFencedFence ≡ false
   pub no_math : same_name name n.MathFlowFence ≡ false
+  pub unasked : is_listed asked_names name ≡ false
 
 -- Any number of chunks of a name may stand in what is left of a row, and lines may end between them.
 pub record TakesChunks (name : Name) (slots : List Slot) : Type 0 where

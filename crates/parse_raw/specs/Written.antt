@@ -37,7 +37,7 @@ pub record SpellsLeaf (on : Constructs) (names : Names) (text : List ℕ) (top :
   pub is_block : is_listed block_names (node_name node) ≡ true
   pub blocks : (m m' : Meaning) → AreMeanings on names m m' → AreBlocksAlike m m' (one_block (page.Leaf leaf)) (blocks_of names text top (one node))
   pub definitions : (m m' : Meaning) → AreMeanings on names m m' → AreDefinitionsAlike m m' ds (map (definition_of names text) (named n.Definition (one node)))
-  pub sound : IsSound names text node
+  pub sound : IsSound on names text node
 
 -- where a node begins and ends in a text
 abbrev pub node_start : Node → Spot

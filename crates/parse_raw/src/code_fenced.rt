@@ -160,7 +160,7 @@ fn push_info_and_meta<T: Tables, A: Allocator + Clone>(
     requires meta { may_enter (still_open walk.old) names.now.meta ≡ true }
     ensures open { OnOk result (still_open walk.new ≡ still_open walk.old) }
     ensures written { OnOk result ((math : Bool) (tail : List ℕ) → AreNames math names.now → list_any ends_line text.now ≡ false → BeginsBare text.now
-        → LeadsTo (T.reference_of texts.now.tables.now)
+        → LeadsTo texts.now.options.now.constructs (T.reference_of texts.now.tables.now)
         (info_in math texts.now.options.now.constructs (T.reference_of texts.now.tables.now) text.now) (fence_slots math) (meta_slots math text.now)
         (text.now ++ tail) tail walk.old walk.new) }
 {
@@ -181,7 +181,7 @@ fn push_info<T: Tables, A: Allocator + Clone>(
     ensures open { OnOk result (still_open walk.new ≡ still_open walk.old) }
     ensures size { IfOk result (λ size. (math : Bool) → AreNames math names.now → list_any ends_line text.now ≡ false → size ≡ info_size math text.now) }
     ensures written { OnOk result ((math : Bool) (tail : List ℕ) → AreNames math names.now → list_any ends_line text.now ≡ false
-        → LeadsTo (T.reference_of texts.now.tables.now)
+        → LeadsTo texts.now.options.now.constructs (T.reference_of texts.now.tables.now)
         (info_in math texts.now.options.now.constructs (T.reference_of texts.now.tables.now) text.now) (fence_slots math) (info_slots math text.now)
         (text.now ++ tail) (drop (info_size math text.now) text.now ++ tail) walk.old walk.new) }
 {

@@ -1,6 +1,7 @@
--- What the grammar asks of some events beside their rows: calls of footnotes hold strings alone, references decode, and a heading begins with at most six
--- `#` (CommonMark 2.5 and 4.2, GFM footnotes).
-use Rattle.std.specs.Prelude.{◌≡◌, ℕ, true, false, if◌then◌else◌, List, [], ◌∷◌, Option, None, Some}
+-- What is known of some events beside their rows and what they spell. The grammar asks that calls of footnotes hold strings alone, that references decode, and
+-- that a heading begins with at most six `#` (CommonMark 2.5 and 4.2, GFM footnotes). Where the page doesn't tell which construct made an event, that one is on.
+use Rattle.std.specs.Prelude.{◌≡◌, ℕ, Bool, true, false, if◌then◌else◌, List, [], ◌∷◌, Option, None, Some}
+use Rattle.markdown_options.specs.declared.configuration.Constructs.{Constructs}
 use Rattle.engine_events.specs.Names.{same_name}
 use Rattle.engine_events.specs.declared.event.Name.{Name}
 use Rattle.engine_events.specs.declared.event.Name.TheVariants as n
@@ -13,9 +14,34 @@ use Rattle.event_grammar.specs.Points.{bytes_between}
 use Rattle.event_grammar.specs.Trees.{Node, Nodes, Around, Nil, Cons}
 use Rattle.parse_references.specs.Leads.{AreWithout}
 
--- the names of events of which more is asked
+-- the names of events whose children are asked for more than their row
+abbrev pub holding_names : List Name
+holding_names = n.GfmFootnoteCall ∷ n.CharacterReference ∷ n.HeadingAtx ∷ []
+
+-- these, and the names of events whose construct the page doesn't tell
 abbrev pub asked_names : List Name
-asked_names = n.GfmFootnoteCall ∷ n.CharacterReference ∷ n.HeadingAtx ∷ []
+asked_names =
+    n.GfmFootnoteCall ∷ n.CharacterEscape ∷ n.CharacterReference ∷ n.GfmAutolinkLiteralEmail ∷ n.GfmAutolinkLiteralMailto ∷ n.GfmAutolinkLiteralProtocol
+    ∷ n.GfmAutolinkLiteralWww ∷ n.GfmAutolinkLiteralXmpp ∷ n.HtmlText ∷ n.HeadingAtx ∷ n.HeadingSetext ∷ n.CodeFenced ∷ n.MathFlow ∷ n.Frontmatter ∷ []
+
+-- Whether the construct is on that makes events of this name, which the page doesn't tell. In a destination, a title or an info it has the characters of escapes
+-- and references alone, and in the text of a link the bytes of literals. Raw HTML without data is nothing on it, nor is frontmatter. Both kinds of headings
+-- print alike, and so do math and fenced code whose info is that of math, written with a character reference.
+abbrev pub is_asked_on : Constructs → Name → Bool
+is_asked_on on n.CharacterEscape = on.character_escape
+is_asked_on on n.CharacterReference = on.character_reference
+is_asked_on on n.GfmAutolinkLiteralEmail = on.gfm_autolink_literal
+is_asked_on on n.GfmAutolinkLiteralMailto = on.gfm_autolink_literal
+is_asked_on on n.GfmAutolinkLiteralProtocol = on.gfm_autolink_literal
+is_asked_on on n.GfmAutolinkLiteralWww = on.gfm_autolink_literal
+is_asked_on on n.GfmAutolinkLiteralXmpp = on.gfm_autolink_literal
+is_asked_on on n.HtmlText = on.html_text
+is_asked_on on n.HeadingAtx = on.heading_atx
+is_asked_on on n.HeadingSetext = on.heading_setext
+is_asked_on on n.CodeFenced = on.code_fenced
+is_asked_on on n.MathFlow = on.math_flow
+is_asked_on on n.Frontmatter = on.frontmatter
+is_asked_on on name = true
 
 -- what no string holds: what stands in texts alone, and blocks
 abbrev pub outside_strings : List Name
@@ -46,11 +72,13 @@ module _ (names : Names) (text : List ℕ) where
       (same_name (node_name node) n.HeadingAtxSequence ≡ true → is_size 6 (node_bytes node) ≡ true)
       × (same_name (node_name node) n.HeadingAtxSequence ≡ false → IsRank ns)
 
-  -- the children of an event of a name are as the grammar asks
+module _ (on : Constructs) (names : Names) (text : List ℕ) where
+  -- the construct of an event of a name is on, and its children are as the grammar asks
   pub record HoldsAsked (name : Name) (kids : Nodes) : Type 0 where
+    pub is_on : is_asked_on on name ≡ true
     pub call : name ≡ n.GfmFootnoteCall → AreWithout outside_strings kids
-    pub reference : name ≡ n.CharacterReference → Decode None kids
-    pub heading : name ≡ n.HeadingAtx → IsRank kids
+    pub reference : name ≡ n.CharacterReference → Decode names text None kids
+    pub heading : name ≡ n.HeadingAtx → IsRank names text kids
 
   abbrev mutual
     pub IsSound : Node → Type 0

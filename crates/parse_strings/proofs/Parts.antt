@@ -170,11 +170,11 @@ module _ {A : Type 0} (text : List ℕ) (stop : Stop) where
       let w = written front ahead.line is ahead.stands bytes in
       record { writes = ahead.lifts _ b same w; end = w.end ∙ ap (end_after (end_in a.out)) (sym is) }
 
-  module _ (names : Names) where
+  module _ (on : Constructs) (names : Names) where
     -- a node that a callee writes in the line
     pub node_in : (old new : Walk A) (name : Name) (front string content : List ℕ) (ahead : IsLineAhead text stop front content old)
-        → standing new ≡ standing old → WritesNode names text name front string ahead.line old new
-        → WritesNodeIn names text name front string content stop old new
+        → standing new ≡ standing old → WritesNode on names text name front string ahead.line old new
+        → WritesNodeIn on names text name front string content stop old new
     node_in old new name front string content ahead same w =
         record { node = w.node; named = w.named; writes = ahead.lifts (one w.node) new same w.writes; whole = w.whole; spells = w.spells; plain = w.plain; filled = w.filled; sound = w.sound }
 
@@ -211,12 +211,12 @@ module _ {A : Type 0} (text : List ℕ) (stop : Stop) where
           spells = step.text ∙ ap (λ ys. ys ++ bytes_text on names after) (sym spelled);
           plain = plain_data text (end_in a.out) (end_after (end_in a.out) size);
           fill = λ around may. data_fill around StringPart [] text (end_in a.out) (end_after (end_in a.out) size) refl;
-          sound = data_sound names text (end_in a.out) (end_after (end_in a.out) size);
+          sound = data_sound on names text (end_in a.out) (end_after (end_in a.out) size);
         }
 
     -- a node that spells what its bytes stand for
     pub node_part : (a b : Walk A) (name : Name) (front string xs after content : List ℕ) (size : ℕ)
-        → WritesNodeIn names text name front string (after ++ content) stop a b
+        → WritesNodeIn on names text name front string (after ++ content) stop a b
         → xs ≡ front ++ after → size ≡ length front → 0 < size → (IsUtf8 xs → IsCharBoundary xs size)
         → bytes_text on names xs ≡ string ++ bytes_text on names after → take_child string_row name ≡ Some (took Plain string_row)
         → WritesStringPart on names text xs content size stop a b
@@ -233,7 +233,7 @@ module _ {A : Type 0} (text : List ℕ) (stop : Stop) where
       spells = spells ∙ ap (λ ys. ys ++ bytes_text on names after) (sym w.spells);
       plain = w.plain;
       fill = λ around may. fill_taken around string_row name Plain string_row w.node w.named takes (w.filled around);
-      sound = sound_one names text w.node w.sound;
+      sound = sound_one on names text w.node w.sound;
     }
 
     -- white space before a line ending
@@ -260,7 +260,7 @@ module _ {A : Type 0} (text : List ℕ) (stop : Stop) where
           plain = plain_void text n.SpaceOrTab (end_in a.out) (end_after (end_in a.out) size) refl refl;
           fill = λ around may.
               void_between around string_row n.SpaceOrTab text (end_in a.out) (end_after (end_in a.out) size) refl refl (may_space around (take size xs) may) refl;
-          sound = void_sound names text n.SpaceOrTab (end_in a.out) (end_after (end_in a.out) size) refl;
+          sound = void_sound on names text n.SpaceOrTab (end_in a.out) (end_after (end_in a.out) size) refl;
         }
 
     -- a line ending, and the white space on the next line
@@ -314,8 +314,8 @@ module _ {A : Type 0} (text : List ℕ) (stop : Stop) where
               (fill_both (ending_fill string_row n.LineEnding ends.node ends.quiet ends.named ends.empty refl refl refl refl refl ends.are_quiet)
               (void_between Lines string_row n.SpaceOrTab text from (end_after from white) refl refl refl refl));
           sound =
-              sound_both names text (Cons ends.node ends.quiet) voids (ending_sound names text ends.node ends.quiet ends.named ends.empty ends.are_quiet)
-              (void_sound names text n.SpaceOrTab from (end_after from white) refl);
+              sound_both on names text (Cons ends.node ends.quiet) voids (ending_sound on names text ends.node ends.quiet ends.named ends.empty ends.are_quiet)
+              (void_sound on names text n.SpaceOrTab from (end_after from white) refl);
         }
 
     -- ---- all of a string
@@ -359,7 +359,7 @@ module _ {A : Type 0} (text : List ℕ) (stop : Stop) where
           plain = plain_both one.nodes two.nodes one.plain two.plain;
           fill = λ around may.
               let both = may_both around one.front two.front may in fill_both (one.fill around both.0) (two.fill around both.1);
-          sound = sound_both names text one.nodes two.nodes one.sound two.sound;
+          sound = sound_both on names text one.nodes two.nodes one.sound two.sound;
         })
 
     pub front_all : (a b : Walk A) (string rest content : List ℕ) → rest ≡ [] → WritesStringFront on names text string rest content stop a b

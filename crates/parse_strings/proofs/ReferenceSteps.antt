@@ -3,6 +3,7 @@ use Rattle.std.proofs.Common.{◌≡◌, ◌<◌, ◌+◌, ℕ, true, false, Lis
 use Rattle.parse_strings.proofs.Prelude.{append, append-nil, AreMarks, AreNext, ArePlain, Around, cut, End, end_after, end_at, end_in, enter_at, EntersInLine}
 use Rattle.parse_strings.proofs.Prelude.{exit_at, ExitsInLine, is_listed, lines_around, lines_both, mark_nodes, marked_text, Name, Names, Nil, Nodes, one}
 use Rattle.parse_strings.proofs.Prelude.{same_name, StandsInLine, string_of, token, true≢false, void_nodes, Walk, WritesInLine, WritesMarks, WritesNode}
+use Rattle.markdown_options.specs.declared.configuration.Constructs.{Constructs}
 use Rattle.engine_events.specs.declared.event.Name.TheVariants as n
 use Rattle.event_grammar.specs.declared.slot.Form.TheVariants.{Plain}
 use Rattle.parse_slots.proofs.Steps.{filled_in_line}
@@ -51,24 +52,24 @@ reference_string names text line (m ∷ x ∷ []) value first i j k l a b are ne
     append-nil _ ∙ ap (marked_text names (m ∷ x ∷ [])) (token_text text n.CharacterReferenceValue k value line next)
 reference_string names text line (m ∷ x ∷ y ∷ ms) value first i j k l a b are next = absurd are
 
-sound_token : (names : Names) (text : List ℕ) (name : Name) (index size : ℕ) → is_listed asked_names name ≡ false
-    → AreSound names text (one (token text name index size))
-sound_token names text name index size other = sound_one names text (token text name index size) (asks_nothing names text name Nil other, tt)
+sound_token : (on : Constructs) (names : Names) (text : List ℕ) (name : Name) (index size : ℕ) → is_listed asked_names name ≡ false
+    → AreSound on names text (one (token text name index size))
+sound_token on names text name index size other = sound_one on names text (token text name index size) (asks_nothing on names text name Nil other, tt)
 
-sound_marks : (names : Names) (text : List ℕ) (index : ℕ) (marks : List ℕ) → AreSound names text (mark_nodes text index marks)
-sound_marks names text index [] = tt
-sound_marks names text index (m ∷ []) = sound_token names text n.CharacterReferenceMarkerNumeric index 1 refl
-sound_marks names text index (m ∷ x ∷ ms) =
-    sound_both names text (one (token text n.CharacterReferenceMarkerNumeric index 1))
+sound_marks : (on : Constructs) (names : Names) (text : List ℕ) (index : ℕ) (marks : List ℕ) → AreSound on names text (mark_nodes text index marks)
+sound_marks on names text index [] = tt
+sound_marks on names text index (m ∷ []) = sound_token on names text n.CharacterReferenceMarkerNumeric index 1 refl
+sound_marks on names text index (m ∷ x ∷ ms) =
+    sound_both on names text (one (token text n.CharacterReferenceMarkerNumeric index 1))
     (one (token text n.CharacterReferenceMarkerHexadecimal (index + 1) 1))
-    (sound_token names text n.CharacterReferenceMarkerNumeric index 1 refl) (sound_token names text n.CharacterReferenceMarkerHexadecimal (index + 1) 1 refl)
+    (sound_token on names text n.CharacterReferenceMarkerNumeric index 1 refl) (sound_token on names text n.CharacterReferenceMarkerHexadecimal (index + 1) 1 refl)
 
-sound_kids : (names : Names) (text : List ℕ) (i j k l : ℕ) (marks : List ℕ) (size : ℕ) → AreSound names text (reference_kids text i j k l marks size)
-sound_kids names text i j k l marks size =
-    sound_both names text (one (token text n.CharacterReferenceMarker i 1)) _ (sound_token names text n.CharacterReferenceMarker i 1 refl)
-    (sound_both names text (mark_nodes text j marks) _ (sound_marks names text j marks)
-    (sound_both names text (one (token text n.CharacterReferenceValue k size)) (one (token text n.CharacterReferenceMarkerSemi l 1))
-    (sound_token names text n.CharacterReferenceValue k size refl) (sound_token names text n.CharacterReferenceMarkerSemi l 1 refl)))
+sound_kids : (on : Constructs) (names : Names) (text : List ℕ) (i j k l : ℕ) (marks : List ℕ) (size : ℕ) → AreSound on names text (reference_kids text i j k l marks size)
+sound_kids on names text i j k l marks size =
+    sound_both on names text (one (token text n.CharacterReferenceMarker i 1)) _ (sound_token on names text n.CharacterReferenceMarker i 1 refl)
+    (sound_both on names text (mark_nodes text j marks) _ (sound_marks on names text j marks)
+    (sound_both on names text (one (token text n.CharacterReferenceValue k size)) (one (token text n.CharacterReferenceMarkerSemi l 1))
+    (sound_token on names text n.CharacterReferenceValue k size refl) (sound_token on names text n.CharacterReferenceMarkerSemi l 1 refl)))
 
 -- no value
 other_kid : {P : Type 0} → false ≡ true → P
@@ -89,10 +90,11 @@ kids_decode names text line (m ∷ x ∷ []) value first i j k l are decodes nex
 kids_decode names text line (m ∷ x ∷ y ∷ ms) value first i j k l are decodes next = absurd are
 
 -- a reference is sound whose value decodes
-reference_sound : (names : Names) (text : List ℕ) (kids : Nodes) (a b : End) → Decode names text None kids → AreSound names text kids
-    → IsSound names text (Around (enter_at text n.CharacterReference a) kids (exit_at text n.CharacterReference b))
-reference_sound names text kids a b decode sound = (
+reference_sound : (on : Constructs) (names : Names) (text : List ℕ) (kids : Nodes) (a b : End) → on.character_reference ≡ true → Decode names text None kids → AreSound on names text kids
+    → IsSound on names text (Around (enter_at text n.CharacterReference a) kids (exit_at text n.CharacterReference b))
+reference_sound on names text kids a b is_on decode sound = (
   record {
+    is_on = is_on;
     call = λ same. other_kid (ap (λ name. same_name name n.GfmFootnoteCall) same);
     reference = λ same. decode;
     heading = λ same. other_kid (ap (λ name. same_name name n.HeadingAtx) same);
@@ -104,8 +106,9 @@ reference_sound names text kids a b decode sound = (
 pub stands_by : {A : Type 0} (text : List ℕ) (w : Walk A) (line same : List ℕ) → line ≡ same → StandsInLine text line w → StandsInLine text same w
 stands_by text w line same is st = subst (λ xs. StandsInLine text xs w) is st
 
-module _ {A : Type 0} (names : Names) (text : List ℕ) where
-  pub writes_reference : (a b c d e f g : Walk A) (marks value line : List ℕ) (first count : ℕ) → (end_in a.out).owed ≡ 0 → AreMarks marks first
+module _ {A : Type 0} (on : Constructs) (names : Names) (text : List ℕ) where
+  pub writes_reference : (a b c d e f g : Walk A) (marks value line : List ℕ) (first count : ℕ) → on.character_reference ≡ true → (end_in a.out).owed ≡ 0
+      → AreMarks marks first
       → marked_decodes names marks value ≡ true → 0 < length value
       → count ≡ length value
       → EntersInLine text n.CharacterReference (38 ∷ ((marks ++ (value ++ 59 ∷ [])) ++ line)) a b
@@ -115,8 +118,8 @@ module _ {A : Type 0} (names : Names) (text : List ℕ) where
       → WritesInLine text value (void_nodes text n.CharacterReferenceValue (end_in d.out) (end_after (end_in d.out) count)) (59 ∷ line) d e
       → WritesInLine text (59 ∷ []) (void_nodes text n.CharacterReferenceMarkerSemi (end_in e.out) (end_after (end_in e.out) 1)) line e f
       → ExitsInLine text n.CharacterReference line f g
-      → WritesNode names text n.CharacterReference (38 ∷ (marks ++ (value ++ 59 ∷ []))) (marked_text names marks value) line a g
-  writes_reference a b c d e f g marks value line first count whole are decodes some sized enters marker marked valued closed exits =
+      → WritesNode on names text n.CharacterReference (38 ∷ (marks ++ (value ++ 59 ∷ []))) (marked_text names marks value) line a g
+  writes_reference a b c d e f g marks value line first count is_on whole are decodes some sized enters marker marked valued closed exits =
       let owed = λ (x : End). x.owed in
       let whole_b : (end_in b.out).owed ≡ 0 = ap owed enters.end ∙ whole in
       let whole_e : (end_in e.out).owed ≡ 0 = ap owed valued.end ∙ still_whole (end_in d.out) (length value) marked.whole in
@@ -150,8 +153,8 @@ module _ {A : Type 0} (names : Names) (text : List ℕ) where
             (Around (enter_at text n.CharacterReference (end_in a.out)) kids (exit_at text n.CharacterReference (end_in f.out))) refl refl refl
             (reference_fill text (end_in b.out).index (end_in c.out).index (end_in d.out).index (end_in e.out).index size marks first are) refl;
         sound =
-            reference_sound names text kids (end_in a.out) (end_in f.out)
+            reference_sound on names text kids (end_in a.out) (end_in f.out) is_on
             (kids_decode names text (59 ∷ line) marks value first (end_in b.out).index (end_in c.out).index (end_in d.out).index (end_in e.out).index are
             decodes next)
-            (sound_kids names text (end_in b.out).index (end_in c.out).index (end_in d.out).index (end_in e.out).index marks size);
+            (sound_kids on names text (end_in b.out).index (end_in c.out).index (end_in d.out).index (end_in e.out).index marks size);
       }

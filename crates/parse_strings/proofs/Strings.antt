@@ -1,5 +1,6 @@
 -- What is written of a string, step by step (CommonMark 2.4 and 2.5).
-use Rattle.std.proofs.Common.{◌≡◌, ℕ, List, [], ◌∷◌, ◌++◌, refl, sym, ap, ap₂, subst, ◌∙◌, arith}
+use Rattle.std.proofs.Common.{◌≡◌, ℕ, true, List, [], ◌∷◌, ◌++◌, refl, sym, ap, ap₂, subst, ◌∙◌, arith}
+use Rattle.markdown_options.specs.declared.configuration.Constructs.{Constructs}
 use Rattle.engine_events.specs.declared.event.Name.TheVariants as n
 use Rattle.parse_strings.proofs.Prelude.{append, AreNext, Around, cut, End, end_after, end_at, end_in, enter_at, EntersInLine, exit_at, ExitsInLine}
 use Rattle.parse_strings.proofs.Prelude.{lines_around, lines_both, Names, Nodes, one, StandsInLine, string_of, token, void_nodes, Walk, WritesInLine}
@@ -9,7 +10,7 @@ use Rattle.event_grammar.specs.declared.slot.Form.TheVariants.{Plain}
 use Rattle.event_grammar.specs.Grammar.{row}
 use Rattle.parse_slots.specs.Left.{Fill}
 use Rattle.parse_slots.proofs.Steps.{filled_in_line}
-use Rattle.parse_references.proofs.Sound.{sound_around, sound_both, void_sound}
+use Rattle.parse_references.proofs.Sound.{sound_both, sound_of_on, void_sound}
 use Rattle.parse_strings.proofs.Fills.{escape_fill}
 use Rattle.parse_strings.proofs.PlainNodes.{plain_both, plain_one, plain_void}
 use Rattle.parse_strings.proofs.Spelled.{still_whole, token_text, void_one, whole_end}
@@ -28,12 +29,12 @@ module _ {A : Type 0} (names : Names) (text : List ℕ) where
   next_here line w st whole = subst (λ e. AreNext text e line) (sym st.at ∙ whole_end (end_in w.out) whole) st.next
 
   -- a backslash and the byte that it escapes
-  pub writes_escape : (a b c d e : Walk A) (byte : ℕ) (line : List ℕ) → (end_in a.out).owed ≡ 0
+  pub writes_escape : (on : Constructs) (a b c d e : Walk A) (byte : ℕ) (line : List ℕ) → on.character_escape ≡ true → (end_in a.out).owed ≡ 0
       → EntersInLine text n.CharacterEscape (92 ∷ byte ∷ line) a b
       → WritesInLine text (92 ∷ []) (void_nodes text n.CharacterEscapeMarker (end_in b.out) (end_after (end_in b.out) 1)) (byte ∷ line) b c
       → WritesInLine text (byte ∷ []) (void_nodes text n.CharacterEscapeValue (end_in c.out) (end_after (end_in c.out) 1)) line c d
-      → ExitsInLine text n.CharacterEscape line d e → WritesNode names text n.CharacterEscape (92 ∷ byte ∷ []) (byte ∷ []) line a e
-  writes_escape a b c d e byte line whole enters marker value exits =
+      → ExitsInLine text n.CharacterEscape line d e → WritesNode on names text n.CharacterEscape (92 ∷ byte ∷ []) (byte ∷ []) line a e
+  writes_escape on a b c d e byte line is_on whole enters marker value exits =
       let markers = void_nodes text n.CharacterEscapeMarker (end_in b.out) (end_after (end_in b.out) 1) in
       let values = void_nodes text n.CharacterEscapeValue (end_in c.out) (end_after (end_in c.out) 1) in
       let whole_b : (end_in b.out).owed ≡ 0 = ap (λ (x : End). x.owed) enters.end ∙ whole in
@@ -63,7 +64,7 @@ module _ {A : Type 0} (names : Names) (text : List ℕ) where
             (void_one text n.CharacterEscapeValue (end_in c.out) 1 whole_c (omega arith) refl)))
             (escape_fill text (end_in b.out).index (end_in c.out).index)) refl;
         sound =
-            sound_around names text node refl
-            (sound_both names text markers values (void_sound names text n.CharacterEscapeMarker (end_in b.out) (end_after (end_in b.out) 1) refl)
-            (void_sound names text n.CharacterEscapeValue (end_in c.out) (end_after (end_in c.out) 1) refl));
+            sound_of_on on names text node refl is_on
+            (sound_both on names text markers values (void_sound on names text n.CharacterEscapeMarker (end_in b.out) (end_after (end_in b.out) 1) refl)
+            (void_sound on names text n.CharacterEscapeValue (end_in c.out) (end_after (end_in c.out) 1) refl));
       }

@@ -90,6 +90,7 @@ module _ (on : Constructs) (names : Names) where
     pub others : List ℕ
     pub whole : cs ≡ 92 ∷ byte ∷ others
     pub mark : is_ascii_punctuation byte ≡ true
+    pub is_on : on.character_escape ≡ true
     pub text : string_text on names cs ≡ byte ∷ string_text on names others
 
   pub escape_codes : (cs : List ℕ) (found : Found) → escape_at on cs ≡ Some found → EscapeCodes cs
@@ -100,13 +101,15 @@ module _ (on : Constructs) (names : Names) where
       let test = on.character_escape && mark in
       elim (cases_Bool test) [
         | inl does ↦
-            let are = and_parts (eqb c 92) (is_ascii_punctuation next) (and_parts on.character_escape mark does).1 in
+            let both = and_parts on.character_escape mark does in
+            let are = and_parts (eqb c 92) (is_ascii_punctuation next) both.1 in
             let is = cond-true test (Some (leaf (Escape next ∷ []) 2)) None does in
             record {
               byte = next;
               others = cs;
               whole = ap (λ x. x ∷ next ∷ cs) (eqb-true c 92 are.0);
               mark = are.1;
+              is_on = both.0;
               text = leaf_text (c ∷ next ∷ cs) (leaf (Escape next ∷ []) 2) (ap (λ o. or_else o (or_else (reference_at on names (c ∷ next ∷ cs)) (or_else
                   (line_end_at (c ∷ next ∷ cs)) (spaces_at (c ∷ next ∷ cs))))) is) (omega arith) (omega arith);
             }
@@ -123,6 +126,7 @@ module _ (on : Constructs) (names : Names) where
     pub written : IsWritten front name
     pub size : found.size ≡ length front
     pub known : is_some (reference_text names name) ≡ true
+    pub is_on : on.character_reference ≡ true
     pub text : string_text on names cs ≡ unwrap_or (reference_text names name) [] ++ string_text on names others
 
   written_first : (front : List ℕ) (name : CharacterName) → IsWritten front name → (more : List ℕ) × (front ≡ 38 ∷ more)
@@ -133,14 +137,14 @@ module _ (on : Constructs) (names : Names) where
 
   pub reference_codes : (cs : List ℕ) (found : Found) → reference_at on names cs ≡ Some found → ReferenceCodes cs found
   reference_codes cs found all = elim (cases_Bool on.character_reference) [
-    | inl does ↦ by_form (reference_form cs) refl (sym (cond-true on.character_reference (reference_of names cs (reference_form cs)) None does) ∙ all)
+    | inl does ↦ by_form does (reference_form cs) refl (sym (cond-true on.character_reference (reference_of names cs (reference_form cs)) None does) ∙ all)
     | inr fails ↦ let e = sym (cond-false on.character_reference (reference_of names cs (reference_form cs)) None fails) ∙ all in cc
   ]
     where
-      by_text : (r : CharacterReference) (t : Option (List ℕ)) → reference_form cs ≡ Some r → reference_text names r.name ≡ t
+      by_text : on.character_reference ≡ true → (r : CharacterReference) (t : Option (List ℕ)) → reference_form cs ≡ Some r → reference_text names r.name ≡ t
           → reference_leaf (length cs - length r.rest) t ≡ Some found → ReferenceCodes cs found
-      by_text r None is known h = cc
-      by_text r (Some t) is known h =
+      by_text is_on r None is known h = cc
+      by_text is_on r (Some t) is known h =
           let w = read_is_written cs r is in
           let first = written_first w.0 r.name w.1 in
           let made : leaf (Character t ∷ []) (length cs - length r.rest) ≡ found = cc in
@@ -160,15 +164,16 @@ module _ (on : Constructs) (names : Names) where
             written = w.1;
             size = found_size;
             known = ap is_some known;
+            is_on = is_on;
             text =
                 leaf_text cs found here (omega (arith, found_size, some)) (omega (arith, sizes, some))
                 ∙ ap₂ (λ xs ys. xs ++ string_text on names ys)
                 (ap (λ (f : Found). flat_map string_bytes f.parts) (sym made) ∙ append-nil t ∙ ap (λ o. unwrap_or o []) (sym known)) left;
           }
 
-      by_form : (o : Option CharacterReference) → reference_form cs ≡ o → reference_of names cs o ≡ Some found → ReferenceCodes cs found
-      by_form None is h = cc
-      by_form (Some r) is h = by_text r (reference_text names r.name) is refl h
+      by_form : on.character_reference ≡ true → (o : Option CharacterReference) → reference_form cs ≡ o → reference_of names cs o ≡ Some found → ReferenceCodes cs found
+      by_form is_on None is h = cc
+      by_form is_on (Some r) is h = by_text is_on r (reference_text names r.name) is refl h
 
   -- ---- a line ending, and white space before it
 
@@ -342,6 +347,7 @@ pub record EscapeStep (on : Constructs) (names : Names) (xs : List ℕ) : Type 0
   pub after : List ℕ
   pub whole : xs ≡ 92 ∷ byte ∷ after
   pub mark : is_ascii_punctuation byte ≡ true
+  pub is_on : on.character_escape ≡ true
   pub text : string_text on names (content_codes xs) ≡ byte ∷ string_text on names (content_codes after)
   pub cut : IsUtf8 xs → IsCharBoundary xs 2
 
@@ -367,6 +373,7 @@ escape_step on names xs found bytes h =
       after = split.after;
       whole = whole;
       mark = is.mark;
+      is_on = is.is_on;
       text = is.text ∙ ap (λ cs. is.byte ∷ string_text on names cs) (sym split.last);
       cut = λ utf8. boundary_after_byte xs 2 utf8 (omega arith) (omega (arith, ap length whole))
           (mark_ascii (get_or xs 1 0) (bytes 1) (ap is_ascii_punctuation second ∙ is.mark));
@@ -383,6 +390,7 @@ pub record ReferenceStep (on : Constructs) (names : Names) (xs rest : List ℕ) 
   pub all : list_all is_ascii_alphanumeric (first ∷ more) ≡ true
   pub dark : list_any ends_line (38 ∷ (marks ++ ((first ∷ more) ++ 59 ∷ []))) ≡ false
   pub decodes : marked_decodes names marks (first ∷ more) ≡ true
+  pub is_on : on.character_reference ≡ true
   pub text : string_text on names (content_codes xs) ≡ marked_text names marks (first ∷ more) ++ string_text on names (content_codes rest)
   -- the bytes after the first mark
   pub tail : xs ≡ 38 ∷ (marks ++ first ∷ (more ++ 59 ∷ rest))
@@ -531,6 +539,7 @@ reference_step on names xs rest parts bytes rest_bytes after h =
       first = m.first;
       more = m.more;
       whole = whole;
+      is_on = is.is_on;
       tail =
           whole ∙ ap (λ ys. 38 ∷ ys) (append_assoc m.marks (value ++ 59 ∷ []) rest)
           ∙ ap (λ ys. 38 ∷ (m.marks ++ m.first ∷ ys)) (append_assoc m.more (59 ∷ []) rest);

@@ -34,7 +34,7 @@ pub record StandsInString {A : Type 0} (text line : List ℕ) (w : Walk A) : Typ
   pub whole : IsWhole w
 
 -- a node of this name is written for the first of these bytes, which spells a string, and the others are next
-pub record WritesNode {A : Type 0} (names : Names) (text : List ℕ) (name : Name) (front string line : List ℕ) (old new : Walk A) : Type 0 where
+pub record WritesNode {A : Type 0} (on : Constructs) (names : Names) (text : List ℕ) (name : Name) (front string line : List ℕ) (old new : Walk A) : Type 0 where
   pub node : Node
   pub named : node_name node ≡ name
   pub writes : WritesInLine text front (one node) line old new
@@ -42,11 +42,11 @@ pub record WritesNode {A : Type 0} (names : Names) (text : List ℕ) (name : Nam
   pub spells : string_of names text (one node) ≡ string
   pub plain : ArePlain (one node)
   pub filled : (around : Between) → IsFilled around Plain node
-  pub sound : IsSound names text node
+  pub sound : IsSound on names text node
 
 -- the same in a content
-pub record WritesNodeIn {A : Type 0} (names : Names) (text : List ℕ) (name : Name) (front string content : List ℕ) (stop : Stop) (old new : Walk A)
-    : Type 0 where
+pub record WritesNodeIn {A : Type 0} (on : Constructs) (names : Names) (text : List ℕ) (name : Name) (front string content : List ℕ) (stop : Stop)
+    (old new : Walk A) : Type 0 where
   pub node : Node
   pub named : node_name node ≡ name
   pub writes : WritesInContent text front (one node) content stop old new
@@ -54,7 +54,7 @@ pub record WritesNodeIn {A : Type 0} (names : Names) (text : List ℕ) (name : N
   pub spells : string_of names text (one node) ≡ string
   pub plain : ArePlain (one node)
   pub filled : (around : Between) → IsFilled around Plain node
-  pub sound : IsSound names text node
+  pub sound : IsSound on names text node
 
 -- A string has one line, or no white space and no line ending comes after it: so neither a line ending nor a tab is cut where it ends.
 abbrev pub AreCutApart : List ℕ → List ℕ → Type 0
@@ -86,7 +86,7 @@ pub record WritesStringPart {A : Type 0} (on : Constructs) (names : Names) (text
   pub spells : bytes_text on names string ≡ string_of names text nodes ++ bytes_text on names after
   pub plain : ArePlain nodes
   pub fill : (around : Between) → MayEndLines around front → Fill around string_row nodes string_row
-  pub sound : AreSound names text nodes
+  pub sound : AreSound on names text nodes
 
 -- nodes are written for all of a string but its rest
 pub record WritesStringFront {A : Type 0} (on : Constructs) (names : Names) (text string rest content : List ℕ) (stop : Stop) (old new : Walk A)
@@ -99,7 +99,7 @@ pub record WritesStringFront {A : Type 0} (on : Constructs) (names : Names) (tex
   pub spells : bytes_text on names string ≡ string_of names text nodes ++ bytes_text on names rest
   pub plain : ArePlain nodes
   pub fill : (around : Between) → MayEndLines around front → Fill around string_row nodes string_row
-  pub sound : AreSound names text nodes
+  pub sound : AreSound on names text nodes
 
 -- nodes are written for a string in a content, which spell the text that the string stands for, and the bytes after it are ahead
 pub record WritesStringIn {A : Type 0} (names : Names) (on : Constructs) (text string content : List ℕ) (stop : Stop) (old new : Walk A) : Type 0 where
@@ -109,4 +109,4 @@ pub record WritesStringIn {A : Type 0} (names : Names) (on : Constructs) (text s
   pub spells : string_of names text nodes ≡ bytes_text on names string
   pub plain : ArePlain nodes
   pub fill : (around : Between) → MayEndLines around string → Fill around string_row nodes string_row
-  pub sound : AreSound names text nodes
+  pub sound : AreSound on names text nodes

@@ -1,6 +1,7 @@
 //! Backslash escapes (CommonMark 2.4).
 ghost use Rattle.std.specs.Prelude.{◌≡◌, ◌∷◌, [], List, OnOk, true, ℕ};
 ghost use Rattle.std.specs.Char.{is_ascii_punctuation};
+ghost use Rattle.markdown_options.specs.declared.configuration.Constructs.{Constructs};
 ghost use Rattle.definition_text.specs.Ascii.{backslash};
 ghost use Rattle.definition_inline.specs.CharacterReference.{Names};
 ghost use Rattle.engine_events.specs.declared.event.Name.TheVariants.{CharacterEscape};
@@ -18,9 +19,9 @@ use std::alloc::{AllocError, Allocator};
 pub fn push_escape<A: Allocator>(walk: &mut Walk<'_, A>) -> Result<(), AllocError>
     requires child { may_enter (still_open walk.old) CharacterEscape ≡ true }
     ensures open { OnOk result (still_open walk.new ≡ still_open walk.old) }
-    ensures written { OnOk result ((names : Names) (text content : List ℕ) (byte : ℕ) (stop : Stop) → is_ascii_punctuation byte ≡ true
-        → StandsInContent text (backslash ∷ byte ∷ content) stop walk.old → IsWhole walk.old
-        → WritesNodeIn names text CharacterEscape (backslash ∷ byte ∷ []) (byte ∷ []) content stop walk.old walk.new) }
+    ensures written { OnOk result ((on : Constructs) (names : Names) (text content : List ℕ) (byte : ℕ) (stop : Stop) → on.character_escape ≡ true
+        → is_ascii_punctuation byte ≡ true → StandsInContent text (backslash ∷ byte ∷ content) stop walk.old → IsWhole walk.old
+        → WritesNodeIn on names text CharacterEscape (backslash ∷ byte ∷ []) (byte ∷ []) content stop walk.old walk.new) }
 {
     walk.enter(Name::CharacterEscape)?;
     walk.text(Name::CharacterEscapeMarker, 1)?;

@@ -3,6 +3,7 @@ ghost use Rattle.std.specs.Prelude.{◌≡◌, ◌+◌, ◌<◌, ◌≤◌, ◌�
 ghost use Rattle.std.specs.Char.{is_ascii_alphanumeric};
 ghost use Rattle.std.specs.List.{list_all, list_any};
 ghost use Rattle.engine_events.specs.declared.event.Name.TheVariants.{CharacterReference, CharacterReferenceMarkerHexadecimal, CharacterReferenceMarkerNumeric};
+ghost use Rattle.markdown_options.specs.declared.configuration.Constructs.{Constructs};
 ghost use Rattle.definition_text.specs.Ascii.{ampersand, semicolon};
 ghost use Rattle.definition_text.specs.Lines.{ends_line};
 ghost use Rattle.definition_inline.specs.CharacterReference.{Names};
@@ -28,12 +29,12 @@ pub fn push_reference<A: Allocator>(
 ) -> Result<(), AllocError>
     requires child { may_enter (still_open walk.old) CharacterReference ≡ true }
     ensures open { OnOk result (still_open walk.new ≡ still_open walk.old) }
-    ensures written { OnOk result ((names : Names) (text marks value after content : List ℕ) (first : ℕ) (stop : Stop)
-        → bytes.now ≡ ampersand ∷ (marks ++ first ∷ after) → AreMarks marks first → 0 < length value → length value ≤ 31
+    ensures written { OnOk result ((on : Constructs) (names : Names) (text marks value after content : List ℕ) (first : ℕ) (stop : Stop)
+        → on.character_reference ≡ true → bytes.now ≡ ampersand ∷ (marks ++ first ∷ after) → AreMarks marks first → 0 < length value → length value ≤ 31
         → list_all is_ascii_alphanumeric value ≡ true → marked_decodes names marks value ≡ true → size ≡ length marks + length value + 2
         → let front = ampersand ∷ (marks ++ (value ++ semicolon ∷ [])) in list_any ends_line front ≡ false
         → StandsInContent text (front ++ content) stop walk.old → IsWhole walk.old
-        → WritesNodeIn names text CharacterReference front (marked_text names marks value) content stop walk.old walk.new) }
+        → WritesNodeIn on names text CharacterReference front (marked_text names marks value) content stop walk.old walk.new) }
 {
     walk.enter(Name::CharacterReference)?;
     walk.text(Name::CharacterReferenceMarker, 1)?;

@@ -123,5 +123,5 @@ module _ {A : Type 0} (r : Reading) (text behind : List ℕ) (ending : Option Li
           columns = ap (λ (xs : List Node). xs ++ []) w.plain.columns;
         };
         fill = cell_text node refl (w.fill Spaces (ap (list_any ends_line) ahead ∙ dark));
-        sound = sound_one r.tables.names text node (sound_around r.tables.names text node refl w.sound);
+        sound = sound_one r.parse.constructs r.tables.names text node (sound_around r.parse.constructs r.tables.names text node refl w.sound);
       }

@@ -82,7 +82,7 @@ module _ {A : Type 0} (r : Reading) (text : List ℕ) (ending : Option LineEndin
             subst (λ is. ArePartsAlike m m' is (in_cell (text_within r.tables.names text false ns))) (sym (blank_reads r c blank)) (ap in_cell nothing);
         in_row = in_row_void text n.SpaceOrTab from to refl refl refl;
         fill = cell_space text from to;
-        sound = void_sound r.tables.names text n.SpaceOrTab from to refl;
+        sound = void_sound r.parse.constructs r.tables.names text n.SpaceOrTab from to refl;
       }
 
   -- ---- a cell of a line
@@ -102,7 +102,7 @@ module _ {A : Type 0} (r : Reading) (text : List ℕ) (ending : Option LineEndin
           definitions = append-nil _ ∙ w.in_row.definitions;
           columns = append-nil _ ∙ w.in_row.columns;
         };
-        sound = sound_around r.tables.names text node refl w.sound;
+        sound = sound_around r.parse.constructs r.tables.names text node refl w.sound;
       }
 
   -- with the bar after it
@@ -127,8 +127,8 @@ module _ {A : Type 0} (r : Reading) (text : List ℕ) (ending : Option LineEndin
         in_row = in_row_both (one w.node) bar w.in_row (in_row_void text n.GfmTableCellDivider from to refl refl refl);
         fill = fill_both (cell_part w.node w.name w.filled) (bar_part text from to);
         sound =
-            sound_both r.tables.names text (one w.node) bar (sound_one r.tables.names text w.node w.sound)
-            (void_sound r.tables.names text n.GfmTableCellDivider from to refl);
+            sound_both r.parse.constructs r.tables.names text (one w.node) bar (sound_one r.parse.constructs r.tables.names text w.node w.sound)
+            (void_sound r.parse.constructs r.tables.names text n.GfmTableCellDivider from to refl);
       }
 
   -- with none, as the last one
@@ -144,7 +144,7 @@ module _ {A : Type 0} (r : Reading) (text : List ℕ) (ending : Option LineEndin
         spell = spell_one r text c w.node w.name w.spells;
         in_row = w.in_row;
         fill = cell_part w.node w.name w.filled;
-        sound = sound_one r.tables.names text w.node w.sound;
+        sound = sound_one r.parse.constructs r.tables.names text w.node w.sound;
       }
 
   -- ---- cells, one after another
@@ -179,7 +179,7 @@ module _ {A : Type 0} (r : Reading) (text : List ℕ) (ending : Option LineEndin
         spell = spell_both r text first.done second.done first.nodes second.nodes first.spell second.spell;
         in_row = in_row_both first.nodes second.nodes first.in_row second.in_row;
         fill = fill_both first.fill second.fill;
-        sound = sound_both r.tables.names text first.nodes second.nodes first.sound second.sound;
+        sound = sound_both r.parse.constructs r.tables.names text first.nodes second.nodes first.sound second.sound;
       }
 
 -- some of the cells are written
@@ -257,7 +257,7 @@ module _ {A : Type 0} (bytes : List ℕ) (white : ℕ) (is : white ≡ prefix_le
         no_cell = refl;
         in_row = in_row_none;
         fill = fill_none Spaces cells_row;
-        sound = λ names. tt;
+        sound = λ on names. tt;
       }
 
   -- white space, and the bar
@@ -297,9 +297,9 @@ module _ {A : Type 0} (bytes : List ℕ) (white : ℕ) (is : white ≡ prefix_le
         in_row = in_row_both ns ms (in_row_void text n.SpaceOrTab start there refl refl refl)
             (in_row_void text n.GfmTableCellDivider at_bar after_bar refl refl refl);
         fill = fill_both (space_part text start there) (bar_part text at_bar after_bar);
-        sound = λ names.
-            sound_both names text ns ms (void_sound names text n.SpaceOrTab start there refl)
-            (void_sound names text n.GfmTableCellDivider at_bar after_bar refl);
+        sound = λ on names.
+            sound_both on names text ns ms (void_sound on names text n.SpaceOrTab start there refl)
+            (void_sound on names text n.GfmTableCellDivider at_bar after_bar refl);
       }
     where
       first_is : (xs : List ℕ) (b : ℕ) → slice_index xs 0 ≡ b → 0 < b → xs ≡ b ∷ drop 1 xs

@@ -142,11 +142,12 @@ module _ {A : Type 0} (r : Reading) (line : BlockLine) (owed : ℕ) (bytes : Lis
           filled =
               row_filled node refl (fill_both (space_part text from bare_end) (fill_both bar.fill (fill_both cs.fill (space_part text behind line_end))));
           sound =
+              let on = r.parse.constructs in
               let names = r.tables.names in
-              sound_around names text node refl
-              (sound_both names text ns (append bar.nodes (append cs.nodes ms)) (void_sound names text n.SpaceOrTab from bare_end refl)
-              (sound_both names text bar.nodes (append cs.nodes ms) (bar.sound names)
-              (sound_both names text cs.nodes ms cs.sound (void_sound names text n.SpaceOrTab behind line_end refl))));
+              sound_around on names text node refl
+              (sound_both on names text ns (append bar.nodes (append cs.nodes ms)) (void_sound on names text n.SpaceOrTab from bare_end refl)
+              (sound_both on names text bar.nodes (append cs.nodes ms) (bar.sound on names)
+              (sound_both on names text cs.nodes ms cs.sound (void_sound on names text n.SpaceOrTab behind line_end refl))));
         };
         writes = around_line text ending left old entered all new n.GfmTableRow kids order enters w.around w.writes w.before exits;
       }

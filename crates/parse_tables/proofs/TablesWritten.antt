@@ -142,7 +142,7 @@ module _ {A : Type 0} (r : Reading) (head row : BlockLine) (rows : List BlockLin
             definitions = λ m m' are.
                 none_alike m m' r.tables.names text (named n.Definition kids) (table_definitions r text h d others columns hw.node bw.nodes is_head is_body);
             sound =
-                sound_around r.tables.names text node refl
+                sound_around r.parse.constructs r.tables.names text node refl
                 (table_sound r text h h.ending d.ending columns others hw.node bw.nodes is_head is_body);
           };
           writes = all.writes;
@@ -188,14 +188,14 @@ module _ {A : Type 0} (r : Reading) (head row : BlockLine) (rows : List BlockLin
         (subst (λ (p : Place). AreTaken old.on.now (around (standing old)) (IsRowLine old.on.now) others (Between behind) p) ends.1 are.9) ends.2
 
   pub table_written : (first : Bool) → WritesReadLeaf r first (Table (own_lines (head ∷ row ∷ rows))) [] old new
-  table_written first = λ text top here left to at to_rest order laid.
+  table_written first = λ text top here left to at to_rest order by laid.
       by_taken text top here left to at to_rest order laid.0 laid.1 laid.2 laid.3 laid.4
 
 -- fewer than two lines are no table
 pub no_table : {A : Type 0} (r : Reading) (first : Bool) (ls : List BlockLine) (old new : Walk A) → length ls < 2
     → WritesReadLeaf r first (Table (own_lines ls)) [] old new
 no_table {A} r first ls old new few =
-    λ text top here left to at to_rest order laid. none text top here left to laid.0 laid.1 laid.2 laid.3
+    λ text top here left to at to_rest order by laid. none text top here left to laid.0 laid.1 laid.2 laid.3
   where
     none : (text : List ℕ) (top : Bool) (here : LineRest) (left : List LineRest) (to : Place) (taken : List BlockLine) (end : Place)
         → AreTable old.on.now (around (standing old)) taken (Within here left) end → own_lines ls ≡ own_lines taken

@@ -1,6 +1,7 @@
 -- What is written of the cells of a table (GFM 4.10).
 use Rattle.std.specs.Prelude.{◌≡◌, ℕ, false, List, [], ◌∷◌, ◌++◌, Option, map}
 use Rattle.std.specs.List.{AllZip}
+use Rattle.markdown_options.specs.declared.configuration.Constructs.{Constructs}
 use Rattle.markdown_options.specs.declared.line_ending.LineEnding.{LineEnding}
 use Rattle.definition_text.specs.Columns.{bytes_of}
 use Rattle.definition_block.specs.GfmTable.{Cell}
@@ -48,7 +49,7 @@ pub record WritesInCell {A : Type 0} (r : Reading) (text : List ℕ) (c : Cell) 
       → ArePartsAlike m m' (read_cell r c) (in_cell (text_within r.tables.names text false nodes))
   pub in_row : AreInRow nodes
   pub fill : FillsTo (row n.GfmTableCell Plain) MayEnd Spaces nodes
-  pub sound : AreSound r.tables.names text nodes
+  pub sound : AreSound r.parse.constructs r.tables.names text nodes
 
 -- so they are where the walk is before the bytes of the cell
 abbrev pub WritesInCellHere : {A : Type 0} → Reading → Cell → List ℕ → Walk A → Walk A → Type 0
@@ -65,7 +66,7 @@ pub record WritesCell {A : Type 0} (r : Reading) (text : List ℕ) (c : Cell) (b
   pub spells : (m m' : Meaning) → AreMeanings r.parse.constructs r.tables.names m m' → ArePartsAlike m m' (read_cell r c) (cell_of r.tables.names text node)
   pub in_row : AreInRow (one node)
   pub filled : IsFilled Spaces Plain node
-  pub sound : IsSound r.tables.names text node
+  pub sound : IsSound r.parse.constructs r.tables.names text node
 
 abbrev pub WritesCellHere : {A : Type 0} → Reading → Cell → Walk A → Walk A → Type 0
 WritesCellHere r c old new =
@@ -81,7 +82,7 @@ pub record WritesNoCell {A : Type 0} (text behind : List ℕ) (ending : Option L
   pub no_cell : children n.GfmTableCell nodes ≡ []
   pub in_row : AreInRow nodes
   pub fill : AreRowParts nodes
-  pub sound : (names : Names) → AreSound names text nodes
+  pub sound : (on : Constructs) (names : Names) → AreSound on names text nodes
 
 -- a bar that only white space is before is written with that, where the walk is before bytes of a line
 abbrev pub WritesFirstBar : {A : Type 0} → List ℕ → Walk A → Walk A → Type 0
@@ -109,7 +110,7 @@ pub record WritesFirstCells {A : Type 0} (r : Reading) (text : List ℕ) (cs las
   pub spell : SpellCells r text done nodes
   pub in_row : AreInRow nodes
   pub fill : AreRowParts nodes
-  pub sound : AreSound r.tables.names text nodes
+  pub sound : AreSound r.parse.constructs r.tables.names text nodes
 
 -- so they are where the walk is before the bytes of the cells
 abbrev pub WritesFirstCellsHere : {A : Type 0} → Reading → List Cell → List Cell → Walk A → Walk A → Type 0

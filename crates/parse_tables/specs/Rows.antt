@@ -33,7 +33,7 @@ pub record IsRowNode (r : Reading) (text : List ℕ) (line : BlockLine) (node : 
   pub spell : SpellCells r text (line_cells line) (kids_of node)
   pub in_row : AreInRow (one node)
   pub filled : IsFilled Lines Plain node
-  pub sound : IsSound r.tables.names text node
+  pub sound : IsSound r.parse.constructs r.tables.names text node
 
 -- the row of a line is written
 pub record WritesRowNode {A : Type 0} (r : Reading) (text : List ℕ) (line : BlockLine) (ending : Option LineEnding) (left : List LineRest) (old new : Walk A)

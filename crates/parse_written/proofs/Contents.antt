@@ -12,7 +12,7 @@ written_from_law context content =
     let spans = spans_from context content in
     let p = scan_written context (literals_read context) content in
     cond_both context.options.constructs.gfm_autolink_literal (with_literals [] spans) spans (λ is. AreWritten context is content [])
-    (λ _. literals_written context spans content [] p) (λ _. p)
+    (λ is_on. literals_written context is_on spans content [] p) (λ _. p)
 
 pub written_law : WrittenLaw
 written_law context content = written_from_law context (without_indent content)

@@ -264,12 +264,12 @@ module _ (context : InlineContext) where
   abbrev MayRead : List InlineCode → Option Found → Type 0
   MayRead content o = WhereSome (λ (found : Found). AreRead context (leaf_tokens found) content (drop found.size content)) o
 
-  named_read : (kind : LiteralKind) (size : ℕ) (content : List InlineCode) → EndNoLine (take size (codes_of content)) → (name : List ℕ)
+  named_read : context.options.constructs.gfm_autolink_literal ≡ true → (kind : LiteralKind) (size : ℕ) (content : List InlineCode) → EndNoLine (take size (codes_of content)) → (name : List ℕ)
       → is_literal kind (take size (codes_of content) ++ name) ≡ true
       → 0 < length (take size (codes_of content) ++ name) → name ≡ literal_name (drop size (codes_of content))
       → AreRead context (leaf_tokens (leaf (Literal kind (take size (codes_of content) ++ name) ∷ []) (size + length name))) content
       (drop (size + length name) content)
-  named_read kind size content inline name form some is =
+  named_read is_on kind size content inline name form some is =
       let all = codes_of content in
       let start = take size all in
       let after = drop size all in
@@ -284,6 +284,7 @@ module _ (context : InlineContext) where
       one_part context (Leaf (Literal kind (start ++ name))) content (drop (size + length name) content)
       (AsLeaf (Literal kind (start ++ name)) content (drop (size + length name) content)
       (record {
+        is_on = is_on;
         text = record { codes = both; some = some; inline = inline_both start name inline (subst EndNoLine (sym is) (name_inline after)) };
         form = form;
       }))
@@ -292,14 +293,14 @@ module _ (context : InlineContext) where
   some_taken zero x xs name some = absurd (omega arith)
   some_taken (suc n) x xs name some = omega arith
 
-  after_read : (c : InlineCode) (cs : List InlineCode) (o : Option LiteralStart) → StartInline (codes_of (c ∷ cs)) o
+  after_read : context.options.constructs.gfm_autolink_literal ≡ true → (c : InlineCode) (cs : List InlineCode) (o : Option LiteralStart) → StartInline (codes_of (c ∷ cs)) o
       → MayRead (c ∷ cs) (literal_after c cs o)
-  after_read c cs None inline = tt
-  after_read c cs (Some start) inline =
+  after_read is_on c cs None inline = tt
+  after_read is_on c cs (Some start) inline =
       let name = literal_name (drop start.size (codes_of (c ∷ cs))) in
       where_passed (λ (found : Found). AreRead context (leaf_tokens found) (c ∷ cs) (drop found.size (c ∷ cs))) _
       (leaf (Literal start.kind (take start.size (codes_of (c ∷ cs)) ++ name) ∷ []) (start.size + length name))
-      (named_read start.kind start.size (c ∷ cs) inline.1 name (inline.2 name (name_links (drop start.size (codes_of (c ∷ cs)))))
+      (named_read is_on start.kind start.size (c ∷ cs) inline.1 name (inline.2 name (name_links (drop start.size (codes_of (c ∷ cs)))))
       (some_taken start.size c.code (codes_of cs) name inline.0) refl)
 
   may_read : (content : List InlineCode) → MayRead content (literal_at context.options.constructs content)
@@ -307,7 +308,7 @@ module _ (context : InlineContext) where
   may_read (c ∷ cs) =
       let o = literal_start_at c.previous (codes_of (c ∷ cs)) in
       cond_both context.options.constructs.gfm_autolink_literal (literal_after c cs o) None (MayRead (c ∷ cs))
-      (λ _. after_read c cs o (start_inline c.previous (codes_of (c ∷ cs)))) (λ _. tt)
+      (λ is_on. after_read is_on c cs o (start_inline c.previous (codes_of (c ∷ cs)))) (λ _. tt)
 
   -- a literal is read as its text
   pub literals_read : LiteralsRead context

@@ -181,7 +181,7 @@ spell_parts zero before (c ∷ cs) =
     (λ _. subst (Spell (parts_from 0 (before ++ c ∷ []) cs)) (append_assoc before (c ∷ []) cs) (spell_parts 0 (before ++ c ∷ []) cs))
 spell_parts (suc k) before (c ∷ cs) = spell_parts k before cs
 
-module _ (context : InlineContext) where
+module _ (context : InlineContext) (is_on : context.options.constructs.gfm_autolink_literal ≡ true) where
   spelled : (ls : List InlineLeaf) (text : List ℕ) (is : Inlines) (a b c : List InlineCode) → Spell ls text → AreCodes text a b → EndNoLine text
       → AreWritten context is b c → AreWritten context (parts_before (map Leaf ls) is) a c
   spelled _ _ is a b c NoLeaf codes inline p = subst (λ k. AreWritten context is k c) (sym codes) p
@@ -193,7 +193,7 @@ module _ (context : InlineContext) where
       let (mid, first, others) = codes_split front text a b codes in
       More (Leaf (Literal kind front)) (parts_before (map Leaf ls) is) a mid c
       (AsLeaf (Literal kind front) a mid
-      (record { text = record { codes = first; some = some; inline = inline_front front text inline }; form = form }))
+      (record { is_on = is_on; text = record { codes = first; some = some; inline = inline_front front text inline }; form = form }))
       (spelled ls text is mid b c s others (inline_back front text inline) p)
 
   -- a run of text with its addresses

@@ -44,8 +44,9 @@ is_literal Protocol text =
     || (begins_link (codes "https://") text || (begins_address (codes "mailto:") text || begins_address (codes "xmpp:") text))
 is_literal Email text = is_address text
 
--- a literal: its text
-pub record IsLiteral (kind : LiteralKind) (link : List Code) (from to : List InlineCode) : Type 0 where
+-- a literal, where they are read: its text
+pub record IsLiteral (on : Constructs) (kind : LiteralKind) (link : List Code) (from to : List InlineCode) : Type 0 where
+  pub is_on : on.gfm_autolink_literal ≡ true
   pub text : IsText link from to
   pub form : is_literal kind link ≡ true
 
@@ -66,7 +67,7 @@ pub record IsFound (context : InlineContext) (part : InlineLeaf) (from to : List
 -- a byte and a literal are written as their text (GFM 6.9), any other leaf as the definition finds it (CommonMark 2.4, 2.5, 6.1 and 6.5 to 6.8)
 abbrev pub IsLeafWritten : InlineContext → InlineLeaf → List InlineCode → List InlineCode → Type 0
 IsLeafWritten context (Data b) from to = IsText (b ∷ []) from to
-IsLeafWritten context (Literal kind text) from to = IsLiteral kind text from to
+IsLeafWritten context (Literal kind text) from to = IsLiteral context.options.constructs kind text from to
 IsLeafWritten context part from to = IsFound context part from to
 
 -- ---- spans

@@ -55,7 +55,8 @@ returns-clause-written g c =
     let leaves = exiting text stop ended new n.GfmFootnoteCall it.after (stays, written) ends.leaves.stands in
     call_written text stop context label content it.after to pushed.nodes old inside w ended new it.parts it.left enters writes pushed.plain
     (without_fill outside_strings refl refl 3 Lines string_row string_row pushed.nodes refl (pushed.fill Lines tt) refl)
-    (subst (λ by. AreSound by text pushed.nodes) (sym names) pushed.sound)
+    (subst (λ by. AreSound by context.names text pushed.nodes) (sym on)
+    (subst (λ by. AreSound c.args.reading.now.on.now by text pushed.nodes) (sym names) pushed.sound))
     (λ around may. string_fills around pushed.nodes (pushed.fill around (subst (MayEndLines around) (sym string) may))) ends leaves
     (exited_whole text stop ended new n.GfmFootnoteCall it.after leaves ends.whole))
     c.exit.ensures.stays c.exit.ensures.written

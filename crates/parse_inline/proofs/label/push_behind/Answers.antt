@@ -28,7 +28,9 @@ returns-in-Some-clause-written g c =
       left = is.rest ∙ sym tail.rest;
       leads = is.leads;
       fill = tail.fill;
-      sound = subst (λ by. AreSound by text tail.nodes) (sym names) tail.sound;
+      sound =
+          subst (λ by. AreSound by context.names text tail.nodes) (sym on)
+          (subst (λ by. AreSound c.args.reading.now.on.now by text tail.nodes) (sym names) tail.sound);
     })
     c.push_resource.ensures.written
 
@@ -51,6 +53,8 @@ returns-in-None-clause-written g c =
       left = is.rest ∙ sym tail.rest;
       leads = is.leads;
       fill = tail.fill;
-      sound = subst (λ by. AreSound by text tail.nodes) (sym names) tail.sound;
+      sound =
+          subst (λ by. AreSound by context.names text tail.nodes) (sym on)
+          (subst (λ by. AreSound c.args.reading.now.on.now by text tail.nodes) (sym names) tail.sound);
     })
     c.push_link_reference.ensures.written

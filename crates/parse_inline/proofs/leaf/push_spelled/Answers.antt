@@ -12,7 +12,7 @@ returns-in-Code-clause-written g c =
     let here : c.bytes_from-bytes.result.now ≡ bytes =
     c.bytes_from-bytes.ensures.rest ∙ ap₂ drop c.place.ensures c.as_bytes.ensures.value ∙ sym ahead in
     spelled_from context text bytes c.bytes_from-bytes.result.now c.args.leaf (spelled.Code c.in-Code.field-0) from to stop _ _ here c.in-Code.is laid at st
-    (λ form there stands. written context.names text _ to stop (raw_bytes_law.0 _ _ from to form there)
+    (λ form there stands. written context.options.constructs context.names text _ to stop (raw_bytes_law.0 _ _ from to form there)
     (raw_characters _ c.place.result 96 _ _ to (raw_bytes_law.0 _ _ from to form there) c.bytes_from-bytes.ensures.rest refl c.as_bytes.ensures.utf8)
     stands whole))
     c.push_raw.ensures.written c.push_raw.ensures.open
@@ -24,7 +24,7 @@ returns-in-Math-clause-written g c =
     let here : c.bytes_from-bytes.result.now ≡ bytes =
     c.bytes_from-bytes.ensures.rest ∙ ap₂ drop c.place.ensures c.as_bytes.ensures.value ∙ sym ahead in
     spelled_from context text bytes c.bytes_from-bytes.result.now c.args.leaf (spelled.Math c.in-Math.field-0) from to stop _ _ here c.in-Math.is laid at st
-    (λ form there stands. written context.names text _ to stop (raw_bytes_law.1 _ _ from to form there)
+    (λ form there stands. written context.options.constructs context.names text _ to stop (raw_bytes_law.1 _ _ from to form there)
     (raw_characters _ c.place.result 36 _ _ to (raw_bytes_law.1 _ _ from to form there) c.bytes_from-bytes.ensures.rest refl c.as_bytes.ensures.utf8)
     stands whole))
     c.push_raw-in-Math.ensures.written c.push_raw-in-Math.ensures.open

@@ -7,7 +7,7 @@ pub returns-clause-written : goal.returns-clause-written
 returns-clause-written g c =
     let text = c.args.text.now in
     three_ok c.exit.result
-    (λ stays end exits. λ ds known bytes top here left to at to_rest order laid.
+    (λ stays end exits. λ ds known bytes top here left to at to_rest order by laid.
     let r = reading_by g.T.Tables c.args.texts.now ds in
     let content = c.whole_content.result in
     let written =

@@ -60,7 +60,7 @@ returns-clause-written g c =
     sym (ap content_codes last ∙ c.in_ok-rest.ensures.rest ∙ ap (λ ys. after_white (content_codes ys)) inside_is ∙ ap after_white colon.2) in
     let target =
     subst
-    (λ ys. WritesParts names bytes ys (SpellsPlace on names bytes d.destination d.title) FillsPlace stop c.push_white.new.walk c.push_target.new.walk) last
+    (λ ys. WritesParts on names bytes ys (SpellsPlace on names bytes d.destination d.title) FillsPlace stop c.push_white.new.walk c.push_target.new.walk) last
     (written bytes d.destination d.title stop (subst (λ ys. IsTarget ys d.destination d.title) codes r.target)
     (subst (λ ys. StandsInContent bytes ys stop c.push_white.new.walk) (sym last) white.writes.stands) white.whole) in
     definition_in bytes stop on names _ _ _ _ _ xs front inside rest q.string d ahead

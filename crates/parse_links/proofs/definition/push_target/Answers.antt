@@ -45,7 +45,7 @@ returns-clause-written g c =
     c.in_ok-push_destination.ensures.written bytes pb.string pb.after stop (subst (IsPlace pb.string) (sym taken) pb.is)
     (subst (λ ys. StandsInContent bytes ys stop c.args.walk.now) ahead st) whole in
     let end =
-    subst (λ ys. WritesParts names bytes ys (SpellsEnd on names bytes title) FillsEnd stop c.push_destination.new.walk c.push_title.new.walk) last
+    subst (λ ys. WritesParts on names bytes ys (SpellsEnd on names bytes title) FillsEnd stop c.push_destination.new.walk c.push_title.new.walk) last
     (written bytes title stop (subst (EndsWithTitle title) codes is.ends)
     (subst (λ ys. StandsInContent bytes ys stop c.push_destination.new.walk) (sym last) w.writes.stands) w.whole) in
     target_in bytes stop on names _ _ _ _ xs c.without_last.result.now pb.after pb.string place title

@@ -10,7 +10,7 @@ invariant_of-push_quoted g c = record { holds_marker = refl; holds_string = refl
 
 pub returns-in_default-clause-written : goal.returns-in_default-clause-written
 returns-in_default-clause-written g c = λ bytes stop st whole.
-    no_reference bytes stop (g.T.Tables.reference_of c.args.tables.now) c.args.walk.now c.args.text.now c.in_default.ensures st whole
+    no_reference bytes stop c.args.on.now (g.T.Tables.reference_of c.args.tables.now) c.args.walk.now c.args.text.now c.in_default.ensures st whole
 
 pub returns-clause-written : goal.returns-clause-written
 returns-clause-written g c =

@@ -36,7 +36,7 @@ returns-clause-written g c =
     let codes : content_codes inside ≡ after_white at.0 =
     c.in_ok-inside.ensures.rest ∙ ap (λ ys. after_white (content_codes ys)) left ∙ ap after_white first.2 in
     let tail =
-    subst (λ ys. WritesTail names bytes ys (SpellsTarget on names bytes r) FillsTarget (41 ∷ r.rest) stop c.push_white.new.walk c.push_inside.new.walk) last
+    subst (λ ys. WritesTail on names bytes ys (SpellsTarget on names bytes r) FillsTarget (41 ∷ r.rest) stop c.push_white.new.walk c.push_inside.new.walk) last
     (c.in_ok-push_inside.ensures.written bytes stop (at.2 ∙ ap resource_inside (sym codes ∙ ap content_codes (sym last)))
     (subst (λ ys. StandsInContent bytes ys stop c.push_white.new.walk) (sym last) white.writes.stands) white.whole) in
     let end = one_byte 41 r.rest tail.after tail.rest refl in

@@ -36,9 +36,9 @@ returns-in-Some-clause-written g c =
     (subst (λ ys. StandsInContent bytes ys stop c.push_place.new.walk) (sym last) w.writes.stands) w.whole in
     target_title bytes stop on names _ _ _ place xs rest r some.read.text (41 ∷ r.rest) w
     (subst
-    (λ ys. WritesTail names bytes rest (SpellsTitle on names bytes some.read.text) FillsTitle ys stop c.push_place.new.walk c.push_title.new.walk) some.left
+    (λ ys. WritesTail on names bytes rest (SpellsTitle on names bytes some.read.text) FillsTitle ys stop c.push_place.new.walk c.push_title.new.walk) some.left
     (subst
-    (λ ys. WritesTail names bytes ys (SpellsTitle on names bytes some.read.text) FillsTitle (after_white some.read.rest) stop c.push_place.new.walk
+    (λ ys. WritesTail on names bytes ys (SpellsTitle on names bytes some.read.text) FillsTitle (after_white some.read.rest) stop c.push_place.new.walk
     c.push_title.new.walk)
     last tail))
     is.destination some.title)

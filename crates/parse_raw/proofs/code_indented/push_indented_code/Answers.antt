@@ -8,7 +8,7 @@ returns-clause-written g c =
     let enter = c.in_ok-enter.ensures in
     let all = c.in_ok-all.ensures in
     all_ok c.exit.result
-    (λ exits end stays. λ r first ls size text top here left to st at order laid.
+    (λ exits end stays. λ r first ls size text top here left to st at order by laid.
     let indent = indent_written text 4 here left c.args.walk.now c.push_indent.new.walk st at order space.stays space.end space.written in
     code_written text r.parse.constructs r.tables.names top ls c.args.count c.saturating_sub.result here left to c.args.walk.now c.push_indent.new.walk
     c.enter.new.self c.all.new.self c.push_code_lines.new.walk c.exit.new.self size c.saturating_sub.ensures st laid indent

@@ -18,10 +18,10 @@ returns-clause-written g c =
     (λ exits end stays. λ bytes are.
     let fits = metadata_fits bytes are in
     event_filled n.FrontmatterFence [] bytes [] a b c.all.new.self c.exit.new.self
-    (record { no_data = refl; no_definition = refl; no_code = refl; no_math = refl }) refl refl enter.enters enter.stays enter.end
+    (record { no_data = refl; no_definition = refl; no_code = refl; no_math = refl; unasked = refl }) refl refl enter.enters enter.stays enter.end
     (filled_both (row n.FrontmatterFence Plain) [] [] bytes (drop 3 bytes) [] b c.token.new.self c.all.new.self
     (token_filled n.FrontmatterSequence (row n.FrontmatterFence Plain) [] bytes 3 b c.token.new.self
-    (record { no_data = refl; no_definition = refl; no_code = refl; no_math = refl }) (omega arith) (metadata_size bytes are) fits.0 token.stays token.end
+    (record { no_data = refl; no_definition = refl; no_code = refl; no_math = refl; unasked = refl }) (omega arith) (metadata_size bytes are) fits.0 token.stays token.end
     token.written refl refl)
     (white_filled [] (drop 3 bytes) c.token.new.self c.all.new.self fits.1 all.stays all.end all.written refl))
     refl exits stays end)

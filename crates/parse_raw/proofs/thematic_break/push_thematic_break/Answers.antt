@@ -47,7 +47,7 @@ returns-clause-written g c =
     let white = c.in_ok-white.ensures in
     let enter = c.in_ok-enter.ensures in
     all_ok c.exit.result
-    (λ exits end stays. λ r first text top here left to st at order laid.
+    (λ exits end stays. λ r first text top here left to st at order by laid.
     let space = white_written text old a here left st at order white.stays white.end white.written in
     let entered = enter.enters text space.quiet.writes.order in
     let bytes = c.as_bytes-rest.ensures.value ∙ white.bare in
@@ -69,5 +69,5 @@ returns-clause-written g c =
     (stands_here text here laid.0 left laid.1 to (standing old) (standing d) st laid.2.0 laid.2.1 laid.4 same)
     (ap (λ (s : Standing). s.on) same, ap (λ (s : Standing). s.outermost) same) end
     (left_none text _ c.loop-rest.walk none kids.after ∙ ap (λ (k : ℕ). end_at k 0) (sym line_end)) space.starts space.begins
-    filled (sound_filled r.tables.names text 2 Lines Plain n.ThematicBreak node refl refl filled))
+    filled (sound_filled r.parse.constructs r.tables.names text 2 Lines Plain n.ThematicBreak node refl refl filled))
     c.exit.ensures.exits c.exit.ensures.end c.exit.ensures.stays

@@ -13,7 +13,7 @@ use Rattle.parse_strings.proofs.character_escape.push_escape.Goals as goal
 pub returns-clause-written : goal.returns-clause-written
 returns-clause-written g c =
     both_ok c.exit.result
-    (λ exits stays names text content byte stop mark st whole.
+    (λ exits stays on names text content byte stop is_on mark st whole.
     let ahead =
     line_in_content text stop c.args.walk.now (92 ∷ byte ∷ []) content st (or_from (ends_line byte) false (mark_dark byte mark) refl) in
     let line = ahead.line in
@@ -25,6 +25,6 @@ returns-clause-written g c =
     (has_bytes text (byte ∷ []) line 1 _ n.CharacterEscapeValue refl marker.stands (ap (λ (e : End). e.owed) marker.end ∙ still_whole _ 1 inside)
     (ap (λ b. b && true) mark)) in
     let same = stays ∙ c.in_ok-text-2.ensures.stays ∙ c.in_ok-text.ensures.stays ∙ c.in_ok-enter.ensures.stays in
-    node_in text stop names _ _ _ _ _ content ahead same
-    (writes_escape names text _ _ _ _ _ byte line whole enters marker value (exits text line value.stands)))
+    node_in text stop on names _ _ _ _ _ content ahead same
+    (writes_escape names text on _ _ _ _ _ byte line is_on whole enters marker value (exits text line value.stands)))
     c.exit.ensures.written c.exit.ensures.stays

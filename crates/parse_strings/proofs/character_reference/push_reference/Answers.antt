@@ -13,7 +13,7 @@ use Rattle.parse_strings.proofs.character_reference.push_reference.Goals as goal
 pub returns-clause-written : goal.returns-clause-written
 returns-clause-written g c =
     both_ok c.exit.result
-    (λ exits stays names text marks value after content first stop is are some most alphanumeric decodes sized dark st within.
+    (λ exits stays on names text marks value after content first stop is_on is are some most alphanumeric decodes sized dark st within.
     let ahead = line_in_content text stop c.args.walk.now (38 ∷ (marks ++ (value ++ 59 ∷ []))) content st dark in
     let line = ahead.line in
     let bare : c.bytes_from.result.now ≡ marks ++ first ∷ after = c.bytes_from.ensures.rest ∙ ap (drop 1) is in
@@ -37,7 +37,7 @@ returns-clause-written g c =
     let same =
     stays ∙ c.in_ok-text-3.ensures.stays ∙ c.in_ok-text-2.ensures.stays ∙ c.in_ok-marker.ensures.stays ∙ c.in_ok-text.ensures.stays ∙
     c.in_ok-enter.ensures.stays in
-    node_in text stop names _ _ _ _ _ content ahead same
-    (writes_reference names text _ _ _ _ _ _ _ marks value line first c.saturating_sub-2.result within are decodes some size enters marker marked valued closed
+    node_in text stop on names _ _ _ _ _ content ahead same
+    (writes_reference on names text _ _ _ _ _ _ _ marks value line first c.saturating_sub-2.result is_on within are decodes some size enters marker marked valued closed
     (exits text line closed.stands)))
     c.exit.ensures.written c.exit.ensures.stays

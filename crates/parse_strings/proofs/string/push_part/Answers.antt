@@ -14,7 +14,7 @@ returns-then-is_some-clause-written g c = λ text content stop some apart st who
     let found = leaf_there xs c.escape_at.result _ c.escape_at.ensures.read (sym c.is_some.ensures ∙ c.if-is_some.true) in
     let step = escape_step on names xs found.0 (λ k. omega (arith, c.type_inv.rest k)) found.1 in
     let w =
-    c.in_ok-push_escape.ensures.written names text (step.after ++ content) step.byte stop step.mark
+    c.in_ok-push_escape.ensures.written on names text (step.after ++ content) step.byte stop step.is_on step.mark
     (subst (λ ys. StandsInContent text ys stop c.args.walk.now) (ap (λ ys. ys ++ content) step.whole) st) whole in
     node_part text stop on names _ _ CharacterEscape (92 ∷ step.byte ∷ []) (step.byte ∷ []) xs step.after content 2 w step.whole refl (omega arith) step.cut
     step.text refl
@@ -38,7 +38,7 @@ returns-in-Some-clause-written g c = λ text content stop some apart st whole.
     let parts : length front ≡ length step.marks + length value + 2 =
     omega (arith, length-append step.marks (value ++ 59 ∷ []), length-append value (59 ∷ [])) in
     let w =
-    c.in_ok-push_reference.ensures.written names text step.marks value (step.more ++ 59 ∷ rest) (rest ++ content) step.first stop
+    c.in_ok-push_reference.ensures.written on names text step.marks value (step.more ++ 59 ∷ rest) (rest ++ content) step.first stop step.is_on
     (c.as_bytes.ensures.value ∙ step.tail) step.are (omega arith) step.most step.all step.decodes (size ∙ parts) step.dark
     (subst (λ ys. StandsInContent text ys stop c.args.walk.now) (ap (λ ys. ys ++ content) step.whole ∙ append_assoc front rest content) st) whole in
     node_part text stop on names _ _ CharacterReference front
