@@ -1,12 +1,15 @@
 -- What a machine of documents does, by what it does with its flow: its states by their names, and how they may stand.
+use Rattle.std.specs.Prelude.{ℕ}
 use Rattle.engine_events.specs.declared.state.Block.{Block as BlockName}
 use Rattle.engine_events.specs.declared.state.Inline.{Inline as InlineName}
 use Rattle.engine_events.specs.declared.state.Name.{Name}
 use Rattle.engine_events.specs.declared.state.Name.TheVariants.{Block, Inline}
 use Rattle.engine_events.specs.declared.state.State.TheVariants as states
 use Rattle.markdown_engine.specs.Context.{Context}
+use Rattle.markdown_engine.specs.Laws.{HoldsAt}
 use Rattle.engine_programs.specs.Bodies.{Body, Answer}
 use Rattle.engine_programs.specs.Sorts.{Sort}
+use Rattle.engine_programs.specs.Stacks.{program_valid}
 use Rattle.state_table.specs.declared.Group.{Group as InlineGroup}
 use Rattle.state_table.specs.declared.Group.TheVariants as inline_groups
 use Rattle.state_table.specs.Table.{inline_group, first}
@@ -30,11 +33,15 @@ abbrev pub blocks_sorts : Name → Sort
 blocks_sorts (Block n) = blocks_sort (block_group n) n
 blocks_sorts (Inline n) = label_sort (inline_group n) n
 
-module _ {T V : Type 0} (calls : Calls V) (x : Context T) where
+-- what holds whenever a state is next, in a text of so many bytes: of the machine what its reader asks for
+abbrev pub blocks_valid : {V : Type 0} → ℕ → (V → Type 0) → HoldsAt V
+blocks_valid size holds c stack s = program_valid blocks_sorts 256 size c stack s × holds c.machine
+
+module _ {T V : Type 0} (calls : Calls T V) (x : Context T) where
   abbrev pub blocks_body : Group → BlockName → Body V
   blocks_body groups.Leaves n = leaves_body x n
   blocks_body groups.Containers n = container_body x n
-  blocks_body groups.Document n = document_body calls n
+  blocks_body groups.Document n = document_body calls x n
   blocks_body g n = Answer states.Nok
 
   abbrev pub blocks_part : InlineGroup → InlineName → Body V

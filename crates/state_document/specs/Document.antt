@@ -7,6 +7,7 @@ use Rattle.engine_events.specs.declared.event.Name.TheVariants as names
 use Rattle.engine_events.specs.declared.state.Block.TheVariants as state_block
 use Rattle.engine_events.specs.declared.state.Inline.TheVariants as state_inline
 use Rattle.engine_events.specs.declared.state.State.TheVariants as states
+use Rattle.markdown_engine.specs.Context.{Context}
 use Rattle.markdown_engine.specs.Reading.{Config}
 use Rattle.engine_programs.specs.Bodies.{FixedName, Body, Answer, Consume, EnterLink, Exit, Flag, Flags, Keep, Tries, Byte, On, Test, Move}
 use Rattle.state_table.specs.Words.{more}
@@ -71,14 +72,14 @@ module _ {M : Type 0} where
 
 -- ---- states that do
 
-module _ {V : Type 0} (calls : Calls V) where
+module _ {T V : Type 0} (calls : Calls T V) (x : Context T) where
   -- what comes next interrupts a paragraph, or doesn't
   abbrev pub interrupting_if : (Config V → Bool) → Body V → Body V
   interrupting_if t b = Flag (λ c. let f : Flags = record { interrupt = t c; lazy = c.lazy; concrete = c.concrete; pierce = c.pierce } in f) b
 
   -- the text ends here
   abbrev pub ended : Body V
-  ended = Move (λ c. calls.ended c.machine c.tokenize_state c.point) (Answer states.Ok)
+  ended = Move (λ c. calls.ended x c.machine c.tokenize_state c.point) (Answer states.Ok)
 
   -- after a container that goes on
   abbrev pub document_container_existing_after : Body V
@@ -101,7 +102,7 @@ module _ {V : Type 0} (calls : Calls V) where
   -- after a container that begins
   abbrev pub document_container_new_after : Body V
   document_container_new_after =
-      Move (λ c. calls.begun c.machine c.tokenize_state c.point)
+      Move (λ c. calls.begun x c.machine c.tokenize_state c.point)
       (Keep (λ c. record c.tokenize_state
       { containers = begun_containers c.tokenize_state; space_or_tab_max = more c.tokenize_state.space_or_tab_max }) (λ c i. refl)
       (free (Answer (retry state_block.DocumentContainerNewBefore))))
@@ -110,7 +111,7 @@ module _ {V : Type 0} (calls : Calls V) where
   abbrev pub document_containers_after : Body V
   document_containers_after =
       Byte ended
-      (Move (λ c. calls.flow_begun c.machine c.tokenize_state c.point) start_line)
+      (Move (λ c. calls.flow_begun x c.machine c.tokenize_state c.point) start_line)
 
   -- in a line
   abbrev pub document_flow_inside : Body V
@@ -125,6 +126,6 @@ module _ {V : Type 0} (calls : Calls V) where
   abbrev pub document_flow_end : Body V
   document_flow_end =
       Byte ended
-      (Move (λ c. calls.flow_read c.machine c.tokenize_state c.point)
+      (Move (λ c. calls.flow_read x c.machine c.tokenize_state c.point)
       (Keep (λ c. record c.tokenize_state { containers = still_open c; space_or_tab_max = 0 }) (λ c i. refl)
       (Answer (retry state_block.DocumentContainerExistingBefore))))

@@ -98,15 +98,15 @@ module _ {T M V : Type 0} (view : M → V) (x : Context T) where
   labels_through n = refl
 
 module _ {T : Type 0} (V : Type 0) (x : Context T) where
-  containers_move_none : (n : BlockName) → moves_none {V = V} (container_body x n) ≡ true
+  pub containers_move_none : (n : BlockName) → moves_none {V = V} (container_body x n) ≡ true
   containers_move_none state_block.BlockQuoteStart = refl
   containers_move_none n = refl
 
-  leaves_move_none : (n : BlockName) → moves_none {V = V} (leaves_body x n) ≡ true
+  pub leaves_move_none : (n : BlockName) → moves_none {V = V} (leaves_body x n) ≡ true
   leaves_move_none state_block.BlankLineStart = refl
   leaves_move_none n = refl
 
-  labels_move_none : (n : InlineName) → moves_none {V = V} (label_body x n) ≡ true
+  pub labels_move_none : (n : InlineName) → moves_none {V = V} (label_body x n) ≡ true
   labels_move_none state_inline.LabelStart = refl
   labels_move_none n = refl
 

@@ -3,14 +3,14 @@ ghost use Rattle.std.specs.Prelude.{length};
 ghost use Rattle.markdown_engine.specs.Resolving.{resolves_nothing, settles_whole};
 ghost use Rattle.engine_programs.specs.Bodies.{step_by};
 ghost use Rattle.engine_events.specs.declared.state.Name.TheVariants as any_states;
-ghost use Rattle.engine_programs.specs.Stacks.{IsOpen, program_rank, program_valid};
+ghost use Rattle.engine_programs.specs.Stacks.{IsOpen, program_rank};
 ghost use Rattle.markdown_engine.specs.Machine.{read_with};
 ghost use Rattle.state_table.specs.Table.{sorts};
 ghost use Rattle.state_labels.specs.LabelStates.{label_body};
 ghost use Rattle.state_block_table.specs.BlockTable.{block_sorts};
 ghost use Rattle.state_flow_leaves.specs.LeavesStates.{leaves_body};
 ghost use Rattle.state_containers.specs.ContainerStates.{container_body};
-ghost use Rattle.state_document.specs.Blocks.{blocks_bodies, blocks_sorts};
+ghost use Rattle.state_document.specs.Blocks.{blocks_bodies, blocks_sorts, blocks_valid};
 ghost use Rattle.state_document.specs.BlocksLaws.{blocks_lawful, blocks_resolve};
 ghost use Rattle.state_document.specs.Views.{Sees};
 
@@ -31,7 +31,7 @@ pub struct Blocks<R> {
 }
 
 /// Calls a state of the prefixes of containers.
-fn call_container<R: LineReader, T, A: Allocator>(
+fn call_container<R: LineReader<T>, T: Tables, A: Allocator>(
     tokenizer: &mut Tokenizer<'_, Blocks<R>, T, A>,
     state: Block,
 ) -> State
@@ -42,7 +42,7 @@ fn call_container<R: LineReader, T, A: Allocator>(
 }
 
 /// Calls a state of blank lines or of thematic breaks, which containers ask for.
-fn call_leaf<R: LineReader, T, A: Allocator>(
+fn call_leaf<R: LineReader<T>, T: Tables, A: Allocator>(
     tokenizer: &mut Tokenizer<'_, Blocks<R>, T, A>,
     state: Block,
 ) -> State
@@ -53,7 +53,7 @@ fn call_leaf<R: LineReader, T, A: Allocator>(
 }
 
 /// Calls a state of white space.
-fn call_label<R: LineReader, T, A: Allocator>(
+fn call_label<R: LineReader<T>, T: Tables, A: Allocator>(
     tokenizer: &mut Tokenizer<'_, Blocks<R>, T, A>,
     state: Inline,
 ) -> State
@@ -63,14 +63,14 @@ fn call_label<R: LineReader, T, A: Allocator>(
     state_labels::call(tokenizer, state)
 }
 
-impl<R: LineReader, T: Tables> Machine<T> for Blocks<R> {
+impl<R: LineReader<T>, T: Tables> Machine<T> for Blocks<R> {
     ghost Seen = { R.Seen };
 
     ghost seen = { λ machine. R.seen machine.reader };
 
     ghost step = { λ x. step_by (blocks_bodies R.calls x) };
 
-    ghost valid = { λ x. program_valid blocks_sorts 256 (length x.bytes) };
+    ghost valid = { λ x. blocks_valid (length x.bytes) (R.holds x) };
 
     ghost rank = { λ x. program_rank blocks_sorts 256 (length x.bytes) };
 
@@ -101,7 +101,7 @@ impl<R: LineReader, T: Tables> Machine<T> for Blocks<R> {
         Ok(None)
     }
 
-    ghost lawful = { λ x. blocks_lawful R.calls x };
+    ghost lawful = { λ x. blocks_lawful R.calls R.holds R.lawful x };
 
-    ghost resolving = { λ x. blocks_resolve R.calls x };
+    ghost resolving = { λ x. blocks_resolve R.calls R.holds R.lawful x };
 }

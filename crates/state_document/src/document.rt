@@ -8,7 +8,7 @@
 //! 1). Then new ones may begin. What is left of the line is flow, which a `LineReader` reads.
 ghost use Rattle.std.specs.Prelude.{◌≡◌, [], ◌∷◌, OnOk};
 ghost use Rattle.engine_events.specs.declared.event.Name.TheVariants as names;
-ghost use Rattle.markdown_engine.specs.Machine.{Became, SameText, config, with_enter};
+ghost use Rattle.markdown_engine.specs.Machine.{Became, SameText, config, read_with, with_enter};
 ghost use Rattle.markdown_engine.specs.Order.{open_after};
 ghost use Rattle.engine_programs.specs.Bodies.{FixedName};
 ghost use Rattle.engine_programs.specs.Stacks.{Does, IsOpen};
@@ -29,6 +29,7 @@ use markdown_engine::container::Container;
 use markdown_engine::event::Name as EventName;
 use markdown_engine::state::{Block, Inline, State};
 use markdown_engine::tokenizer::Tokenizer;
+use markdown_options::Tables;
 use state_block_table::links::FLOW;
 use state_block_table::{next, part, retry};
 use state_containers::open::{begin_container, is_more_open, is_open};
@@ -59,7 +60,7 @@ pub fn before_frontmatter<M, T, A: Allocator>(tokenizer: &mut Tokenizer<'_, M, T
 }
 
 /// Before a container that is open.
-pub fn container_existing_before<R: LineReader, T, A: Allocator>(
+pub fn container_existing_before<R: LineReader<T>, T: Tables, A: Allocator>(
     tokenizer: &mut Tokenizer<'_, Blocks<R>, T, A>,
 ) -> State
     ensures { Sees (λ machine. R.seen machine.reader) document_container_existing_before tokenizer.old tokenizer.new result }
@@ -92,10 +93,10 @@ pub fn container_existing_before<R: LineReader, T, A: Allocator>(
 }
 
 /// After a container that goes on.
-pub fn container_existing_after<R: LineReader, T, A: Allocator>(
+pub fn container_existing_after<R: LineReader<T>, T: Tables, A: Allocator>(
     tokenizer: &mut Tokenizer<'_, Blocks<R>, T, A>,
 ) -> State
-    ensures { Sees (λ machine. R.seen machine.reader) (document_container_existing_after R.calls) tokenizer.old tokenizer.new result }
+    ensures { Sees (λ machine. R.seen machine.reader) (document_container_existing_after R.calls (read_with tokenizer.old)) tokenizer.old tokenizer.new result }
 {
     tokenizer
         .machine
@@ -109,10 +110,10 @@ pub fn container_existing_after<R: LineReader, T, A: Allocator>(
 }
 
 /// Before a new container.
-pub fn container_new_before<R: LineReader, T, A: Allocator>(
+pub fn container_new_before<R: LineReader<T>, T: Tables, A: Allocator>(
     tokenizer: &mut Tokenizer<'_, Blocks<R>, T, A>,
 ) -> State
-    ensures { Sees (λ machine. R.seen machine.reader) (document_container_new_before R.calls) tokenizer.old tokenizer.new result }
+    ensures { Sees (λ machine. R.seen machine.reader) (document_container_new_before R.calls (read_with tokenizer.old)) tokenizer.old tokenizer.new result }
 {
     tokenizer.machine.reader.mark(tokenizer.events.len());
     tokenizer.tokenize_state.start = tokenizer.point.column;
@@ -186,16 +187,17 @@ pub fn container_new_before_not_gfm_footnote_definition<M, T, A: Allocator>(
 }
 
 /// After a container that begins.
-pub fn container_new_after<R: LineReader, T, A: Allocator>(
+pub fn container_new_after<R: LineReader<T>, T: Tables, A: Allocator>(
     tokenizer: &mut Tokenizer<'_, Blocks<R>, T, A>,
 ) -> State
-    ensures { Sees (λ machine. R.seen machine.reader) (document_container_new_after R.calls) tokenizer.old tokenizer.new result }
+    requires { R.holds (read_with tokenizer.old) (R.seen tokenizer.old.machine.reader) }
+    ensures { Sees (λ machine. R.seen machine.reader) (document_container_new_after R.calls (read_with tokenizer.old)) tokenizer.old tokenizer.new result }
 {
     let point = tokenizer.point;
     let begun = tokenizer
         .machine
         .reader
-        .begin(&tokenizer.tokenize_state, point);
+        .begin(tokenizer.parse_state, &tokenizer.tokenize_state, point);
     if begun.is_err() {
         return State::out_of_memory();
     }
@@ -225,13 +227,17 @@ fn in_line<M, T, A: Allocator>(tokenizer: &mut Tokenizer<'_, M, T, A>) -> State
 }
 
 /// At the text's end.
-fn end<R: LineReader, T, A: Allocator>(tokenizer: &mut Tokenizer<'_, Blocks<R>, T, A>) -> State
-    ensures { Sees (λ machine. R.seen machine.reader) (ended R.calls) tokenizer.old tokenizer.new result }
+fn end<R: LineReader<T>, T: Tables, A: Allocator>(
+    tokenizer: &mut Tokenizer<'_, Blocks<R>, T, A>,
+) -> State
+    requires { R.holds (read_with tokenizer.old) (R.seen tokenizer.old.machine.reader) }
+    ensures { Sees (λ machine. R.seen machine.reader) (ended R.calls (read_with tokenizer.old)) tokenizer.old tokenizer.new result }
 {
-    let ended = tokenizer
-        .machine
-        .reader
-        .end(&tokenizer.tokenize_state, tokenizer.point);
+    let ended = tokenizer.machine.reader.end(
+        tokenizer.parse_state,
+        &tokenizer.tokenize_state,
+        tokenizer.point,
+    );
     if ended.is_err() {
         return State::out_of_memory();
     }
@@ -258,7 +264,7 @@ fn begin_line<M, T, A: Allocator>(tokenizer: &mut Tokenizer<'_, M, T, A>) -> Sta
 }
 
 /// At the first byte of a line's flow.
-fn start_line<R: LineReader, T, A: Allocator>(
+fn start_line<R: LineReader<T>, T: Tables, A: Allocator>(
     tokenizer: &mut Tokenizer<'_, Blocks<R>, T, A>,
 ) -> State
     ensures { Sees (λ machine. R.seen machine.reader) start_line tokenizer.old tokenizer.new result }
@@ -267,18 +273,20 @@ fn start_line<R: LineReader, T, A: Allocator>(
 }
 
 /// After the containers of a line.
-pub fn containers_after<R: LineReader, T, A: Allocator>(
+pub fn containers_after<R: LineReader<T>, T: Tables, A: Allocator>(
     tokenizer: &mut Tokenizer<'_, Blocks<R>, T, A>,
 ) -> State
-    ensures { Sees (λ machine. R.seen machine.reader) (document_containers_after R.calls) tokenizer.old tokenizer.new result }
+    requires { R.holds (read_with tokenizer.old) (R.seen tokenizer.old.machine.reader) }
+    ensures { Sees (λ machine. R.seen machine.reader) (document_containers_after R.calls (read_with tokenizer.old)) tokenizer.old tokenizer.new result }
 {
     if tokenizer.current.is_none() {
         return end(tokenizer);
     }
-    let begun = tokenizer
-        .machine
-        .reader
-        .begin_flow(&tokenizer.tokenize_state, tokenizer.point);
+    let begun = tokenizer.machine.reader.begin_flow(
+        tokenizer.parse_state,
+        &tokenizer.tokenize_state,
+        tokenizer.point,
+    );
     if begun.is_err() {
         return State::out_of_memory();
     }
@@ -286,11 +294,12 @@ pub fn containers_after<R: LineReader, T, A: Allocator>(
 }
 
 /// In a line.
-pub fn flow_inside<R: LineReader, T, A: Allocator>(
+pub fn flow_inside<R: LineReader<T>, T: Tables, A: Allocator>(
     tokenizer: &mut Tokenizer<'_, Blocks<R>, T, A>,
 ) -> State
-    requires { IsOpen (FixedName names.Data ∷ []) tokenizer.old }
-    ensures { Sees (λ machine. R.seen machine.reader) (document_flow_inside R.calls) tokenizer.old tokenizer.new result }
+    requires open { IsOpen (FixedName names.Data ∷ []) tokenizer.old }
+    requires holds { R.holds (read_with tokenizer.old) (R.seen tokenizer.old.machine.reader) }
+    ensures { Sees (λ machine. R.seen machine.reader) (document_flow_inside R.calls (read_with tokenizer.old)) tokenizer.old tokenizer.new result }
 {
     if tokenizer.current.is_some() {
         return in_line(tokenizer);
@@ -302,18 +311,20 @@ pub fn flow_inside<R: LineReader, T, A: Allocator>(
 }
 
 /// After a line.
-pub fn flow_end<R: LineReader, T, A: Allocator>(
+pub fn flow_end<R: LineReader<T>, T: Tables, A: Allocator>(
     tokenizer: &mut Tokenizer<'_, Blocks<R>, T, A>,
 ) -> State
-    ensures { Sees (λ machine. R.seen machine.reader) (document_flow_end R.calls) tokenizer.old tokenizer.new result }
+    requires { R.holds (read_with tokenizer.old) (R.seen tokenizer.old.machine.reader) }
+    ensures { Sees (λ machine. R.seen machine.reader) (document_flow_end R.calls (read_with tokenizer.old)) tokenizer.old tokenizer.new result }
 {
     if tokenizer.current.is_none() {
         return end(tokenizer);
     }
-    let read = tokenizer
-        .machine
-        .reader
-        .read_flow(&tokenizer.tokenize_state, tokenizer.point);
+    let read = tokenizer.machine.reader.read_flow(
+        tokenizer.parse_state,
+        &tokenizer.tokenize_state,
+        tokenizer.point,
+    );
     if read.is_err() {
         return State::out_of_memory();
     }

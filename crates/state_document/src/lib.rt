@@ -2,6 +2,7 @@
 #![tactic(auto)]
 
 ghost use Rattle.engine_events.specs.declared.state.Name.TheVariants as any_states;
+ghost use Rattle.markdown_engine.specs.Machine.{read_with};
 ghost use Rattle.engine_programs.specs.Stacks.{IsOpen};
 ghost use Rattle.state_block_table.specs.BlockTable.{block_sorts};
 ghost use Rattle.state_document.specs.DocumentStates.{document_body};
@@ -15,15 +16,17 @@ use crate::blocks::Blocks;
 use crate::line_reader::LineReader;
 use markdown_engine::state::{Block, State};
 use markdown_engine::tokenizer::Tokenizer;
+use markdown_options::Tables;
 use std::alloc::Allocator;
 
 /// Calls a state of this crate. Any other state fails (`Nok`).
-pub fn call<R: LineReader, T, A: Allocator>(
+pub fn call<R: LineReader<T>, T: Tables, A: Allocator>(
     tokenizer: &mut Tokenizer<'_, Blocks<R>, T, A>,
     state: Block,
 ) -> State
-    requires { IsOpen (block_sorts (any_states.Block state)).open_tokens tokenizer.old }
-    ensures { Sees (λ machine. R.seen machine.reader) (document_body R.calls state) tokenizer.old tokenizer.new result }
+    requires open { IsOpen (block_sorts (any_states.Block state)).open_tokens tokenizer.old }
+    requires holds { R.holds (read_with tokenizer.old) (R.seen tokenizer.old.machine.reader) }
+    ensures { Sees (λ machine. R.seen machine.reader) (document_body R.calls (read_with tokenizer.old) state) tokenizer.old tokenizer.new result }
 {
     match state {
         Block::DocumentStart => document::start(tokenizer),
