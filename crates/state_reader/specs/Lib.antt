@@ -1,0 +1,4 @@
+pub mod Flow
+pub mod Span
+pub mod Reader
+pub mod ReaderLaws
