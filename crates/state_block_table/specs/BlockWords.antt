@@ -9,6 +9,7 @@ use Rattle.engine_events.specs.declared.event.Content.TheVariants as contents
 use Rattle.engine_events.specs.declared.event.Event.{Event}
 use Rattle.engine_events.specs.declared.event.Kind.TheVariants as kinds
 use Rattle.engine_events.specs.declared.event.Link.{Link}
+use Rattle.engine_events.specs.declared.event.Name.{Name as EventName}
 use Rattle.engine_events.specs.declared.state.Block.{Block as BlockName}
 use Rattle.engine_events.specs.declared.state.Inline.{Inline as InlineName}
 use Rattle.engine_events.specs.declared.state.Inline.TheVariants as state_inline
@@ -16,7 +17,7 @@ use Rattle.engine_events.specs.declared.state.Name.TheVariants.{Block, Inline}
 use Rattle.engine_events.specs.declared.state.State.{State}
 use Rattle.engine_events.specs.declared.state.State.TheVariants as states
 use Rattle.markdown_engine.specs.Reading.{Config}
-use Rattle.engine_programs.specs.Bodies.{Body, Answer, Byte, Flag, Flags, Keep, On, Tries}
+use Rattle.engine_programs.specs.Bodies.{FixedName, Body, Answer, Consume, Byte, Flag, Flags, Keep, On, Tries, around}
 use Rattle.state_table.specs.Words.{is_space_or_tab}
 
 -- the block state that reads the next byte, or the same one
@@ -59,6 +60,14 @@ module _ {M : Type 0} where
   -- at the end of a line or of the text, or elsewhere
   abbrev pub at_line_end : Body M → Body M → Body M
   at_line_end a b = Byte a (On (λ b. b == line_feed) a b)
+
+  -- over the byte if it is this one; otherwise another state
+  abbrev pub consume_if : ℕ → BlockName → State → Body M
+  consume_if byte n other = On (λ b. b == byte) (Consume (Answer (next n))) (Answer other)
+
+  -- an event round the byte if it is this one; otherwise another state
+  abbrev pub around_if : ℕ → EventName → BlockName → State → Body M
+  around_if byte name n other = On (λ b. b == byte) (around (FixedName name) (Answer (next n))) (Answer other)
 
   -- the indent of the line is that of code
   abbrev pub is_indented : Constructs → Config M → Bool

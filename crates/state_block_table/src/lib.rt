@@ -6,6 +6,7 @@ ghost use Rattle.state_block_table.specs.BlockWords.{next, part, retry};
 ghost use Rattle.state_block_table.specs.BlockTable.{block_group};
 
 pub mod links;
+pub mod steps;
 pub mod white;
 
 use markdown_engine::state::{Block, Inline, Name, State};
