@@ -11,7 +11,7 @@ use Rattle.engine_programs.specs.Bodies.{Test, around, has}
 use Rattle.definition_text.specs.Ascii.{line_feed, dollar, backtick, tilde}
 use Rattle.definition_text.specs.Columns.{indent}
 use Rattle.definition_text.specs.Lines.{ends_line}
-use Rattle.state_block_table.specs.BlockWords.{over_white, over_indent, white_to, at_line_end, no_limit, next, retry, part}
+use Rattle.state_block_table.specs.BlockWords.{over_white, over_indent, at_line_end, no_limit, next, retry, part}
 use Rattle.state_block_table.specs.BlockWords.{concrete, all_free, string_link}
 use Rattle.state_table.specs.Words.{more, at_marker, count_one, is_space_or_tab}
 
@@ -120,7 +120,7 @@ module _ {M : Type 0} where
   raw_flow_info =
       at_line_end (Exit (FixedName names.Data) (Exit (HeldName 4) (Answer (retry state_block.RawFlowInfoBefore))))
       (On is_space_or_tab
-      (Exit (FixedName names.Data) (Exit (HeldName 4) (white_to no_limit state_block.RawFlowMetaBefore)))
+      (Exit (FixedName names.Data) (Exit (HeldName 4) (over_white no_limit state_block.RawFlowMetaBefore)))
       (Test is_in_backticks (Answer states.Nok)
       (Consume (Answer (next state_block.RawFlowInfo)))))
 
@@ -137,7 +137,7 @@ module _ {M : Type 0} where
   raw_flow_meta bytes =
       at_line_end (Exit (FixedName names.Data) (Exit (HeldName 5) (Answer (retry state_block.RawFlowInfoBefore))))
       (Test (ends_meta bytes)
-      (Exit (FixedName names.Data) (Exit (HeldName 5) (white_to no_limit state_block.RawFlowInfoBefore)))
+      (Exit (FixedName names.Data) (Exit (HeldName 5) (over_white no_limit state_block.RawFlowInfoBefore)))
       (Test is_in_marked (Answer states.Nok)
       (Consume (Answer (next state_block.RawFlowMeta)))))
 

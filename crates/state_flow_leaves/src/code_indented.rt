@@ -14,12 +14,12 @@ ghost use Rattle.state_flow_leaves.specs.CodeIndented.{begins_foreign_line, code
 ghost use Rattle.state_flow_leaves.specs.CodeIndented.{code_indented_after, code_indented_further_start, code_indented_further_begin};
 ghost use Rattle.state_flow_leaves.specs.CodeIndented.{code_indented_further_after};
 
-use engine_programs::around::leave;
-use engine_programs::steps::{around_to, attempt_to, consume_to, enter_to, exit_to};
+use engine_programs::steps::{self, attempt_to};
 use markdown_engine::event::Name as EventName;
 use markdown_engine::state::{Block, State};
 use markdown_engine::tokenizer::Tokenizer;
 use markdown_options::constants::CODE_INDENT;
+use state_block_table::steps::{around_to, consume_to, enter_to, exit_before, exit_block};
 use state_block_table::white::white_to;
 use state_block_table::{next, retry};
 use std::alloc::Allocator;
@@ -72,7 +72,7 @@ pub fn at_break<M, T, A: Allocator>(tokenizer: &mut Tokenizer<'_, M, T, A>) -> S
             enter_to(
                 tokenizer,
                 EventName::CodeFlowChunk,
-                next(Block::CodeIndentedInside),
+                Block::CodeIndentedInside,
             )
         },
     }
@@ -84,12 +84,12 @@ pub fn inside<M, T, A: Allocator>(tokenizer: &mut Tokenizer<'_, M, T, A>) -> Sta
     ensures { Does code_indented_inside tokenizer.old tokenizer.new result }
 {
     match tokenizer.current {
-        None | Some(b'\n') => exit_to(
+        None | Some(b'\n') => exit_before(
             tokenizer,
             EventName::CodeFlowChunk,
-            retry(Block::CodeIndentedAtBreak),
+            Block::CodeIndentedAtBreak,
         ),
-        Some(_) => consume_to(tokenizer, next(Block::CodeIndentedInside)),
+        Some(_) => consume_to(tokenizer, Block::CodeIndentedInside),
     }
 }
 
@@ -98,11 +98,7 @@ pub fn after<M, T, A: Allocator>(tokenizer: &mut Tokenizer<'_, M, T, A>) -> Stat
     requires { IsOpen (FixedName names.CodeIndented ∷ []) tokenizer.old }
     ensures { Does code_indented_after tokenizer.old tokenizer.new result }
 {
-    if leave(tokenizer, EventName::CodeIndented).is_err() {
-        return State::out_of_memory();
-    }
-    tokenizer.interrupt = false;
-    State::Ok
+    exit_block(tokenizer, EventName::CodeIndented)
 }
 
 /// At a line ending, or at the start of a line.
@@ -116,7 +112,7 @@ pub fn further_start<M, T, A: Allocator>(tokenizer: &mut Tokenizer<'_, M, T, A>)
         Some(b'\n') => around_to(
             tokenizer,
             EventName::LineEnding,
-            next(Block::CodeIndentedFurtherStart),
+            Block::CodeIndentedFurtherStart,
         ),
         Some(b'\t' | b' ') => white_to(tokenizer, CODE_INDENT, Block::CodeIndentedFurtherBegin),
         _ => State::Nok,
@@ -134,13 +130,11 @@ pub fn further_begin<M, T, A: Allocator>(tokenizer: &mut Tokenizer<'_, M, T, A>)
             if tokenizer.tokenize_state.size_c != 0 {
                 return State::Nok;
             }
-            if tokenizer.enter(EventName::CodeFlowChunk).is_err() {
-                return State::out_of_memory();
-            }
-            match tokenizer.current {
-                Some(b'\t' | b' ') => consume_to(tokenizer, next(Block::CodeIndentedFurtherAfter)),
-                _ => consume_to(tokenizer, State::Ok),
-            }
+            let state = match tokenizer.current {
+                Some(b'\t' | b' ') => next(Block::CodeIndentedFurtherAfter),
+                _ => State::Ok,
+            };
+            steps::enter_to(tokenizer, EventName::CodeFlowChunk, state)
         },
     }
 }
@@ -152,11 +146,11 @@ pub fn further_after<M, T, A: Allocator>(tokenizer: &mut Tokenizer<'_, M, T, A>)
 {
     match tokenizer.current {
         None => State::Nok,
-        Some(b'\t' | b' ') => consume_to(tokenizer, next(Block::CodeIndentedFurtherAfter)),
-        Some(b'\n') => exit_to(
+        Some(b'\t' | b' ') => consume_to(tokenizer, Block::CodeIndentedFurtherAfter),
+        Some(b'\n') => exit_before(
             tokenizer,
             EventName::CodeFlowChunk,
-            retry(Block::CodeIndentedFurtherStart),
+            Block::CodeIndentedFurtherStart,
         ),
         Some(_) => State::Ok,
     }

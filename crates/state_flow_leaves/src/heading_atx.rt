@@ -15,16 +15,16 @@ ghost use Rattle.state_flow_leaves.specs.HeadingAtx.{heading_atx_end, heading_at
 ghost use Rattle.state_flow_leaves.specs.HeadingAtx.{heading_atx_sequence_open, heading_atx_at_break, heading_atx_sequence_further};
 ghost use Rattle.state_flow_leaves.specs.HeadingAtx.{heading_atx_data};
 
-use engine_programs::around::leave;
-use engine_programs::steps::{consume_to, enter_to, exit_to};
 use markdown_engine::event::Name as EventName;
 use markdown_engine::resolve;
 use markdown_engine::state::{Block, State};
 use markdown_engine::tokenizer::Tokenizer;
 use markdown_options::constants::HEADING_ATX_OPENING_FENCE_SIZE_MAX;
 use state_block_table::links::TEXT;
+use state_block_table::steps::{
+    consume_to, enter_before, enter_link_to, enter_to, exit_before, exit_block,
+};
 use state_block_table::white::white_to;
-use state_block_table::{next, retry};
 use std::alloc::Allocator;
 
 /// At the end.
@@ -32,17 +32,13 @@ fn end<M, T, A: Allocator>(tokenizer: &mut Tokenizer<'_, M, T, A>) -> State
     requires { IsOpen (FixedName names.HeadingAtx ∷ []) tokenizer.old }
     ensures { Does heading_atx_end tokenizer.old tokenizer.new result }
 {
-    if leave(tokenizer, EventName::HeadingAtx).is_err() {
-        return State::out_of_memory();
-    }
     if tokenizer
         .register_resolver(resolve::Name::HeadingAtx)
         .is_err()
     {
         return State::out_of_memory();
     }
-    tokenizer.interrupt = false;
-    State::Ok
+    exit_block(tokenizer, EventName::HeadingAtx)
 }
 
 /// At the first byte after the indent.
@@ -52,10 +48,7 @@ pub fn start<M, T, A: Allocator>(tokenizer: &mut Tokenizer<'_, M, T, A>) -> Stat
     if !tokenizer.parse_state.options.constructs.heading_atx {
         return State::Nok;
     }
-    if tokenizer.enter(EventName::HeadingAtx).is_err() {
-        return State::out_of_memory();
-    }
-    retry(Block::HeadingAtxBefore)
+    enter_before(tokenizer, EventName::HeadingAtx, Block::HeadingAtxBefore)
 }
 
 /// At the first `#`.
@@ -65,11 +58,12 @@ pub fn before<M, T, A: Allocator>(tokenizer: &mut Tokenizer<'_, M, T, A>) -> Sta
     if tokenizer.current != Some(b'#') {
         return State::Nok;
     }
-    if tokenizer.enter(EventName::HeadingAtxSequence).is_err() {
-        return State::out_of_memory();
-    }
     tokenizer.tokenize_state.size = 1;
-    consume_to(tokenizer, next(Block::HeadingAtxSequenceOpen))
+    enter_to(
+        tokenizer,
+        EventName::HeadingAtxSequence,
+        Block::HeadingAtxSequenceOpen,
+    )
 }
 
 /// In the opening sequence.
@@ -78,17 +72,17 @@ pub fn sequence_open<M, T, A: Allocator>(tokenizer: &mut Tokenizer<'_, M, T, A>)
     ensures { Does heading_atx_sequence_open tokenizer.old tokenizer.new result }
 {
     match tokenizer.current {
-        None | Some(b'\t' | b'\n' | b' ') => exit_to(
+        None | Some(b'\t' | b'\n' | b' ') => exit_before(
             tokenizer,
             EventName::HeadingAtxSequence,
-            retry(Block::HeadingAtxAtBreak),
+            Block::HeadingAtxAtBreak,
         ),
         Some(b'#') => {
             if tokenizer.tokenize_state.size >= HEADING_ATX_OPENING_FENCE_SIZE_MAX {
                 return State::Nok;
             }
             tokenizer.tokenize_state.size = tokenizer.tokenize_state.size.saturating_add(1);
-            consume_to(tokenizer, next(Block::HeadingAtxSequenceOpen))
+            consume_to(tokenizer, Block::HeadingAtxSequenceOpen)
         },
         Some(_) => State::Nok,
     }
@@ -105,14 +99,9 @@ pub fn at_break<M, T, A: Allocator>(tokenizer: &mut Tokenizer<'_, M, T, A>) -> S
         Some(b'#') => enter_to(
             tokenizer,
             EventName::HeadingAtxSequence,
-            next(Block::HeadingAtxSequenceFurther),
+            Block::HeadingAtxSequenceFurther,
         ),
-        Some(_) => {
-            if tokenizer.enter_link(EventName::Data, TEXT).is_err() {
-                return State::out_of_memory();
-            }
-            consume_to(tokenizer, next(Block::HeadingAtxData))
-        },
+        Some(_) => enter_link_to(tokenizer, EventName::Data, TEXT, Block::HeadingAtxData),
     }
 }
 
@@ -122,11 +111,11 @@ pub fn sequence_further<M, T, A: Allocator>(tokenizer: &mut Tokenizer<'_, M, T, 
     ensures { Does heading_atx_sequence_further tokenizer.old tokenizer.new result }
 {
     match tokenizer.current {
-        Some(b'#') => consume_to(tokenizer, next(Block::HeadingAtxSequenceFurther)),
-        _ => exit_to(
+        Some(b'#') => consume_to(tokenizer, Block::HeadingAtxSequenceFurther),
+        _ => exit_before(
             tokenizer,
             EventName::HeadingAtxSequence,
-            retry(Block::HeadingAtxAtBreak),
+            Block::HeadingAtxAtBreak,
         ),
     }
 }
@@ -137,11 +126,11 @@ pub fn data<M, T, A: Allocator>(tokenizer: &mut Tokenizer<'_, M, T, A>) -> State
     ensures { Does heading_atx_data tokenizer.old tokenizer.new result }
 {
     match tokenizer.current {
-        None | Some(b'\t' | b'\n' | b' ') => exit_to(
+        None | Some(b'\t' | b'\n' | b' ') => exit_before(
             tokenizer,
             EventName::Data,
-            retry(Block::HeadingAtxAtBreak),
+            Block::HeadingAtxAtBreak,
         ),
-        Some(_) => consume_to(tokenizer, next(Block::HeadingAtxData)),
+        Some(_) => consume_to(tokenizer, Block::HeadingAtxData),
     }
 }

@@ -11,11 +11,10 @@ ghost use Rattle.engine_programs.specs.Stacks.{Does};
 ghost use Rattle.markdown_engine.specs.Machine.{config};
 ghost use Rattle.state_flow_leaves.specs.NonLazyContinuation.{is_in_html, non_lazy_continuation_start, non_lazy_continuation_after};
 
-use engine_programs::steps::around_to;
 use markdown_engine::event::Name as EventName;
 use markdown_engine::state::{Block, State};
 use markdown_engine::tokenizer::Tokenizer;
-use state_block_table::next;
+use state_block_table::steps::around_if;
 use std::alloc::Allocator;
 
 /// The kinds of HTML blocks are less than this, and the bytes of fences aren't.
@@ -32,13 +31,12 @@ fn is_in_html<M, T, A: Allocator>(tokenizer: &Tokenizer<'_, M, T, A>) -> bool
 pub fn start<M, T, A: Allocator>(tokenizer: &mut Tokenizer<'_, M, T, A>) -> State
     ensures { Does non_lazy_continuation_start tokenizer.old tokenizer.new result }
 {
-    if tokenizer.current != Some(b'\n') {
-        return State::Nok;
-    }
-    around_to(
+    around_if(
         tokenizer,
+        b'\n',
         EventName::LineEnding,
-        next(Block::NonLazyContinuationAfter),
+        Block::NonLazyContinuationAfter,
+        State::Nok,
     )
 }
 

@@ -25,14 +25,18 @@ ghost use Rattle.state_flow_leaves.specs.RawFlow.{raw_flow_content_start, raw_fl
 ghost use Rattle.state_flow_leaves.specs.RawFlow.{raw_flow_after};
 
 use engine_programs::around::{around, leave};
-use engine_programs::steps::{attempt_to, check_to, consume_to, enter_to, exit_to};
+use engine_programs::steps::{attempt_to, check_to, exit_to};
 use markdown_engine::event::Name as EventName;
-use markdown_engine::state::{Block, Inline, State};
+use markdown_engine::state::{Block, State};
 use markdown_engine::tokenizer::Tokenizer;
 use markdown_options::constants::{CODE_FENCED_SEQUENCE_SIZE_MIN, MATH_FLOW_SEQUENCE_SIZE_MIN};
 use state_block_table::links::STRING;
-use state_block_table::white::{over_indent, over_white, white_to};
-use state_block_table::{next, part, retry};
+use state_block_table::steps::{
+    consume_to, enter_both_to, enter_data_to, enter_to, exit_before, exit_block, exit_both_before,
+    exit_both_over_white, exit_over_white,
+};
+use state_block_table::white::{over_indent, white_to};
+use state_block_table::{next, retry};
 use std::alloc::Allocator;
 use text_bytes::white_size;
 
@@ -115,15 +119,12 @@ fn opened<M, T, A: Allocator>(tokenizer: &mut Tokenizer<'_, M, T, A>) -> State
     if is_short(tokenizer) {
         return State::Nok;
     }
-    let name = tokenizer.tokenize_state.token_3;
-    if leave(tokenizer, name).is_err() {
-        return State::out_of_memory();
-    }
-    if tokenizer.tokenize_state.marker == b'$' {
-        over_white(tokenizer, usize::MAX, Block::RawFlowMetaBefore)
+    let state = if tokenizer.tokenize_state.marker == b'$' {
+        Block::RawFlowMetaBefore
     } else {
-        over_white(tokenizer, usize::MAX, Block::RawFlowInfoBefore)
-    }
+        Block::RawFlowInfoBefore
+    };
+    exit_over_white(tokenizer, tokenizer.tokenize_state.token_3, state)
 }
 
 /// After a closing fence, which has at least as many bytes as the opening one.
@@ -134,11 +135,11 @@ fn closed<M, T, A: Allocator>(tokenizer: &mut Tokenizer<'_, M, T, A>) -> State
     if tokenizer.tokenize_state.size_b < tokenizer.tokenize_state.size {
         return State::Nok;
     }
-    let name = tokenizer.tokenize_state.token_3;
-    if leave(tokenizer, name).is_err() {
-        return State::out_of_memory();
-    }
-    over_white(tokenizer, usize::MAX, Block::RawFlowSequenceCloseAfter)
+    exit_over_white(
+        tokenizer,
+        tokenizer.tokenize_state.token_3,
+        Block::RawFlowSequenceCloseAfter,
+    )
 }
 
 /// At the first byte of the fence.
@@ -150,13 +151,11 @@ fn open<M, T, A: Allocator>(tokenizer: &mut Tokenizer<'_, M, T, A>, marker: u8) 
     if tokenizer.enter(tokenizer.tokenize_state.token_1).is_err() {
         return State::out_of_memory();
     }
-    if tokenizer.enter(tokenizer.tokenize_state.token_2).is_err() {
-        return State::out_of_memory();
-    }
-    enter_to(
+    enter_both_to(
         tokenizer,
+        tokenizer.tokenize_state.token_2,
         tokenizer.tokenize_state.token_3,
-        next(Block::RawFlowSequenceOpen),
+        Block::RawFlowSequenceOpen,
     )
 }
 
@@ -233,7 +232,7 @@ pub fn sequence_open<M, T, A: Allocator>(tokenizer: &mut Tokenizer<'_, M, T, A>)
         Some(_) => {
             if tokenizer.current == Some(tokenizer.tokenize_state.marker) {
                 tokenizer.tokenize_state.size = tokenizer.tokenize_state.size.saturating_add(1);
-                return consume_to(tokenizer, next(Block::RawFlowSequenceOpen));
+                return consume_to(tokenizer, Block::RawFlowSequenceOpen);
             }
             opened(tokenizer)
         },
@@ -258,13 +257,12 @@ pub fn info_before<M, T, A: Allocator>(tokenizer: &mut Tokenizer<'_, M, T, A>) -
             if is_in_backticks(tokenizer) {
                 return State::Nok;
             }
-            if tokenizer.enter(tokenizer.tokenize_state.token_4).is_err() {
-                return State::out_of_memory();
-            }
-            if tokenizer.enter_link(EventName::Data, STRING).is_err() {
-                return State::out_of_memory();
-            }
-            consume_to(tokenizer, next(Block::RawFlowInfo))
+            enter_data_to(
+                tokenizer,
+                tokenizer.tokenize_state.token_4,
+                STRING,
+                Block::RawFlowInfo,
+            )
         },
     }
 }
@@ -276,30 +274,24 @@ pub fn info<M, T, A: Allocator>(tokenizer: &mut Tokenizer<'_, M, T, A>) -> State
 {
     match tokenizer.current {
         None | Some(b'\n') => {
-            if leave(tokenizer, EventName::Data).is_err() {
-                return State::out_of_memory();
-            }
-            exit_to(
+            exit_both_before(
                 tokenizer,
+                EventName::Data,
                 tokenizer.tokenize_state.token_4,
-                retry(Block::RawFlowInfoBefore),
+                Block::RawFlowInfoBefore,
             )
         },
-        Some(b'\t' | b' ') => {
-            if leave(tokenizer, EventName::Data).is_err() {
-                return State::out_of_memory();
-            }
-            let name = tokenizer.tokenize_state.token_4;
-            if leave(tokenizer, name).is_err() {
-                return State::out_of_memory();
-            }
-            white_to(tokenizer, usize::MAX, Block::RawFlowMetaBefore)
-        },
+        Some(b'\t' | b' ') => exit_both_over_white(
+            tokenizer,
+            EventName::Data,
+            tokenizer.tokenize_state.token_4,
+            Block::RawFlowMetaBefore,
+        ),
         Some(_) => {
             if is_in_backticks(tokenizer) {
                 return State::Nok;
             }
-            consume_to(tokenizer, next(Block::RawFlowInfo))
+            consume_to(tokenizer, Block::RawFlowInfo)
         },
     }
 }
@@ -314,13 +306,12 @@ pub fn meta_before<M, T, A: Allocator>(tokenizer: &mut Tokenizer<'_, M, T, A>) -
             if is_in_marked(tokenizer) {
                 return State::Nok;
             }
-            if tokenizer.enter(tokenizer.tokenize_state.token_5).is_err() {
-                return State::out_of_memory();
-            }
-            if tokenizer.enter_link(EventName::Data, STRING).is_err() {
-                return State::out_of_memory();
-            }
-            consume_to(tokenizer, next(Block::RawFlowMeta))
+            enter_data_to(
+                tokenizer,
+                tokenizer.tokenize_state.token_5,
+                STRING,
+                Block::RawFlowMeta,
+            )
         },
     }
 }
@@ -332,30 +323,26 @@ pub fn meta<M, T, A: Allocator>(tokenizer: &mut Tokenizer<'_, M, T, A>) -> State
 {
     match tokenizer.current {
         None | Some(b'\n') => {
-            if leave(tokenizer, EventName::Data).is_err() {
-                return State::out_of_memory();
-            }
-            exit_to(
+            exit_both_before(
                 tokenizer,
+                EventName::Data,
                 tokenizer.tokenize_state.token_5,
-                retry(Block::RawFlowInfoBefore),
+                Block::RawFlowInfoBefore,
             )
         },
         Some(_) => {
             if ends_meta(tokenizer) {
-                if leave(tokenizer, EventName::Data).is_err() {
-                    return State::out_of_memory();
-                }
-                let name = tokenizer.tokenize_state.token_5;
-                if leave(tokenizer, name).is_err() {
-                    return State::out_of_memory();
-                }
-                return white_to(tokenizer, usize::MAX, Block::RawFlowInfoBefore);
+                return exit_both_over_white(
+                    tokenizer,
+                    EventName::Data,
+                    tokenizer.tokenize_state.token_5,
+                    Block::RawFlowInfoBefore,
+                );
             }
             if is_in_marked(tokenizer) {
                 return State::Nok;
             }
-            consume_to(tokenizer, next(Block::RawFlowMeta))
+            consume_to(tokenizer, Block::RawFlowMeta)
         },
     }
 }
@@ -388,11 +375,12 @@ pub fn before_sequence_close<M, T, A: Allocator>(tokenizer: &mut Tokenizer<'_, M
         None => State::Nok,
         Some(_) => {
             if tokenizer.current == Some(tokenizer.tokenize_state.marker) {
-                if tokenizer.enter(tokenizer.tokenize_state.token_3).is_err() {
-                    return State::out_of_memory();
-                }
                 tokenizer.tokenize_state.size_b = 1;
-                return consume_to(tokenizer, next(Block::RawFlowSequenceClose));
+                return enter_to(
+                    tokenizer,
+                    tokenizer.tokenize_state.token_3,
+                    Block::RawFlowSequenceClose,
+                );
             }
             State::Nok
         },
@@ -409,7 +397,7 @@ pub fn sequence_close<M, T, A: Allocator>(tokenizer: &mut Tokenizer<'_, M, T, A>
         Some(_) => {
             if tokenizer.current == Some(tokenizer.tokenize_state.marker) {
                 tokenizer.tokenize_state.size_b = tokenizer.tokenize_state.size_b.saturating_add(1);
-                return consume_to(tokenizer, next(Block::RawFlowSequenceClose));
+                return consume_to(tokenizer, Block::RawFlowSequenceClose);
             }
             closed(tokenizer)
         },
@@ -453,15 +441,11 @@ pub fn content_start<M, T, A: Allocator>(tokenizer: &mut Tokenizer<'_, M, T, A>)
         return retry(Block::RawFlowBeforeContentChunk);
     }
     match tokenizer.current {
-        Some(b'\t' | b' ') => {
-            tokenizer.tokenize_state.size_c = tokenizer.tokenize_state.space_or_tab_size;
-            attempt_to(
-                tokenizer,
-                next(Block::RawFlowBeforeContentChunk),
-                State::Nok,
-                part(Inline::SpaceOrTabStart),
-            )
-        },
+        Some(b'\t' | b' ') => white_to(
+            tokenizer,
+            tokenizer.tokenize_state.space_or_tab_size,
+            Block::RawFlowBeforeContentChunk,
+        ),
         _ => retry(Block::RawFlowBeforeContentChunk),
     }
 }
@@ -475,7 +459,7 @@ pub fn before_content_chunk<M, T, A: Allocator>(tokenizer: &mut Tokenizer<'_, M,
         Some(_) => enter_to(
             tokenizer,
             tokenizer.tokenize_state.token_6,
-            next(Block::RawFlowContentChunk),
+            Block::RawFlowContentChunk,
         ),
     }
 }
@@ -486,12 +470,12 @@ pub fn content_chunk<M, T, A: Allocator>(tokenizer: &mut Tokenizer<'_, M, T, A>)
     ensures { Does raw_flow_content_chunk tokenizer.old tokenizer.new result }
 {
     match tokenizer.current {
-        None | Some(b'\n') => exit_to(
+        None | Some(b'\n') => exit_before(
             tokenizer,
             tokenizer.tokenize_state.token_6,
-            retry(Block::RawFlowBeforeContentChunk),
+            Block::RawFlowBeforeContentChunk,
         ),
-        Some(_) => consume_to(tokenizer, next(Block::RawFlowContentChunk)),
+        Some(_) => consume_to(tokenizer, Block::RawFlowContentChunk),
     }
 }
 
@@ -500,11 +484,6 @@ pub fn after<M, T, A: Allocator>(tokenizer: &mut Tokenizer<'_, M, T, A>) -> Stat
     requires { IsOpen (HeldName 1 ∷ []) tokenizer.old }
     ensures { Does raw_flow_after tokenizer.old tokenizer.new result }
 {
-    let name = tokenizer.tokenize_state.token_1;
-    if leave(tokenizer, name).is_err() {
-        return State::out_of_memory();
-    }
-    tokenizer.interrupt = false;
     tokenizer.concrete = false;
-    State::Ok
+    exit_block(tokenizer, tokenizer.tokenize_state.token_1)
 }

@@ -13,14 +13,13 @@ ghost use Rattle.markdown_engine.specs.Machine.{constructs_of};
 ghost use Rattle.state_flow_leaves.specs.ThematicBreak.{thematic_break_open, thematic_break_end, thematic_break_start, thematic_break_before};
 ghost use Rattle.state_flow_leaves.specs.ThematicBreak.{thematic_break_at_break, thematic_break_sequence};
 
-use engine_programs::around::leave;
-use engine_programs::steps::{consume_to, enter_to, exit_to};
 use markdown_engine::event::Name as EventName;
 use markdown_engine::state::{Block, State};
 use markdown_engine::tokenizer::Tokenizer;
 use markdown_options::constants::THEMATIC_BREAK_MARKER_COUNT_MIN;
-use state_block_table::white::over_white;
-use state_block_table::{next, retry};
+use state_block_table::steps::{
+    consume_to, enter_before, enter_to, exit_before, exit_block, exit_over_white,
+};
 use std::alloc::Allocator;
 
 /// At the first marker of a break.
@@ -32,7 +31,7 @@ fn open<M, T, A: Allocator>(tokenizer: &mut Tokenizer<'_, M, T, A>, marker: u8) 
     enter_to(
         tokenizer,
         EventName::ThematicBreakSequence,
-        next(Block::ThematicBreakSequence),
+        Block::ThematicBreakSequence,
     )
 }
 
@@ -44,11 +43,7 @@ fn end<M, T, A: Allocator>(tokenizer: &mut Tokenizer<'_, M, T, A>) -> State
     if tokenizer.tokenize_state.size < THEMATIC_BREAK_MARKER_COUNT_MIN {
         return State::Nok;
     }
-    if leave(tokenizer, EventName::ThematicBreak).is_err() {
-        return State::out_of_memory();
-    }
-    tokenizer.interrupt = false;
-    State::Ok
+    exit_block(tokenizer, EventName::ThematicBreak)
 }
 
 /// At the first byte after the indent.
@@ -58,22 +53,24 @@ pub fn start<M, T, A: Allocator>(tokenizer: &mut Tokenizer<'_, M, T, A>) -> Stat
     if !tokenizer.parse_state.options.constructs.thematic_break {
         return State::Nok;
     }
-    if tokenizer.enter(EventName::ThematicBreak).is_err() {
-        return State::out_of_memory();
-    }
-    retry(Block::ThematicBreakBefore)
+    enter_before(
+        tokenizer,
+        EventName::ThematicBreak,
+        Block::ThematicBreakBefore,
+    )
 }
 
 /// At the first marker.
 pub fn before<M, T, A: Allocator>(tokenizer: &mut Tokenizer<'_, M, T, A>) -> State
     ensures { Does thematic_break_before tokenizer.old tokenizer.new result }
 {
-    match tokenizer.current {
-        Some(b'*') => open(tokenizer, b'*'),
-        Some(b'-') => open(tokenizer, b'-'),
-        Some(b'_') => open(tokenizer, b'_'),
-        _ => State::Nok,
-    }
+    let marker = match tokenizer.current {
+        Some(b'*') => b'*',
+        Some(b'-') => b'-',
+        Some(b'_') => b'_',
+        _ => return State::Nok,
+    };
+    open(tokenizer, marker)
 }
 
 /// Before a run, or at the end.
@@ -85,11 +82,12 @@ pub fn at_break<M, T, A: Allocator>(tokenizer: &mut Tokenizer<'_, M, T, A>) -> S
         None => end(tokenizer),
         Some(_) => {
             if tokenizer.current == Some(tokenizer.tokenize_state.marker) {
-                if tokenizer.enter(EventName::ThematicBreakSequence).is_err() {
-                    return State::out_of_memory();
-                }
                 tokenizer.tokenize_state.size = tokenizer.tokenize_state.size.saturating_add(1);
-                return consume_to(tokenizer, next(Block::ThematicBreakSequence));
+                return enter_to(
+                    tokenizer,
+                    EventName::ThematicBreakSequence,
+                    Block::ThematicBreakSequence,
+                );
             }
             if tokenizer.current != Some(b'\n') {
                 return State::Nok;
@@ -105,20 +103,21 @@ pub fn sequence<M, T, A: Allocator>(tokenizer: &mut Tokenizer<'_, M, T, A>) -> S
     ensures { Does thematic_break_sequence tokenizer.old tokenizer.new result }
 {
     match tokenizer.current {
-        None => exit_to(
+        None => exit_before(
             tokenizer,
             EventName::ThematicBreakSequence,
-            retry(Block::ThematicBreakAtBreak),
+            Block::ThematicBreakAtBreak,
         ),
         Some(_) => {
             if tokenizer.current == Some(tokenizer.tokenize_state.marker) {
                 tokenizer.tokenize_state.size = tokenizer.tokenize_state.size.saturating_add(1);
-                return consume_to(tokenizer, next(Block::ThematicBreakSequence));
+                return consume_to(tokenizer, Block::ThematicBreakSequence);
             }
-            if leave(tokenizer, EventName::ThematicBreakSequence).is_err() {
-                return State::out_of_memory();
-            }
-            over_white(tokenizer, usize::MAX, Block::ThematicBreakAtBreak)
+            exit_over_white(
+                tokenizer,
+                EventName::ThematicBreakSequence,
+                Block::ThematicBreakAtBreak,
+            )
         },
     }
 }
