@@ -20,22 +20,22 @@ module _ {M : Type 0} where
   abbrev pub block_or_table : BlockName → Body M
   block_or_table start = block_or start state_block.FlowBeforeGfmTable
 
-  -- the first byte after the indent tells which blocks may begin
+  -- the first byte after the indent tells which blocks may begin; HTML, whose indent is its own, was tried before
   abbrev pub flow_by_byte : Body M
   flow_by_byte =
       On (λ b. (b == dollar) || (b == backtick) || (b == tilde)) (block_or_table state_block.RawFlowStart)
-      (On (λ b. b == less_than) (Answer (retry state_block.FlowBeforeHtml))
       (On (λ b. b == number_sign) (Answer (retry state_block.FlowBeforeHeadingAtx))
       (On (λ b. (b == hyphen) || (b == equals)) (Answer (retry state_block.FlowBeforeHeadingSetext))
       (On (λ b. (b == asterisk) || (b == underscore)) (Answer (retry state_block.FlowBeforeThematicBreak))
-      (Answer (retry state_block.FlowBeforeGfmTable))))))
+      (Answer (retry state_block.FlowBeforeGfmTable)))))
 
   -- at the start of a line: one that begins with no white space isn't blank, and has no indent
   abbrev pub flow_start : Body M
   flow_start =
       Byte (Answer states.Ok)
       (On is_white (Answer (retry state_block.FlowBlankLineBefore))
-      (Keep (λ c. record c.tokenize_state { space_or_tab_size = 0 }) (λ c i. refl) flow_by_byte))
+      (Keep (λ c. record c.tokenize_state { space_or_tab_size = 0 }) (λ c i. refl)
+      (On (λ b. b == less_than) (Answer (retry state_block.FlowBeforeHtml)) flow_by_byte)))
 
   -- before a blank line
   abbrev pub flow_blank_line_before : Body M
@@ -45,7 +45,7 @@ module _ {M : Type 0} where
   -- before indented code
   abbrev pub flow_before_code_indented : Body M
   flow_before_code_indented =
-      block_or state_block.CodeIndentedStart state_block.FlowBeforeRaw
+      block_or state_block.CodeIndentedStart state_block.FlowBeforeHtml
 
   -- at the indent, and then after it
   abbrev pub flow_before_raw : Constructs → Body M
@@ -56,10 +56,11 @@ module _ {M : Type 0} where
       (Keep (λ c. record c.tokenize_state { space_or_tab_size = no_limit - c.tokenize_state.size_c }) (λ c i. refl)
       (Test (λ c. is_indented constructs c) (Answer (retry state_block.FlowBeforeGfmTable)) flow_by_byte))
 
-  -- before HTML
+  -- before HTML, which reads its indent
   abbrev pub flow_before_html : Body M
   flow_before_html =
-      block_or_table state_block.HtmlFlowStart
+      On is_space_or_tab (block_or state_block.HtmlFlowStart state_block.FlowBeforeRaw)
+      (block_or_table state_block.HtmlFlowStart)
 
   -- before an ATX heading
   abbrev pub flow_before_heading_atx : Body M

@@ -4,8 +4,8 @@
 //! flow ::= *(blank_line | block) line_ending
 //! ```
 //!
-//! In a line that begins with white space, a blank line and indented code are tried first. Then the first byte
-//! after the indent tells which blocks may begin. Tables and content are tried last.
+//! In a line that begins with white space, a blank line, indented code and HTML are tried first. Then the first
+//! byte after the indent tells which blocks may begin. Tables and content are tried last.
 ghost use Rattle.engine_programs.specs.Stacks.{Does};
 ghost use Rattle.markdown_engine.specs.Machine.{constructs_of};
 ghost use Rattle.state_flow.specs.Flow.{block_or, block_or_table, flow_by_byte, flow_start, flow_blank_line_before};
@@ -14,11 +14,11 @@ ghost use Rattle.state_flow.specs.Flow.{flow_before_heading_atx, flow_before_hea
 ghost use Rattle.state_flow.specs.Flow.{flow_before_gfm_table, flow_before_content, flow_blank_line_after};
 ghost use Rattle.state_flow.specs.Flow.{flow_after};
 
-use engine_programs::around::around;
-use engine_programs::steps::{around_to, attempt_to};
+use engine_programs::steps::attempt_to;
 use markdown_engine::event::Name as EventName;
 use markdown_engine::state::{Block, Inline, State};
 use markdown_engine::tokenizer::Tokenizer;
+use state_block_table::steps::{around_if, around_to};
 use state_block_table::white::is_indented;
 use state_block_table::{next, part, retry};
 use std::alloc::Allocator;
@@ -41,18 +41,19 @@ fn block_or_table<M, T, A: Allocator>(tokenizer: &mut Tokenizer<'_, M, T, A>, st
     block_or(tokenizer, start, Block::FlowBeforeGfmTable)
 }
 
-/// After the indent: the first byte tells which blocks may begin.
+/// After the indent: the first byte tells which blocks may begin. HTML, whose indent is its own, was
+/// tried before.
 fn by_byte<M, T, A: Allocator>(tokenizer: &mut Tokenizer<'_, M, T, A>) -> State
     ensures { Does flow_by_byte tokenizer.old tokenizer.new result }
 {
-    match tokenizer.current {
-        Some(b'$' | b'`' | b'~') => block_or_table(tokenizer, Block::RawFlowStart),
-        Some(b'<') => retry(Block::FlowBeforeHtml),
-        Some(b'#') => retry(Block::FlowBeforeHeadingAtx),
-        Some(b'-' | b'=') => retry(Block::FlowBeforeHeadingSetext),
-        Some(b'*' | b'_') => retry(Block::FlowBeforeThematicBreak),
-        _ => retry(Block::FlowBeforeGfmTable),
-    }
+    let state = match tokenizer.current {
+        Some(b'$' | b'`' | b'~') => return block_or_table(tokenizer, Block::RawFlowStart),
+        Some(b'#') => Block::FlowBeforeHeadingAtx,
+        Some(b'-' | b'=') => Block::FlowBeforeHeadingSetext,
+        Some(b'*' | b'_') => Block::FlowBeforeThematicBreak,
+        _ => Block::FlowBeforeGfmTable,
+    };
+    retry(state)
 }
 
 /// At the start of a line. A line that begins with no white space isn't blank, and has no indent.
@@ -62,8 +63,11 @@ pub fn start<M, T, A: Allocator>(tokenizer: &mut Tokenizer<'_, M, T, A>) -> Stat
     match tokenizer.current {
         None => State::Ok,
         Some(b'\t' | b'\n' | b' ') => retry(Block::FlowBlankLineBefore),
-        Some(_) => {
+        Some(byte) => {
             tokenizer.tokenize_state.space_or_tab_size = 0;
+            if byte == b'<' {
+                return retry(Block::FlowBeforeHtml);
+            }
             by_byte(tokenizer)
         },
     }
@@ -85,7 +89,7 @@ pub fn blank_line_before<M, T, A: Allocator>(tokenizer: &mut Tokenizer<'_, M, T,
 pub fn before_code_indented<M, T, A: Allocator>(tokenizer: &mut Tokenizer<'_, M, T, A>) -> State
     ensures { Does flow_before_code_indented tokenizer.old tokenizer.new result }
 {
-    block_or(tokenizer, Block::CodeIndentedStart, Block::FlowBeforeRaw)
+    block_or(tokenizer, Block::CodeIndentedStart, Block::FlowBeforeHtml)
 }
 
 /// At the indent of a line, and then after it, where fenced code or math may begin.
@@ -113,11 +117,14 @@ pub fn before_raw<M, T, A: Allocator>(tokenizer: &mut Tokenizer<'_, M, T, A>) ->
     }
 }
 
-/// Before HTML.
+/// Before HTML, which reads its indent.
 pub fn before_html<M, T, A: Allocator>(tokenizer: &mut Tokenizer<'_, M, T, A>) -> State
     ensures { Does flow_before_html tokenizer.old tokenizer.new result }
 {
-    block_or_table(tokenizer, Block::HtmlFlowStart)
+    match tokenizer.current {
+        Some(b'\t' | b' ') => block_or(tokenizer, Block::HtmlFlowStart, Block::FlowBeforeRaw),
+        _ => block_or_table(tokenizer, Block::HtmlFlowStart),
+    }
 }
 
 /// Before an ATX heading.
@@ -177,19 +184,19 @@ pub fn blank_line_after<M, T, A: Allocator>(tokenizer: &mut Tokenizer<'_, M, T, 
     if tokenizer.current != Some(b'\n') {
         return State::Ok;
     }
-    if around(tokenizer, EventName::BlankLineEnding).is_err() {
-        return State::out_of_memory();
-    }
     tokenizer.interrupt = false;
-    next(Block::FlowStart)
+    around_to(tokenizer, EventName::BlankLineEnding, Block::FlowStart)
 }
 
 /// After a block, or a line of content.
 pub fn after<M, T, A: Allocator>(tokenizer: &mut Tokenizer<'_, M, T, A>) -> State
     ensures { Does flow_after tokenizer.old tokenizer.new result }
 {
-    if tokenizer.current != Some(b'\n') {
-        return State::Ok;
-    }
-    around_to(tokenizer, EventName::LineEnding, next(Block::FlowStart))
+    around_if(
+        tokenizer,
+        b'\n',
+        EventName::LineEnding,
+        Block::FlowStart,
+        State::Ok,
+    )
 }

@@ -9,8 +9,8 @@ use Rattle.engine_events.specs.declared.state.State.TheVariants as states
 use Rattle.engine_programs.specs.Bodies.{FixedName, Body, Answer, Consume, Enter, Exit, Keep, Tries, Byte, On, Test, around, has}
 use Rattle.definition_text.specs.Ascii.{line_feed, exclamation_mark, double_quote, single_quote, hyphen, dot, slash, colon, less_than, equals}
 use Rattle.definition_text.specs.Ascii.{greater_than, question_mark, left_bracket, right_bracket, underscore, backtick}
-use Rattle.state_block_table.specs.BlockWords.{at_line_end, is_white, next, retry, concrete, all_free}
-use Rattle.state_table.specs.Words.{count_one, is_space_or_tab}
+use Rattle.state_block_table.specs.BlockWords.{at_line_end, indent_max, is_white, next, retry, concrete, all_free}
+use Rattle.state_table.specs.Words.{count_one, is_space_or_tab, less}
 use Rattle.state_flow_html.specs.HtmlNames.{is_cdata, is_raw_name, is_block_name, is_short_name, kind_raw, kind_comment, kind_instruction}
 use Rattle.state_flow_html.specs.HtmlNames.{kind_declaration, kind_cdata, kind_basic, kind_complete, ends_before_blank}
 
@@ -57,18 +57,25 @@ module _ {M : Type 0} where
       (concrete (Answer (retry state_block.HtmlFlowContinuation)))))
       (html_flow_begin_named bytes))
 
-  -- at the first byte after the indent
+  -- at the start of a line, whose indent belongs to the block
   abbrev pub html_flow_start : Constructs → Body M
   html_flow_start constructs =
-      Test (λ c. constructs.html_flow) (Enter (FixedName names.HtmlFlow) (Answer (retry state_block.HtmlFlowBefore)))
+      Test (λ c. constructs.html_flow)
+      (Enter (FixedName names.HtmlFlow)
+      (Enter (FixedName names.HtmlFlowData)
+      (Keep (λ c. record c.tokenize_state { size_c = indent_max constructs.code_indented }) (λ c i. refl)
+      (Answer (retry state_block.HtmlFlowBefore)))))
       (Answer states.Nok)
 
-  -- at the `<`
+  -- in the indent, or at the `<`
   abbrev pub html_flow_before : Body M
   html_flow_before =
-      On (λ b. b == less_than)
-      (Enter (FixedName names.HtmlFlowData) (Consume (Answer (next state_block.HtmlFlowOpen))))
-      (Answer states.Nok)
+      On (λ b. b == less_than) (Consume (Answer (next state_block.HtmlFlowOpen)))
+      (On is_space_or_tab
+      (Test (λ c. c.tokenize_state.size_c == 0) (Answer states.Nok)
+      (Keep (λ c. record c.tokenize_state { size_c = less c.tokenize_state.size_c }) (λ c i. refl)
+      (Consume (Answer (next state_block.HtmlFlowBefore)))))
+      (Answer states.Nok))
 
   -- after the `<`
   abbrev pub html_flow_open : Body M

@@ -12,13 +12,13 @@
 //! ```
 //!
 //! The kind is kept in `marker`; the last kind interrupts no paragraph. A block ends with its
-//! container, too. Flow reads the indent.
+//! container, too. Its data begins with its indent, of which `size_c` counts the columns that are left.
 ghost use Rattle.std.specs.Prelude.{[], ◌∷◌};
 ghost use Rattle.engine_events.specs.declared.event.Name.TheVariants as names;
 ghost use Rattle.engine_programs.specs.Bodies.{FixedName};
 ghost use Rattle.engine_programs.specs.Stacks.{Does, IsOpen};
 ghost use Rattle.markdown_engine.specs.Machine.{bytes_of, constructs_of};
-ghost use Rattle.state_flow_html.specs.HtmlFlow.{html_flow_may_end, html_flow_in_line, html_flow_begin_complete, html_flow_begin_named, html_flow_begin};
+ghost use Rattle.state_flow_html.specs.HtmlFlow.{html_flow_in_line, html_flow_begin_complete, html_flow_begin_named, html_flow_begin};
 ghost use Rattle.state_flow_html.specs.HtmlFlow.{html_flow_start, html_flow_before, html_flow_open};
 ghost use Rattle.state_flow_html.specs.HtmlFlow.{html_flow_declaration_open, html_flow_comment_open_inside, html_flow_cdata_open_inside};
 ghost use Rattle.state_flow_html.specs.HtmlFlow.{html_flow_tag_close_start, html_flow_tag_name, html_flow_basic_self_closing};
@@ -42,43 +42,30 @@ use crate::names::{
     is_block_name, is_cdata, is_raw_name, is_short_name,
 };
 use engine_programs::around::leave;
-use engine_programs::steps::{around_to, check_to, consume_to, enter_to, exit_to};
+use engine_programs::steps::check_to;
 use markdown_engine::event::Name as EventName;
 use markdown_engine::state::{Block, State};
 use markdown_engine::tokenizer::Tokenizer;
+use state_block_table::steps::{
+    around_if, consume_if, consume_to, enter_before, exit_before, exit_block,
+};
+use state_block_table::white::indent_max;
 use state_block_table::{next, retry};
 use std::alloc::Allocator;
 
-/// In a line: moves over a byte that may begin the end of a block of this kind.
-fn may_end<M, T, A: Allocator>(
-    tokenizer: &mut Tokenizer<'_, M, T, A>,
-    kind: u8,
-    state: Block,
-) -> State
-    ensures { Does (html_flow_may_end kind state) tokenizer.old tokenizer.new result }
-{
-    if tokenizer.tokenize_state.marker == kind {
-        return consume_to(tokenizer, next(state));
-    }
-    consume_to(tokenizer, next(Block::HtmlFlowContinuation))
-}
-
-/// At a byte of a line.
+/// At a byte of a line, which may begin the end of a block of some kind.
 fn in_line<M, T, A: Allocator>(tokenizer: &mut Tokenizer<'_, M, T, A>) -> State
     ensures { Does html_flow_in_line tokenizer.old tokenizer.new result }
 {
-    match tokenizer.current {
-        Some(b'-') => may_end(tokenizer, COMMENT, Block::HtmlFlowContinuationCommentInside),
-        Some(b'<') => may_end(tokenizer, RAW, Block::HtmlFlowContinuationRawTagOpen),
-        Some(b'>') => may_end(tokenizer, DECLARATION, Block::HtmlFlowContinuationClose),
-        Some(b'?') => may_end(
-            tokenizer,
-            INSTRUCTION,
-            Block::HtmlFlowContinuationDeclarationInside,
-        ),
-        Some(b']') => may_end(tokenizer, CDATA, Block::HtmlFlowContinuationCdataInside),
-        _ => consume_to(tokenizer, next(Block::HtmlFlowContinuation)),
-    }
+    let state = match (tokenizer.current, tokenizer.tokenize_state.marker) {
+        (Some(b'-'), COMMENT) => Block::HtmlFlowContinuationCommentInside,
+        (Some(b'<'), RAW) => Block::HtmlFlowContinuationRawTagOpen,
+        (Some(b'>'), DECLARATION) => Block::HtmlFlowContinuationClose,
+        (Some(b'?'), INSTRUCTION) => Block::HtmlFlowContinuationDeclarationInside,
+        (Some(b']'), CDATA) => Block::HtmlFlowContinuationCdataInside,
+        _ => Block::HtmlFlowContinuation,
+    };
+    consume_to(tokenizer, state)
 }
 
 /// Where a tag on a line of its own may begin a block. It interrupts no paragraph.
@@ -105,7 +92,7 @@ fn begin_named<M, T, A: Allocator>(tokenizer: &mut Tokenizer<'_, M, T, A>) -> St
     if is_block_name(tokenizer) {
         tokenizer.tokenize_state.marker = BASIC;
         return match tokenizer.current {
-            Some(b'/') => consume_to(tokenizer, next(Block::HtmlFlowBasicSelfClosing)),
+            Some(b'/') => consume_to(tokenizer, Block::HtmlFlowBasicSelfClosing),
             _ => {
                 tokenizer.concrete = true;
                 retry(Block::HtmlFlowContinuation)
@@ -135,31 +122,37 @@ fn begin<M, T, A: Allocator>(tokenizer: &mut Tokenizer<'_, M, T, A>) -> State
     begin_named(tokenizer)
 }
 
-/// At the first byte after the indent.
+/// At the start of a line, whose indent belongs to the block.
 pub fn start<M, T, A: Allocator>(tokenizer: &mut Tokenizer<'_, M, T, A>) -> State
     ensures { Does (html_flow_start (constructs_of tokenizer.old)) tokenizer.old tokenizer.new result }
 {
     if !tokenizer.parse_state.options.constructs.html_flow {
         return State::Nok;
     }
+    tokenizer.tokenize_state.size_c = indent_max(
+        tokenizer.parse_state.options.constructs.code_indented,
+    );
     if tokenizer.enter(EventName::HtmlFlow).is_err() {
         return State::out_of_memory();
     }
-    retry(Block::HtmlFlowBefore)
+    enter_before(tokenizer, EventName::HtmlFlowData, Block::HtmlFlowBefore)
 }
 
-/// At the `<`.
+/// In the indent, or at the `<`.
 pub fn before<M, T, A: Allocator>(tokenizer: &mut Tokenizer<'_, M, T, A>) -> State
     ensures { Does html_flow_before tokenizer.old tokenizer.new result }
 {
-    if tokenizer.current != Some(b'<') {
-        return State::Nok;
+    match tokenizer.current {
+        Some(b'<') => consume_to(tokenizer, Block::HtmlFlowOpen),
+        Some(b'\t' | b' ') => {
+            if tokenizer.tokenize_state.size_c == 0 {
+                return State::Nok;
+            }
+            tokenizer.tokenize_state.size_c = tokenizer.tokenize_state.size_c.saturating_sub(1);
+            consume_to(tokenizer, Block::HtmlFlowBefore)
+        },
+        _ => State::Nok,
     }
-    enter_to(
-        tokenizer,
-        EventName::HtmlFlowData,
-        next(Block::HtmlFlowOpen),
-    )
 }
 
 /// After the `<`.
@@ -170,7 +163,7 @@ pub fn open<M, T, A: Allocator>(tokenizer: &mut Tokenizer<'_, M, T, A>) -> State
         return State::Nok;
     };
     match byte {
-        b'!' => consume_to(tokenizer, next(Block::HtmlFlowDeclarationOpen)),
+        b'!' => consume_to(tokenizer, Block::HtmlFlowDeclarationOpen),
         b'/' => {
             tokenizer.tokenize_state.seen = true;
             tokenizer.consume();
@@ -180,10 +173,7 @@ pub fn open<M, T, A: Allocator>(tokenizer: &mut Tokenizer<'_, M, T, A>) -> State
         b'?' => {
             tokenizer.tokenize_state.marker = INSTRUCTION;
             tokenizer.concrete = true;
-            consume_to(
-                tokenizer,
-                next(Block::HtmlFlowContinuationDeclarationInside),
-            )
+            consume_to(tokenizer, Block::HtmlFlowContinuationDeclarationInside)
         },
         _ => {
             if !byte.is_ascii_alphabetic() {
@@ -206,12 +196,12 @@ pub fn declaration_open<M, T, A: Allocator>(tokenizer: &mut Tokenizer<'_, M, T, 
     match byte {
         b'-' => {
             tokenizer.tokenize_state.marker = COMMENT;
-            consume_to(tokenizer, next(Block::HtmlFlowCommentOpenInside))
+            consume_to(tokenizer, Block::HtmlFlowCommentOpenInside)
         },
         b'[' => {
             tokenizer.tokenize_state.marker = CDATA;
             tokenizer.tokenize_state.size = 0;
-            consume_to(tokenizer, next(Block::HtmlFlowCdataOpenInside))
+            consume_to(tokenizer, Block::HtmlFlowCdataOpenInside)
         },
         _ => {
             if !byte.is_ascii_alphabetic() {
@@ -219,10 +209,7 @@ pub fn declaration_open<M, T, A: Allocator>(tokenizer: &mut Tokenizer<'_, M, T, 
             }
             tokenizer.tokenize_state.marker = DECLARATION;
             tokenizer.concrete = true;
-            consume_to(
-                tokenizer,
-                next(Block::HtmlFlowContinuationDeclarationInside),
-            )
+            consume_to(tokenizer, Block::HtmlFlowContinuationDeclarationInside)
         },
     }
 }
@@ -235,10 +222,7 @@ pub fn comment_open_inside<M, T, A: Allocator>(tokenizer: &mut Tokenizer<'_, M, 
         return State::Nok;
     }
     tokenizer.concrete = true;
-    consume_to(
-        tokenizer,
-        next(Block::HtmlFlowContinuationDeclarationInside),
-    )
+    consume_to(tokenizer, Block::HtmlFlowContinuationDeclarationInside)
 }
 
 /// In `<![CDATA[`.
@@ -254,9 +238,9 @@ pub fn cdata_open_inside<M, T, A: Allocator>(tokenizer: &mut Tokenizer<'_, M, T,
             tokenizer.tokenize_state.size = tokenizer.tokenize_state.size.saturating_add(1);
             if tokenizer.tokenize_state.size == 6 {
                 tokenizer.concrete = true;
-                return consume_to(tokenizer, next(Block::HtmlFlowContinuation));
+                return consume_to(tokenizer, Block::HtmlFlowContinuation);
             }
-            consume_to(tokenizer, next(Block::HtmlFlowCdataOpenInside))
+            consume_to(tokenizer, Block::HtmlFlowCdataOpenInside)
         },
     }
 }
@@ -271,7 +255,7 @@ pub fn tag_close_start<M, T, A: Allocator>(tokenizer: &mut Tokenizer<'_, M, T, A
     if !byte.is_ascii_alphabetic() {
         return State::Nok;
     }
-    consume_to(tokenizer, next(Block::HtmlFlowTagName))
+    consume_to(tokenizer, Block::HtmlFlowTagName)
 }
 
 /// In the name of a tag.
@@ -287,7 +271,7 @@ pub fn tag_name<M, T, A: Allocator>(tokenizer: &mut Tokenizer<'_, M, T, A>) -> S
             if byte != b'-' && !byte.is_ascii_alphanumeric() {
                 return State::Nok;
             }
-            consume_to(tokenizer, next(Block::HtmlFlowTagName))
+            consume_to(tokenizer, Block::HtmlFlowTagName)
         },
     }
 }
@@ -300,7 +284,7 @@ pub fn basic_self_closing<M, T, A: Allocator>(tokenizer: &mut Tokenizer<'_, M, T
         return State::Nok;
     }
     tokenizer.concrete = true;
-    consume_to(tokenizer, next(Block::HtmlFlowContinuation))
+    consume_to(tokenizer, Block::HtmlFlowContinuation)
 }
 
 /// In a closing tag.
@@ -310,7 +294,7 @@ pub fn complete_closing_tag_after<M, T, A: Allocator>(
     ensures { Does html_flow_complete_closing_tag_after tokenizer.old tokenizer.new result }
 {
     match tokenizer.current {
-        Some(b'\t' | b' ') => consume_to(tokenizer, next(Block::HtmlFlowCompleteClosingTagAfter)),
+        Some(b'\t' | b' ') => consume_to(tokenizer, Block::HtmlFlowCompleteClosingTagAfter),
         _ => retry(Block::HtmlFlowCompleteEnd),
     }
 }
@@ -324,16 +308,17 @@ pub fn complete_attribute_name_before<M, T, A: Allocator>(
     let Some(byte) = tokenizer.current else {
         return retry(Block::HtmlFlowCompleteEnd);
     };
-    match byte {
-        b'\t' | b' ' => consume_to(tokenizer, next(Block::HtmlFlowCompleteAttributeNameBefore)),
-        b'/' => consume_to(tokenizer, next(Block::HtmlFlowCompleteEnd)),
+    let state = match byte {
+        b'\t' | b' ' => Block::HtmlFlowCompleteAttributeNameBefore,
+        b'/' => Block::HtmlFlowCompleteEnd,
         _ => {
-            if matches!(byte, b':' | b'_') || byte.is_ascii_alphabetic() {
-                return consume_to(tokenizer, next(Block::HtmlFlowCompleteAttributeName));
+            if byte != b':' && byte != b'_' && !byte.is_ascii_alphabetic() {
+                return retry(Block::HtmlFlowCompleteEnd);
             }
-            retry(Block::HtmlFlowCompleteEnd)
+            Block::HtmlFlowCompleteAttributeName
         },
-    }
+    };
+    consume_to(tokenizer, state)
 }
 
 /// In the name of an attribute.
@@ -344,7 +329,7 @@ pub fn complete_attribute_name<M, T, A: Allocator>(tokenizer: &mut Tokenizer<'_,
         return retry(Block::HtmlFlowCompleteAttributeNameAfter);
     };
     if matches!(byte, b'-' | b'.' | b':' | b'_') || byte.is_ascii_alphanumeric() {
-        return consume_to(tokenizer, next(Block::HtmlFlowCompleteAttributeName));
+        return consume_to(tokenizer, Block::HtmlFlowCompleteAttributeName);
     }
     retry(Block::HtmlFlowCompleteAttributeNameAfter)
 }
@@ -355,14 +340,12 @@ pub fn complete_attribute_name_after<M, T, A: Allocator>(
 ) -> State
     ensures { Does html_flow_complete_attribute_name_after tokenizer.old tokenizer.new result }
 {
-    match tokenizer.current {
-        Some(b'\t' | b' ') => consume_to(
-            tokenizer,
-            next(Block::HtmlFlowCompleteAttributeNameAfter),
-        ),
-        Some(b'=') => consume_to(tokenizer, next(Block::HtmlFlowCompleteAttributeValueBefore)),
-        _ => retry(Block::HtmlFlowCompleteAttributeNameBefore),
-    }
+    let state = match tokenizer.current {
+        Some(b'\t' | b' ') => Block::HtmlFlowCompleteAttributeNameAfter,
+        Some(b'=') => Block::HtmlFlowCompleteAttributeValueBefore,
+        _ => return retry(Block::HtmlFlowCompleteAttributeNameBefore),
+    };
+    consume_to(tokenizer, state)
 }
 
 /// Before the value of an attribute.
@@ -373,17 +356,14 @@ pub fn complete_attribute_value_before<M, T, A: Allocator>(
 {
     match tokenizer.current {
         None | Some(b'\n' | b'<' | b'=' | b'>' | b'`') => State::Nok,
-        Some(b'\t' | b' ') => consume_to(
-            tokenizer,
-            next(Block::HtmlFlowCompleteAttributeValueBefore),
-        ),
+        Some(b'\t' | b' ') => consume_to(tokenizer, Block::HtmlFlowCompleteAttributeValueBefore),
         Some(b'"') => {
             tokenizer.tokenize_state.marker_b = b'"';
-            consume_to(tokenizer, next(Block::HtmlFlowCompleteAttributeValueQuoted))
+            consume_to(tokenizer, Block::HtmlFlowCompleteAttributeValueQuoted)
         },
         Some(b'\'') => {
             tokenizer.tokenize_state.marker_b = b'\'';
-            consume_to(tokenizer, next(Block::HtmlFlowCompleteAttributeValueQuoted))
+            consume_to(tokenizer, Block::HtmlFlowCompleteAttributeValueQuoted)
         },
         Some(_) => retry(Block::HtmlFlowCompleteAttributeValueUnquoted),
     }
@@ -398,13 +378,12 @@ pub fn complete_attribute_value_quoted<M, T, A: Allocator>(
     match tokenizer.current {
         None | Some(b'\n') => State::Nok,
         Some(_) => {
-            if tokenizer.current == Some(tokenizer.tokenize_state.marker_b) {
-                return consume_to(
-                    tokenizer,
-                    next(Block::HtmlFlowCompleteAttributeValueQuotedAfter),
-                );
-            }
-            consume_to(tokenizer, next(Block::HtmlFlowCompleteAttributeValueQuoted))
+            let state = if tokenizer.current == Some(tokenizer.tokenize_state.marker_b) {
+                Block::HtmlFlowCompleteAttributeValueQuotedAfter
+            } else {
+                Block::HtmlFlowCompleteAttributeValueQuoted
+            };
+            consume_to(tokenizer, state)
         },
     }
 }
@@ -420,10 +399,7 @@ pub fn complete_attribute_value_unquoted<M, T, A: Allocator>(
         Some(b'\t' | b'\n' | b' ' | b'"' | b'\'' | b'<' | b'=' | b'>' | b'`') => retry(
             Block::HtmlFlowCompleteAttributeNameBefore,
         ),
-        Some(_) => consume_to(
-            tokenizer,
-            next(Block::HtmlFlowCompleteAttributeValueUnquoted),
-        ),
+        Some(_) => consume_to(tokenizer, Block::HtmlFlowCompleteAttributeValueUnquoted),
     }
 }
 
@@ -443,10 +419,7 @@ pub fn complete_attribute_value_quoted_after<M, T, A: Allocator>(
 pub fn complete_end<M, T, A: Allocator>(tokenizer: &mut Tokenizer<'_, M, T, A>) -> State
     ensures { Does html_flow_complete_end tokenizer.old tokenizer.new result }
 {
-    if tokenizer.current != Some(b'>') {
-        return State::Nok;
-    }
-    consume_to(tokenizer, next(Block::HtmlFlowCompleteAfter))
+    consume_if(tokenizer, b'>', Block::HtmlFlowCompleteAfter, State::Nok)
 }
 
 /// After a tag.
@@ -458,7 +431,7 @@ pub fn complete_after<M, T, A: Allocator>(tokenizer: &mut Tokenizer<'_, M, T, A>
             tokenizer.concrete = true;
             retry(Block::HtmlFlowContinuation)
         },
-        Some(b'\t' | b' ') => consume_to(tokenizer, next(Block::HtmlFlowCompleteAfter)),
+        Some(b'\t' | b' ') => consume_to(tokenizer, Block::HtmlFlowCompleteAfter),
         Some(_) => State::Nok,
     }
 }
@@ -469,10 +442,10 @@ pub fn continuation<M, T, A: Allocator>(tokenizer: &mut Tokenizer<'_, M, T, A>) 
     ensures { Does html_flow_continuation tokenizer.old tokenizer.new result }
 {
     match tokenizer.current {
-        None => exit_to(
+        None => exit_before(
             tokenizer,
             EventName::HtmlFlowData,
-            retry(Block::HtmlFlowContinuationStart),
+            Block::HtmlFlowContinuationStart,
         ),
         Some(b'\n') => {
             if ends_before_blank(tokenizer) {
@@ -486,10 +459,10 @@ pub fn continuation<M, T, A: Allocator>(tokenizer: &mut Tokenizer<'_, M, T, A>) 
                     retry(Block::HtmlFlowBlankLineBefore),
                 );
             }
-            exit_to(
+            exit_before(
                 tokenizer,
                 EventName::HtmlFlowData,
-                retry(Block::HtmlFlowContinuationStart),
+                Block::HtmlFlowContinuationStart,
             )
         },
         Some(_) => in_line(tokenizer),
@@ -514,13 +487,12 @@ pub fn continuation_start_non_lazy<M, T, A: Allocator>(
 ) -> State
     ensures { Does html_flow_continuation_start_non_lazy tokenizer.old tokenizer.new result }
 {
-    if tokenizer.current != Some(b'\n') {
-        return State::Nok;
-    }
-    around_to(
+    around_if(
         tokenizer,
+        b'\n',
         EventName::LineEnding,
-        next(Block::HtmlFlowContinuationBefore),
+        Block::HtmlFlowContinuationBefore,
+        State::Nok,
     )
 }
 
@@ -545,12 +517,11 @@ pub fn continuation_comment_inside<M, T, A: Allocator>(
 ) -> State
     ensures { Does html_flow_continuation_comment_inside tokenizer.old tokenizer.new result }
 {
-    if tokenizer.current != Some(b'-') {
-        return retry(Block::HtmlFlowContinuation);
-    }
-    consume_to(
+    consume_if(
         tokenizer,
-        next(Block::HtmlFlowContinuationDeclarationInside),
+        b'-',
+        Block::HtmlFlowContinuationDeclarationInside,
+        retry(Block::HtmlFlowContinuation),
     )
 }
 
@@ -577,12 +548,12 @@ pub fn continuation_raw_end_tag<M, T, A: Allocator>(tokenizer: &mut Tokenizer<'_
     };
     if byte == b'>' {
         if is_raw_name(tokenizer) {
-            return consume_to(tokenizer, next(Block::HtmlFlowContinuationClose));
+            return consume_to(tokenizer, Block::HtmlFlowContinuationClose);
         }
         return retry(Block::HtmlFlowContinuation);
     }
     if byte.is_ascii_alphabetic() && is_short_name(tokenizer) {
-        return consume_to(tokenizer, next(Block::HtmlFlowContinuationRawEndTag));
+        return consume_to(tokenizer, Block::HtmlFlowContinuationRawEndTag);
     }
     retry(Block::HtmlFlowContinuation)
 }
@@ -593,12 +564,11 @@ pub fn continuation_cdata_inside<M, T, A: Allocator>(
 ) -> State
     ensures { Does html_flow_continuation_cdata_inside tokenizer.old tokenizer.new result }
 {
-    if tokenizer.current != Some(b']') {
-        return retry(Block::HtmlFlowContinuation);
-    }
-    consume_to(
+    consume_if(
         tokenizer,
-        next(Block::HtmlFlowContinuationDeclarationInside),
+        b']',
+        Block::HtmlFlowContinuationDeclarationInside,
+        retry(Block::HtmlFlowContinuation),
     )
 }
 
@@ -608,28 +578,12 @@ pub fn continuation_declaration_inside<M, T, A: Allocator>(
 ) -> State
     ensures { Does html_flow_continuation_declaration_inside tokenizer.old tokenizer.new result }
 {
-    match tokenizer.current {
-        Some(b'>') => consume_to(tokenizer, next(Block::HtmlFlowContinuationClose)),
-        Some(b'-') => {
-            if tokenizer.tokenize_state.marker != COMMENT {
-                return retry(Block::HtmlFlowContinuation);
-            }
-            consume_to(
-                tokenizer,
-                next(Block::HtmlFlowContinuationDeclarationInside),
-            )
-        },
-        Some(b']') => {
-            if tokenizer.tokenize_state.marker != CDATA {
-                return retry(Block::HtmlFlowContinuation);
-            }
-            consume_to(
-                tokenizer,
-                next(Block::HtmlFlowContinuationDeclarationInside),
-            )
-        },
-        _ => retry(Block::HtmlFlowContinuation),
-    }
+    let state = match (tokenizer.current, tokenizer.tokenize_state.marker) {
+        (Some(b'>'), _) => Block::HtmlFlowContinuationClose,
+        (Some(b'-'), COMMENT) | (Some(b']'), CDATA) => Block::HtmlFlowContinuationDeclarationInside,
+        _ => return retry(Block::HtmlFlowContinuation),
+    };
+    consume_to(tokenizer, state)
 }
 
 /// In the last line.
@@ -638,12 +592,12 @@ pub fn continuation_close<M, T, A: Allocator>(tokenizer: &mut Tokenizer<'_, M, T
     ensures { Does html_flow_continuation_close tokenizer.old tokenizer.new result }
 {
     match tokenizer.current {
-        None | Some(b'\n') => exit_to(
+        None | Some(b'\n') => exit_before(
             tokenizer,
             EventName::HtmlFlowData,
-            retry(Block::HtmlFlowContinuationAfter),
+            Block::HtmlFlowContinuationAfter,
         ),
-        Some(_) => consume_to(tokenizer, next(Block::HtmlFlowContinuationClose)),
+        Some(_) => consume_to(tokenizer, Block::HtmlFlowContinuationClose),
     }
 }
 
@@ -652,24 +606,19 @@ pub fn continuation_after<M, T, A: Allocator>(tokenizer: &mut Tokenizer<'_, M, T
     requires { IsOpen (FixedName names.HtmlFlow ∷ []) tokenizer.old }
     ensures { Does html_flow_continuation_after tokenizer.old tokenizer.new result }
 {
-    if leave(tokenizer, EventName::HtmlFlow).is_err() {
-        return State::out_of_memory();
-    }
-    tokenizer.interrupt = false;
     tokenizer.concrete = false;
-    State::Ok
+    exit_block(tokenizer, EventName::HtmlFlow)
 }
 
 /// At the line ending before a blank line.
 pub fn blank_line_before<M, T, A: Allocator>(tokenizer: &mut Tokenizer<'_, M, T, A>) -> State
     ensures { Does html_flow_blank_line_before tokenizer.old tokenizer.new result }
 {
-    if tokenizer.current != Some(b'\n') {
-        return State::Nok;
-    }
-    around_to(
+    around_if(
         tokenizer,
+        b'\n',
         EventName::LineEnding,
-        next(Block::BlankLineStart),
+        Block::BlankLineStart,
+        State::Nok,
     )
 }
