@@ -13,12 +13,13 @@ ghost use Rattle.state_content.specs.Content.{content_definition_before, content
 ghost use Rattle.state_content.specs.Content.{content_chunk_inside};
 
 use engine_programs::around::leave;
-use engine_programs::steps::{around_to, attempt_to, consume_to};
+use engine_programs::steps::attempt_to;
 use markdown_engine::event::Name as EventName;
 use markdown_engine::resolve;
 use markdown_engine::state::{Block, State};
 use markdown_engine::tokenizer::Tokenizer;
 use state_block_table::links::CONTENT;
+use state_block_table::steps::{around_if, consume_to, enter_link_to};
 use state_block_table::{next, retry};
 use std::alloc::Allocator;
 
@@ -41,13 +42,12 @@ pub fn definition_before<M, T, A: Allocator>(tokenizer: &mut Tokenizer<'_, M, T,
 pub fn definition_after<M, T, A: Allocator>(tokenizer: &mut Tokenizer<'_, M, T, A>) -> State
     ensures { Does content_definition_after tokenizer.old tokenizer.new result }
 {
-    if tokenizer.current != Some(b'\n') {
-        return State::Ok;
-    }
-    around_to(
+    around_if(
         tokenizer,
+        b'\n',
         EventName::LineEnding,
-        next(Block::ContentDefinitionBefore),
+        Block::ContentDefinitionBefore,
+        State::Ok,
     )
 }
 
@@ -55,10 +55,12 @@ pub fn definition_after<M, T, A: Allocator>(tokenizer: &mut Tokenizer<'_, M, T, 
 pub fn chunk_start<M, T, A: Allocator>(tokenizer: &mut Tokenizer<'_, M, T, A>) -> State
     ensures { Does content_chunk_start tokenizer.old tokenizer.new result }
 {
-    if tokenizer.enter_link(EventName::Content, CONTENT).is_err() {
-        return State::out_of_memory();
-    }
-    consume_to(tokenizer, next(Block::ContentChunkInside))
+    enter_link_to(
+        tokenizer,
+        EventName::Content,
+        CONTENT,
+        Block::ContentChunkInside,
+    )
 }
 
 /// In a line of content.
@@ -80,6 +82,6 @@ pub fn chunk_inside<M, T, A: Allocator>(tokenizer: &mut Tokenizer<'_, M, T, A>) 
             tokenizer.interrupt = true;
             State::Ok
         },
-        Some(_) => consume_to(tokenizer, next(Block::ContentChunkInside)),
+        Some(_) => consume_to(tokenizer, Block::ContentChunkInside),
     }
 }

@@ -17,10 +17,11 @@ ghost use Rattle.state_content.specs.Definition.{definition_destination_after, d
 ghost use Rattle.state_content.specs.Definition.{definition_after_whitespace, definition_title_before, definition_title_before_marker};
 ghost use Rattle.state_content.specs.Definition.{definition_title_after, definition_title_after_optional_whitespace};
 
-use engine_programs::steps::{around_to, attempt_to, exit_to};
+use engine_programs::steps::{attempt_to, exit_to};
 use markdown_engine::event::Name as EventName;
 use markdown_engine::state::{Block, Inline, State};
 use markdown_engine::tokenizer::Tokenizer;
+use state_block_table::steps::around_if;
 use state_block_table::white::over_white;
 use state_block_table::{next, part, retry};
 use std::alloc::Allocator;
@@ -60,13 +61,12 @@ pub fn before<M, T, A: Allocator>(tokenizer: &mut Tokenizer<'_, M, T, A>) -> Sta
 pub fn label_after<M, T, A: Allocator>(tokenizer: &mut Tokenizer<'_, M, T, A>) -> State
     ensures { Does definition_label_after tokenizer.old tokenizer.new result }
 {
-    if tokenizer.current != Some(b':') {
-        return State::Nok;
-    }
-    around_to(
+    around_if(
         tokenizer,
+        b':',
         EventName::DefinitionMarker,
-        next(Block::DefinitionMarkerAfter),
+        Block::DefinitionMarkerAfter,
+        State::Nok,
     )
 }
 

@@ -12,12 +12,13 @@ ghost use Rattle.engine_programs.specs.Stacks.{Does, IsOpen};
 ghost use Rattle.state_content.specs.Paragraph.{paragraph_start, paragraph_line_start, paragraph_inside};
 
 use engine_programs::around::leave;
-use engine_programs::steps::{consume_to, exit_to};
+use engine_programs::steps::exit_to;
 use markdown_engine::event::Name as EventName;
 use markdown_engine::state::{Block, State};
 use markdown_engine::tokenizer::Tokenizer;
 use state_block_table::links::text_after;
 use state_block_table::next;
+use state_block_table::steps::{consume_to, enter_link_to};
 use std::alloc::Allocator;
 
 /// At the first byte.
@@ -31,10 +32,7 @@ pub fn start<M, T, A: Allocator>(tokenizer: &mut Tokenizer<'_, M, T, A>) -> Stat
                 return State::out_of_memory();
             }
             let link = text_after(&tokenizer.events);
-            if tokenizer.enter_link(EventName::Data, link).is_err() {
-                return State::out_of_memory();
-            }
-            consume_to(tokenizer, next(Block::ParagraphInside))
+            enter_link_to(tokenizer, EventName::Data, link, Block::ParagraphInside)
         },
     }
 }
@@ -48,10 +46,7 @@ pub fn line_start<M, T, A: Allocator>(tokenizer: &mut Tokenizer<'_, M, T, A>) ->
         None => exit_to(tokenizer, EventName::Paragraph, State::Ok),
         Some(_) => {
             let link = text_after(&tokenizer.events);
-            if tokenizer.enter_link(EventName::Data, link).is_err() {
-                return State::out_of_memory();
-            }
-            consume_to(tokenizer, next(Block::ParagraphInside))
+            enter_link_to(tokenizer, EventName::Data, link, Block::ParagraphInside)
         },
     }
 }
@@ -72,6 +67,6 @@ pub fn inside<M, T, A: Allocator>(tokenizer: &mut Tokenizer<'_, M, T, A>) -> Sta
             tokenizer.consume();
             exit_to(tokenizer, EventName::Data, next(Block::ParagraphLineStart))
         },
-        Some(_) => consume_to(tokenizer, next(Block::ParagraphInside)),
+        Some(_) => consume_to(tokenizer, Block::ParagraphInside),
     }
 }
