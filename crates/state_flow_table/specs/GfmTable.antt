@@ -168,8 +168,8 @@ module _ {M : Type 0} where
   -- at the start of a row
   abbrev pub gfm_table_body_row_start : Constructs → Body M
   gfm_table_body_row_start constructs =
-      Enter (FixedName names.GfmTableRow)
-      (Byte (Answer states.Nok) (Test (λ c. is_indented constructs c) (Answer states.Nok) gfm_table_read_part))
+      Byte (Answer states.Nok)
+      (Test (λ c. is_indented constructs c) (Answer states.Nok) (Enter (FixedName names.GfmTableRow) gfm_table_read_part))
 
   -- between the parts of a row
   abbrev pub gfm_table_body_row_break : Body M

@@ -30,14 +30,17 @@ ghost use Rattle.state_flow_table.specs.GfmTable.{gfm_table_body_row_escape};
 
 use crate::cells::{count_cells, has_all_cells};
 use engine_programs::around::leave;
-use engine_programs::steps::{around_to, consume_to, enter_to, exit_to};
 use markdown_engine::event::Name as EventName;
 use markdown_engine::resolve;
 use markdown_engine::state::{Block, State};
 use markdown_engine::tokenizer::Tokenizer;
 use state_block_table::links::TEXT;
+use state_block_table::retry;
+use state_block_table::steps::{
+    around_if, around_to, consume_to, enter_before, enter_link_to, enter_to, exit_before,
+    exit_block,
+};
 use state_block_table::white::{is_indented, over_indent, over_white, white_to};
-use state_block_table::{next, retry};
 use state_left::{is_after_rows, is_head_left};
 use std::alloc::Allocator;
 
@@ -58,42 +61,34 @@ fn end<M, T, A: Allocator>(tokenizer: &mut Tokenizer<'_, M, T, A>) -> State
     if tokenizer.previous == Some(b'\n') {
         return State::Nok;
     }
-    if leave(tokenizer, EventName::GfmTableDelimiterRow).is_err() {
-        return State::out_of_memory();
-    }
-    if leave(tokenizer, EventName::GfmTableHead).is_err() {
-        return State::out_of_memory();
-    }
     if tokenizer
         .register_resolver(resolve::Name::GfmTable)
         .is_err()
     {
         return State::out_of_memory();
     }
-    tokenizer.interrupt = false;
-    State::Ok
+    if leave(tokenizer, EventName::GfmTableDelimiterRow).is_err() {
+        return State::out_of_memory();
+    }
+    exit_block(tokenizer, EventName::GfmTableHead)
 }
 
 /// At a part of a row.
 fn read_part<M, T, A: Allocator>(tokenizer: &mut Tokenizer<'_, M, T, A>) -> State
     ensures { Does gfm_table_read_part tokenizer.old tokenizer.new result }
 {
-    match tokenizer.current {
-        Some(b'|') => around_to(
-            tokenizer,
-            EventName::GfmTableCellDivider,
-            next(Block::GfmTableBodyRowBreak),
-        ),
-        _ => {
-            if tokenizer.enter_link(EventName::Data, TEXT).is_err() {
-                return State::out_of_memory();
-            }
-            match tokenizer.current {
-                Some(b'\\') => consume_to(tokenizer, next(Block::GfmTableBodyRowEscape)),
-                _ => consume_to(tokenizer, next(Block::GfmTableBodyRowData)),
-            }
+    let state = match tokenizer.current {
+        Some(b'|') => {
+            return around_to(
+                tokenizer,
+                EventName::GfmTableCellDivider,
+                Block::GfmTableBodyRowBreak,
+            );
         },
-    }
+        Some(b'\\') => Block::GfmTableBodyRowEscape,
+        _ => Block::GfmTableBodyRowData,
+    };
+    enter_link_to(tokenizer, EventName::Data, TEXT, state)
 }
 
 /// At the end of the head.
@@ -115,7 +110,7 @@ fn end_head<M, T, A: Allocator>(tokenizer: &mut Tokenizer<'_, M, T, A>) -> State
     around_to(
         tokenizer,
         EventName::LineEnding,
-        next(Block::GfmTableHeadDelimiterStart),
+        Block::GfmTableHeadDelimiterStart,
     )
 }
 
@@ -145,23 +140,23 @@ pub fn head_row_before<M, T, A: Allocator>(tokenizer: &mut Tokenizer<'_, M, T, A
     if tokenizer.enter(EventName::GfmTableHead).is_err() {
         return State::out_of_memory();
     }
-    if tokenizer.enter(EventName::GfmTableRow).is_err() {
-        return State::out_of_memory();
-    }
-    retry(Block::GfmTableHeadRowStart)
+    enter_before(
+        tokenizer,
+        EventName::GfmTableRow,
+        Block::GfmTableHeadRowStart,
+    )
 }
 
 /// At the first bar, or elsewhere.
 pub fn head_row_start<M, T, A: Allocator>(tokenizer: &mut Tokenizer<'_, M, T, A>) -> State
     ensures { Does gfm_table_head_row_start tokenizer.old tokenizer.new result }
 {
-    if tokenizer.current != Some(b'|') {
-        return retry(Block::GfmTableHeadRowBreak);
-    }
-    around_to(
+    around_if(
         tokenizer,
+        b'|',
         EventName::GfmTableCellDivider,
-        next(Block::GfmTableHeadRowBreak),
+        Block::GfmTableHeadRowBreak,
+        retry(Block::GfmTableHeadRowBreak),
     )
 }
 
@@ -185,18 +180,17 @@ pub fn head_row_break<M, T, A: Allocator>(tokenizer: &mut Tokenizer<'_, M, T, A>
             around_to(
                 tokenizer,
                 EventName::GfmTableCellDivider,
-                next(Block::GfmTableHeadRowBreak),
+                Block::GfmTableHeadRowBreak,
             )
         },
-        Some(_) => {
+        Some(byte) => {
             tokenizer.tokenize_state.seen = true;
-            if tokenizer.enter_link(EventName::Data, TEXT).is_err() {
-                return State::out_of_memory();
-            }
-            match tokenizer.current {
-                Some(b'\\') => consume_to(tokenizer, next(Block::GfmTableHeadRowEscape)),
-                _ => consume_to(tokenizer, next(Block::GfmTableHeadRowData)),
-            }
+            let state = if byte == b'\\' {
+                Block::GfmTableHeadRowEscape
+            } else {
+                Block::GfmTableHeadRowData
+            };
+            enter_link_to(tokenizer, EventName::Data, TEXT, state)
         },
     }
 }
@@ -206,15 +200,14 @@ pub fn head_row_data<M, T, A: Allocator>(tokenizer: &mut Tokenizer<'_, M, T, A>)
     requires { IsOpen (FixedName names.Data ∷ FixedName names.GfmTableRow ∷ FixedName names.GfmTableHead ∷ []) tokenizer.old }
     ensures { Does gfm_table_head_row_data tokenizer.old tokenizer.new result }
 {
-    match tokenizer.current {
-        None | Some(b'\t' | b'\n' | b' ' | b'|') => exit_to(
-            tokenizer,
-            EventName::Data,
-            retry(Block::GfmTableHeadRowBreak),
-        ),
-        Some(b'\\') => consume_to(tokenizer, next(Block::GfmTableHeadRowEscape)),
-        Some(_) => consume_to(tokenizer, next(Block::GfmTableHeadRowData)),
-    }
+    let state = match tokenizer.current {
+        None | Some(b'\t' | b'\n' | b' ' | b'|') => {
+            return exit_before(tokenizer, EventName::Data, Block::GfmTableHeadRowBreak);
+        },
+        Some(b'\\') => Block::GfmTableHeadRowEscape,
+        Some(_) => Block::GfmTableHeadRowData,
+    };
+    consume_to(tokenizer, state)
 }
 
 /// After a backslash.
@@ -222,7 +215,7 @@ pub fn head_row_escape<M, T, A: Allocator>(tokenizer: &mut Tokenizer<'_, M, T, A
     ensures { Does gfm_table_head_row_escape tokenizer.old tokenizer.new result }
 {
     match tokenizer.current {
-        Some(b'\\' | b'|') => consume_to(tokenizer, next(Block::GfmTableHeadRowData)),
+        Some(b'\\' | b'|') => consume_to(tokenizer, Block::GfmTableHeadRowData),
         _ => retry(Block::GfmTableHeadRowData),
     }
 }
@@ -251,7 +244,7 @@ pub fn head_delimiter_before<M, T, A: Allocator>(tokenizer: &mut Tokenizer<'_, M
     around_to(
         tokenizer,
         EventName::GfmTableCellDivider,
-        next(Block::GfmTableHeadDelimiterCellBefore),
+        Block::GfmTableHeadDelimiterCellBefore,
     )
 }
 
@@ -282,7 +275,7 @@ pub fn head_delimiter_value_before<M, T, A: Allocator>(
             around_to(
                 tokenizer,
                 EventName::GfmTableDelimiterMarker,
-                next(Block::GfmTableHeadDelimiterLeftAlignmentAfter),
+                Block::GfmTableHeadDelimiterLeftAlignmentAfter,
             )
         },
         Some(b'-') => {
@@ -290,7 +283,7 @@ pub fn head_delimiter_value_before<M, T, A: Allocator>(
             enter_to(
                 tokenizer,
                 EventName::GfmTableDelimiterFiller,
-                next(Block::GfmTableHeadDelimiterFiller),
+                Block::GfmTableHeadDelimiterFiller,
             )
         },
         Some(_) => State::Nok,
@@ -309,7 +302,7 @@ pub fn head_delimiter_left_alignment_after<M, T, A: Allocator>(
     enter_to(
         tokenizer,
         EventName::GfmTableDelimiterFiller,
-        next(Block::GfmTableHeadDelimiterFiller),
+        Block::GfmTableHeadDelimiterFiller,
     )
 }
 
@@ -319,12 +312,12 @@ pub fn head_delimiter_filler<M, T, A: Allocator>(tokenizer: &mut Tokenizer<'_, M
     ensures { Does gfm_table_head_delimiter_filler tokenizer.old tokenizer.new result }
 {
     match tokenizer.current {
-        None => exit_to(
+        None => exit_before(
             tokenizer,
             EventName::GfmTableDelimiterFiller,
-            retry(Block::GfmTableHeadDelimiterRightAlignmentAfter),
+            Block::GfmTableHeadDelimiterRightAlignmentAfter,
         ),
-        Some(b'-') => consume_to(tokenizer, next(Block::GfmTableHeadDelimiterFiller)),
+        Some(b'-') => consume_to(tokenizer, Block::GfmTableHeadDelimiterFiller),
         Some(b':') => {
             if leave(tokenizer, EventName::GfmTableDelimiterFiller).is_err() {
                 return State::out_of_memory();
@@ -333,13 +326,13 @@ pub fn head_delimiter_filler<M, T, A: Allocator>(tokenizer: &mut Tokenizer<'_, M
             around_to(
                 tokenizer,
                 EventName::GfmTableDelimiterMarker,
-                next(Block::GfmTableHeadDelimiterRightAlignmentAfter),
+                Block::GfmTableHeadDelimiterRightAlignmentAfter,
             )
         },
-        Some(_) => exit_to(
+        Some(_) => exit_before(
             tokenizer,
             EventName::GfmTableDelimiterFiller,
-            retry(Block::GfmTableHeadDelimiterRightAlignmentAfter),
+            Block::GfmTableHeadDelimiterRightAlignmentAfter,
         ),
     }
 }
@@ -367,7 +360,7 @@ pub fn head_delimiter_cell_after<M, T, A: Allocator>(
             around_to(
                 tokenizer,
                 EventName::GfmTableCellDivider,
-                next(Block::GfmTableHeadDelimiterCellBefore),
+                Block::GfmTableHeadDelimiterCellBefore,
             )
         },
         Some(_) => State::Nok,
@@ -385,14 +378,14 @@ pub fn head_delimiter_nok<M, T, A: Allocator>(tokenizer: &mut Tokenizer<'_, M, T
 pub fn body_row_start<M, T, A: Allocator>(tokenizer: &mut Tokenizer<'_, M, T, A>) -> State
     ensures { Does (gfm_table_body_row_start (constructs_of tokenizer.old)) tokenizer.old tokenizer.new result }
 {
-    if tokenizer.enter(EventName::GfmTableRow).is_err() {
-        return State::out_of_memory();
-    }
     match tokenizer.current {
         None => State::Nok,
         Some(_) => {
             if is_indented(tokenizer) {
                 return State::Nok;
+            }
+            if tokenizer.enter(EventName::GfmTableRow).is_err() {
+                return State::out_of_memory();
             }
             read_part(tokenizer)
         },
@@ -405,13 +398,7 @@ pub fn body_row_break<M, T, A: Allocator>(tokenizer: &mut Tokenizer<'_, M, T, A>
     ensures { Does gfm_table_body_row_break tokenizer.old tokenizer.new result }
 {
     match tokenizer.current {
-        None | Some(b'\n') => {
-            if leave(tokenizer, EventName::GfmTableRow).is_err() {
-                return State::out_of_memory();
-            }
-            tokenizer.interrupt = false;
-            State::Ok
-        },
+        None | Some(b'\n') => { exit_block(tokenizer, EventName::GfmTableRow) },
         Some(b'\t' | b' ') => white_to(tokenizer, usize::MAX, Block::GfmTableBodyRowBreak),
         Some(_) => read_part(tokenizer),
     }
@@ -422,15 +409,14 @@ pub fn body_row_data<M, T, A: Allocator>(tokenizer: &mut Tokenizer<'_, M, T, A>)
     requires { IsOpen (FixedName names.Data ∷ FixedName names.GfmTableRow ∷ []) tokenizer.old }
     ensures { Does gfm_table_body_row_data tokenizer.old tokenizer.new result }
 {
-    match tokenizer.current {
-        None | Some(b'\t' | b'\n' | b' ' | b'|') => exit_to(
-            tokenizer,
-            EventName::Data,
-            retry(Block::GfmTableBodyRowBreak),
-        ),
-        Some(b'\\') => consume_to(tokenizer, next(Block::GfmTableBodyRowEscape)),
-        Some(_) => consume_to(tokenizer, next(Block::GfmTableBodyRowData)),
-    }
+    let state = match tokenizer.current {
+        None | Some(b'\t' | b'\n' | b' ' | b'|') => {
+            return exit_before(tokenizer, EventName::Data, Block::GfmTableBodyRowBreak);
+        },
+        Some(b'\\') => Block::GfmTableBodyRowEscape,
+        Some(_) => Block::GfmTableBodyRowData,
+    };
+    consume_to(tokenizer, state)
 }
 
 /// After a backslash.
@@ -438,7 +424,7 @@ pub fn body_row_escape<M, T, A: Allocator>(tokenizer: &mut Tokenizer<'_, M, T, A
     ensures { Does gfm_table_body_row_escape tokenizer.old tokenizer.new result }
 {
     match tokenizer.current {
-        Some(b'\\' | b'|') => consume_to(tokenizer, next(Block::GfmTableBodyRowData)),
+        Some(b'\\' | b'|') => consume_to(tokenizer, Block::GfmTableBodyRowData),
         _ => retry(Block::GfmTableBodyRowData),
     }
 }

@@ -13,14 +13,13 @@ ghost use Rattle.markdown_engine.specs.Machine.{bytes_of, constructs_of};
 ghost use Rattle.state_flow_table.specs.HeadingSetext.{heading_setext_end, heading_setext_start, heading_setext_before};
 ghost use Rattle.state_flow_table.specs.HeadingSetext.{heading_setext_inside, heading_setext_after};
 
-use engine_programs::around::leave;
-use engine_programs::steps::{consume_to, enter_to, exit_to};
 use markdown_engine::event::Name as EventName;
 use markdown_engine::resolve;
 use markdown_engine::state::{Block, State};
 use markdown_engine::tokenizer::Tokenizer;
-use state_block_table::white::over_white;
-use state_block_table::{next, retry};
+use state_block_table::steps::{
+    consume_to, enter_before, enter_to, exit_before, exit_block, exit_over_white,
+};
 use state_left::{is_after_content, is_paragraph_left};
 use std::alloc::Allocator;
 
@@ -35,17 +34,13 @@ fn end<M, T, A: Allocator>(tokenizer: &mut Tokenizer<'_, M, T, A>) -> State
     if !holds {
         return State::Nok;
     }
-    if leave(tokenizer, EventName::HeadingSetextUnderline).is_err() {
-        return State::out_of_memory();
-    }
     if tokenizer
         .register_resolver(resolve::Name::HeadingSetext)
         .is_err()
     {
         return State::out_of_memory();
     }
-    tokenizer.interrupt = false;
-    State::Ok
+    exit_block(tokenizer, EventName::HeadingSetextUnderline)
 }
 
 /// At the first byte after the indent.
@@ -62,35 +57,28 @@ pub fn start<M, T, A: Allocator>(tokenizer: &mut Tokenizer<'_, M, T, A>) -> Stat
         return State::Nok;
     }
     tokenizer.tokenize_state.start = tokenizer.events.len();
-    if tokenizer.enter(EventName::HeadingSetextUnderline).is_err() {
-        return State::out_of_memory();
-    }
-    retry(Block::HeadingSetextBefore)
+    enter_before(
+        tokenizer,
+        EventName::HeadingSetextUnderline,
+        Block::HeadingSetextBefore,
+    )
 }
 
 /// At the first marker.
 pub fn before<M, T, A: Allocator>(tokenizer: &mut Tokenizer<'_, M, T, A>) -> State
     ensures { Does heading_setext_before tokenizer.old tokenizer.new result }
 {
-    match tokenizer.current {
-        Some(b'-') => {
-            tokenizer.tokenize_state.marker = b'-';
-            enter_to(
-                tokenizer,
-                EventName::HeadingSetextUnderlineSequence,
-                next(Block::HeadingSetextInside),
-            )
-        },
-        Some(b'=') => {
-            tokenizer.tokenize_state.marker = b'=';
-            enter_to(
-                tokenizer,
-                EventName::HeadingSetextUnderlineSequence,
-                next(Block::HeadingSetextInside),
-            )
-        },
-        _ => State::Nok,
-    }
+    let marker = match tokenizer.current {
+        Some(b'-') => b'-',
+        Some(b'=') => b'=',
+        _ => return State::Nok,
+    };
+    tokenizer.tokenize_state.marker = marker;
+    enter_to(
+        tokenizer,
+        EventName::HeadingSetextUnderlineSequence,
+        Block::HeadingSetextInside,
+    )
 }
 
 /// In the underline.
@@ -99,19 +87,20 @@ pub fn inside<M, T, A: Allocator>(tokenizer: &mut Tokenizer<'_, M, T, A>) -> Sta
     ensures { Does heading_setext_inside tokenizer.old tokenizer.new result }
 {
     match tokenizer.current {
-        None => exit_to(
+        None => exit_before(
             tokenizer,
             EventName::HeadingSetextUnderlineSequence,
-            retry(Block::HeadingSetextAfter),
+            Block::HeadingSetextAfter,
         ),
         Some(_) => {
             if tokenizer.current == Some(tokenizer.tokenize_state.marker) {
-                return consume_to(tokenizer, next(Block::HeadingSetextInside));
+                return consume_to(tokenizer, Block::HeadingSetextInside);
             }
-            if leave(tokenizer, EventName::HeadingSetextUnderlineSequence).is_err() {
-                return State::out_of_memory();
-            }
-            over_white(tokenizer, usize::MAX, Block::HeadingSetextAfter)
+            exit_over_white(
+                tokenizer,
+                EventName::HeadingSetextUnderlineSequence,
+                Block::HeadingSetextAfter,
+            )
         },
     }
 }
