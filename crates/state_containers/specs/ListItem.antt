@@ -4,11 +4,10 @@ use Rattle.std.specs.Char.{is_ascii_digit}
 use Rattle.markdown_options.specs.declared.configuration.Constructs.{Constructs}
 use Rattle.engine_events.specs.declared.event.Name.TheVariants as names
 use Rattle.engine_events.specs.declared.state.Block.TheVariants as state_block
-use Rattle.engine_events.specs.declared.state.Inline.TheVariants as state_inline
 use Rattle.engine_events.specs.declared.state.State.TheVariants as states
 use Rattle.engine_programs.specs.Bodies.{FixedName, Body, Answer, Consume, Enter, Exit, Keep, Tries, Byte, On, Test, around}
 use Rattle.definition_text.specs.Ascii.{right_parenthesis, asterisk, plus, hyphen, dot}
-use Rattle.state_block_table.specs.BlockWords.{over_indent, next, retry, part}
+use Rattle.state_block_table.specs.BlockWords.{over_indent, white_to, next, retry}
 use Rattle.state_table.specs.Words.{more, is_space_or_tab}
 use Rattle.state_containers.specs.Open.{filled, go_on_blank, go_on_indented, item_width, value_with}
 
@@ -37,9 +36,8 @@ module _ {M : Type 0} where
       Byte (Answer states.Nok)
       (Enter (FixedName names.ListItemPrefix)
       (Enter (FixedName names.ListItemValue)
-      (Keep (λ c. record c.tokenize_state { size = 1; size_b = 0 }) (λ c i. refl)
-      (Keep (λ c. record c.tokenize_state { size_b = value_with c.tokenize_state.size_b c.current }) (λ c i. refl)
-      (Consume (Answer (next state_block.ListItemValue)))))))
+      (Keep (λ c. record c.tokenize_state { size = 1; size_b = value_with 0 c.current }) (λ c i. refl)
+      (Consume (Answer (next state_block.ListItemValue))))))
 
   -- in the number
   abbrev pub list_item_value : Body M
@@ -76,8 +74,7 @@ module _ {M : Type 0} where
   abbrev pub list_item_whitespace : Body M
   list_item_whitespace =
       On is_space_or_tab
-      (Keep (λ c. record c.tokenize_state { size_c = 4; seen = false }) (λ c i. refl)
-      (Tries false (next state_block.ListItemWhitespaceAfter) states.Nok (part state_inline.SpaceOrTabStart)))
+      (Keep (λ c. record c.tokenize_state { seen = false }) (λ c i. refl) (white_to 4 state_block.ListItemWhitespaceAfter))
       (Answer states.Nok)
 
   -- after up to four columns of a first line, or up to the width of a further one

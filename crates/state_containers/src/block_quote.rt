@@ -14,11 +14,11 @@ ghost use Rattle.state_containers.specs.BlockQuote.{block_quote_start, block_quo
 ghost use Rattle.state_containers.specs.BlockQuote.{block_quote_cont_after};
 
 use engine_programs::around::around;
-use engine_programs::steps::{around_to, exit_to};
+use engine_programs::steps::exit_to;
 use markdown_engine::event::Name as EventName;
 use markdown_engine::state::{Block, State};
 use markdown_engine::tokenizer::Tokenizer;
-use state_block_table::next;
+use state_block_table::steps::around_to;
 use state_block_table::white::over_indent;
 use std::alloc::Allocator;
 
@@ -52,7 +52,7 @@ pub fn cont_before<M, T, A: Allocator>(tokenizer: &mut Tokenizer<'_, M, T, A>) -
     around_to(
         tokenizer,
         EventName::BlockQuoteMarker,
-        next(Block::BlockQuoteContAfter),
+        Block::BlockQuoteContAfter,
     )
 }
 

@@ -16,12 +16,12 @@ ghost use Rattle.state_containers.specs.Frontmatter.{frontmatter_close_sequence,
 ghost use Rattle.state_containers.specs.Frontmatter.{frontmatter_content_inside, frontmatter_after};
 
 use engine_programs::around::{around, leave};
-use engine_programs::steps::{around_to, attempt_to, consume_to, enter_to, exit_to};
+use engine_programs::steps::{around_to, attempt_to, exit_to};
 use markdown_engine::event::Name as EventName;
 use markdown_engine::state::{Block, State};
 use markdown_engine::tokenizer::Tokenizer;
 use markdown_options::constants::FRONTMATTER_SEQUENCE_SIZE;
-use state_block_table::white::over_white;
+use state_block_table::steps::{consume_to, enter_both_to, enter_to, exit_before, exit_over_white};
 use state_block_table::{next, retry};
 use std::alloc::Allocator;
 
@@ -33,10 +33,11 @@ fn closed<M, T, A: Allocator>(tokenizer: &mut Tokenizer<'_, M, T, A>) -> State
     if tokenizer.tokenize_state.size != FRONTMATTER_SEQUENCE_SIZE {
         return State::Nok;
     }
-    if leave(tokenizer, EventName::FrontmatterSequence).is_err() {
-        return State::out_of_memory();
-    }
-    over_white(tokenizer, usize::MAX, Block::FrontmatterCloseAfter)
+    exit_over_white(
+        tokenizer,
+        EventName::FrontmatterSequence,
+        Block::FrontmatterCloseAfter,
+    )
 }
 
 /// At the start of a text.
@@ -46,39 +47,22 @@ pub fn start<M, T, A: Allocator>(tokenizer: &mut Tokenizer<'_, M, T, A>) -> Stat
     if !tokenizer.parse_state.options.constructs.frontmatter {
         return State::Nok;
     }
-    match tokenizer.current {
-        Some(b'-') => {
-            tokenizer.tokenize_state.marker = b'-';
-            tokenizer.tokenize_state.size = 1;
-            if tokenizer.enter(EventName::Frontmatter).is_err() {
-                return State::out_of_memory();
-            }
-            if tokenizer.enter(EventName::FrontmatterFence).is_err() {
-                return State::out_of_memory();
-            }
-            enter_to(
-                tokenizer,
-                EventName::FrontmatterSequence,
-                next(Block::FrontmatterOpenSequence),
-            )
-        },
-        Some(b'+') => {
-            tokenizer.tokenize_state.marker = b'+';
-            tokenizer.tokenize_state.size = 1;
-            if tokenizer.enter(EventName::Frontmatter).is_err() {
-                return State::out_of_memory();
-            }
-            if tokenizer.enter(EventName::FrontmatterFence).is_err() {
-                return State::out_of_memory();
-            }
-            enter_to(
-                tokenizer,
-                EventName::FrontmatterSequence,
-                next(Block::FrontmatterOpenSequence),
-            )
-        },
-        _ => State::Nok,
+    let marker = match tokenizer.current {
+        Some(b'-') => b'-',
+        Some(b'+') => b'+',
+        _ => return State::Nok,
+    };
+    tokenizer.tokenize_state.marker = marker;
+    tokenizer.tokenize_state.size = 1;
+    if tokenizer.enter(EventName::Frontmatter).is_err() {
+        return State::out_of_memory();
     }
+    enter_both_to(
+        tokenizer,
+        EventName::FrontmatterFence,
+        EventName::FrontmatterSequence,
+        Block::FrontmatterOpenSequence,
+    )
 }
 
 /// In the opening fence.
@@ -91,15 +75,16 @@ pub fn open_sequence<M, T, A: Allocator>(tokenizer: &mut Tokenizer<'_, M, T, A>)
         Some(_) => {
             if tokenizer.current == Some(tokenizer.tokenize_state.marker) {
                 tokenizer.tokenize_state.size = tokenizer.tokenize_state.size.saturating_add(1);
-                return consume_to(tokenizer, next(Block::FrontmatterOpenSequence));
+                return consume_to(tokenizer, Block::FrontmatterOpenSequence);
             }
             if tokenizer.tokenize_state.size != FRONTMATTER_SEQUENCE_SIZE {
                 return State::Nok;
             }
-            if leave(tokenizer, EventName::FrontmatterSequence).is_err() {
-                return State::out_of_memory();
-            }
-            over_white(tokenizer, usize::MAX, Block::FrontmatterOpenAfter)
+            exit_over_white(
+                tokenizer,
+                EventName::FrontmatterSequence,
+                Block::FrontmatterOpenAfter,
+            )
         },
     }
 }
@@ -112,10 +97,10 @@ pub fn open_after<M, T, A: Allocator>(tokenizer: &mut Tokenizer<'_, M, T, A>) ->
     if tokenizer.current != Some(b'\n') {
         return State::Nok;
     }
-    exit_to(
+    exit_before(
         tokenizer,
         EventName::FrontmatterFence,
-        retry(Block::FrontmatterContentEnd),
+        Block::FrontmatterContentEnd,
     )
 }
 
@@ -148,13 +133,11 @@ pub fn close_start<M, T, A: Allocator>(tokenizer: &mut Tokenizer<'_, M, T, A>) -
                 return State::Nok;
             }
             tokenizer.tokenize_state.size = 1;
-            if tokenizer.enter(EventName::FrontmatterFence).is_err() {
-                return State::out_of_memory();
-            }
-            enter_to(
+            enter_both_to(
                 tokenizer,
+                EventName::FrontmatterFence,
                 EventName::FrontmatterSequence,
-                next(Block::FrontmatterCloseSequence),
+                Block::FrontmatterCloseSequence,
             )
         },
     }
@@ -170,7 +153,7 @@ pub fn close_sequence<M, T, A: Allocator>(tokenizer: &mut Tokenizer<'_, M, T, A>
         Some(_) => {
             if tokenizer.current == Some(tokenizer.tokenize_state.marker) {
                 tokenizer.tokenize_state.size = tokenizer.tokenize_state.size.saturating_add(1);
-                return consume_to(tokenizer, next(Block::FrontmatterCloseSequence));
+                return consume_to(tokenizer, Block::FrontmatterCloseSequence);
             }
             closed(tokenizer)
         },
@@ -198,7 +181,7 @@ pub fn content_start<M, T, A: Allocator>(tokenizer: &mut Tokenizer<'_, M, T, A>)
         Some(_) => enter_to(
             tokenizer,
             EventName::FrontmatterChunk,
-            next(Block::FrontmatterContentInside),
+            Block::FrontmatterContentInside,
         ),
     }
 }
@@ -210,12 +193,12 @@ pub fn content_inside<M, T, A: Allocator>(tokenizer: &mut Tokenizer<'_, M, T, A>
 {
     match tokenizer.current {
         None => State::Nok,
-        Some(b'\n') => exit_to(
+        Some(b'\n') => exit_before(
             tokenizer,
             EventName::FrontmatterChunk,
-            retry(Block::FrontmatterContentEnd),
+            Block::FrontmatterContentEnd,
         ),
-        Some(_) => consume_to(tokenizer, next(Block::FrontmatterContentInside)),
+        Some(_) => consume_to(tokenizer, Block::FrontmatterContentInside),
     }
 }
 

@@ -21,14 +21,15 @@ ghost use Rattle.state_containers.specs.GfmFootnoteDefinition.{gfm_footnote_defi
 
 use crate::open::{go_on_blank, go_on_indented};
 use engine_programs::around::{around, leave};
-use engine_programs::steps::{around_to, attempt_to, check_to, consume_to, exit_to};
+use engine_programs::steps::{check_to, exit_to};
 use markdown_engine::event::Name as EventName;
-use markdown_engine::state::{Block, Inline, State};
+use markdown_engine::state::{Block, State};
 use markdown_engine::tokenizer::Tokenizer;
 use markdown_options::constants::{LINK_REFERENCE_SIZE_MAX, TAB_SIZE};
 use state_block_table::links::STRING;
+use state_block_table::steps::{around_if, around_to, consume_to};
 use state_block_table::white::{over_indent, white_to};
-use state_block_table::{next, part, retry};
+use state_block_table::{next, retry};
 use std::alloc::Allocator;
 
 /// At the start.
@@ -68,7 +69,7 @@ pub fn label_before<M, T, A: Allocator>(tokenizer: &mut Tokenizer<'_, M, T, A>) 
     around_to(
         tokenizer,
         EventName::GfmFootnoteDefinitionLabelMarker,
-        next(Block::GfmFootnoteDefinitionLabelAtMarker),
+        Block::GfmFootnoteDefinitionLabelAtMarker,
     )
 }
 
@@ -129,10 +130,11 @@ pub fn label_inside<M, T, A: Allocator>(tokenizer: &mut Tokenizer<'_, M, T, A>) 
                 return State::Nok;
             }
             tokenizer.tokenize_state.size = tokenizer.tokenize_state.size.saturating_add(1);
-            match tokenizer.current {
-                Some(b'\\') => consume_to(tokenizer, next(Block::GfmFootnoteDefinitionLabelEscape)),
-                _ => consume_to(tokenizer, next(Block::GfmFootnoteDefinitionLabelInside)),
-            }
+            let state = match tokenizer.current {
+                Some(b'\\') => Block::GfmFootnoteDefinitionLabelEscape,
+                _ => Block::GfmFootnoteDefinitionLabelInside,
+            };
+            consume_to(tokenizer, state)
         },
     }
 }
@@ -147,7 +149,7 @@ pub fn label_escape<M, T, A: Allocator>(tokenizer: &mut Tokenizer<'_, M, T, A>) 
                 return State::Nok;
             }
             tokenizer.tokenize_state.size = tokenizer.tokenize_state.size.saturating_add(1);
-            consume_to(tokenizer, next(Block::GfmFootnoteDefinitionLabelInside))
+            consume_to(tokenizer, Block::GfmFootnoteDefinitionLabelInside)
         },
         _ => retry(Block::GfmFootnoteDefinitionLabelInside),
     }
@@ -157,13 +159,12 @@ pub fn label_escape<M, T, A: Allocator>(tokenizer: &mut Tokenizer<'_, M, T, A>) 
 pub fn label_after<M, T, A: Allocator>(tokenizer: &mut Tokenizer<'_, M, T, A>) -> State
     ensures { Does gfm_footnote_definition_label_after tokenizer.old tokenizer.new result }
 {
-    if tokenizer.current != Some(b':') {
-        return State::Nok;
-    }
-    around_to(
+    around_if(
         tokenizer,
+        b':',
         EventName::DefinitionMarker,
-        next(Block::GfmFootnoteDefinitionWhitespaceAfter),
+        Block::GfmFootnoteDefinitionWhitespaceAfter,
+        State::Nok,
     )
 }
 

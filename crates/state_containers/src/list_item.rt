@@ -18,13 +18,14 @@ ghost use Rattle.state_containers.specs.ListItem.{list_item_cont_start, list_ite
 
 use crate::open::{fill, go_on_blank, go_on_indented, item_width, value_with};
 use engine_programs::around::around;
-use engine_programs::steps::{around_to, attempt_to, check_to, consume_to, exit_to};
+use engine_programs::steps::{attempt_to, check_to, exit_to};
 use markdown_engine::event::Name as EventName;
-use markdown_engine::state::{Block, Inline, State};
+use markdown_engine::state::{Block, State};
 use markdown_engine::tokenizer::Tokenizer;
 use markdown_options::constants::{LIST_ITEM_VALUE_SIZE_MAX, TAB_SIZE};
-use state_block_table::white::over_indent;
-use state_block_table::{next, part, retry};
+use state_block_table::steps::{around_to, consume_to, enter_before, enter_both_to, exit_before};
+use state_block_table::white::{over_indent, white_to};
+use state_block_table::{next, retry};
 use std::alloc::Allocator;
 
 /// At the start.
@@ -65,10 +66,7 @@ pub fn before<M, T, A: Allocator>(tokenizer: &mut Tokenizer<'_, M, T, A>) -> Sta
 pub fn before_unordered<M, T, A: Allocator>(tokenizer: &mut Tokenizer<'_, M, T, A>) -> State
     ensures { Does list_item_before_unordered tokenizer.old tokenizer.new result }
 {
-    if tokenizer.enter(EventName::ListItemPrefix).is_err() {
-        return State::out_of_memory();
-    }
-    retry(Block::ListItemMarker)
+    enter_before(tokenizer, EventName::ListItemPrefix, Block::ListItemMarker)
 }
 
 /// At the number.
@@ -78,19 +76,14 @@ pub fn before_ordered<M, T, A: Allocator>(tokenizer: &mut Tokenizer<'_, M, T, A>
     match tokenizer.current {
         None => State::Nok,
         Some(_) => {
-            if tokenizer.enter(EventName::ListItemPrefix).is_err() {
-                return State::out_of_memory();
-            }
-            if tokenizer.enter(EventName::ListItemValue).is_err() {
-                return State::out_of_memory();
-            }
             tokenizer.tokenize_state.size = 1;
-            tokenizer.tokenize_state.size_b = 0;
-            tokenizer.tokenize_state.size_b = value_with(
-                tokenizer.tokenize_state.size_b,
-                tokenizer.current,
-            );
-            consume_to(tokenizer, next(Block::ListItemValue))
+            tokenizer.tokenize_state.size_b = value_with(0, tokenizer.current);
+            enter_both_to(
+                tokenizer,
+                EventName::ListItemPrefix,
+                EventName::ListItemValue,
+                Block::ListItemValue,
+            )
         },
     }
 }
@@ -107,11 +100,7 @@ pub fn value<M, T, A: Allocator>(tokenizer: &mut Tokenizer<'_, M, T, A>) -> Stat
         if tokenizer.interrupt && tokenizer.tokenize_state.size_b != 1 {
             return State::Nok;
         }
-        return exit_to(
-            tokenizer,
-            EventName::ListItemValue,
-            retry(Block::ListItemMarker),
-        );
+        return exit_before(tokenizer, EventName::ListItemValue, Block::ListItemMarker);
     }
     if byte.is_ascii_digit() && tokenizer.tokenize_state.size < LIST_ITEM_VALUE_SIZE_MAX {
         tokenizer.tokenize_state.size = tokenizer.tokenize_state.size.saturating_add(1);
@@ -119,7 +108,7 @@ pub fn value<M, T, A: Allocator>(tokenizer: &mut Tokenizer<'_, M, T, A>) -> Stat
             tokenizer.tokenize_state.size_b,
             tokenizer.current,
         );
-        return consume_to(tokenizer, next(Block::ListItemValue));
+        return consume_to(tokenizer, Block::ListItemValue);
     }
     State::Nok
 }
@@ -133,7 +122,7 @@ pub fn marker<M, T, A: Allocator>(tokenizer: &mut Tokenizer<'_, M, T, A>) -> Sta
         Some(_) => around_to(
             tokenizer,
             EventName::ListItemMarker,
-            next(Block::ListItemMarkerAfter),
+            Block::ListItemMarkerAfter,
         ),
     }
 }
@@ -170,14 +159,8 @@ pub fn whitespace<M, T, A: Allocator>(tokenizer: &mut Tokenizer<'_, M, T, A>) ->
 {
     match tokenizer.current {
         Some(b'\t' | b' ') => {
-            tokenizer.tokenize_state.size_c = TAB_SIZE;
             tokenizer.tokenize_state.seen = false;
-            attempt_to(
-                tokenizer,
-                next(Block::ListItemWhitespaceAfter),
-                State::Nok,
-                part(Inline::SpaceOrTabStart),
-            )
+            white_to(tokenizer, TAB_SIZE, Block::ListItemWhitespaceAfter)
         },
         _ => State::Nok,
     }
@@ -205,11 +188,7 @@ pub fn prefix_other<M, T, A: Allocator>(tokenizer: &mut Tokenizer<'_, M, T, A>) 
     ensures { Does list_item_prefix_other tokenizer.old tokenizer.new result }
 {
     match tokenizer.current {
-        Some(b'\t' | b' ') => around_to(
-            tokenizer,
-            EventName::SpaceOrTab,
-            next(Block::ListItemAfter),
-        ),
+        Some(b'\t' | b' ') => around_to(tokenizer, EventName::SpaceOrTab, Block::ListItemAfter),
         _ => State::Nok,
     }
 }

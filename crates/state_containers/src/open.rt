@@ -6,12 +6,11 @@ ghost use Rattle.engine_programs.specs.Stacks.{Does};
 ghost use Rattle.state_containers.specs.Open.{begins_blank, begun, begun_containers, blank_end, blank_size, filled, go_on_blank, go_on_indented};
 ghost use Rattle.state_containers.specs.Open.{goes_on_blank, is_mark, is_more_open, is_open, item_width, next_open, open_size, rest_open, value_with, width_with};
 
-use engine_programs::steps::attempt_to;
 use markdown_engine::container::{Container, ContainerState};
-use markdown_engine::state::{Block, Inline, State};
+use markdown_engine::state::{Block, State};
 use markdown_engine::tokenize_state::TokenizeState;
 use markdown_engine::tokenizer::Tokenizer;
-use state_block_table::{next, part};
+use state_block_table::white::white_to;
 use std::alloc::{AllocError, Allocator};
 
 /// The container that is asked next whether it goes on.
@@ -213,13 +212,8 @@ pub(crate) fn go_on_indented<M, T, A: Allocator>(tokenizer: &mut Tokenizer<'_, M
     match tokenizer.current {
         Some(b'\t' | b' ') => {
             tokenizer.tokenize_state.seen = true;
-            tokenizer.tokenize_state.size_c = open_size(&tokenizer.tokenize_state);
-            attempt_to(
-                tokenizer,
-                next(Block::ListItemWhitespaceAfter),
-                State::Nok,
-                part(Inline::SpaceOrTabStart),
-            )
+            let most = open_size(&tokenizer.tokenize_state);
+            white_to(tokenizer, most, Block::ListItemWhitespaceAfter)
         },
         _ => State::Nok,
     }

@@ -12,11 +12,11 @@ ghost use Rattle.engine_programs.specs.Stacks.{Does, IsOpen};
 ghost use Rattle.state_containers.specs.Bom.{bom_start, bom_inside};
 
 use crate::open::is_mark;
-use engine_programs::steps::{consume_to, exit_to};
+use engine_programs::steps::exit_to;
 use markdown_engine::event::Name as EventName;
 use markdown_engine::state::{Block, State};
 use markdown_engine::tokenizer::Tokenizer;
-use state_block_table::next;
+use state_block_table::steps::{consume_to, enter_to};
 use std::alloc::Allocator;
 
 /// At the start of a text.
@@ -26,11 +26,8 @@ pub fn start<M, T, A: Allocator>(tokenizer: &mut Tokenizer<'_, M, T, A>) -> Stat
     if tokenizer.current != Some(0xEF) {
         return State::Nok;
     }
-    if tokenizer.enter(EventName::ByteOrderMark).is_err() {
-        return State::out_of_memory();
-    }
     tokenizer.tokenize_state.size = 1;
-    consume_to(tokenizer, next(Block::BomInside))
+    enter_to(tokenizer, EventName::ByteOrderMark, Block::BomInside)
 }
 
 /// In the mark.
@@ -49,7 +46,7 @@ pub fn inside<M, T, A: Allocator>(tokenizer: &mut Tokenizer<'_, M, T, A>) -> Sta
                 tokenizer.consume();
                 return exit_to(tokenizer, EventName::ByteOrderMark, State::Ok);
             }
-            consume_to(tokenizer, next(Block::BomInside))
+            consume_to(tokenizer, Block::BomInside)
         },
     }
 }
