@@ -22,7 +22,7 @@ abbrev pub contents_step : {T : Type 0} → Context T → Steps Contents
 contents_step x = step_by (contents_bodies x)
 
 module _ {T : Type 0} (x : Context T) where
-  -- the lines of each paragraph are joined, and read as one text by `Contents`; what was read comes in their place, and its links lead to where its events stand
+  -- the lines of each paragraph are joined and read as one text by `Contents`; what was read comes in their place, with links to where its events stand
   pub record ReadsContents (old new : List Event) : Type 0 where
     pub joins : CanJoin old
     pub readable : AreLinesReadable x.bytes (joined old)
