@@ -196,4 +196,5 @@ def main():
             print("| %s | %s | %.1f |%s" % (name, shown, own[2] / own[0], beside), flush=True)
 
 
-main()
+if __name__ == "__main__":
+    main()

@@ -1,6 +1,5 @@
 -- What the machine of texts and strings does: its states by their names, and that they fit the table.
-use Rattle.std.specs.Prelude.{ℕ, Bool, false, ◌==◌, List, Option}
-use Rattle.std.specs.List.{list_any}
+use Rattle.std.specs.Prelude.{ℕ, Bool, false, List, Option, slice_get, unwrap_or}
 use Rattle.engine_events.specs.declared.state.Inline.{Inline as InlineName}
 use Rattle.engine_events.specs.declared.state.Inline.TheVariants as state_inline
 use Rattle.engine_events.specs.declared.state.Name.{Name}
@@ -23,7 +22,7 @@ use Rattle.state_inline.specs.Text.{text_before, text_before_html, text_before_h
 
 -- a content that may begin with a check begins at an index
 abbrev pub is_start : Inlines → ℕ → Bool
-is_start machine index = list_any (λ start. start == index) machine.starts.now
+is_start machine index = unwrap_or (slice_get machine.starts.now index) false
 
 -- at the start of a text: a check is tried where one may be
 abbrev pub text_start : Body Inlines

@@ -39,12 +39,12 @@ module _ {T : Type 0} (texts_of : T → List ℕ → Option (List ℕ)) (punctua
     pub runs : Runs (text_of x.bytes) inline_step (fresh_config text_start machine) [] (states.Next (Inline first)) read true
     pub are : events ≡ (resolve_all (inline_resolved (punctuation_of x.tables) x) read).config.events
 
-  -- the events of a text, where contents that may begin with a check begin at these places
-  abbrev pub AreTextEvents : Bor (List ℕ) → List Event → Type 0
+  -- the events of a text, where contents that may begin with a check begin at the indices that are marked
+  abbrev pub AreTextEvents : Bor (List Bool) → List Event → Type 0
   AreTextEvents starts events = IsReading state_inline.TextStart (record { starts = starts }) events
 
   -- the same, after the resolvers
-  abbrev pub AreResolvedTextEvents : Bor (List ℕ) → List Event → Type 0
+  abbrev pub AreResolvedTextEvents : Bor (List Bool) → List Event → Type 0
   AreResolvedTextEvents starts events = IsResolved state_inline.TextStart (record { starts = starts }) events
 
   -- the events of a string

@@ -15,12 +15,12 @@ use markdown_engine::{Message, ParseState};
 use markdown_options::Tables;
 use std::alloc::Allocator;
 
-/// The events of a text; `starts` says where contents begin that may begin with a check.
+/// The events of a text; `starts` says at which indices contents begin that may begin with a check.
 #[tactic(auto, using(crate::specs::InlineLaws::text_begins))]
 pub fn read_text<T: Tables, A: Allocator + Clone>(
     alloc: A,
     parse_state: &ParseState<'_, T, A>,
-    starts: &[usize],
+    starts: &[bool],
 ) -> Result<Vec<Event, A>, Message>
     ensures reads { IfOk result (λ events. AreTextEvents T.reference_of T.punctuation_of (context parse_state.now) starts.entry events.items) }
     ensures balanced { IfOk result (λ events. IsBalanced events.items) }
@@ -41,7 +41,7 @@ pub fn read_text<T: Tables, A: Allocator + Clone>(
 pub fn read_text_in_ranges<T: Tables, A: Allocator + Clone>(
     alloc: A,
     parse_state: &ParseState<'_, T, A>,
-    starts: &[usize],
+    starts: &[bool],
     cuts: &[(usize, usize)],
 ) -> Result<Vec<Event, A>, Message>
     requires cuts { AreCuts (0, 0) cuts.now (length parse_state.now.bytes.now) }
@@ -63,7 +63,7 @@ pub fn read_text_in_ranges<T: Tables, A: Allocator + Clone>(
 pub fn resolved_text<T: Tables, A: Allocator + Clone>(
     alloc: A,
     parse_state: &ParseState<'_, T, A>,
-    starts: &[usize],
+    starts: &[bool],
 ) -> Result<Vec<Event, A>, Message>
     ensures reads { IfOk result (λ events. AreResolvedTextEvents T.reference_of T.punctuation_of (context parse_state.now) starts.entry events.items) }
     ensures balanced { IfOk result (λ events. IsBalanced events.items) }

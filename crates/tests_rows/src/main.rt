@@ -18,11 +18,12 @@ mod verdict;
 
 use joined::{print_apart, print_joined};
 use pairs::print_pairs;
-use rows::{Row, Table, add_decoded, rows_of};
+use rows::{Row, Table, rows_of};
 use std::alloc::AllocError;
 use std::fs;
 use std::io::{self, ErrorKind, Read};
 use std::rt::Files;
+use tests_options::add_decoded;
 use verdict::{Verdict, verdict_of};
 
 fn main(rt: HostRuntime) -> io::Result<()> {

@@ -28,7 +28,7 @@ pub struct Defined {
     /// The labels of the footnotes that are defined.
     pub footnotes: &'static [&'static str],
     /// Where a check of a task list item may be.
-    pub starts: &'static [usize],
+    pub starts: &'static [bool],
 }
 
 /// Nothing is defined, and no item begins.
@@ -70,7 +70,7 @@ fn read(
     alloc: Global,
     way: Way,
     text: &ParseState<'_, Builtin, Global>,
-    starts: &[usize],
+    starts: &[bool],
 ) -> Result<Vec<Event>, Message> {
     match way {
         Way::Text => read_text(alloc, text, starts),

@@ -72,7 +72,7 @@ const ADDRESSES: &str = rows![
 
 /// An item begins at the front.
 const ITEM: Defined = Defined {
-    starts: &[0],
+    starts: &[true],
     ..NOTHING
 };
 

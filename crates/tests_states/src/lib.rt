@@ -18,6 +18,8 @@ mod gfm;
 #[cfg(test)]
 mod links;
 #[cfg(test)]
+mod memory;
+#[cfg(test)]
 mod raw_text;
 #[cfg(test)]
 mod texts;
