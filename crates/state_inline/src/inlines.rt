@@ -1,11 +1,11 @@
 //! The machine of texts and strings.
-ghost use Rattle.std.specs.Prelude.{◌≡◌, length};
+ghost use Rattle.std.specs.Prelude.{◌≡◌, false, length, slice_get, unwrap_or};
 ghost use Rattle.markdown_engine.specs.Resolving.{settles_whole};
 ghost use Rattle.state_resolvers.specs.Resolving.{inline_resolved};
 ghost use Rattle.engine_programs.specs.Bodies.{step_by};
 ghost use Rattle.engine_programs.specs.Stacks.{Does, program_rank, program_valid};
 ghost use Rattle.state_table.specs.Table.{sorts};
-ghost use Rattle.state_inline.specs.Inlines.{bodies, is_start, text_start, whole_body};
+ghost use Rattle.state_inline.specs.Inlines.{bodies, text_start, whole_body};
 ghost use Rattle.state_inline.specs.declared.inlines.Inlines.{Inlines};
 ghost use Rattle.state_inline.specs.InlineLaws.{inline_lawful, inline_resolves};
 
@@ -29,17 +29,17 @@ pub struct Inlines<'s> {
 }
 
 /// Whether a content that may begin with a check begins at an index.
-fn is_start(machine: Inlines<'_>, index: usize) -> bool
-    ensures { result ≡ is_start machine index }
+fn is_start(starts: &[bool], index: usize) -> bool
+    ensures { result ≡ unwrap_or (slice_get starts.now index) false }
 {
-    machine.starts.get(index).copied().unwrap_or(false)
+    starts.get(index).copied().unwrap_or(false)
 }
 
 /// At the start of a text.
 pub fn start_text<'s, T, A: Allocator>(tokenizer: &mut Tokenizer<'_, Inlines<'s>, T, A>) -> State
     ensures { Does text_start tokenizer.old tokenizer.new result }
 {
-    if !is_start(tokenizer.machine, tokenizer.point.index) {
+    if !is_start(tokenizer.machine.starts, tokenizer.point.index) {
         return retry(Inline::TextBefore);
     }
     attempt_to(

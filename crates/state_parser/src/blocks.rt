@@ -58,7 +58,7 @@ fn read_lines<T: Tables>(
     alloc: Global,
     parse_state: &ParseState<'_, T, Global>,
     cuts: &[(usize, usize)],
-) -> Result<(Vec<Event>, FlowReader<Global>, Point), Message>
+) -> Result<(Vec<Event>, FlowReader, Point), Message>
     requires { AreCuts (0, 0) cuts.now (length parse_state.now.bytes.now) }
     ensures memory { IfErr result IsOutOfMemory }
 {

@@ -130,8 +130,7 @@ pub fn parse_in_ranges<T: Tables>(
 /// resolvers leave is tested as events are put together. If such a test fails, the call returns a
 /// message with the rule `events`: that this never happens is only tested.
 ///
-/// Only `Global` is an allocator for it: for a reader of flow with another one, the toolchain's borrow
-/// checker doesn't cover the calls of the machine of documents.
+/// The allocator is `Global`, since `FlowReader` has no other.
 pub fn parse_by_machines<T: Tables>(
     alloc: Global,
     text: &str,

@@ -29,7 +29,7 @@ pub record ReaderSeen : Type 0 where
   pub spans : List Span
   pub nested : List ℕ
 
-abbrev pub reader_seen : {B : Type 0} → FlowReader B → ReaderSeen
+abbrev pub reader_seen : FlowReader → ReaderSeen
 reader_seen r = record {
   flow = option_map flow_seen r.flow;
   begun = r.begun;

@@ -20,13 +20,14 @@ use markdown_engine::{Message, ParseState};
 use markdown_options::Tables;
 use state_containers::open::is_open;
 use state_document::line_reader::LineReader;
-use std::alloc::{AllocError, Allocator};
+use std::alloc::{AllocError, Allocator, Global};
 
-/// Reads the flow of a text's lines.
+/// Reads the flow of a text's lines. It has no parameter for an allocator: a machine over a type with
+/// one can't be given to a tokenizer.
 #[derive(Drop)]
-pub struct FlowReader<B: Allocator> {
+pub struct FlowReader {
     /// What flow has read; none once memory was refused.
-    pub flow: Option<Flow<B>>,
+    pub flow: Option<Flow<Global>>,
     /// Where the flow of the line begins, until it is read.
     begun: Option<Point>,
     /// Whether a paragraph was open at the end of the line before.
@@ -38,9 +39,9 @@ pub struct FlowReader<B: Allocator> {
     /// The index of the document's event at which a container may begin.
     mark: usize,
     /// All containers, in the order in which they begin.
-    pub spans: Vec<Span, B>,
+    pub spans: Vec<Span>,
     /// The indices of those that are open, the outermost first.
-    nested: Vec<usize, B>,
+    nested: Vec<usize>,
 }
 
 /// Whether a text may be cut at a place.
@@ -58,15 +59,15 @@ fn cut_at(point: Point) -> (usize, usize)
 }
 
 /// The text as flow reads it, without labels.
-fn text_of<'a, T: Tables, A: Allocator, B: Allocator + Clone>(
-    alloc: &B,
+fn text_of<'a, T: Tables, A: Allocator>(
+    alloc: Global,
     parse_state: &'a ParseState<'a, T, A>,
-) -> Result<ParseState<'a, T, B>, Message>
+) -> Result<ParseState<'a, T, Global>, Message>
     ensures text { IfOk result (λ text. context text ≡ flow_context (context parse_state.now)) }
     ensures memory { IfErr result IsOutOfMemory }
 {
     ParseState::new(
-        alloc.clone()?,
+        alloc,
         parse_state.bytes,
         parse_state.options,
         parse_state.tables,
@@ -74,9 +75,9 @@ fn text_of<'a, T: Tables, A: Allocator, B: Allocator + Clone>(
 }
 
 /// Reads a range of the text on. Fails if memory was refused before.
-fn read_range<T: Tables, A: Allocator, B: Allocator + Clone>(
-    flow: &mut Option<Flow<B>>,
-    alloc: &B,
+fn read_range<T: Tables, A: Allocator>(
+    flow: &mut Option<Flow<Global>>,
+    alloc: Global,
     parse_state: &ParseState<'_, T, A>,
     from: (usize, usize),
     to: (usize, usize),
@@ -96,9 +97,9 @@ fn read_range<T: Tables, A: Allocator, B: Allocator + Clone>(
 }
 
 /// Ends what flow left open. Fails if memory was refused before.
-fn end_flow<T: Tables, A: Allocator, B: Allocator + Clone>(
-    flow: &mut Option<Flow<B>>,
-    alloc: &B,
+fn end_flow<T: Tables, A: Allocator>(
+    flow: &mut Option<Flow<Global>>,
+    alloc: Global,
     parse_state: &ParseState<'_, T, A>,
 ) -> Result<(), Message>
     requires { HoldsFlow parse_state.now.bytes.now (option_map flow_seen flow.old) }
@@ -113,14 +114,13 @@ fn end_flow<T: Tables, A: Allocator, B: Allocator + Clone>(
     Ok(())
 }
 
-impl<B: Allocator + Clone> FlowReader<B> {
+impl FlowReader {
     /// A reader that read nothing.
-    pub fn new(alloc: B) -> Result<FlowReader<B>, Message>
+    pub fn new(alloc: Global) -> Result<FlowReader, Message>
         ensures reader { IfOk result (λ reader. reader_seen reader ≡ fresh_reader START) }
         ensures memory { IfErr result IsOutOfMemory }
     {
-        let flow = start_flow(alloc.clone()?, START)?;
-        let spans = Vec::new(alloc.clone()?);
+        let flow = start_flow(alloc, START)?;
         Ok(FlowReader {
             flow: Some(flow),
             begun: None,
@@ -128,7 +128,7 @@ impl<B: Allocator + Clone> FlowReader<B> {
             stays: false,
             pierced: false,
             mark: 0,
-            spans,
+            spans: Vec::new(alloc),
             nested: Vec::new(alloc),
         })
     }
@@ -152,7 +152,7 @@ impl<B: Allocator + Clone> FlowReader<B> {
         }
         read_range(
             &mut self.flow,
-            self.spans.allocator(),
+            *self.spans.allocator(),
             parse_state,
             cut_at(begun),
             cut_at(point),
@@ -168,7 +168,7 @@ impl<B: Allocator + Clone> FlowReader<B> {
         ensures finished { OnOk result (reader_seen self.new ≡ finished (context parse_state.now) (reader_seen self.old)) }
         ensures memory { IfErr result IsOutOfMemory }
     {
-        end_flow(&mut self.flow, self.spans.allocator(), parse_state)
+        end_flow(&mut self.flow, *self.spans.allocator(), parse_state)
     }
 
     /// Reads the flow of the last line up to a place, and ends what flow left open.
@@ -187,7 +187,7 @@ impl<B: Allocator + Clone> FlowReader<B> {
     }
 }
 
-impl<B: Allocator> FlowReader<B> {
+impl FlowReader {
     /// The events of flow.
     pub fn events(&self) -> &[Event]
         ensures { result.now ≡ flow_events (reader_seen self.now).flow }
@@ -260,7 +260,7 @@ impl<B: Allocator> FlowReader<B> {
     }
 }
 
-impl<T: Tables, B: Allocator + Clone> LineReader<T> for FlowReader<B> {
+impl<T: Tables> LineReader<T> for FlowReader {
     ghost Seen = { ReaderSeen };
 
     ghost seen = { reader_seen };
