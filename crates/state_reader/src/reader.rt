@@ -185,9 +185,7 @@ impl FlowReader {
         self.read_line(parse_state, point)?;
         self.finish(parse_state)
     }
-}
 
-impl FlowReader {
     /// The events of flow.
     pub fn events(&self) -> &[Event]
         ensures { result.now ≡ flow_events (reader_seen self.now).flow }
