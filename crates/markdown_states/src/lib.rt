@@ -3,7 +3,7 @@
 //! [`Contents`] reads paragraphs with the definitions at their front, [`Flows`] the blocks outside
 //! containers, and [`Blocks`] the lines of a document, whose flow a [`FlowReader`] reads. A state is
 //! called with a tokenizer of `markdown_engine`, and returns the state that reads on. A resolver
-//! edits the events that states have added.
+//! edits the events that states have added. [`parse_by_machines`] reads a text by all of them.
 //!
 //! The modules have the names of the files of the Rust crate `markdown`.
 #![tactic(auto)]
@@ -19,6 +19,7 @@ pub use state_flow_html::html_flow;
 pub use state_flow_leaves::{
     blank_line, code_indented, partial_non_lazy_continuation, raw_flow, thematic_break,
 };
+pub use state_parser::{parse_by_machines, parse_in_ranges};
 pub use state_reader::reader::FlowReader;
 
 /// Lines of a paragraph, with definitions at their front (CommonMark 4.7 and 4.8).
