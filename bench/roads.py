@@ -5,7 +5,7 @@
                                       texts whose events differ by more than white space and cuts of data, and the counts
     roads.py PROGRAM --families [N]   processor times of both roads on families of texts at sizes n, 2n and 4n
     roads.py --texts COUNT SEED       prints a file of random texts for crates/tests_roads/data
-    roads.py --rows                   prints such a file of the texts of crates/tests_rows/data but for the examples of CommonMark
+    roads.py --rows                   prints such a file of the texts of crates/tests_rows/data, without the examples of CommonMark
 
 PROGRAM is crates/tests_roads/out/tests_roads (`rt run` there builds it).
 """
