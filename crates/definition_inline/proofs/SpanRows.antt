@@ -12,12 +12,18 @@ use Rattle.definition_inline.specs.Pairing.{Pair, OpenRun, without, pairs}
 use Rattle.definition_inline.specs.NextPair.{is_within, is_inside, last_closer, AreNext, NoMore, NextIs}
 use Rattle.definition_inline.specs.Spans.{Token, Item, Delimiters, runs_of, span_of, Piece, Whole, Left, pieces_from, with_piece, span_to_closer, with_span}
 use Rattle.definition_inline.specs.Spans.{with_spans}
-use Rattle.definition_inline.specs.SpanRows.{SpanRow, Holds, Opens, Closes, bytes_taken, run_rows, rows_from, Nest, nest, OpenSpan, nest_row, nest_spans}
+use Rattle.definition_inline.specs.SpanRows.{SpanRow, Holds, Opens, Closes, bytes_taken, run_rows, Nest, nest, OpenSpan, nest_row, nest_spans}
 use Rattle.definition_text.proofs.Each.{Each}
 use Rattle.definition_inline.proofs.NextPair.{are_next, none_past}
 use Rattle.definition_inline.proofs.PairsNested.{AreNested, IsAround, pairs_nested}
 
--- ---- the rows of pieces
+-- ---- the rows of tokens and of pieces
+
+-- the rows of tokens, of which the next run has this place
+abbrev pub rows_from : List Pair → ℕ → List Token → List SpanRow
+rows_from ps place [] = []
+rows_from ps place (Item i ∷ ts) = Holds i ∷ rows_from ps place ts
+rows_from ps place (Delimiters run ∷ ts) = run_rows ps place run ++ rows_from ps (place + 1) ts
 
 abbrev rows_of : List Pair → List Piece → List SpanRow
 rows_of ps [] = []

@@ -4,8 +4,8 @@ use Rattle.definition_inline.specs.Inline.{Data, SpanKind, Inline, Leaf, Span, I
 use Rattle.definition_inline.specs.Attention.{Run}
 use Rattle.definition_inline.specs.Pairing.{Pair, pairs}
 use Rattle.definition_inline.specs.Spans.{Token, Item, Delimiters, runs_of, span_of, with_spans}
-use Rattle.definition_inline.specs.SpanRows.{SpanRow, Holds, Opens, Closes, bytes_taken, run_rows, rows_from, OpenSpan, Nest, nest, leave, nest_row}
-use Rattle.definition_inline.proofs.SpanRows.{spans_by_rows}
+use Rattle.definition_inline.specs.SpanRows.{SpanRow, Holds, Opens, Closes, bytes_taken, run_rows, OpenSpan, Nest, nest, leave, nest_row}
+use Rattle.definition_inline.proofs.SpanRows.{rows_from, spans_by_rows}
 use Rattle.definition_text.proofs.Each.{Each, each-append, each_map, each_same}
 
 module _ (Good : Inline → Type 0) (AllGood : Inlines → Type 0) where

@@ -4,7 +4,7 @@ use Rattle.std.specs.List.{filter, fold, sum_by}
 use Rattle.definition_inline.specs.Inline.{Inline, Leaf, Data, Span, SpanKind, Inlines, Nil, followed_by}
 use Rattle.definition_inline.specs.Attention.{Run}
 use Rattle.definition_inline.specs.Pairing.{Pair}
-use Rattle.definition_inline.specs.Spans.{Token, Item, Delimiters, span_of}
+use Rattle.definition_inline.specs.Spans.{span_of}
 
 -- tokens where each run is told apart: a part, the start of a span, or the end of the innermost one
 pub data SpanRow : Type 0 where
@@ -24,12 +24,6 @@ run_rows ps place run =
     map (λ (p : Pair). Closes) closed
     ++ replicate (run.left - (bytes_taken closed + bytes_taken started)) (Holds (Leaf (Data run.marker)))
     ++ map (λ (p : Pair). Opens (span_of run.marker p)) (reverse started)
-
--- the rows of tokens, of which the next run has this place
-abbrev pub rows_from : List Pair → ℕ → List Token → List SpanRow
-rows_from ps place [] = []
-rows_from ps place (Item i ∷ ts) = Holds i ∷ rows_from ps place ts
-rows_from ps place (Delimiters run ∷ ts) = run_rows ps place run ++ rows_from ps (place + 1) ts
 
 -- a span that is open, and the parts before it
 pub record OpenSpan : Type 0 where

@@ -6,7 +6,8 @@ pub use Rattle.std.specs.List.{filter, flat_map}
 pub use Rattle.std.specs.Prelude.{slice_index, ◌==◌}
 pub use Rattle.definition_inline.specs.Inline.{Data, Inline, Leaf, LinkTexts, Target}
 pub use Rattle.definition_inline.specs.Pairing.{Pair, pairs}
-pub use Rattle.definition_inline.specs.SpanRows.{bytes_taken, Closes, Holds, Opens, rows_from, run_rows, SpanRow}
+pub use Rattle.definition_inline.specs.SpanRows.{bytes_taken, Closes, Holds, Opens, run_rows, SpanRow}
+pub use Rattle.definition_inline.proofs.SpanRows.{rows_from}
 pub use Rattle.definition_inline.specs.Spans.{Delimiters, Item, runs_of, span_of, Token}
 pub use Rattle.inline_runs.specs.Paired.{rows_of}
 pub use Rattle.inline_runs.specs.View.{bytes_by, pair_view, run_view, runs_view}

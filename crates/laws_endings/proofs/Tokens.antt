@@ -5,9 +5,9 @@ use Rattle.laws_endings.proofs.Prelude.{replicate, reverse, Run, Span, Token, wi
 use Rattle.definition_inline.specs.Inline.{followed_by}
 use Rattle.definition_inline.specs.Pairing.{Pair, pairs}
 use Rattle.definition_inline.specs.Spans.{Item, runs_of, span_of}
-use Rattle.definition_inline.specs.SpanRows.{SpanRow, Holds, Opens, Closes, bytes_taken, run_rows, rows_from}
+use Rattle.definition_inline.specs.SpanRows.{SpanRow, Holds, Opens, Closes, bytes_taken, run_rows}
 use Rattle.definition_inline.specs.SpanRows.{OpenSpan, Nest, nest, leave, nest_row, nest_spans}
-use Rattle.definition_inline.proofs.SpanRows.{spans_by_rows}
+use Rattle.definition_inline.proofs.SpanRows.{rows_from, spans_by_rows}
 
 module _ (e : LineEnding) where
   abbrev pub token_with : Token → Token

@@ -6,8 +6,8 @@ use Rattle.laws_escape.proofs.Prelude.{prefix_len, read_tokens, reading, Reading
 use Rattle.definition_inline.specs.Inline.{Inline, Leaf, Nil, followed_by}
 use Rattle.definition_inline.specs.Pairing.{Pair, pairs}
 use Rattle.definition_inline.specs.Spans.{runs_of}
-use Rattle.definition_inline.specs.SpanRows.{Holds, rows_from, Nest, nest, nest_row, nest_spans}
-use Rattle.definition_inline.proofs.SpanRows.{spans_by_rows}
+use Rattle.definition_inline.specs.SpanRows.{Holds, Nest, nest, nest_row, nest_spans}
+use Rattle.definition_inline.proofs.SpanRows.{rows_from, spans_by_rows}
 use Rattle.definition_page.specs.InlinePieces.{leaf_pieces}
 use Rattle.html_bytes.specs.Pieces.{piece_html}
 

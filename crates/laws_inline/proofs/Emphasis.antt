@@ -9,10 +9,10 @@ use Rattle.definition_inline.specs.Inline.{Data, Leaf}
 use Rattle.definition_inline.specs.Attention.{Run, is_marker, run_between, run_at}
 use Rattle.definition_inline.specs.Pairing.{Pair, pairs}
 use Rattle.definition_inline.specs.Spans.{Token, Item, Delimiters, runs_of}
-use Rattle.definition_inline.specs.SpanRows.{Holds, run_rows, rows_from, nest_spans}
+use Rattle.definition_inline.specs.SpanRows.{Holds, run_rows, nest_spans}
 use Rattle.definition_inline.specs.Scan.{InlineContext, leaf_here, leaf_tokens, LabelStart, label_start_at, start_bytes, start_tokens, formed_part, formed_at}
 use Rattle.definition_inline.specs.Scan.{Text, with_tokens}
-use Rattle.definition_inline.proofs.SpanRows.{spans_by_rows}
+use Rattle.definition_inline.proofs.SpanRows.{rows_from, spans_by_rows}
 use Rattle.definition_inline.proofs.ScanHolds.{where_always, Keeps, text_holds}
 use Rattle.laws_inline.specs.Emphasis.{Front, front_of, RunOfItsNeighbours, StandsIn, RunsOfTheContent, tokens_of, rows_by, with_runs, SpansOfRuns}
 use Rattle.laws_inline.proofs.Each.{Each, WhereSome, each-append, each_map}

@@ -14,9 +14,9 @@ use Rattle.definition_inline.specs.GfmStrikethrough.{is_tilde}
 use Rattle.definition_inline.specs.Mark.{is_equals}
 use Rattle.definition_inline.specs.Inline.{Strikethrough, Mark}
 use Rattle.definition_inline.specs.NextPair.{no_run}
-use Rattle.definition_inline.specs.SpanRows.{SpanRow, Holds, Opens, Closes, bytes_taken, run_rows, rows_from, OpenSpan, Nest, nest, leave, nest_row}
+use Rattle.definition_inline.specs.SpanRows.{SpanRow, Holds, Opens, Closes, bytes_taken, run_rows, OpenSpan, Nest, nest, leave, nest_row}
 use Rattle.definition_inline.specs.Spans.{runs_of, span_of}
-use Rattle.definition_inline.proofs.SpanRows.{spans_by_rows}
+use Rattle.definition_inline.proofs.SpanRows.{rows_from, spans_by_rows}
 use Rattle.parse_written.proofs.Codes.{marks_split, size_of_marks}
 use Rattle.parse_written.proofs.Between.{IsRunBetween, AreRead, NoTokens, SomeSpaces, OnePart, OneRun, byte_written, followed, spaced}
 use Rattle.definition_inline.proofs.PairsNested.{IsPair, AreNested, pairs_nested, is_open, is_around, closes_at, opens_at, closing, opening, none_open}
