@@ -1,15 +1,15 @@
 -- How each block state may stand, and in which group of crates it is.
 use Rattle.std.specs.Prelude.{ℕ, Bool, true, false, List, [], ◌∷◌}
 use Rattle.engine_events.specs.declared.event.Name.TheVariants as names
-use Rattle.engine_events.specs.declared.state.Block.{Block as BlockName}
-use Rattle.engine_events.specs.declared.state.Block.TheVariants as state_block
-use Rattle.engine_events.specs.declared.state.Name.{Name}
-use Rattle.engine_events.specs.declared.state.Name.TheVariants.{Block, Inline}
+use Rattle.engine_states.specs.declared.state.Block.{Block as BlockName}
+use Rattle.engine_states.specs.declared.state.Block.TheVariants as state_block
+use Rattle.engine_states.specs.declared.state.Name.{Name}
+use Rattle.engine_states.specs.declared.state.Name.TheVariants.{Block, Inline}
 use Rattle.state_block_table.specs.declared.Group.{Group}
 use Rattle.state_block_table.specs.declared.Group.TheVariants as groups
 use Rattle.engine_programs.specs.Bodies.{Token, FixedName, HeldName}
 use Rattle.engine_programs.specs.Sorts.{Sort}
-use Rattle.engine_events.specs.declared.state.Inline.{Inline as InlineName}
+use Rattle.engine_states.specs.declared.state.Inline.{Inline as InlineName}
 use Rattle.state_table.specs.declared.Group.{Group as InlineGroup}
 use Rattle.state_table.specs.declared.Group.TheVariants as inline_groups
 use Rattle.state_table.specs.Table.{first, first_plain, within, within_plain, resumes, ahead, outermost, raw_tokens, inline_row}

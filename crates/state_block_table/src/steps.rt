@@ -1,7 +1,7 @@
 //! The last calls of block states: each says which block state goes on.
 ghost use Rattle.std.specs.Prelude.{[], ◌∷◌, Some};
 ghost use Rattle.engine_events.specs.declared.event.Name.TheVariants as names;
-ghost use Rattle.engine_events.specs.declared.state.State.TheVariants.{Ok};
+ghost use Rattle.engine_states.specs.declared.state.State.TheVariants.{Ok};
 ghost use Rattle.markdown_engine.specs.Order.{IsInnermost};
 ghost use Rattle.engine_programs.specs.Bodies.{Answer, Consume, Enter, EnterLink, Exit, FixedName, around};
 ghost use Rattle.engine_programs.specs.Stacks.{Does, IsOpen};

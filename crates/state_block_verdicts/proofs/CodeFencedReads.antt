@@ -12,7 +12,7 @@ use Rattle.definition_text.specs.Runs.{after_run, run as run_length}
 use Rattle.std.proofs.lemmas.List.Sums.{prefix_len-le-length}
 use Rattle.engine_events.specs.declared.event.Kind.TheVariants.{Enter, Exit}
 use Rattle.engine_events.specs.declared.event.Name.TheVariants as names
-use Rattle.engine_events.specs.declared.state.State.TheVariants as states
+use Rattle.engine_states.specs.declared.state.State.TheVariants as states
 use Rattle.markdown_engine.specs.Reading.{at_point}
 use Rattle.state_flow.specs.Flows.{flows_bodies}
 use Rattle.state_block_verdicts.specs.CodeFenced.{CodeFencedVerdict, FenceVerdict, fence_events, fencing}

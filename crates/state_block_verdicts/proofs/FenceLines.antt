@@ -9,9 +9,9 @@ use Rattle.state_block_verdicts.proofs.Prelude.{no_limit, nothing, eqb-true, par
 use Rattle.state_block_verdicts.proofs.Prelude.{text_byte, tries}
 use Rattle.engine_events.specs.declared.event.Kind.TheVariants.{Enter, Exit}
 use Rattle.engine_events.specs.declared.event.Name.TheVariants as names
-use Rattle.engine_events.specs.declared.state.Block.TheVariants as state_block
-use Rattle.engine_events.specs.declared.state.Inline.TheVariants as state_inline
-use Rattle.engine_events.specs.declared.state.State.TheVariants as states
+use Rattle.engine_states.specs.declared.state.Block.TheVariants as state_block
+use Rattle.engine_states.specs.declared.state.Inline.TheVariants as state_inline
+use Rattle.engine_states.specs.declared.state.State.TheVariants as states
 use Rattle.state_flow.specs.Flows.{flows_bodies}
 use Rattle.state_block_table.specs.BlockWords.{string_link}
 use Rattle.state_flow_leaves.specs.RawFlow.{ends_meta, is_blank_ahead}

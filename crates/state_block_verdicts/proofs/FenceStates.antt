@@ -3,10 +3,10 @@ use Rattle.std.proofs.Common.{◌≡◌, ℕ, Bool, true, false, nat_lt, ◌==�
 use Rattle.state_block_verdicts.proofs.Prelude.{Config, Context, Flows, is_space_or_tab, more, Name, next, no_limit, part, past_byte, plain, retry, run, tries}
 use Rattle.state_block_verdicts.proofs.Prelude.{with_enter, with_exit}
 use Rattle.engine_events.specs.declared.event.Name.TheVariants as names
-use Rattle.engine_events.specs.declared.state.Block.TheVariants as state_block
-use Rattle.engine_events.specs.declared.state.Inline.TheVariants as state_inline
-use Rattle.engine_events.specs.declared.state.Name.TheVariants.{Block}
-use Rattle.engine_events.specs.declared.state.State.TheVariants as states
+use Rattle.engine_states.specs.declared.state.Block.TheVariants as state_block
+use Rattle.engine_states.specs.declared.state.Inline.TheVariants as state_inline
+use Rattle.engine_states.specs.declared.state.Name.TheVariants.{Block}
+use Rattle.engine_states.specs.declared.state.State.TheVariants as states
 use Rattle.state_block_table.specs.BlockWords.{string_link}
 use Rattle.state_flow.specs.Flows.{flows_bodies}
 use Rattle.state_flow_leaves.specs.RawFlow.{ends_meta}

@@ -10,9 +10,9 @@ use Rattle.definition_text.specs.Columns.{trim}
 use Rattle.definition_text.specs.Runs.{after_run, run as run_length}
 use Rattle.engine_events.specs.declared.event.Kind.TheVariants.{Enter, Exit}
 use Rattle.engine_events.specs.declared.event.Name.TheVariants as names
-use Rattle.engine_events.specs.declared.state.Block.TheVariants as state_block
-use Rattle.engine_events.specs.declared.state.Name.TheVariants.{Block}
-use Rattle.engine_events.specs.declared.state.State.TheVariants as states
+use Rattle.engine_states.specs.declared.state.Block.TheVariants as state_block
+use Rattle.engine_states.specs.declared.state.Name.TheVariants.{Block}
+use Rattle.engine_states.specs.declared.state.State.TheVariants as states
 use Rattle.markdown_engine.specs.Reading.{at_point}
 use Rattle.state_block_table.specs.BlockWords.{is_white as is_white_byte}
 use Rattle.state_flow.specs.Flows.{flows_bodies}

@@ -8,8 +8,8 @@ pub use Rattle.engine_events.specs.Events.{event}
 pub use Rattle.engine_events.specs.declared.event.Event.{Event}
 pub use Rattle.engine_events.specs.declared.event.Name.{Name as EventName}
 pub use Rattle.engine_events.specs.declared.place.Point.{Point}
-pub use Rattle.engine_events.specs.declared.state.Name.{Name}
-pub use Rattle.engine_events.specs.declared.state.State.{State}
+pub use Rattle.engine_states.specs.declared.state.Name.{Name}
+pub use Rattle.engine_states.specs.declared.state.State.{State}
 pub use Rattle.engine_programs.specs.Bodies.{has, run}
 pub use Rattle.markdown_engine.specs.Context.{Context}
 pub use Rattle.markdown_engine.specs.KeptState.{KeptState}

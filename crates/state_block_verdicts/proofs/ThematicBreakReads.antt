@@ -10,8 +10,8 @@ use Rattle.state_block_verdicts.proofs.Prelude.{text_byte, with_enter}
 use Rattle.definition_block.specs.ThematicBreak.{is_break_by, is_break_marker, is_break_text}
 use Rattle.engine_events.specs.declared.event.Kind.TheVariants.{Enter, Exit}
 use Rattle.engine_events.specs.declared.event.Name.TheVariants as names
-use Rattle.engine_events.specs.declared.state.Inline.TheVariants as state_inline
-use Rattle.engine_events.specs.declared.state.State.TheVariants as states
+use Rattle.engine_states.specs.declared.state.Inline.TheVariants as state_inline
+use Rattle.engine_states.specs.declared.state.State.TheVariants as states
 use Rattle.markdown_engine.specs.Reading.{at_point}
 use Rattle.state_flow.specs.Flows.{flows_bodies}
 use Rattle.state_block_verdicts.specs.ThematicBreak.{BreakParts, BreakVerdict, ThematicBreakVerdict, along, breaking, ended, part_name, turn}

@@ -4,7 +4,7 @@ use Rattle.state_block_verdicts.proofs.Prelude.{as_byte, AtHand, byte_of, Config
 use Rattle.state_block_verdicts.proofs.Prelude.{GoesOn, is_feed, KeptState, Name, past_byte, plain, Point, run, SkipsOnce, State, Text, tries}
 use Rattle.state_block_verdicts.proofs.Prelude.{with_enter, with_exit}
 use Rattle.engine_events.specs.declared.event.Kind.TheVariants.{Enter, Exit}
-use Rattle.engine_events.specs.declared.state.State.TheVariants as states
+use Rattle.engine_states.specs.declared.state.State.TheVariants as states
 use Rattle.markdown_engine.specs.Reading.{Runs, first, next, place_after, retry, second}
 use Rattle.markdown_engine.specs.ReadingLaws.{one_outcome}
 use Rattle.engine_programs.specs.Bodies.{step_by}

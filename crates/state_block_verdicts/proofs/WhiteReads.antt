@@ -7,9 +7,9 @@ use Rattle.state_block_verdicts.proofs.Prelude.{is_feed, is_space_or_tab, is_whi
 use Rattle.state_block_verdicts.proofs.Prelude.{run, Sees, tab, Text, text_byte, with_enter, with_exit}
 use Rattle.engine_events.specs.declared.event.Kind.TheVariants.{Enter, Exit}
 use Rattle.engine_events.specs.declared.event.Name.TheVariants as names
-use Rattle.engine_events.specs.declared.state.Inline.TheVariants as state_inline
-use Rattle.engine_events.specs.declared.state.Name.TheVariants.{Inline}
-use Rattle.engine_events.specs.declared.state.State.TheVariants as states
+use Rattle.engine_states.specs.declared.state.Inline.TheVariants as state_inline
+use Rattle.engine_states.specs.declared.state.Name.TheVariants.{Inline}
+use Rattle.engine_states.specs.declared.state.State.TheVariants as states
 use Rattle.state_codes.specs.Codes.{Fills, column, full}
 use Rattle.state_flow.specs.Flows.{flows_bodies}
 use Rattle.state_labels.specs.Chunk.{part_link}

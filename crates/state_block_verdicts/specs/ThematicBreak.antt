@@ -7,7 +7,7 @@ use Rattle.engine_events.specs.declared.event.Kind.TheVariants.{Enter, Exit}
 use Rattle.engine_events.specs.declared.event.Name.{Name as EventName}
 use Rattle.engine_events.specs.declared.event.Name.TheVariants as names
 use Rattle.engine_events.specs.declared.place.Point.{Point}
-use Rattle.engine_events.specs.declared.state.Block.TheVariants as state_block
+use Rattle.engine_states.specs.declared.state.Block.TheVariants as state_block
 use Rattle.markdown_engine.specs.KeptState.{KeptState}
 use Rattle.markdown_engine.specs.Reading.{Config}
 use Rattle.markdown_engine.specs.VirtualText.{Text, as_byte}

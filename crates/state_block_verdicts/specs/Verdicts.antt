@@ -2,7 +2,7 @@
 use Rattle.std.specs.Prelude.{◌≡◌, ℕ, ◌^◌, ◌<◌, Bool, false, List, [], ◌++◌, length, Some}
 use Rattle.engine_events.specs.declared.event.Event.{Event}
 use Rattle.engine_events.specs.declared.place.Point.{Point}
-use Rattle.engine_events.specs.declared.state.State.{State}
+use Rattle.engine_states.specs.declared.state.State.{State}
 use Rattle.engine_programs.specs.Bodies.{step_by}
 use Rattle.markdown_engine.specs.Context.{Context}
 use Rattle.markdown_engine.specs.KeptState.{KeptState}

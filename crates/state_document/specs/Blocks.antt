@@ -1,10 +1,10 @@
 -- What a machine of documents does, by what it does with its flow: its states by their names, and how they may stand.
 use Rattle.std.specs.Prelude.{ℕ}
-use Rattle.engine_events.specs.declared.state.Block.{Block as BlockName}
-use Rattle.engine_events.specs.declared.state.Inline.{Inline as InlineName}
-use Rattle.engine_events.specs.declared.state.Name.{Name}
-use Rattle.engine_events.specs.declared.state.Name.TheVariants.{Block, Inline}
-use Rattle.engine_events.specs.declared.state.State.TheVariants as states
+use Rattle.engine_states.specs.declared.state.Block.{Block as BlockName}
+use Rattle.engine_states.specs.declared.state.Inline.{Inline as InlineName}
+use Rattle.engine_states.specs.declared.state.Name.{Name}
+use Rattle.engine_states.specs.declared.state.Name.TheVariants.{Block, Inline}
+use Rattle.engine_states.specs.declared.state.State.TheVariants as states
 use Rattle.markdown_engine.specs.Context.{Context}
 use Rattle.markdown_engine.specs.Laws.{HoldsAt}
 use Rattle.engine_programs.specs.Bodies.{Body, Answer}

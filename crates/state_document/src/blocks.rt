@@ -2,7 +2,7 @@
 ghost use Rattle.std.specs.Prelude.{length};
 ghost use Rattle.markdown_engine.specs.Resolving.{resolves_nothing, settles_whole};
 ghost use Rattle.engine_programs.specs.Bodies.{step_by};
-ghost use Rattle.engine_events.specs.declared.state.Name.TheVariants as any_states;
+ghost use Rattle.engine_states.specs.declared.state.Name.TheVariants as any_states;
 ghost use Rattle.engine_programs.specs.Stacks.{IsOpen, program_rank};
 ghost use Rattle.markdown_engine.specs.Machine.{read_with};
 ghost use Rattle.state_table.specs.Table.{sorts};

@@ -1,9 +1,9 @@
 -- The states of this crate by their names, and that they fit the table.
 use Rattle.std.specs.Prelude.{◌≡◌, true, refl}
-use Rattle.engine_events.specs.declared.state.Block.{Block as BlockName}
-use Rattle.engine_events.specs.declared.state.Block.TheVariants as state_block
-use Rattle.engine_events.specs.declared.state.Name.TheVariants.{Block}
-use Rattle.engine_events.specs.declared.state.State.TheVariants as states
+use Rattle.engine_states.specs.declared.state.Block.{Block as BlockName}
+use Rattle.engine_states.specs.declared.state.Block.TheVariants as state_block
+use Rattle.engine_states.specs.declared.state.Name.TheVariants.{Block}
+use Rattle.engine_states.specs.declared.state.State.TheVariants as states
 use Rattle.markdown_engine.specs.Context.{Context}
 use Rattle.state_block_table.specs.declared.Group.TheVariants as groups
 use Rattle.engine_programs.specs.Bodies.{Body, Answer}

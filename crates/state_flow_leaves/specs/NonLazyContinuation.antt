@@ -1,8 +1,8 @@
 -- What the states of `partial_non_lazy_continuation` do.
 use Rattle.std.specs.Prelude.{Bool, nat_lt, ◌==◌}
 use Rattle.engine_events.specs.declared.event.Name.TheVariants as names
-use Rattle.engine_events.specs.declared.state.Block.TheVariants as state_block
-use Rattle.engine_events.specs.declared.state.State.TheVariants as states
+use Rattle.engine_states.specs.declared.state.Block.TheVariants as state_block
+use Rattle.engine_states.specs.declared.state.State.TheVariants as states
 use Rattle.markdown_engine.specs.Reading.{Config}
 use Rattle.engine_programs.specs.Bodies.{FixedName, Body, Answer, Byte, On, Test, around}
 use Rattle.definition_text.specs.Ascii.{line_feed}

@@ -1,7 +1,7 @@
 -- Bytes with which a construct may begin, and what is said of each of them.
 use Rattle.std.specs.Prelude.{◌≡◌, ℕ, Bool, List, ◌∷◌, Option, Some}
 use Rattle.engine_events.specs.declared.place.Point.{Point}
-use Rattle.engine_events.specs.declared.state.Inline.{Inline as InlineName}
+use Rattle.engine_states.specs.declared.state.Inline.{Inline as InlineName}
 use Rattle.markdown_engine.specs.Context.{Context}
 use Rattle.markdown_engine.specs.Reading.{Config}
 use Rattle.markdown_engine.specs.VirtualText.{Text, as_byte}

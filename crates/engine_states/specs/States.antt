@@ -1,7 +1,7 @@
 -- What a state comes to.
 use Rattle.std.specs.Prelude.{◌≡◌, Result, Ok, Err}
-use Rattle.engine_events.specs.declared.state.State.{State}
-use Rattle.engine_events.specs.declared.state.State.TheVariants as states
+use Rattle.engine_states.specs.declared.state.State.{State}
+use Rattle.engine_states.specs.declared.state.State.TheVariants as states
 use Rattle.markdown_options.specs.Messages.{IsOutOfMemory}
 use Rattle.markdown_options.specs.declared.message.Message.{Message}
 

@@ -682,7 +682,7 @@ const REFUSED: Message = Message {
 };
 
 impl State {
-    ghost use Rattle.engine_events.specs.States.{IsOver, IsRefused, HasResult};
+    ghost use Rattle.engine_states.specs.States.{IsOver, IsRefused, HasResult};
 
     /// Returns the error state for out of memory.
     pub fn out_of_memory() -> State
