@@ -1,11 +1,11 @@
 -- Children by their names, with their data cut into bytes: a name of another event finds the same.
 use Rattle.std.proofs.Common.{◌≡◌, ℕ, zero, suc, ◌+◌, Bool, true, false, List, [], ◌∷◌, map, Option, None, Some, refl, sym, ap, subst, ◌∙◌}
-use Rattle.parse_bytewise.proofs.Prelude.{after_child, append, AreSound, Around, before_child, byte_node, byte_nodes, bytewise, child, children, cond_both}
-use Rattle.parse_bytewise.proofs.Prelude.{Cons, edge, ends_in, HaveNoData, if◌then◌else◌, is_some, IsSound, kids_in, Name, Nil, Node, Nodes, option_map}
-use Rattle.parse_bytewise.proofs.Prelude.{same_name, spot_of, text_in}
+use Rattle.parse_open.proofs.Prelude.{after_child, append, AreSound, Around, before_child, byte_node, byte_nodes, bytewise, child, children, cond_both}
+use Rattle.parse_open.proofs.Prelude.{Cons, edge, ends_in, HaveNoData, if◌then◌else◌, is_some, IsSound, kids_in, Name, Nil, Node, Nodes, option_map}
+use Rattle.parse_open.proofs.Prelude.{same_name, spot_of, text_in}
 use Rattle.engine_events.specs.declared.event.Name.TheVariants as n
 use Rattle.event_meaning.specs.Children.{inside_of, text_or_none}
-use Rattle.parse_bytewise.proofs.Nodes.{kept, by_cut, by_cases, skipped}
+use Rattle.parse_open.proofs.BytewiseNodes.{kept, by_cut, by_cases, skipped}
 
 -- a name that isn't that of data
 abbrev pub IsOther : Name → Type 0

@@ -1,19 +1,19 @@
 -- Nodes by their names at any depth, and labels, with their data cut into bytes.
 use Rattle.std.proofs.Common.{◌≡◌, ◌≤◌, ℕ, zero, suc, ◌+◌, ◌-◌, List, [], ◌∷◌, ◌++◌, map, Option, None, Some, take, drop, refl, sym, ap, ap₂, subst, ◌∙◌}
 use Rattle.std.proofs.Common.{append_assoc, arith}
-use Rattle.parse_bytewise.proofs.Prelude.{append, AreBetween, AreSound, Around, between, byte_node, byte_nodes, bytewise, cond_both, Cons, edge, Event}
-use Rattle.parse_bytewise.proofs.Prelude.{if◌then◌else◌, is_listed, is_some, IsSound, Name, named, Nil, Node, Nodes, option_map, own, same_name, spot, Spot}
-use Rattle.parse_bytewise.proofs.Prelude.{spot_of}
+use Rattle.parse_open.proofs.Prelude.{append, AreBetween, AreSound, Around, between, byte_node, byte_nodes, bytewise, cond_both, Cons, edge, Event}
+use Rattle.parse_open.proofs.Prelude.{if◌then◌else◌, is_listed, is_some, IsSound, Name, named, Nil, Node, Nodes, option_map, own, same_name, spot, Spot}
+use Rattle.parse_open.proofs.Prelude.{spot_of}
 use Rattle.std.specs.Option.{option_or}
 use Rattle.std.proofs.Math.Nat.{sub_self}
 use Rattle.std.proofs.Math.Seq.{take-add}
 use Rattle.std.proofs.lemmas.List.{drop-drop, map-append}
 use Rattle.engine_events.specs.declared.event.Name.TheVariants as n
 use Rattle.event_grammar.specs.References.{media_names, own_in, nodes_text, node_text, label_text, own_label}
-use Rattle.parse_bytewise.specs.Laws.{LabelsAreTheSame}
-use Rattle.parse_bytewise.proofs.Nodes.{kept, by_cases, skipped}
-use Rattle.parse_bytewise.proofs.Children.{some_kept, IsOther, if_no, if_same, not_data, AllSound, IsFoundSound}
-use Rattle.parse_bytewise.proofs.Strings.{bytes_on, next_byte, data_bytes}
+use Rattle.parse_open.specs.BytewiseLaws.{LabelsAreTheSame}
+use Rattle.parse_open.proofs.BytewiseNodes.{kept, by_cases, skipped}
+use Rattle.parse_open.proofs.BytewiseChildren.{some_kept, IsOther, if_no, if_same, not_data, AllSound, IsFoundSound}
+use Rattle.parse_open.proofs.BytewiseStrings.{bytes_on, next_byte, data_bytes}
 
 -- ---- all nodes of a name
 

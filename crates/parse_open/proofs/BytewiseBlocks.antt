@@ -1,8 +1,8 @@
 -- Blocks and the page, with their data cut into bytes.
 use Rattle.std.proofs.Common.{◌≡◌, ℕ, ◌||◌, ◌&&◌, not, Bool, true, false, List, [], ◌++◌, map, length, Option, None, Some, refl, sym, ap, ap₂, ◌∙◌}
-use Rattle.parse_bytewise.proofs.Prelude.{after_child, AreSound, Around, before_child, bytewise, Child, child, Cons, ends_in, has, HaveNoData, if◌then◌else◌}
-use Rattle.parse_bytewise.proofs.Prelude.{is_listed, is_some, IsSound, kids_in, Name, named, Names, Nil, Node, Nodes, option_map, page_of, raw_parts}
-use Rattle.parse_bytewise.proofs.Prelude.{same_name, Spot, spot_of, string_of, text_in, text_of, written}
+use Rattle.parse_open.proofs.Prelude.{after_child, AreSound, Around, before_child, bytewise, Child, child, Cons, ends_in, has, HaveNoData, if◌then◌else◌}
+use Rattle.parse_open.proofs.Prelude.{is_listed, is_some, IsSound, kids_in, Name, named, Names, Nil, Node, Nodes, option_map, page_of, raw_parts}
+use Rattle.parse_open.proofs.Prelude.{same_name, Spot, spot_of, string_of, text_in, text_of, written}
 use Rattle.engine_events.specs.declared.event.Name.TheVariants as n
 use Rattle.definition_text.specs.Columns.{Code}
 use Rattle.definition_text.specs.Content.{content_codes}
@@ -16,15 +16,15 @@ use Rattle.event_meaning.specs.Blocks.{join, one, leaf, start_of, underline_rank
 use Rattle.event_meaning.specs.Blocks.{footnote_label, list_number, block_of, blocks_of, blocks_from}
 use Rattle.event_meaning.specs.Raw.{RawPart, raw_lines, fenced_lines}
 use Rattle.event_meaning.specs.Spelled.{footnotes, definition_of}
-use Rattle.parse_bytewise.specs.Sound.{fenced_names}
-use Rattle.parse_bytewise.specs.Laws.{PagesSpellTheSame}
-use Rattle.parse_bytewise.proofs.Nodes.{kept, by_cases, skipped}
-use Rattle.parse_bytewise.proofs.Children.{IsOther, IsFoundSound, if_no, has_same, child_same, child_sound, kids_same, kids_sound, after_same}
-use Rattle.parse_bytewise.proofs.Children.{after_sound, before_same, before_sound, before_none, after_none, ends_same, text_same}
-use Rattle.parse_bytewise.proofs.Labels.{named_same, named_sound, label_same}
-use Rattle.parse_bytewise.proofs.Strings.{string_same}
-use Rattle.parse_bytewise.proofs.Tables.{mapped, inner_same, inner_sound, raw_parts_same, table_same}
-use Rattle.parse_bytewise.proofs.Texts.{inlines_same, within_same}
+use Rattle.parse_open.specs.BytewiseSound.{fenced_names}
+use Rattle.parse_open.specs.BytewiseLaws.{PagesSpellTheSame}
+use Rattle.parse_open.proofs.BytewiseNodes.{kept, by_cases, skipped}
+use Rattle.parse_open.proofs.BytewiseChildren.{IsOther, IsFoundSound, if_no, has_same, child_same, child_sound, kids_same, kids_sound, after_same}
+use Rattle.parse_open.proofs.BytewiseChildren.{after_sound, before_same, before_sound, before_none, after_none, ends_same, text_same}
+use Rattle.parse_open.proofs.BytewiseLabels.{named_same, named_sound, label_same}
+use Rattle.parse_open.proofs.BytewiseStrings.{string_same}
+use Rattle.parse_open.proofs.BytewiseTables.{mapped, inner_same, inner_sound, raw_parts_same, table_same}
+use Rattle.parse_open.proofs.BytewiseTexts.{inlines_same, within_same}
 
 start_other : (name : Name) → IsOther (start_of name)
 start_other n.BlockQuote = refl

@@ -1,14 +1,12 @@
 -- Nodes in the grammar are sound.
-use Rattle.std.proofs.Common.{◌≡◌, ◌≤◌, ℕ, ◌+◌, Bool, true, false, ◌&&◌, ◌||◌, ◌==◌, if◌then◌else◌, List, [], ◌∷◌, ◌++◌, Option, None, Some, refl, sym, ap}
-use Rattle.std.proofs.Common.{subst, ◌∙◌, arith}
-use Rattle.std.proofs.lemmas.Bool.{eqb-true, leb-true, ltb-true, or_parts}
+use Rattle.std.proofs.Common.{◌≡◌, ℕ, Bool, true, false, ◌||◌, if◌then◌else◌, List, [], ◌∷◌, ◌++◌, Option, None, Some, refl, sym, ap, subst, ◌∙◌}
+use Rattle.std.proofs.lemmas.Bool.{or_parts}
 use Rattle.std.proofs.lemmas.List.{append-nil}
-use Rattle.std.specs.Prelude.{nat_lt, nat_le}
 use denote.Enum.Bare.{same_true}
-use Rattle.parse_bytewise.proofs.Prelude.{AreBetween, AreSound, Around, Child, Cons, edge, Event, has, HaveNoData, IsSound, Name, Nil, Node, Nodes, same_name}
-use Rattle.parse_bytewise.proofs.Prelude.{spot, Spot, spot_of, the_type, tree}
+use Rattle.parse_open.proofs.Prelude.{AreSound, Child, Event, has, HaveNoData, IsSound, Name, Nil, Node, Nodes, same_name}
+use Rattle.parse_open.proofs.Prelude.{spot, the_type, tree}
+use Rattle.parse_open.proofs.Ordered.{AreOrdered, fit_over, IsOrdered}
 use Rattle.engine_events.specs.declared.event.Name.TheVariants as n
-use Rattle.event_check.proofs.Fits.{split}
 use Rattle.event_check.proofs.Joined.{fits_then, then_fits}
 use Rattle.event_check.proofs.Matching.{matches_in}
 use Rattle.event_grammar.specs.declared.slot.Between.{Between}
@@ -19,11 +17,10 @@ use Rattle.event_grammar.specs.declared.slot.Slot.TheVariants.{One, Opt, Lead, M
 use Rattle.event_grammar.specs.Checks.{stands_between}
 use Rattle.event_grammar.specs.Grammar.{row, document_row}
 use Rattle.event_grammar.specs.InGrammar.{Within, inside, Before, before, node_name, NodeFits, fits, KidsFit, end, takes, between, PlacesFit}
-use Rattle.event_grammar.specs.Points.{reaches}
 use Rattle.event_grammar.specs.Slots.{Taken, taken, take_child}
 use Rattle.event_grammar.specs.Trees.{events_of}
 use Rattle.parse_output.specs.Children.{has_place}
-use Rattle.parse_bytewise.specs.Laws.{GrammarIsSound}
+use Rattle.parse_open.specs.BytewiseLaws.{GrammarIsSound}
 
 -- ---- places for data
 
@@ -92,71 +89,6 @@ module _ (names : List ℕ → Option (List ℕ)) (bytes : List ℕ) where
   nothing_in x b ns h (between {node = node} e s f k) =
       let no : false ≡ true = sym (ap (λ around. stands_between around (node_name node)) h) ∙ s in absurd (cc)
 
-  -- ---- places
-
-  -- each stands between the enter and the exit of what holds it, after the one before it
-  abbrev mutual
-    IsOrdered : Node → Type 0
-    IsOrdered (Around enter kids exit) = AreBetween (edge (spot_of enter)) kids (edge (spot_of exit)) × AreOrdered kids
-
-    AreOrdered : Nodes → Type 0
-    AreOrdered Nil = Unit {0}
-    AreOrdered (Cons node ns) = IsOrdered node × AreOrdered ns
-
-  edges_by : (i j v w : ℕ) (l e m a b : Bool) → nat_lt i j ≡ l → (i == j) ≡ e → nat_le v w ≡ m → (v == 0) ≡ a → (w == 0) ≡ b → (l || (e && m)) ≡ true
-      → (if a then i else i + 1) ≤ (if b then j else j + 1)
-  edges_by i j v w true e m true true p q s h k r = let x = ltb-true i j p in omega arith
-  edges_by i j v w true e m true false p q s h k r = let x = ltb-true i j p in omega arith
-  edges_by i j v w true e m false true p q s h k r = let x = ltb-true i j p in omega arith
-  edges_by i j v w true e m false false p q s h k r = let x = ltb-true i j p in omega arith
-  edges_by i j v w false true true true true p q s h k r = let x = eqb-true i j q in omega arith
-  edges_by i j v w false true true true false p q s h k r = let x = eqb-true i j q in omega arith
-  edges_by i j v w false true true false false p q s h k r = let x = eqb-true i j q in omega arith
-  edges_by i j v w false true true false true p q s h k r =
-      let x = eqb-true w 0 k in
-      let y = leb-true v w s in
-      let zero : v ≡ 0 = omega arith in
-      absurd (let f : true ≡ false = sym (ap (λ (z : ℕ). z == 0) zero) ∙ h in cc)
-  edges_by i j v w false true false a b p q s h k r = absurd (let f : false ≡ true = r in cc)
-  edges_by i j v w false false m a b p q s h k r = absurd (let f : false ≡ true = r in cc)
-
-  -- a later place has a later edge
-  edges_reach : (p q : Spot) → reaches p q ≡ true → edge p ≤ edge q
-  edges_reach p q r =
-      edges_by p.index q.index p.vs q.vs (nat_lt p.index q.index) (p.index == q.index) (nat_le p.vs q.vs) (p.vs == 0) (q.vs == 0) refl refl refl refl refl r
-
-  between_order : (from to : ℕ) (ns : Nodes) → AreBetween from ns to → from ≤ to
-  between_order from to Nil h = h
-  between_order from to (Cons (Around enter kids exit) ns) h =
-      let first = h.0 in
-      let own = h.1 in
-      let others = between_order (edge (spot_of exit)) to ns h.2 in
-      omega (arith, first, own, others)
-
-  -- after these the next events fit on
-  record FitOn (from : Spot) (ns : Nodes) (es : List Event) : Type 0 where
-    at : Spot
-    ordered : AreOrdered ns
-    up_to : (to : ℕ) → edge at ≤ to → AreBetween (edge from) ns to
-    fit : PlacesFit bytes at es
-
-  fit_over : (ns : Nodes) (from : Spot) (es : List Event) → PlacesFit bytes from (events_of ns ++ es) → FitOn from ns es
-  fit_over Nil from es h = record { at = from; ordered = tt; up_to = λ to l. l; fit = h }
-  fit_over (Cons (Around enter kids exit) ns) from es h =
-      let rest = events_of ns ++ es in
-      let here : PlacesFit bytes from (enter ∷ (events_of kids ++ exit ∷ rest)) =
-      subst (λ (l : List Event). PlacesFit bytes from (enter ∷ l)) (split kids ns exit es) h in
-      let inner = fit_over kids (spot_of enter) (exit ∷ rest) here.2 in
-      let others = fit_over ns (spot_of exit) es inner.fit.2 in
-      let inside = inner.up_to (edge (spot_of exit)) (edges_reach inner.at (spot_of exit) inner.fit.0) in
-      let order = between_order (edge (spot_of enter)) (edge (spot_of exit)) kids inside in
-      record {
-        at = others.at;
-        ordered = ((inside, inner.ordered), others.ordered);
-        up_to = λ to l. (edges_reach from (spot_of enter) here.0, order, others.up_to to l);
-        fit = others.fit;
-      }
-
   -- ---- both
 
   no_kids : (x : Within) (form : Form) (enter : Event) (kids : Nodes)
@@ -194,5 +126,5 @@ grammar_is_sound = λ names bytes events h.
     let f = fits_then names bytes events none in
     let ns = tree events in
     let same : events ≡ events_of ns ++ [] = f.nested ∙ sym (append-nil (events_of ns)) in
-    let fit = fit_over names bytes ns (spot 0 0) [] (subst (PlacesFit bytes (spot 0 0)) same f.places) in
+    let fit = fit_over bytes ns (spot 0 0) [] (subst (PlacesFit bytes (spot 0 0)) same f.places) in
     (no_data names bytes _ _ document_row ns refl f.fit, kids_sound names bytes _ _ document_row ns f.fit fit.ordered)

@@ -1,14 +1,14 @@
 -- Strings, with their data cut into bytes.
 use Rattle.std.proofs.Common.{◌≡◌, ℕ, zero, suc, ◌+◌, ◌-◌, List, [], ◌∷◌, ◌++◌, take, drop, refl, sym, ap, ap₂, ◌∙◌, append_assoc, arith}
-use Rattle.parse_bytewise.proofs.Prelude.{append, AreSound, Around, between, byte_nodes, bytewise, child, Cons, edge, if◌then◌else◌, is_some, Name, Names, Nil}
-use Rattle.parse_bytewise.proofs.Prelude.{Nodes, spot_of, string_of, text_in, text_of}
+use Rattle.parse_open.proofs.Prelude.{append, AreSound, Around, between, byte_nodes, bytewise, child, Cons, edge, if◌then◌else◌, is_some, Name, Names, Nil}
+use Rattle.parse_open.proofs.Prelude.{Nodes, spot_of, string_of, text_in, text_of}
 use Rattle.std.specs.Prelude.{unwrap_or}
 use Rattle.engine_events.specs.declared.event.Name.TheVariants as n
 use Rattle.definition_inline.specs.CharacterReference.{number_of, numbered_text}
 use Rattle.event_meaning.specs.Strings.{reference_text_of, string_part}
-use Rattle.parse_bytewise.specs.Laws.{StringsSpellTheSame}
-use Rattle.parse_bytewise.proofs.Nodes.{by_cases}
-use Rattle.parse_bytewise.proofs.Children.{has_same, text_same}
+use Rattle.parse_open.specs.BytewiseLaws.{StringsSpellTheSame}
+use Rattle.parse_open.proofs.BytewiseNodes.{by_cases}
+use Rattle.parse_open.proofs.BytewiseChildren.{has_same, text_same}
 
 -- ---- bytes, one by one
 

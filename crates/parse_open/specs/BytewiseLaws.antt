@@ -9,7 +9,7 @@ use Rattle.event_meaning.specs.Spelled.{page_of, spelled}
 use Rattle.event_meaning.specs.Strings.{string_of}
 use Rattle.event_meaning.specs.Texts.{inlines_of}
 use Rattle.parse_output.specs.Forest.{bytewise}
-use Rattle.parse_bytewise.specs.Sound.{HaveNoData, AreSound}
+use Rattle.parse_open.specs.BytewiseSound.{HaveNoData, AreSound}
 
 -- A string spells the same with its data cut into bytes (CommonMark 2.4 and 2.5).
 abbrev pub StringsSpellTheSame : Type 0

@@ -1,7 +1,7 @@
 -- Nodes whose data is cut into bytes, by cases: data, or a node that is kept.
 use Rattle.std.proofs.Common.{◌≡◌, ◌≤◌, ◌+◌, ◌-◌, ◌&&◌, ℕ, zero, suc, true, refl, subst, ◌∙◌, arith}
-use Rattle.parse_bytewise.proofs.Prelude.{append, AreBetween, Around, byte_node, byte_nodes, bytewise, cond_both, Cons, edge, Event, IsSound, Nil, Node, Nodes}
-use Rattle.parse_bytewise.proofs.Prelude.{same_name, spot_of, the_type}
+use Rattle.parse_open.proofs.Prelude.{append, AreBetween, Around, byte_node, byte_nodes, bytewise, cond_both, Cons, edge, Event, IsSound, Nil, Node, Nodes}
+use Rattle.parse_open.proofs.Prelude.{same_name, spot_of, the_type}
 use Rattle.std.proofs.lemmas.Bool.{and_parts}
 use denote.Enum.Bare.{same_true}
 use Rattle.engine_events.specs.declared.event.Name.TheVariants as n

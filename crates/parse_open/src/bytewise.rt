@@ -1,11 +1,9 @@
 //! Data spells the same, joined or byte by byte.
-#![tactic(auto)]
-
-ghost use Rattle.parse_bytewise.specs.Examples.{RefusedExample};
-ghost use Rattle.parse_bytewise.specs.Laws.{EventsSpellTheSame, GrammarIsSound, LabelsAreTheSame, PagesSpellTheSame, StringsSpellTheSame, TextsSpellTheSame};
+ghost use Rattle.parse_open.specs.BytewiseExamples.{RefusedExample};
+ghost use Rattle.parse_open.specs.BytewiseLaws.{EventsSpellTheSame, GrammarIsSound, LabelsAreTheSame, PagesSpellTheSame, StringsSpellTheSame, TextsSpellTheSame};
 
 /// A string spells the same with its data cut into bytes.
-#[tactic(auto, using(crate::proofs::Strings::strings_spell_the_same))]
+#[tactic(auto, using(crate::proofs::BytewiseStrings::strings_spell_the_same))]
 pub fn strings_law()
     ensures { StringsSpellTheSame }
 {}

@@ -1,7 +1,7 @@
 -- Tables and raw blocks, with their data cut into bytes.
 use Rattle.std.proofs.Common.{◌≡◌, ℕ, false, List, [], ◌∷◌, ◌++◌, map, refl, sym, ap, ap₂, ◌∙◌}
-use Rattle.parse_bytewise.proofs.Prelude.{after_child, AreSound, Around, before_child, bytewise, children, Cons, Event, if◌then◌else◌, Inlines, IsSound}
-use Rattle.parse_bytewise.proofs.Prelude.{kids_in, Name, named, Names, Nil, Node, Nodes, raw_parts, same_name, text_of}
+use Rattle.parse_open.proofs.Prelude.{after_child, AreSound, Around, before_child, bytewise, children, Cons, Event, if◌then◌else◌, Inlines, IsSound}
+use Rattle.parse_open.proofs.Prelude.{kids_in, Name, named, Names, Nil, Node, Nodes, raw_parts, same_name, text_of}
 use Rattle.markdown_options.specs.declared.line_ending.LineEnding.{LineEnding}
 use Rattle.engine_events.specs.declared.event.Name.TheVariants as n
 use Rattle.definition_page.specs.GfmTable.{Table, TableRow, in_cell}
@@ -9,11 +9,11 @@ use Rattle.event_check.specs.Align.{marks, mark, align_of, marks_in, value_align
 use Rattle.event_check.specs.declared.align.Marks.{Marks}
 use Rattle.event_meaning.specs.GfmTable.{cell_of, row_of, endings_in, endings_before_row, rows_of, table_of}
 use Rattle.event_meaning.specs.Raw.{ending_of, raw_part}
-use Rattle.parse_bytewise.proofs.Nodes.{kept, by_cases, skipped}
-use Rattle.parse_bytewise.proofs.Children.{IsOther, not_data, has_same, kids_same, kids_sound, after_same, after_sound, before_same, before_sound}
-use Rattle.parse_bytewise.proofs.Children.{children_same, children_sound, AllSound}
-use Rattle.parse_bytewise.proofs.Labels.{named_same, named_sound}
-use Rattle.parse_bytewise.proofs.Texts.{within_same}
+use Rattle.parse_open.proofs.BytewiseNodes.{kept, by_cases, skipped}
+use Rattle.parse_open.proofs.BytewiseChildren.{IsOther, not_data, has_same, kids_same, kids_sound, after_same, after_sound, before_same, before_sound}
+use Rattle.parse_open.proofs.BytewiseChildren.{children_same, children_sound, AllSound}
+use Rattle.parse_open.proofs.BytewiseLabels.{named_same, named_sound}
+use Rattle.parse_open.proofs.BytewiseTexts.{within_same}
 
 -- what nodes are mapped to, if that is the same for each with the data in it cut
 pub mapped : {B : Type 0} (f : Node → B) → ((node : Node) → IsSound node → f (kept node) ≡ f node) → (nodes : List Node) → AllSound nodes

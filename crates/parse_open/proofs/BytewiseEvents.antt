@@ -1,11 +1,11 @@
 -- Lists of events, with their data cut into bytes.
 use Rattle.std.proofs.Common.{sym, ap, ◌∙◌}
 use Rattle.std.proofs.lemmas.Bool.{true≢false}
-use Rattle.parse_bytewise.proofs.Prelude.{page_of, tree}
-use Rattle.parse_bytewise.specs.Examples.{RefusedExample}
-use Rattle.parse_bytewise.specs.Laws.{EventsSpellTheSame}
-use Rattle.parse_bytewise.proofs.Blocks.{page_same}
-use Rattle.parse_bytewise.proofs.InGrammar.{grammar_is_sound}
+use Rattle.parse_open.proofs.Prelude.{page_of, tree}
+use Rattle.parse_open.specs.BytewiseExamples.{RefusedExample}
+use Rattle.parse_open.specs.BytewiseLaws.{EventsSpellTheSame}
+use Rattle.parse_open.proofs.BytewiseBlocks.{page_same}
+use Rattle.parse_open.proofs.BytewiseGrammar.{grammar_is_sound}
 
 pub events_spell_the_same : EventsSpellTheSame
 events_spell_the_same = λ names bytes events ns right is.

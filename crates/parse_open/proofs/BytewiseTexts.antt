@@ -1,8 +1,8 @@
 -- Texts, with their data cut into bytes.
 use Rattle.std.proofs.Common.{◌≡◌, ℕ, zero, suc, ◌+◌, ◌||◌, Bool, true, false, List, [], ◌∷◌, ◌++◌, map, Option, None, Some, refl, sym, ap, ap₂, ◌∙◌}
-use Rattle.parse_bytewise.proofs.Prelude.{after_child, AreSound, Around, before_child, between, byte_nodes, bytewise, child, Cons, edge, Event, if◌then◌else◌}
-use Rattle.parse_bytewise.proofs.Prelude.{Inlines, is_listed, is_some, Name, Names, Nil, Node, Nodes, option_map, own, same_name, spot_of, text_in, text_of}
-use Rattle.parse_bytewise.proofs.Prelude.{written}
+use Rattle.parse_open.proofs.Prelude.{after_child, AreSound, Around, before_child, between, byte_nodes, bytewise, child, Cons, edge, Event, if◌then◌else◌}
+use Rattle.parse_open.proofs.Prelude.{Inlines, is_listed, is_some, Name, Names, Nil, Node, Nodes, option_map, own, same_name, spot_of, text_in, text_of}
+use Rattle.parse_open.proofs.Prelude.{written}
 use Rattle.engine_events.specs.declared.event.Name.TheVariants as n
 use Rattle.definition_inline.specs.CodeText.{without_padding}
 use Rattle.definition_inline.specs.Inline.{Resource, Reference, Data, Escape, Character, Code, Math, Autolink, TaskCheck, Link, Image, Leaf, Linked}
@@ -11,11 +11,11 @@ use Rattle.definition_inline.specs.Inline as inline
 use Rattle.event_meaning.specs.Texts.{append, part, leaves, text_names, code_part, code_parts, code_of, html_part, html_parts, autolink_of}
 use Rattle.event_meaning.specs.Texts.{written_string, resource_of, label_or_none, label_codes, target_of, text_part, inlines_of, text_within}
 use Rattle.parse_output.specs.Forest as forest
-use Rattle.parse_bytewise.specs.Laws.{TextsSpellTheSame}
-use Rattle.parse_bytewise.proofs.Nodes.{kept, by_cases, skipped}
-use Rattle.parse_bytewise.proofs.Children.{some_kept, IsOther, has_same, after_same, after_sound, before_same, before_sound, text_same, IsFoundSound}
-use Rattle.parse_bytewise.proofs.Labels.{own_same, own_sound, own_label_same}
-use Rattle.parse_bytewise.proofs.Strings.{bytes_on, next_byte, data_bytes, reference_same, string_same}
+use Rattle.parse_open.specs.BytewiseLaws.{TextsSpellTheSame}
+use Rattle.parse_open.proofs.BytewiseNodes.{kept, by_cases, skipped}
+use Rattle.parse_open.proofs.BytewiseChildren.{some_kept, IsOther, has_same, after_same, after_sound, before_same, before_sound, text_same, IsFoundSound}
+use Rattle.parse_open.proofs.BytewiseLabels.{own_same, own_sound, own_label_same}
+use Rattle.parse_open.proofs.BytewiseStrings.{bytes_on, next_byte, data_bytes, reference_same, string_same}
 
 leaves_both : (front back : List ℕ) (is : Inlines)
     → append (leaves (map Data front)) (append (leaves (map Data back)) is) ≡ append (leaves (map Data (front ++ back))) is
