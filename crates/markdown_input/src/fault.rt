@@ -15,6 +15,16 @@ pub enum Fault {
     Size,
     /// The output can't be written.
     Write,
+    /// The file may not be written.
+    ReadOnly,
+    /// The file has another name.
+    Links,
+    /// The folder of the file takes no new file.
+    Folder,
+    /// The owner or the group of the file can't be kept.
+    Owner,
+    /// The file isn't as it was read.
+    Changed,
     /// Memory ran out.
     Memory,
 }
@@ -49,6 +59,11 @@ impl Fault {
             Fault::Utf8 => "input is not UTF-8",
             Fault::Size => "input is too large",
             Fault::Write => "cannot write",
+            Fault::ReadOnly => "cannot write: the file is read-only",
+            Fault::Links => "cannot write: the file has more than one hard link",
+            Fault::Folder => "cannot write: the folder takes no new file",
+            Fault::Owner => "cannot write: the owner or the group would change",
+            Fault::Changed => "cannot write: the file changed meanwhile",
             Fault::Memory => "out of memory",
         }
     }

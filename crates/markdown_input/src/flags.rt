@@ -43,6 +43,26 @@ impl Flags {
         }
     }
 
+    /// The flags with what a key of a file of settings turns on or off, or none if the key is no flag.
+    pub fn with_key(self, key: &str, is_on: bool) -> Option<Flags> {
+        match key {
+            "gfm" => Some(Flags { gfm: is_on, ..self }),
+            "frontmatter" => Some(Flags {
+                frontmatter: is_on,
+                ..self
+            }),
+            "math" => Some(Flags {
+                math: is_on,
+                ..self
+            }),
+            "mark" => Some(Flags {
+                mark: is_on,
+                ..self
+            }),
+            _ => None,
+        }
+    }
+
     /// The options that a text is read with.
     pub fn options(self) -> ParseOptions
         ensures without_mdx { has_mdx result.constructs ≡ false }
