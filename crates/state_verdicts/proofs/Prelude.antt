@@ -31,8 +31,8 @@ pub use Rattle.markdown_engine.specs.Machine.{past_byte, plain, tries, with_ente
 pub use Rattle.markdown_engine.specs.Reading.{byte_of, Config, Effect, ends-nok, ends-ok, feed, hand_on, with_byte}
 pub use Rattle.markdown_engine.specs.VirtualText.{as_byte, is_feed, Text}
 pub use Rattle.markdown_engine.specs.declared.virtual_text.VirtualByte.{VirtualByte}
-pub use Rattle.state_codes.specs.Codes.{byte, is_code, nothing, Sees, tab, text_byte}
-pub use Rattle.state_codes.specs.TextBytes.{Shows}
+pub use Rattle.state_verdicts.specs.Codes.{byte, is_code, nothing, Sees, tab, text_byte}
+pub use Rattle.state_verdicts.specs.TextBytes.{Shows}
 pub use Rattle.state_html.specs.Autolink.{ends_url, is_atext}
 pub use Rattle.state_inline.specs.declared.inlines.Inlines.{Inlines}
 pub use Rattle.state_leaves.specs.CharacterReference.{goes_on, is_known, is_name, is_value_known}

@@ -7,7 +7,7 @@ use Rattle.markdown_engine.specs.Reading.{Config}
 use Rattle.markdown_engine.specs.VirtualText.{Text, as_byte}
 use Rattle.state_table.specs.Words.{retry}
 use Rattle.state_inline.specs.declared.inlines.Inlines.{Inlines}
-use Rattle.state_codes.specs.Codes.{Sees}
+use Rattle.state_verdicts.specs.Codes.{Sees}
 use Rattle.state_verdicts.specs.Choices.{Chooses}
 use Rattle.state_verdicts.specs.Verdicts.{Comes, Reads, at_byte}
 

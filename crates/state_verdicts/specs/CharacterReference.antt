@@ -18,8 +18,8 @@ use Rattle.markdown_engine.specs.KeptState.{KeptState}
 use Rattle.markdown_engine.specs.Reading.{Config}
 use Rattle.markdown_engine.specs.VirtualText.{Text, as_byte}
 use Rattle.state_inline.specs.declared.inlines.Inlines.{Inlines}
-use Rattle.state_codes.specs.Codes.{Sees}
-use Rattle.state_codes.specs.TextBytes.{Shows}
+use Rattle.state_verdicts.specs.Codes.{Sees}
+use Rattle.state_verdicts.specs.TextBytes.{Shows}
 use Rattle.state_verdicts.specs.Beginnings.{Beginning, AtByte, BeforeByte, AreSeen, ComesNext, all_codes, at_hand, attempt, choice}
 use Rattle.state_verdicts.specs.RawText.{piece}
 use Rattle.state_verdicts.specs.Stretch.{Stretch}

@@ -11,7 +11,7 @@ use Rattle.markdown_engine.specs.VirtualText.{Text, as_byte}
 use Rattle.engine_programs.specs.Bodies.{step_by}
 use Rattle.state_inline.specs.declared.inlines.Inlines.{Inlines}
 use Rattle.state_inline.specs.Inlines.{bodies}
-use Rattle.state_codes.specs.Codes.{Sees}
+use Rattle.state_verdicts.specs.Codes.{Sees}
 
 -- these events were added, this is kept, and reading is at this place; and neither edits nor resolvers were added
 pub record Leaves (c d : Config Inlines) (keeps : KeptState) (added : List Event) (p : Point) : Type 0 where
