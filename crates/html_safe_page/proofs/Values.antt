@@ -1,11 +1,13 @@
 -- A value is tested as it is spelled.
-use Rattle.std.proofs.Common.{◌≡◌, ℕ, ◌+◌, suc, List, [], ◌∷◌, ◌++◌, Bool, true, false, ◌&&◌, ◌||◌, cond, eqb, Option, None, Some, codes, drop, refl, sym, ap, ap₂}
-use Rattle.std.proofs.Common.{◌∙◌, inl, inr, arith}
+use Rattle.std.proofs.Common.{◌≡◌, ℕ, ◌+◌, suc, List, [], ◌∷◌, ◌++◌, Bool, true, false, not, ◌&&◌, ◌||◌, cond, eqb, Option, None, Some, codes, drop, refl, sym, ap, ap₂}
+use Rattle.std.proofs.Common.{◌<◌, ◌∙◌, Bor, get_or, inl, inr, length, arith}
 use Rattle.std.specs.Char.{to_ascii_lowercase}
 use Rattle.std.specs.List.{list_any, list_all, prefix_len, take_while}
 use Rattle.std.specs.Option.{IfSome, is_some, option_and_then, option_map}
 use Rattle.std.specs.Str.{bytes_eq}
 use Rattle.std.proofs.lemmas.Bool.{cases_Bool, cond_both, cond-true, cond-false, true≢false, false≢true, and_parts, ne_eqb}
+use Rattle.std.proofs.lemmas.List.{drop_more}
+use Rattle.std.proofs.lemmas.Slice.Eq.{bytes_eq-Decides}
 use Rattle.std.proofs.lemmas.List.Sums.{take_while-cons}
 use Rattle.definition_text.specs.Bytes.{lower, after_all}
 use Rattle.definition_page.specs.Urls.{in_protocol, protocol, begins_with_colon, is_permitted, permits, href_protocols, src_protocols}
@@ -13,6 +15,7 @@ use Rattle.html_safe_page.specs.SafePage.{Kind, And, Quote, Less, Greater, Plain
 use Rattle.html_safe_page.specs.SafePage.{language, class_of, is_class, alignments, empty_names, is_value}
 use Rattle.html_safe_page.specs.Reader.{strip, quoted_value, read_text, read_value, read_attributes, attribute}
 use Rattle.html_safe_page.specs.Machine.{after_attribute}
+use Rattle.html_safe_page.specs.Views.{names_of}
 use Rattle.html_safe_page.proofs.Text.{by_kind, is_plain, plain_other, text_sound}
 use Rattle.html_safe_page.proofs.Steps.{some_mapped}
 
@@ -219,6 +222,34 @@ value_spelled tag name text =
     let same_after_href : after_href text ≡ after_href (sp text) = ap₂ (choose (codes "src")) (sym (permitted_spelled src_protocols text src_plain)) same_after_src in
     ap₂ (choose (codes "href")) (sym (permitted_spelled href_protocols text href_plain)) same_after_href
 
+-- an attribute of another name
+no_word : (name word : List ℕ) → (name ≡ word → ⊥) → bytes_eq name word ≡ false
+no_word name word other = elim (cases_Bool (bytes_eq name word)) [
+  | inl e ↦ absurd (other ((bytes_eq-Decides name word).0 e))
+  | inr e ↦ e
+]
+
+not_empty : (value : List ℕ) → eqb (length value) 0 ≡ false → bytes_eq [] value ≡ false
+not_empty [] h = absurd (true≢false h)
+not_empty (b ∷ bs) h = refl
+
+turned : (t : Bool) → not t ≡ cond t false true
+turned true = refl
+turned false = refl
+
+pub other_value : (tag name value : List ℕ) (is_empty is_listed : Bool) → (name ≡ codes "href" → ⊥) → (name ≡ codes "src" → ⊥)
+    → (name ≡ codes "class" → ⊥) → (name ≡ codes "type" → ⊥) → (name ≡ codes "align" → ⊥) → is_empty ≡ eqb (length value) 0 → is_empty ≡ false
+    → is_listed ≡ list_any (λ n. bytes_eq n name) empty_names → not is_listed ≡ is_value tag name value
+other_value tag name value is_empty is_listed href src class type align size full listed =
+    turned is_listed
+    ∙ ap (λ x. cond is_listed x true) (sym (not_empty value (sym size ∙ full)))
+    ∙ ap (λ t. cond t (bytes_eq [] value) true) listed
+    ∙ sym (cond-false (bytes_eq name (codes "href")) (permits href_protocols value) _ (no_word name (codes "href") href)
+    ∙ cond-false (bytes_eq name (codes "src")) (permits src_protocols value) _ (no_word name (codes "src") src)
+    ∙ cond-false (bytes_eq name (codes "class")) (is_class tag value) _ (no_word name (codes "class") class)
+    ∙ cond-false (bytes_eq name (codes "type")) (bytes_eq (codes "checkbox") value) _ (no_word name (codes "type") type)
+    ∙ cond-false (bytes_eq name (codes "align")) (list_any (λ a. bytes_eq a value) alignments) _ (no_word name (codes "align") align))
+
 -- ---- values
 
 some_if : {A : Type 0} (t : Bool) (a : A) → is_some (cond t (Some a) None) ≡ t
@@ -255,3 +286,11 @@ attribute_more tag n ns ending bytes =
     (λ q. cond (is_some (read_value tag n q.inside)) (Some q.rest) None)
     (read_attributes tag ns ending)
     (λ q. last n q.rest (read_value tag n q.inside) (read_attributes tag ns ending))
+
+-- the attributes of names from one place on
+pub names_left : (tag : List ℕ) (names : List (Bor (List ℕ))) (i : ℕ) (d : Bor (List ℕ)) (ending rest : List ℕ) → i < length names
+    → is_some (read_attributes tag (names_of (drop i names)) ending rest)
+    ≡ is_some (option_and_then (read_attributes tag (names_of (drop (i + 1) names)) ending) (after_attribute tag (get_or names i d).now rest))
+names_left tag names i d ending rest before =
+    ap (λ ns. is_some (read_attributes tag (names_of ns) ending rest)) (drop_more names i d before)
+    ∙ attribute_more tag (get_or names i d).now (names_of (drop (i + 1) names)) ending rest
