@@ -6,7 +6,7 @@ use Rattle.engine_states.specs.declared.state.Block.TheVariants as state_block
 use Rattle.engine_states.specs.declared.state.State.TheVariants as states
 use Rattle.engine_programs.specs.Bodies.{FixedName, Body, Answer, Consume, Enter, Exit, Keep, Tries, Byte, On, Test, around}
 use Rattle.definition_text.specs.Ascii.{line_feed, plus, hyphen}
-use Rattle.state_block_table.specs.BlockWords.{over_white, at_line_end, no_limit, next, retry}
+use Rattle.state_table.specs.BlockWords.{over_white, at_line_end, no_limit, next, retry}
 use Rattle.state_table.specs.Words.{at_marker, count_one}
 
 abbrev pub frontmatter_closed : {M : Type 0} → Body M

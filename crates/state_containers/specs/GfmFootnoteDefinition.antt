@@ -6,7 +6,7 @@ use Rattle.engine_states.specs.declared.state.Block.TheVariants as state_block
 use Rattle.engine_states.specs.declared.state.State.TheVariants as states
 use Rattle.engine_programs.specs.Bodies.{FixedName, Body, Answer, Consume, Enter, EnterLink, Exit, Keep, Tries, Byte, On, AfterFeed, Test, around}
 use Rattle.definition_text.specs.Ascii.{colon, left_bracket, backslash, right_bracket, caret}
-use Rattle.state_block_table.specs.BlockWords.{over_indent, white_to, no_limit, is_white, next, retry, string_link}
+use Rattle.state_table.specs.BlockWords.{over_indent, white_to, no_limit, is_white, next, retry, string_link}
 use Rattle.state_table.specs.Words.{count_one, is_space_or_tab}
 use Rattle.state_containers.specs.Open.{go_on_blank, go_on_indented}
 

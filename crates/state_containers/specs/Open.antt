@@ -13,7 +13,7 @@ use Rattle.engine_states.specs.declared.state.Inline.TheVariants as state_inline
 use Rattle.engine_states.specs.declared.state.State.TheVariants as states
 use Rattle.engine_programs.specs.Bodies.{Answer, Body, Keep, On, Test, Tries, has}
 use Rattle.state_table.specs.Words.{is_space_or_tab, more}
-use Rattle.state_block_table.specs.BlockWords.{next, part}
+use Rattle.state_table.specs.BlockWords.{next, part}
 
 -- the one that is asked next whether it goes on
 abbrev pub next_open : KeptState → Option ContainerState

@@ -21,7 +21,7 @@ use Rattle.engine_programs.specs.Sorts.{fits}
 use Rattle.engine_programs.specs.Stacks.{program_rank, program_valid}
 use Rattle.engine_programs.specs.ProgramLaws.{program_begins, program_lawful, program_open, program_resolves}
 use Rattle.state_table.specs.Table.{inline_group}
-use Rattle.state_block_table.specs.BlockTable.{block_group}
+use Rattle.state_table.specs.BlockTable.{block_group}
 use Rattle.state_content.specs.declared.contents.Contents.{Contents}
 use Rattle.state_content.specs.Contents.{contents_bodies, contents_body, contents_part, contents_sorts}
 

@@ -23,9 +23,9 @@ use Rattle.engine_programs.specs.ProgramLaws.{program_begins, program_lawful, pr
 use Rattle.state_table.specs.declared.Group.{Group as InlineGroup}
 use Rattle.state_table.specs.declared.Group.TheVariants as inline_groups
 use Rattle.state_table.specs.Table.{inline_group}
-use Rattle.state_block_table.specs.declared.Group.{Group}
-use Rattle.state_block_table.specs.declared.Group.TheVariants as groups
-use Rattle.state_block_table.specs.BlockTable.{block_group}
+use Rattle.state_table.specs.declared.block.Group.{Group}
+use Rattle.state_table.specs.declared.block.Group.TheVariants as groups
+use Rattle.state_table.specs.BlockTable.{block_group}
 use Rattle.state_labels.specs.LabelStates.{label_body}
 use Rattle.state_flow_leaves.specs.LeavesStates.{leaves_body}
 use Rattle.state_containers.specs.ContainerStates.{container_body}

@@ -11,7 +11,7 @@ use Rattle.markdown_engine.specs.Context.{Context}
 use Rattle.markdown_engine.specs.Reading.{Config}
 use Rattle.engine_programs.specs.Bodies.{FixedName, Body, Answer, Consume, EnterLink, Exit, Flag, Flags, Keep, Tries, Byte, On, Test, Move}
 use Rattle.state_table.specs.Words.{more}
-use Rattle.state_block_table.specs.BlockWords.{next, retry, part, free, flow_link}
+use Rattle.state_table.specs.BlockWords.{next, retry, part, free, flow_link}
 use Rattle.state_containers.specs.Open.{is_more_open, is_open, begun_containers}
 use Rattle.state_document.specs.Readers.{Calls}
 

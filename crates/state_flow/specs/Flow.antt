@@ -8,7 +8,7 @@ use Rattle.engine_states.specs.declared.state.Inline.TheVariants as state_inline
 use Rattle.engine_states.specs.declared.state.State.TheVariants as states
 use Rattle.engine_programs.specs.Bodies.{FixedName, Body, Answer, Keep, Tries, Byte, On, Test, around}
 use Rattle.definition_text.specs.Ascii.{line_feed, number_sign, dollar, asterisk, hyphen, less_than, equals, underscore, backtick, tilde}
-use Rattle.state_block_table.specs.BlockWords.{is_indented, is_white, no_limit, next, retry, part, free}
+use Rattle.state_table.specs.BlockWords.{is_indented, is_white, no_limit, next, retry, part, free}
 use Rattle.state_table.specs.Words.{is_space_or_tab}
 
 module _ {M : Type 0} where

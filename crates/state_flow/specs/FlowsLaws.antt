@@ -21,7 +21,7 @@ use Rattle.engine_programs.specs.Sorts.{fits}
 use Rattle.engine_programs.specs.Stacks.{program_rank, program_valid}
 use Rattle.engine_programs.specs.ProgramLaws.{program_begins, program_lawful, program_open, program_resolves}
 use Rattle.state_table.specs.Table.{inline_group}
-use Rattle.state_block_table.specs.BlockTable.{block_group}
+use Rattle.state_table.specs.BlockTable.{block_group}
 use Rattle.state_flow.specs.declared.flows.Flows.{Flows}
 use Rattle.state_flow.specs.Flows.{flows_bodies, flows_body, flows_part, flows_sorts}
 

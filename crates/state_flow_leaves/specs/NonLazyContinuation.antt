@@ -6,7 +6,7 @@ use Rattle.engine_states.specs.declared.state.State.TheVariants as states
 use Rattle.markdown_engine.specs.Reading.{Config}
 use Rattle.engine_programs.specs.Bodies.{FixedName, Body, Answer, Byte, On, Test, around}
 use Rattle.definition_text.specs.Ascii.{line_feed}
-use Rattle.state_block_table.specs.BlockWords.{next}
+use Rattle.state_table.specs.BlockWords.{next}
 
 module _ {M : Type 0} where
   -- a fence keeps its byte in `marker`, an HTML block its kind, which is 1 to 7

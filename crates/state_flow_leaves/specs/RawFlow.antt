@@ -11,8 +11,8 @@ use Rattle.engine_programs.specs.Bodies.{Test, around, has}
 use Rattle.definition_text.specs.Ascii.{line_feed, dollar, backtick, tilde}
 use Rattle.definition_text.specs.Columns.{indent}
 use Rattle.definition_text.specs.Lines.{ends_line}
-use Rattle.state_block_table.specs.BlockWords.{over_white, over_indent, at_line_end, no_limit, next, retry, part}
-use Rattle.state_block_table.specs.BlockWords.{concrete, all_free, string_link}
+use Rattle.state_table.specs.BlockWords.{over_white, over_indent, at_line_end, no_limit, next, retry, part}
+use Rattle.state_table.specs.BlockWords.{concrete, all_free, string_link}
 use Rattle.state_table.specs.Words.{more, at_marker, count_one, is_space_or_tab}
 
 -- nothing, or a byte that begins a line ending

@@ -23,7 +23,7 @@ use Rattle.markdown_engine.specs.Turns.{Halt, halt_at, halted, range_start}
 use Rattle.markdown_engine.specs.VirtualText.{IsCut, Skips, Source, line_start}
 use Rattle.engine_programs.specs.Bodies.{step_by}
 use Rattle.engine_programs.specs.Stacks.{program_rank, program_valid}
-use Rattle.state_block_table.specs.BlockWords.{next}
+use Rattle.state_table.specs.BlockWords.{next}
 use Rattle.state_flow.specs.Flows.{flows_bodies, flows_sorts}
 use Rattle.state_flow.specs.declared.flows.Flows.{Flows}
 use Rattle.state_reader.specs.declared.flow.Flow.{Flow}

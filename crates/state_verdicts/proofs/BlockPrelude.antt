@@ -17,7 +17,7 @@ pub use Rattle.markdown_engine.specs.Machine.{past_byte, plain, tries, with_ente
 pub use Rattle.markdown_engine.specs.Reading.{byte_of, Config, Effect, ends-nok, ends-ok, feed}
 pub use Rattle.markdown_engine.specs.VirtualText.{as_byte, is_feed, Text}
 pub use Rattle.markdown_engine.specs.declared.virtual_text.VirtualByte.{VirtualByte}
-pub use Rattle.state_block_table.specs.BlockWords.{next, no_limit, part, retry}
+pub use Rattle.state_table.specs.BlockWords.{next, no_limit, part, retry}
 pub use Rattle.state_verdicts.specs.Codes.{byte, nothing, Sees, tab, text_byte}
 pub use Rattle.state_flow.specs.declared.flows.Flows.{Flows}
 pub use Rattle.state_table.specs.Words.{is_space_or_tab, less, more}

@@ -7,7 +7,7 @@ use Rattle.engine_states.specs.declared.state.Block.TheVariants as state_block
 use Rattle.engine_states.specs.declared.state.Inline.TheVariants as state_inline
 use Rattle.engine_states.specs.declared.state.Name.TheVariants.{Block}
 use Rattle.engine_states.specs.declared.state.State.TheVariants as states
-use Rattle.state_block_table.specs.BlockWords.{string_link}
+use Rattle.state_table.specs.BlockWords.{string_link}
 use Rattle.state_flow.specs.Flows.{flows_bodies}
 use Rattle.state_flow_leaves.specs.RawFlow.{ends_meta}
 use Rattle.state_verdicts.specs.CodeFenced.{fencing}

@@ -14,7 +14,7 @@ use Rattle.engine_states.specs.declared.state.Block.TheVariants as state_block
 use Rattle.engine_states.specs.declared.state.Name.TheVariants.{Block}
 use Rattle.engine_states.specs.declared.state.State.TheVariants as states
 use Rattle.markdown_engine.specs.Reading.{at_point}
-use Rattle.state_block_table.specs.BlockWords.{is_white as is_white_byte}
+use Rattle.state_table.specs.BlockWords.{is_white as is_white_byte}
 use Rattle.state_flow.specs.Flows.{flows_bodies}
 use Rattle.state_verdicts.specs.HeadingAtx.{HeadingAtxVerdict, OpeningVerdict}
 use Rattle.state_verdicts.specs.BlockVerdicts.{at_hand, line}

@@ -11,7 +11,7 @@ use Rattle.engine_events.specs.declared.place.Point.{Point}
 use Rattle.engine_states.specs.declared.state.Block.TheVariants as state_block
 use Rattle.markdown_engine.specs.KeptState.{KeptState}
 use Rattle.markdown_engine.specs.Reading.{Config}
-use Rattle.state_block_table.specs.BlockWords.{retry}
+use Rattle.state_table.specs.BlockWords.{retry}
 use Rattle.state_verdicts.specs.Codes.{Sees}
 use Rattle.state_flow.specs.declared.flows.Flows.{Flows}
 use Rattle.state_verdicts.specs.Lines.{LineEnds, after_line}

@@ -8,7 +8,7 @@ use Rattle.engine_events.specs.declared.event.Name.TheVariants as names
 use Rattle.engine_events.specs.declared.place.Point.{Point}
 use Rattle.engine_states.specs.declared.state.Block.TheVariants as state_block
 use Rattle.markdown_engine.specs.Reading.{Config}
-use Rattle.state_block_table.specs.BlockWords.{retry}
+use Rattle.state_table.specs.BlockWords.{retry}
 use Rattle.state_verdicts.specs.Codes.{Sees}
 use Rattle.state_flow.specs.declared.flows.Flows.{Flows}
 use Rattle.state_verdicts.specs.BlockVerdicts.{AtCodes, GoesOn, InLine, Leaves, Reads, at_hand, line}

@@ -2,9 +2,9 @@
 ghost use Rattle.std.specs.Prelude.{◌≡◌};
 ghost use Rattle.engine_programs.specs.Stacks.{Does};
 ghost use Rattle.markdown_engine.specs.Machine.{config, constructs_of};
-ghost use Rattle.state_block_table.specs.BlockWords.{indent_max, is_indented, over_indent, over_white, white_to};
+ghost use Rattle.state_table.specs.BlockWords.{indent_max, is_indented, over_indent, over_white, white_to};
 
-use crate::{next, part, retry};
+use crate::block::{next, part, retry};
 use engine_programs::steps::attempt_to;
 use markdown_engine::state::{Block, Inline, State};
 use markdown_engine::tokenizer::Tokenizer;

@@ -5,8 +5,8 @@ use Rattle.engine_states.specs.declared.state.Block.{Block as BlockName}
 use Rattle.engine_states.specs.declared.state.Block.TheVariants as state_block
 use Rattle.engine_states.specs.declared.state.Name.{Name}
 use Rattle.engine_states.specs.declared.state.Name.TheVariants.{Block, Inline}
-use Rattle.state_block_table.specs.declared.Group.{Group}
-use Rattle.state_block_table.specs.declared.Group.TheVariants as groups
+use Rattle.state_table.specs.declared.block.Group.{Group}
+use Rattle.state_table.specs.declared.block.Group.TheVariants as groups
 use Rattle.engine_programs.specs.Bodies.{Token, FixedName, HeldName}
 use Rattle.engine_programs.specs.Sorts.{Sort}
 use Rattle.engine_states.specs.declared.state.Inline.{Inline as InlineName}

@@ -1,13 +1,7 @@
 //! The table of the block states.
-#![tactic(auto)]
-
 ghost use Rattle.std.specs.Prelude.{◌≡◌};
-ghost use Rattle.state_block_table.specs.BlockWords.{next, part, retry};
-ghost use Rattle.state_block_table.specs.BlockTable.{block_group};
-
-pub mod links;
-pub mod steps;
-pub mod white;
+ghost use Rattle.state_table.specs.BlockWords.{next, part, retry};
+ghost use Rattle.state_table.specs.BlockTable.{block_group};
 
 use markdown_engine::state::{Block, Inline, Name, State};
 

@@ -5,10 +5,10 @@ ghost use Rattle.engine_states.specs.declared.state.State.TheVariants.{Ok};
 ghost use Rattle.markdown_engine.specs.Order.{IsInnermost};
 ghost use Rattle.engine_programs.specs.Bodies.{Answer, Consume, Enter, EnterLink, Exit, FixedName, around};
 ghost use Rattle.engine_programs.specs.Stacks.{Does, IsOpen};
-ghost use Rattle.state_block_table.specs.BlockWords.{around_if, consume_if, free, next, no_limit, over_white, retry};
+ghost use Rattle.state_table.specs.BlockWords.{around_if, consume_if, free, next, no_limit, over_white, retry};
 
+use crate::block::{next, retry};
 use crate::white::over_white;
-use crate::{next, retry};
 use engine_programs::around::leave;
 use engine_programs::steps;
 use markdown_engine::event::{Link, Name};
