@@ -7,7 +7,7 @@ use lint_fix::fix;
 use lint_mend::Rules;
 use lint_rules::RuleSet;
 use markdown::fits;
-use markdown_format::{BreakStyle, Style, TableStyle, format};
+use markdown_format::{BreakStyle, RuleSet, Style, TableStyle, format};
 use markdown_options::{Message, Options};
 use std::alloc::Global;
 use tests_options::OptionSet;
@@ -25,6 +25,7 @@ pub(crate) enum Change {
 const KEEP: Style = Style {
     tables: TableStyle::Compact,
     hard_breaks: BreakStyle::Keep,
+    rules: RuleSet::ALL,
 };
 
 /// Formatted with the default style.
@@ -38,14 +39,15 @@ const WAYS: &[(OptionSet, Change, &str)] = &[
         Change::Format(Style {
             tables: TableStyle::Padded,
             hard_breaks: BreakStyle::Backslash,
+            ..KEEP
         }),
         "formatted twice by the options of GitHub",
     ),
     (
         OptionSet::EverythingAndRawHtml,
         Change::Format(Style {
-            tables: TableStyle::Compact,
             hard_breaks: BreakStyle::Spaces,
+            ..KEEP
         }),
         "formatted twice by all options",
     ),
