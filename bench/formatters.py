@@ -4,7 +4,7 @@
 usage: bench/formatters.py PROGRAM COUNT [WORD..] < NAMES
 
 PROGRAM is markdown-fmt, and the words are its options. NAMES has the name of a file in each line. A file whose name ends in .gz is unpacked.
-COUNT texts are taken, evenly from all that are UTF-8 and have 300 bytes or more, equal ones once. Each row has the texts that change, those
+COUNT texts are taken, evenly from all that are UTF-8 and have 300 to 40,000 bytes, equal ones once. Each row has the texts that change, those
 whose page differs, those whose page differs without its white space, and those that a second run changes.
 """
 import gzip
@@ -24,7 +24,7 @@ def texts(names, count):
             text.decode("utf-8")
         except (OSError, UnicodeDecodeError):
             continue
-        if len(text) >= 300:
+        if 300 <= len(text) <= 40000:
             found.setdefault(text)
     found = list(found)
     return [found[number * len(found) // count] for number in range(min(count, len(found)))] if len(found) > count else found

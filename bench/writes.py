@@ -14,7 +14,7 @@ import subprocess
 import sys
 import tempfile
 
-OLD = b"# a\nb\n* c \n" * 3000
+OLD = b"# a\nb\n* c \n" * 500
 FAULTS = {
     "openat": ["EACCES", "ENOSPC", "EMFILE"],
     "read": ["EIO"],

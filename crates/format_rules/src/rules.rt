@@ -78,7 +78,7 @@ const LIST_LINES: Rule = Rule::ListLines(Lines {
 
 /// All rules, in the order in which they are applied one after the other. In this order a second run changes
 /// nothing in any text that was tried; in another it does. A new rule is a file, a row here and in
-/// `AT_ONCE`, and its function in `Rule::add`.
+/// `AT_ONCE`, its function in `Rule::add_all`, and its name in `Rule::name` and in `RULE_NAMES`.
 pub const RULES: [Rule; 17] = [
     Rule::TrailingSpaces,
     Rule::FileEnds,

@@ -11,7 +11,7 @@ pub mod hard_break_trailing;
 pub mod heading_atx;
 pub mod lines;
 pub mod math_text;
+pub mod shown_bytes;
 pub mod text;
-pub mod text_bytes;
 pub mod text_codes;
 pub mod thematic_break;
