@@ -54,6 +54,12 @@ install a package that a machine with it has made (docs/LIBRARY.md, "Packages").
 END
     exit 2
 }
+# Another toolchain may refuse the proofs, or prove less.
+version=$(rt version)
+case ${version%% *} in
+    rattle-kit-13b | rattle-kit-13f) ;;
+    *) echo "note: this is proved with the kits rattle-kit-13b and rattle-kit-13f, and \`rt version\` is $version" >&2 ;;
+esac
 if [ -n "$library" ]; then
     for tool in "${CC:-cc}" ar; do
         command -v "$tool" > /dev/null || fail "--library needs $tool, which isn't on the PATH"
@@ -62,8 +68,10 @@ if [ -n "$library" ]; then
 else
     folder=${folder:-$HOME/.local/bin}
 fi
-mkdir -p "$folder"
+mkdir -p "$folder" || fail "the folder $folder can't be made; name another one"
 folder=$(cd "$folder" && pwd)
+# Proofs take most of an hour, so what is written after them is tried before.
+[ -w "$folder" ] || fail "$folder can't be written; name another folder"
 cd "$(dirname "$0")"
 scratch=$(mktemp -d)
 trap 'rm -rf "$scratch"' EXIT
@@ -131,6 +139,12 @@ else
     set --
     for program in $programs; do set -- "$@" "$(crate_of "$program")"; done
 fi
+# What is built is kept in the checkout, too.
+for crate do
+    place=crates/$crate/out
+    [ -d "$place" ] || place=crates/$crate
+    [ -w "$place" ] || fail "$PWD/$place can't be written, and what is built is kept there; take a copy of this checkout"
+done
 crates=$(bin/below "$@" | sed '/ staticlib:/d' | wc -l)
 echo "proving $crates crates" >&2
 bin/prove "$copy" "$@" 2>&1 | tee "$scratch/ci" | show_progress "$crates"

@@ -31,6 +31,8 @@ lists_contents() { "$@" page.md > "$scratch/contents.out" < page.md && cmp "$scr
 lists_links() { "$@" < "$here/links/page.md" | cmp - "$here/links/links.txt"; }
 # Whether a command that gets the path of a text prints its links that lead to no file.
 finds_missing() ( cd "$here/links" && "$@" page.md | cmp - missing.txt )
+# Whether a command that gets the path of a text prints what recipes make of it.
+follows_recipes() { "$@" "$here/recipes/page.md" | cmp - "$here/recipes/recipes.txt"; }
 writes_comments() ( cd "$here/comments" && "$@" 1.md 2.md | cmp - page.html )
 # Whether the ids of footnotes begin with a prefix.
 prefixes() { [ "$(printf 'a[^1]\n\n[^1]: b' | "$@" --gfm --prefix=c- | grep -o 'id="c-fn[^"]*"' | tr '\n' ' ')" = 'id="c-fnref-1" id="c-fn-1" ' ]; }
@@ -112,6 +114,7 @@ if works python3 -c 'import ctypes'; then
     export PYTHONPATH PYTHONDONTWRITEBYTECODE
     tries "Python" python3 "$here/python/convert.py" "$library/lib/libmarkdown-proved.so"
     check "Python: links" finds_missing python3 "$here/python/links.py" "$library/lib/libmarkdown-proved.so"
+    check "Python: recipes" follows_recipes python3 "$here/python/recipes.py" "$library/lib/libmarkdown-proved.so"
     check "Python: contents" lists_contents python3 "$here/python/contents.py" "$library/lib/libmarkdown-proved.so"
 fi
 echo "$passed passed, $failed failed"

@@ -220,7 +220,14 @@ uint32_t markdown_version(void);
  * *length becomes the length of the HTML if the status is MARKDOWN_OK or MARKDOWN_ROOM, otherwise 0. Only with MARKDOWN_OK is
  * the buffer written, from its start to the end of the HTML.
  *
- * No pointer may be NULL, even if it points to no bytes. buffer, length and text must not overlap. */
+ * No pointer may be NULL, even if it points to no bytes. buffer, length and text must not overlap. To ask for the length alone,
+ * pass room 0 and any other pointer:
+ *
+ *     unsigned char none[1];
+ *     size_t length;
+ *     uint32_t status = markdown_convert(text, text_length, flags, none, 0, &length);
+ *
+ * The status is then MARKDOWN_ROOM, or MARKDOWN_OK if the HTML is empty. */
 uint32_t markdown_convert(const unsigned char *text, size_t text_length, uint32_t flags, unsigned char *buffer,
                           size_t room, size_t *length);
 
@@ -273,7 +280,7 @@ static inline markdown_options markdown_options_of(uint32_t flags)
 }
 
 /* Converts the text_length bytes at text into HTML by options, as markdown_convert does by flags. Texts of the options that
- * aren't the default ones are copied while it runs. options must not overlap buffer and length. */
+ * aren't the default ones are copied while it runs. options and its texts must not overlap buffer and length. */
 uint32_t markdown_convert_with(const unsigned char *text, size_t text_length, const markdown_options *options,
                                unsigned char *buffer, size_t room, size_t *length);
 
@@ -285,7 +292,11 @@ uint32_t markdown_convert_by_numbers(const unsigned char *text, size_t text_leng
 /* Converts the text_length bytes at text into a buffer that it allocates or grows, and returns a status, never MARKDOWN_ROOM.
  *
  * *buffer is NULL or comes from malloc, and has *room bytes. Both are updated if the buffer grows. The caller frees the buffer,
- * whatever the status. text may be NULL if text_length is 0. A buffer that is used for call after call soon stops growing. */
+ * whatever the status. text may be NULL if text_length is 0. A buffer that is used for call after call soon stops growing.
+ *
+ * With another status than MARKDOWN_OK *length is 0, and the buffer has what an earlier call has written, perhaps the HTML of
+ * another input. So look at the status before the buffer. HTML doesn't end with NUL. options and its texts must not overlap
+ * *buffer. */
 static inline uint32_t markdown_convert_growing_with(const unsigned char *text, size_t text_length,
                                                      const markdown_options *options, unsigned char **buffer, size_t *room,
                                                      size_t *length)
@@ -324,7 +335,8 @@ static inline uint32_t markdown_convert_growing(const unsigned char *text, size_
  * *count becomes the number of events if the status is MARKDOWN_OK or MARKDOWN_ROOM, otherwise 0. Only with MARKDOWN_OK is the
  * array written, from its start to the last event.
  *
- * No pointer may be NULL, even if it points to nothing. events, count and text must not overlap. */
+ * No pointer may be NULL, even if it points to nothing. events, count and text must not overlap. To ask for the number alone,
+ * pass room 0 and the address of any event. */
 uint32_t markdown_list_events(const unsigned char *text, size_t text_length, uint32_t flags, markdown_event *events, size_t room,
                               size_t *count);
 
@@ -409,10 +421,12 @@ enum { MARKDOWN_LINK = 0, MARKDOWN_IMAGE = 1, MARKDOWN_AUTOLINK = 2, MARKDOWN_LI
  * MARKDOWN_ROOM, otherwise both become 0. MARKDOWN_ROOM means that the array or the buffer is too small. Only with MARKDOWN_OK
  * are they written, from their starts.
  *
- * A destination is what it stands for: escapes and character references are replaced, "mailto:" is before an email address, and
+ * The destinations stand in the buffer side by side, in the order of their links, and nothing else is there. A destination is
+ * what it stands for: escapes and character references are replaced, "mailto:" is before an email address, and
  * "http://" before "www.". It isn't percent-encoded. A reference has the destination of its definition.
  *
- * No pointer may be NULL, even if it points to nothing. What they point to must not overlap, except text and options. */
+ * No pointer may be NULL, even if it points to nothing. What they point to must not overlap, except text and options. To ask
+ * for the numbers alone, pass rooms of 0 with the addresses of any link and any byte. */
 uint32_t markdown_list_links_with(const unsigned char *text, size_t text_length, const markdown_options *options,
                                   markdown_link *links, size_t room, size_t *count, unsigned char *buffer, size_t buffer_room,
                                   size_t *length);

@@ -95,6 +95,19 @@ export interface Options extends ReadOptions {
     tagfilter?: boolean;
     /** Check boxes of items aren't disabled. */
     checkableTasks?: boolean;
+    /**
+     * What the ids of footnotes begin with. By default `user-content-`. This and the next four throw a `TypeError` if HTML of the
+     * input is kept.
+     */
+    prefix?: string;
+    /** The heading above footnotes. By default `Footnotes`. */
+    footnoteLabel?: string;
+    /** The name of its tag. By default `h2`. Never take it from an input. */
+    footnoteLabelTag?: string;
+    /** Its attributes, printed as given. By default `class="sr-only"`. Never take them from an input. */
+    footnoteLabelAttributes?: string;
+    /** The label of the link from a footnote to its call. By default `Back to content`. */
+    footnoteBackLabel?: string;
     /** What ends a line of the HTML if the input has no line ending. By default LF. */
     lineEnding?: "\n" | "\r" | "\r\n";
 }

@@ -33,8 +33,15 @@ const SWITCHES = {
     anyImageProtocol: 0, dangerousHtml: DANGEROUS, dangerousProtocol: DANGEROUS, tagfilter: TAGFILTER, checkableTasks: 0,
     singleTilde: -1, singleDollar: -1,
 };
+const DANGEROUS_HTML = 2;
 const LINE_ENDINGS = ["\n", "\r", "\r\n"];
-const NAMES = new Set(["lineEnding", ...Object.keys(FLAGS), ...Object.keys(CONSTRUCTS), ...Object.keys(SWITCHES)]);
+// The texts of that struct, and what the module prints for them.
+const TEXTS = {
+    prefix: "user-content-", footnoteLabel: "Footnotes", footnoteLabelTag: "h2", footnoteLabelAttributes: 'class="sr-only"',
+    footnoteBackLabel: "Back to content",
+};
+const NAMES = new Set(["lineEnding", ...[FLAGS, CONSTRUCTS, SWITCHES, TEXTS].flatMap(Object.keys)]);
+const STRINGS = new Set(["lineEnding", ...Object.keys(TEXTS)]);
 // The sizes of structs.
 const OPTIONS_SIZE = 104, EVENT_SIZE = 32, LINK_SIZE = 88;
 
@@ -203,6 +210,31 @@ class Source {
     }
 }
 
+// The tags of footnotes, with the texts above. A page without raw HTML has such a tag only where a footnote or a call is, since
+// a text has no `<` and no value has a `"`.
+const FOOTNOTE_TAGS = new RegExp([
+    '<a href="#user-content-(?<called>fn-[^"]*)" id="user-content-(?<call>[^"]*)"(?= data-footnote-ref="")',
+    '<li id="user-content-(?<footnote>fn-[^"]*)">',
+    '<a href="#user-content-(?<back>[^"]*)" data-footnote-backref="" aria-label="Back to content"',
+    '(?<heading><h2 id="footnote-label" class="sr-only">Footnotes</h2>)',
+].join("|"), "g");
+
+const REFERENCES = { "&": "&amp;", '"': "&quot;", "<": "&lt;", ">": "&gt;", "\0": "\ufffd" };
+const escaped = text => decoder.decode(encoder.encode(text)).replace(/[&"<>\0]/g, byte => REFERENCES[byte]);
+
+// A page with other texts of footnotes. (The module owns no strings, so it prints the default ones.)
+function withTexts(page, texts) {
+    const { prefix, footnoteLabel, footnoteLabelTag, footnoteLabelAttributes, footnoteBackLabel } = { ...TEXTS, ...texts };
+    const [ids, label, tag, back] = [prefix, footnoteLabel, footnoteLabelTag, footnoteBackLabel].map(escaped);
+    return page.replace(FOOTNOTE_TAGS, (...found) => {
+        const { called, call, footnote, back: to } = found.at(-1);
+        if (called !== undefined) return `<a href="#${ids}${called}" id="${ids}${call}"`;
+        if (footnote !== undefined) return `<li id="${ids}${footnote}">`;
+        if (to !== undefined) return `<a href="#${ids}${to}" data-footnote-backref="" aria-label="${back}"`;
+        return `<${tag} id="footnote-label" ${footnoteLabelAttributes}>${label}</${tag}>`;
+    });
+}
+
 // The numbers that are turned on by flags or by options of their own, added up.
 function numbers(table, flags, options) {
     return Object.entries(table).reduce((sum, [name, flag], place) => {
@@ -212,7 +244,7 @@ function numbers(table, flags, options) {
     }, 0);
 }
 
-// The numbers of the struct markdown_options. Its texts are the default ones: others would need the heap of the C library.
+// The numbers of the struct markdown_options, and its texts that are given.
 function read(options) {
     const given = typeof options === "number" ? { flags: options } : options ?? {};
     if (typeof given !== "object") throw new TypeError("options must be an object or a sum of flags");
@@ -221,7 +253,7 @@ function read(options) {
     for (const [name, value] of Object.entries(given)) {
         if (name === "flags" || value === undefined) continue;
         if (!NAMES.has(name)) throw new TypeError(`unknown option ${name}`);
-        const type = name === "lineEnding" ? "string" : "boolean";
+        const type = STRINGS.has(name) ? "string" : "boolean";
         if (typeof value !== type) throw new TypeError(`${name} must be a ${type}`);
     }
     for (const [name, flag] of Object.entries(FLAGS)) {
@@ -229,12 +261,17 @@ function read(options) {
     }
     const ending = LINE_ENDINGS.indexOf(given.lineEnding ?? "\n");
     if (ending < 0) throw new TypeError("lineEnding must be LF, CR or both");
+    const texts = Object.fromEntries(Object.keys(TEXTS).filter(name => given[name] !== undefined).map(name => [name, given[name]]));
+    const switches = numbers(SWITCHES, flags, given);
+    // A tag of raw HTML could be one of a footnote.
+    if (Object.keys(texts).length > 0 && (switches & DANGEROUS_HTML) !== 0) throw new TypeError("texts of footnotes need safe HTML");
     const core = Object.fromEntries(Object.entries(CONSTRUCTS).map(([name, flag]) => [name, flag || -1]));
     const none = Object.fromEntries(Object.keys(CONSTRUCTS).map(name => [name, 0]));
     return {
         constructs: numbers(flags & PLAIN ? none : core, flags, given),
-        switches: numbers(SWITCHES, flags, given),
+        switches,
         ending,
+        texts,
     };
 }
 
@@ -261,8 +298,9 @@ class Markdown {
     convert(text, options) {
         const { bytes } = new Source(text);
         const room = bytes.length + Math.ceil(bytes.length / 4) + 64;
-        const { constructs, switches, ending } = read(options);
-        return this.#call("markdown_convert_by_numbers", bytes, [BigInt(constructs), switches, ending], [{ size: 1, room }])[0];
+        const { constructs, switches, ending, texts } = read(options);
+        const [page] = this.#call("markdown_convert_by_numbers", bytes, [BigInt(constructs), switches, ending], [{ size: 1, room }]);
+        return Object.keys(texts).length === 0 ? page : encoder.encode(withTexts(decoder.decode(page), texts));
     }
 
     isSafePage(page) {

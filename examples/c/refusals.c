@@ -65,6 +65,21 @@ static int check_room(void)
     return 0;
 }
 
+/* A call that asks for a length has no room, and a pointer that isn't NULL. */
+static int check_measuring(void)
+{
+    unsigned char none[1] = {'?'};
+    markdown_event event;
+    markdown_link link;
+    size_t length = 7, count = 0;
+    CHECK(markdown_convert(TEXT, sizeof TEXT - 1, 0, none, 0, &length) == MARKDOWN_ROOM && length == LENGTH && none[0] == '?');
+    CHECK(markdown_convert(TEXT, 0, 0, none, 0, &length) == MARKDOWN_OK && length == 0);
+    CHECK(markdown_list_events(TEXT, sizeof TEXT - 1, 0, &event, 0, &count) == MARKDOWN_ROOM && count > 10);
+    CHECK(markdown_list_links(TEXT, sizeof TEXT - 1, 0, &link, 0, &count, none, 0, &length) == MARKDOWN_ROOM);
+    CHECK(count == 3 && length == 3 && none[0] == '?');
+    return 0;
+}
+
 static int check_refusals(void)
 {
     size_t length = 7;
@@ -105,6 +120,8 @@ static int check_growing(void)
     left = 0;
     CHECK(markdown_convert_growing(TEXT, 1, 0, &page, &room, &length) == MARKDOWN_MEMORY);
     left = -1;
+    /* The buffer has what the call before has written. */
+    CHECK(length == 0 && memcmp(page, PAGE, LENGTH) == 0);
     free(page);
     return 0;
 }
@@ -285,6 +302,6 @@ static int check_safe_pages(void)
 
 int main(void)
 {
-    return check_room() || check_refusals() || check_memory() || check_growing() || check_events() || check_callback() || check_links()
+    return check_room() || check_measuring() || check_refusals() || check_memory() || check_growing() || check_events() || check_callback() || check_links()
         || check_options() || check_options_refused() || check_options_memory() || check_safe_pages();
 }

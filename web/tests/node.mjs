@@ -62,7 +62,28 @@ same("one tilde", markdown.toHtml("~a~", { strikethrough: true, singleTilde: fal
 same("HTML without protocols", markdown.toHtml("<b> [c](d:e)", { dangerousHtml: true }), '<p><b> <a href="">c</a></p>');
 same("a line ending", markdown.toHtml("- a", { lineEnding: "\r\n" }), "<ul>\r\n<li>a</li>\r\n</ul>");
 same("checkable tasks", markdown.toHtml("- [ ] a", { gfm: true, checkableTasks: true }), '<ul>\n<li><input type="checkbox" /> a</li>\n</ul>');
-same("a text among options", fault(() => markdown.toHtml("", { prefix: "a" })), "unknown option prefix");
+const note = "a[^b]\n\n[^b]: c";
+const texts = { prefix: 'a"&', footnoteLabel: "<N>", footnoteLabelTag: "h3", footnoteLabelAttributes: "hidden", footnoteBackLabel: "B$&" };
+same("texts", markdown.toHtml(note, { footnotes: true, ...texts }), [
+    '<p>a<sup><a href="#a&quot;&amp;fn-b" id="a&quot;&amp;fnref-b" data-footnote-ref="" aria-describedby="footnote-label">1</a></sup></p>',
+    '<section data-footnotes="" class="footnotes"><h3 id="footnote-label" hidden>&lt;N&gt;</h3>', "<ol>", '<li id="a&quot;&amp;fn-b">',
+    '<p>c <a href="#a&quot;&amp;fnref-b" data-footnote-backref="" aria-label="B$&amp;" class="data-footnote-backref">↩</a></p>',
+    "</li>", "</ol>", "</section>", "",
+].join("\n"));
+const tables = readFileSync(new URL("crates/tests_rows/data/gfm_footnote_options.rows", top), "utf8").slice(0, -1).split("\n@table ").slice(1);
+const asked = [
+    { prefix: "x<" }, { prefix: "" }, { footnoteLabel: "Notes & more" }, { footnoteLabelTag: "h1" }, { footnoteLabelAttributes: 'class="x" hidden' },
+    { footnoteBackLabel: 'Zurück "oben"' },
+];
+check("tables of texts", tables.length === asked.length);
+tables.forEach((table, place) => table.split("\n@row").slice(1).map(fieldsOf)
+    .forEach(([text, html]) => same("texts of a table", markdown.toHtml(text, { gfm: true, ...asked[place] }), html)));
+const linked = '[a](#user-content-fn-b "user-content-fn-b") `<li id="user-content-fn-b">` <li id="user-content-fn-b">';
+same("links beside texts", markdown.toHtml(linked, { prefix: "c" }), markdown.toHtml(linked));
+same("the default texts", markdown.toHtml(note, { footnotes: true, prefix: "user-content-" }), markdown.toHtml(note, { footnotes: true }));
+same("texts with raw HTML", fault(() => markdown.toHtml("", { prefix: "a", dangerous: true })), "texts of footnotes need safe HTML");
+same("a text of a wrong type", fault(() => markdown.toHtml("", { prefix: 1 })), "prefix must be a string");
+same("events with a text", fault(() => markdown.events("", { prefix: "a" })), null);
 same("an unknown option", fault(() => markdown.toHtml("", { gmf: true })), "unknown option gmf");
 same("an option of a wrong type", fault(() => markdown.toHtml("", { gfm: 1 })), "gfm must be a boolean");
 same("a text of a wrong type", fault(() => markdown.events(3)), "the text must be a string or a Uint8Array");

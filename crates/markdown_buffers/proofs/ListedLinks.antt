@@ -1,5 +1,6 @@
 -- What a call for links leaves in an array and a buffer, status by status.
 use Rattle.std.proofs.Common.{◌≡◌, ◌≤◌, ◌<◌, ◌++◌, ℕ, List, length, map, drop, refl, string_bytes, arith}
+use Rattle.std.specs.Prelude.{IfOk, Result, Ok, Err}
 use Rattle.markdown_options.specs.declared.configuration.ParseOptions.{ParseOptions}
 use Rattle.markdown_links.specs.declared.link.Link.{Link}
 use Rattle.markdown_links.specs.declared.link.Links.{Links}
@@ -9,6 +10,11 @@ use Rattle.markdown_buffers.specs.FlatLinks.{flat_link}
 use Rattle.markdown_buffers.specs.Links.{AreLinksOf, HoldsLinks, OfLinks, StoresLinks}
 use Rattle.markdown_buffers.specs.Pages.{HoldsPage}
 use Rattle.markdown_buffers.proofs.Listed.{of_meant}
+
+-- two facts of the value, if there is one
+pub both_facts : {T E : Type 0} (r : Result T E) (P Q : T → Type 0) → IfOk r P → IfOk r Q → IfOk r (λ t. P t × Q t)
+both_facts (Ok t) P Q p q = (p, q)
+both_facts (Err e) P Q p q = tt
 
 -- nothing is stored
 pub no_links : (Meant : ParseOptions → Type 0) (text : List ℕ) (old new : List FlatLink) (count : ℕ) (before after : List ℕ) (size status : ℕ)
@@ -28,7 +34,7 @@ of_links options text found P are p = record {
   meant = refl;
   events = are.events;
   are = are.are;
-  holds = record { links = found.links.items; destinations = string_bytes found.destinations; listed = are.listed; holds = p };
+  holds = record { links = found.links.items; destinations = string_bytes found.destinations; listed = are.listed; whole = are.whole; holds = p };
 }
 
 module _ {A : Type 0} (options : ParseOptions) (text : List ℕ) (found : Links A) (old new : List FlatLink) (count : ℕ) (before after : List ℕ) (size status : ℕ)

@@ -4,7 +4,7 @@ use Rattle.markdown_options.specs.declared.configuration.ParseOptions.{ParseOpti
 use Rattle.engine_events.specs.declared.event.Event.{Event}
 use Rattle.markdown_tables.specs.Builtin.{builtin_tables}
 use Rattle.parse_events.specs.Parsed.{AreEventsOf}
-use Rattle.markdown_links.specs.Listed.{HasLinks, links_of}
+use Rattle.markdown_links.specs.Listed.{HasLinks, destinations_of, links_of}
 use Rattle.markdown_links.specs.declared.link.Link.{Link}
 use Rattle.markdown_links.specs.declared.link.Links.{Links}
 use Rattle.markdown_buffers.specs.declared.flat_link.FlatLink.{FlatLink}
@@ -16,11 +16,12 @@ use Rattle.markdown_buffers.specs.Pages.{HoldsPage}
 abbrev pub HoldsLinks : List Link → List FlatLink → List FlatLink → Type 0
 HoldsLinks links old new = new ≡ map flat_link links ++ drop (length links) old
 
--- something holds of the links of events, and of the bytes that their destinations are in
+-- something holds of the links of events, and of their destinations, side by side
 pub record OfLinks (text : List ℕ) (P : List Link → List ℕ → Type 0) (events : List Event) : Type 0 where
   pub links : List Link
   pub destinations : List ℕ
   pub listed : HasLinks destinations links (links_of builtin_tables.names text events)
+  pub whole : destinations ≡ destinations_of builtin_tables.names text events
   pub holds : P links destinations
 
 -- the links of a text, by options
@@ -28,6 +29,7 @@ pub record AreLinksOf {A : Type 0} (options : ParseOptions) (text : List ℕ) (f
   pub events : List Event
   pub are : AreEventsOf builtin_tables options text events
   pub listed : HasLinks (string_bytes found.destinations) found.links.items (links_of builtin_tables.names text events)
+  pub whole : string_bytes found.destinations ≡ destinations_of builtin_tables.names text events
 
 -- with the status 0 the array begins with the links and the buffer with their destinations; with any other both are unchanged. With 0 and 1 the number of
 -- links and the size of the destinations are stored, otherwise 0

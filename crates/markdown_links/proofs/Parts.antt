@@ -2,12 +2,13 @@
 use Rattle.std.proofs.Common.{◌≡◌, ◌<◌, ◌+◌, ◌-◌, ℕ, get_or, zero, suc, List, [], ◌∷◌, ◌++◌, length, map, take, drop, refl, sym, ap, ap₂, ◌∙◌, subst, arith}
 use Rattle.std.proofs.Common.{length-append}
 use Rattle.std.proofs.lemmas.List.{append-nil, drop-append-le, length-drop, map-append, map_more, take-append-le}
+use Rattle.std.proofs.lemmas.List.Concat.{flat_map-append}
 use Rattle.std.proofs.lemmas.List.Elements.{All-append}
 use Rattle.std.specs.List.{All}
 use Rattle.std.proofs.Math.Seq.{drop-append_seam, take-append_seam}
 use Rattle.definition_inline.specs.CharacterReference.{Names}
 use Rattle.engine_events.specs.declared.event.Event.{Event}
-use Rattle.markdown_links.specs.Listed.{HasParts, IsWithin, part, targets_of}
+use Rattle.markdown_links.specs.Listed.{HasParts, IsWithin, joined, part, targets_of}
 use Rattle.markdown_links.specs.Target.{target_at}
 use Rattle.markdown_links.specs.declared.span.Span.{Span}
 use Rattle.markdown_links.specs.declared.link.Range.{Range}
@@ -48,6 +49,10 @@ parts_more old more new start end ranges parts h is first last =
     let one : part new r ≡ more = ap₂ part is range ∙ part_last old more in
     let kept : map (part new) ranges ≡ parts = ap (λ (bytes : List ℕ). map (part bytes) ranges) is ∙ parts_kept old more ranges h.within ∙ h.each in
     record {
+      whole =
+          is
+          ∙ ap (λ (bytes : List ℕ). bytes ++ more) h.whole
+          ∙ sym (flat_map-append (λ (part : List ℕ). part) parts (more ∷ []) ∙ ap (λ (bytes : List ℕ). joined parts ++ bytes) (append-nil more));
       each = map-append (part new) ranges (r ∷ []) ∙ ap₂ (λ (xs : List (List ℕ)) (x : List ℕ). xs ++ x ∷ []) kept one;
       within =
           All-append (IsWithin (length new)) ranges (r ∷ [])

@@ -1,5 +1,6 @@
 -- Links as they are listed.
 use Rattle.std.specs.Prelude.{◌≡◌, ◌≤◌, ℕ, ◌+◌, List, [], ◌∷◌, All, length, map, get_or, slice_range, Option, unwrap_or}
+use Rattle.std.specs.List.{flat_map}
 use Rattle.engine_events.specs.declared.event.Event.{Event}
 use Rattle.engine_events.specs.declared.place.Point.{Point}
 use Rattle.definition_inline.specs.CharacterReference.{Names}
@@ -62,6 +63,10 @@ listed_at targets index definition span = record {
   definition = definition;
 }
 
+-- parts side by side
+abbrev pub joined : List (List ℕ) → List ℕ
+joined parts = flat_map (λ (part : List ℕ). part) parts
+
 module _ (bytes : List ℕ) (events : List Event) (targets : List (List ℕ)) (ds : List Labelled) where
   -- the links of spans, of which the first has this place
   abbrev pub listed_from : ℕ → List Span → List Listed
@@ -79,8 +84,13 @@ module _ (names : Names) (bytes : List ℕ) (events : List Event) where
   abbrev pub links_of : List Listed
   links_of = links_by (spans_of events)
 
--- parts of some bytes are these
+  -- what their targets spell, side by side; a link by reference has none of its own
+  abbrev pub destinations_of : List ℕ
+  destinations_of = joined (targets_of (spans_of events))
+
+-- some bytes are these parts, side by side, and each range is one of them
 pub record HasParts (bytes : List ℕ) (ranges : List Range) (parts : List (List ℕ)) : Type 0 where
+  pub whole : bytes ≡ joined parts
   pub each : map (part bytes) ranges ≡ parts
   pub within : All (IsWithin (length bytes)) ranges
 

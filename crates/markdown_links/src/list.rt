@@ -1,7 +1,7 @@
 //! A list of events to its links.
-ghost use Rattle.std.specs.Prelude.{◌≡◌, ℕ, List, IfOk, get_or, string_bytes};
+ghost use Rattle.std.specs.Prelude.{◌≡◌, ℕ, List, [], IfOk, get_or, string_bytes};
 ghost use Rattle.markdown_links.specs.Definition.{HasDefinitions, Labelled};
-ghost use Rattle.markdown_links.specs.Listed.{HasLinks, HasParts, empty, link_at, links_of, listed_from, targets_of};
+ghost use Rattle.markdown_links.specs.Listed.{HasLinks, HasParts, destinations_of, empty, link_at, links_of, listed_from, targets_of};
 
 use crate::definition::Definitions;
 use crate::link::{Link, Links, Range};
@@ -14,6 +14,7 @@ use std::alloc::{AllocError, Allocator};
 /// Returns the links of a text, by its events, which `parse` returns. The only error is out of memory.
 ///
 /// There is one for each enter of a link, an image, an autolink, a literal or a definition, in order.
+/// The destinations stand side by side, in the order of their links, and nothing else is with them.
 /// For a list of events that no text has, destinations and ends mean what the definition in `specs`
 /// computes.
 pub fn links<T: Tables, A: Allocator + Clone>(
@@ -23,6 +24,7 @@ pub fn links<T: Tables, A: Allocator + Clone>(
     tables: &T,
 ) -> Result<Links<A>, AllocError>
     ensures listed { IfOk result (λ found. HasLinks (string_bytes found.destinations) found.links.items (links_of (T.reference_of tables.now) bytes.now events.now)) }
+    ensures whole { IfOk result (λ found. string_bytes found.destinations ≡ destinations_of (T.reference_of tables.now) bytes.now events.now) }
 {
     let spans = spans(alloc.clone()?, events)?;
     let definitions = Definitions::read(alloc.clone()?, bytes, events, &spans)?;
@@ -42,7 +44,7 @@ pub fn links<T: Tables, A: Allocator + Clone>(
     })
 }
 
-/// Appends what the targets of links spell, and returns where each is.
+/// Writes what the targets of links spell into an empty text, and returns where each is.
 fn push_targets<T: Tables, A: Allocator + Clone>(
     alloc: A,
     out: &mut String<A>,
@@ -51,6 +53,7 @@ fn push_targets<T: Tables, A: Allocator + Clone>(
     events: &[Event],
     spans: &[Span],
 ) -> Result<Vec<Range, A>, AllocError>
+    requires empty { string_bytes out.old ≡ [] }
     ensures { IfOk result (λ ranges. HasParts (string_bytes out.new) ranges.items (targets_of (T.reference_of tables.now) bytes.now events.now spans.now)) }
 {
     let mut ranges = Vec::new(alloc);

@@ -62,7 +62,7 @@ _Bytes = Union[bytes, bytearray, memoryview]
 def load(path: Union[str, "os.PathLike[str]"]) -> Library:
     """Return the shared library at ``path``, which ``./install.sh --library`` makes. Its methods are the functions of this module.
 
-    Raises OSError if it can't be loaded, and ImportError if it is of another version than this module.
+    Raises ImportError if it can't be loaded, is another library, or is of another version than this module.
     """
     return Library(path)
 

@@ -2,7 +2,7 @@
 
     python -m markdown_proved [--gfm] [--mark] [--math] [--frontmatter] [--dangerous] [--plain] [FILE]
 
-The exit status is 0 if the whole HTML was written, 2 for a wrong command line, and 1 for any other fault.
+The words are those of the program for Debian, but for `--references`, and of that for Node. The exit status is 0 if the whole HTML was written, 2 for a wrong command line, and 1 for any other fault.
 """
 import argparse
 import sys
@@ -26,7 +26,7 @@ def arguments() -> argparse.Namespace:
     )
     for name, (_, meaning) in FLAGS.items():
         parser.add_argument(f"--{name}", action="store_true", help=meaning)
-    parser.add_argument("--version", action="version", version=f"%(prog)s {__version__}", help="print the version")
+    parser.add_argument("-V", "--version", action="version", version=f"%(prog)s {__version__}", help="print the version")
     parser.add_argument("file", metavar="FILE", nargs="?", default="-", help="the file to read; - is standard input")
     return parser.parse_args()
 
@@ -52,11 +52,13 @@ def convert(words: argparse.Namespace) -> str:
     except OSError:
         return "cannot read"
     try:
-        write(to_html(text, flags))
+        page = to_html(text, flags)
+    except (ImportError, ValueError) as fault:
+        return str(fault)
+    try:
+        write(page)
     except OSError:
         return "cannot write"
-    except ValueError as fault:
-        return str(fault)
     return ""
 
 

@@ -388,13 +388,24 @@ class Library:
     _check_page: Any
 
     def __init__(self, path: Union[str, "os.PathLike[str]"]) -> None:
-        library = ctypes.CDLL(os.path.abspath(os.fspath(path)))
+        name = os.fspath(path)
+        try:
+            library = ctypes.CDLL(os.path.abspath(name))
+        except OSError as fault:
+            raise ImportError(f"cannot load the library: {fault}", path=name) from fault
+        try:
+            self._use(library, name)
+        except AttributeError as fault:
+            raise ImportError(f"this is another library: {fault}", path=name) from fault
+
+    def _use(self, library: ctypes.CDLL, path: str) -> None:
+        """Finds the calls, each of which a library of this version has."""
         library.markdown_version.restype = ctypes.c_uint32
         library.markdown_version.argtypes = []
         self.version = ".".join(str(part) for part in library.markdown_version().to_bytes(4, "big")[1:])
         # Below 1.0 each minor version may have other calls.
         if self.version.split(".")[:2] != __version__.split(".")[:2]:
-            raise ImportError(f"{os.fspath(path)} is version {self.version}, and this module needs {__version__}")
+            raise ImportError(f"{path} is version {self.version}, and this module needs {__version__}", path=path)
         size, number = ctypes.c_size_t, ctypes.c_uint32
         out, text, options = [ctypes.c_void_p, size, ctypes.POINTER(size)], [ctypes.c_char_p, size], ctypes.POINTER(_Options)
         for name, arguments in (

@@ -2,6 +2,7 @@
 
     python calls.py
 """
+import _ctypes
 import sys
 from typing import Any, Callable, Type
 
@@ -102,7 +103,11 @@ check("long destinations", [len(it.destination) for it in links("[a](b" + "&ngE;
 check("an option of the page alone", fault(links, "", prefix="a"), (TypeError, "links() got an unexpected keyword argument 'prefix'"))
 check("many events", sum(event.enters for event in events("*a* " * 20000)) > 100000, True)
 check("the version", markdown_proved.__version__.count("."), 2)
-check("a library that isn't there", fault(markdown_proved.load, "no.so")[0], OSError)
+check("a library that isn't there", fault(markdown_proved.load, "no.so")[0], ImportError)
+check("another library", fault(markdown_proved.load, _ctypes.__file__)[0], ImportError)
+names: "dict[str, object]" = {}
+exec("from markdown_proved import *", names)
+check("what * brings", sorted(name for name in names if name != "__builtins__"), sorted(markdown_proved.__all__))
 
 print(f"{passed} passed, {failed} failed")
 sys.exit(failed != 0)

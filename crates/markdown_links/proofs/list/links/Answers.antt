@@ -1,7 +1,8 @@
-use Rattle.std.proofs.Common.{◌∙◌, List, string_bytes, subst, sym}
+use Rattle.std.proofs.Common.{◌∙◌, List, ap, string_bytes, subst, sym}
 use Rattle.markdown_links.specs.Definition.{definitions_from}
-use Rattle.markdown_links.specs.Listed.{HasParts, targets_of}
+use Rattle.markdown_links.specs.Listed.{HasParts, joined, targets_of}
 use Rattle.markdown_links.specs.declared.link.Range.{Range}
+use Rattle.markdown_links.specs.declared.span.Span.{Span}
 use Rattle.markdown_links.proofs.ListedLinks.{links_are}
 use Rattle.markdown_links.proofs.list.links.Goals as goal
 
@@ -22,4 +23,5 @@ returns g c =
           links_are names bytes events out c.in_ok-links.links.items one two c.deref-4.result.now (c.deref.ensures.value ∙ found)
           (c.deref-2.ensures.value ∙ found) (c.deref-4.ensures.value ∙ found)
           (c.in_ok-links.ensures out targets (definitions_from bytes events 0 one) parts c.in_ok-definitions.ensures);
+      whole = parts.whole ∙ ap (λ (it : List Span). joined (targets_of names bytes events it)) (c.deref-2.ensures.value ∙ found);
     }
