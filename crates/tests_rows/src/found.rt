@@ -11,11 +11,16 @@ use markdown_tables::Builtin;
 use std::alloc::{AllocError, Global};
 
 /// A folder with two files.
+#[derive(Clone, Copy)]
 struct TwoFiles;
 
 impl Folder for TwoFiles {
     fn has(&self, path: &str) -> Result<bool, AllocError> {
         Ok(matches!(path, "there.md" | "with space.md"))
+    }
+
+    fn has_fragment(&mut self, _path: &str, _fragment: &str) -> Result<bool, AllocError> {
+        Ok(true)
     }
 }
 
@@ -35,8 +40,8 @@ fn settings_of(rule: Rule, way: &str) -> Settings {
     let mut rules = RuleSet::NONE;
     rules.insert(rule);
     Settings {
-        rules,
         siblings: way == "Siblings",
+        ..Settings::new(rules)
     }
 }
 
@@ -57,7 +62,7 @@ fn lines_of(
     settings: &Settings,
     document: &Document<'_>,
 ) -> Result<String, AllocError> {
-    let findings = findings_of(alloc, document, settings, &TwoFiles)?;
+    let findings = findings_of(alloc, document, settings, &mut TwoFiles)?;
     let mut lines = String::new(alloc);
     push_findings(&mut lines, document.bytes, &findings)?;
     Ok(lines)
