@@ -5,7 +5,7 @@
                                       texts whose events differ by more than white space and cuts of data, and the counts
     roads.py PROGRAM --families [N]   processor times of both roads on families of texts at sizes n, 2n and 4n
     roads.py --texts COUNT SEED       prints a file of random texts for crates/tests_roads/data
-    roads.py --rows                   prints such a file of the texts of crates/tests_rows/data, without the examples of CommonMark
+    roads.py --rows                   prints such a file of the texts of tests/rows, without the examples of CommonMark
 
 PROGRAM is crates/tests_roads/out/tests_roads (`rt run` there builds it).
 """
@@ -29,9 +29,9 @@ LINES = ["> ", "- ", "1. ", "[^a]: ", "a", "\n", "\n", "\n\n", "  ", "    ", " "
 POOLS = [BLOCKS, BLOCKS, BLOCKS + ENDINGS, BLOCKS + INLINE, BLOCKS + INLINE + ENDINGS, LINES]
 OPTIONS = ["CommonMark", "Gfm", "Everything", "Blocks", "Leaves", "BlocksWithoutDefinitions", "Extensions", "CommonMarkAndTables"]
 ROUNDS = 3
-ROWS = os.path.join(os.path.dirname(os.path.dirname(os.path.realpath(__file__))), "crates", "tests_rows", "data")
+ROWS = os.path.join(os.path.dirname(os.path.dirname(os.path.realpath(__file__))), "tests", "rows")
 # Examples that have a file of their own, and rows whose texts aren't read, but words or names.
-OTHER_ROWS = ("commonmark/", "made.rows", "names.rows", "words.rows")
+OTHER_ROWS = ("commonmark/", "made.rows", "names.rows", "numbers.rows", "words.rows", "wrong_events.rows")
 
 
 def text(numbers):
@@ -111,7 +111,7 @@ def main():
         title = "Random texts (`bench/roads.py %s`)." % " ".join(words)
         print(file_of(title, [pictured(it) for it in texts(int(words[1]), int(words[2]))]), end="")
     elif words[0] == "--rows":
-        print(file_of("The texts of `tests_rows` (`bench/roads.py --rows`).", row_texts()), end="")
+        print(file_of("The texts of `tests/rows` (`bench/roads.py --rows`).", row_texts()), end="")
     elif words[1:2] == ["--families"]:
         time_families(words[0], int(words[2]) if len(words) > 2 else 10000)
     else:

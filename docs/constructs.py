@@ -17,6 +17,8 @@ import sys
 TOP = os.path.dirname(os.path.dirname(os.path.realpath(__file__)))
 PAGE = os.path.join(TOP, "docs", "CONSTRUCTS.md")
 SWITCHES = "crates/markdown_options/src/configuration.rt"
+# The folder of rows of texts. It is listed as a crate is.
+ROWS = "tests/rows"
 
 ROOMS = ("Definition", "Reader", "Printer", "Events", "States", "Proofs", "Laws", "Tests")
 # The rooms that each construct needs. Not each has proofs of its own: many functions are proved with none.
@@ -95,8 +97,8 @@ SHARED = {
     "html_leaves/heading.rt": "heading_atx heading_setext",
     "html_leaves/list.rt": "list_item",
     "html_looseness/loose.rt": "list_item",
-    "html_containers/container.rt": "block_quote list_item",
-    "html_containers/list.rt": "list_item",
+    "html_blocks/container.rt": "block_quote list_item",
+    "html_blocks/list.rt": "list_item",
     "examples_block/Containers.antt": "block_quote list_item",
     "examples_block/Leaves.antt": "definition heading_setext html_flow",
     "examples_inline/LabelStartImage.antt": "label_end",
@@ -104,9 +106,9 @@ SHARED = {
     "laws_endings/PrintedTable.antt": "gfm_table",
     "laws_footnotes/Footnotes.antt": "gfm_footnote_definition",
     "laws_footnotes/footnotes.rt": "gfm_footnote_definition",
-    "tests_rows/hard_break.rows": "hard_break_escape hard_break_trailing",
-    "tests_rows/list.rows": "list_item",
-    "tests_rows/raw_html.rows": "html_text",
+    "tests/rows/hard_break.rows": "hard_break_escape hard_break_trailing",
+    "tests/rows/list.rows": "list_item",
+    "tests/rows/raw_html.rows": "html_text",
     "state_gfm/GfmTaskListItemCheck.antt": "gfm_task_list_item",
     "state_gfm/gfm_task_list_item_check.rt": "gfm_task_list_item",
     "state_labels/Destination.antt": "label_end",
@@ -196,11 +198,12 @@ def stem_of(file):
 
 
 def files_of(crate):
-    """The files of a crate, of folders of its code and rows too, and the folders of its proofs: the part of the crate, and the path."""
-    for part in ("src", "specs", "proofs", "data"):
-        for name in names_in(f"crates/{crate}/{part}"):
-            path = f"crates/{crate}/{part}/{name}"
-            below = names_in(path) if part in ("src", "data") else []
+    """The files of a crate, of folders of its code and of rows too, and the folders of its proofs: the part of the crate, and the path."""
+    for part in ("src", "specs", "proofs") if crate != ROWS else ("",):
+        folder = f"crates/{crate}/{part}" if part else ROWS
+        for name in names_in(folder):
+            path = f"{folder}/{name}"
+            below = names_in(path) if part in ("src", "") else []
             yield from ((part, f"{path}/{it}") for it in below)
             if not below:
                 yield part, path
@@ -208,6 +211,8 @@ def files_of(crate):
 
 def room_of(crate, part):
     """The room of a file, or None."""
+    if crate == ROWS:
+        return "Tests"
     room = next((it for prefix, it in PREFIXES.items() if crate.startswith(prefix)), None)
     is_proof = part == "proofs" or part == "specs" and room != "Definition"
     return "Proofs" if is_proof and room in ("Definition", "Reader", "Printer", "Events") else room
@@ -237,7 +242,7 @@ def constructs_of(crate, part, path, room):
 def places(names):
     """The paths of each construct and room."""
     found = {}
-    for crate in crates():
+    for crate in [*crates(), ROWS]:
         for part, path in files_of(crate):
             room = room_of(crate, part)
             for name in dict.fromkeys(constructs_of(crate, part, path, room)):
@@ -249,7 +254,7 @@ def places(names):
 def stale_entries(names):
     """The entries of SHARED and LAW_NAMES that point at nothing."""
     files, laws = set(), set()
-    for crate in crates():
+    for crate in [*crates(), ROWS]:
         for part, path in files_of(crate):
             files.add(f"{crate}/{os.path.basename(path)}")
             if room_of(crate, part) == "Laws" and part == "src":
@@ -281,7 +286,9 @@ def grammar(paths):
 
 
 def link(name, path):
-    """A link to a file. Its words are its crate, and the name of the file where that isn't the construct's."""
+    """A link to a file. Its words are its crate, and the name of the file where that isn't the construct's; of rows they are the file."""
+    if path.startswith(ROWS):
+        return f"[`{os.path.splitext(path)[0]}`](../{path})"
     _, crate, _, file = path.split("/", 3)
     stem = stem_of(file)
     words = crate if stem == name else f"{crate}/{stem}"

@@ -1,14 +1,22 @@
 #!/usr/bin/env python3
-"""Runs the gate and takes the time of each crate, or writes the table of GATE.md from what that said.
+"""Runs the gate and takes the time of each crate; writes bench/gate.tsv, and what GATE.md and CONTRIBUTING.md say of it.
 
 usage: docs/gate.py run LOG [--anew]   runs `rt ci [--anew]` at the top of the repository; LOG gets what it says, and times at the end
-       docs/gate.py write LOG          writes the table of docs/GATE.md from LOG, which may be the output of `rt ci` alone
-       docs/gate.py change CRATE..     prints what a change of each of these crates costs, with all above it, by the table of docs/GATE.md
+       docs/gate.py write [LOG]        writes bench/gate.tsv from LOG, which may be the output of `rt ci` alone, and keeps the rows of
+                                       crates that LOG doesn't name; then the sums in docs/GATE.md and the costs in CONTRIBUTING.md
+       docs/gate.py change CRATE..     prints what a change of each of these crates costs, with all above it
+       docs/gate.py check              fails if a sum or a cost is another than bench/gate.tsv gives, if the gate exceeds its budget,
+                                       or if a path in backticks of CONTRIBUTING.md doesn't exist
 
 `rt ci` tells no times. So `run` looks at its jobs four times a second: a job is a process that it starts, with all that
 this one starts, and its time is processor time. What a job takes after the last look at it is missed.
+
+What has no seconds is estimated by a rule: a crate takes 6 seconds and 2.4 for each function, its first edit as long as its proof,
+and each further edit 25 seconds.
 """
 import datetime
+import functools
+import heapq
 import os
 import re
 import subprocess
@@ -17,12 +25,27 @@ import threading
 import time
 
 TOP = os.path.dirname(os.path.dirname(os.path.realpath(__file__)))
-PAGE = os.path.join(TOP, "docs", "GATE.md")
-BEGIN, END = "<!-- table -->", "<!-- end of table -->"
-# What the gate may take, in minutes of processor time.
-BUDGET = 220
+PAGE, COSTS_PAGE = os.path.join(TOP, "docs", "GATE.md"), os.path.join(TOP, "CONTRIBUTING.md")
+TABLE = os.path.join(TOP, "bench", "gate.tsv")
+HEAD = ("crate", "functions", "proof", "tests", "tests' seconds", "edits", "edits' seconds", "seconds from")
+SUMS, COSTS = ("<!-- sums -->", "<!-- end of sums -->"), ("<!-- costs -->", "<!-- end of costs -->")
+# What the gate may take, in minutes of processor time: on two processors of a loaded machine 200 take 180 of clock.
+BUDGET = 200
 INTERVAL = 0.25
 TICKS = os.sysconf("SC_CLK_TCK")
+# The rule for what has no seconds.
+A_CRATE, A_FUNCTION, A_FURTHER_EDIT = 6, 2.4, 25
+# The crates and groups of crates whose cost CONTRIBUTING.md names.
+NAMED = (
+    "markdown_options definition_text definition_inline definition_block definition_page text_search text_bytes inline_leaves inline_runs "
+    "inline_parser block_starts block_parser html_inline html_page markdown markdown_engine event_grammar parse_lines parse_leaves "
+    "compile_rows".split()
+)
+GROUPS = {
+    "a law that the calls promise": "laws_quote laws_list laws_endings laws_escape laws_safe_page".split(),
+    "`lint_`, `format_`": ("lint_", "format_"),
+    "`examples_`, `tests_`": ("examples_", "tests_"),
+}
 
 
 # The jobs of a run.
@@ -137,19 +160,72 @@ def run(path, *more):
 
 
 class Crate:
-    """What the gate said of a crate."""
+    """What the gate said of a crate, or what the rule says."""
 
     def __init__(self):
         self.functions = self.tests = self.edits = self.runs = 0
-        self.seconds = {}
+        self.seconds, self.source = {}, "the rule"
+
+    def row(self, name):
+        tests = str(self.tests or ("a run" if self.runs else ""))
+        took = [f"{self.seconds[it]:.0f}" if it in self.seconds else "" for it in ("proof", "tests", "edits")]
+        return name, str(self.functions or ""), took[0], tests, took[1], str(self.edits or ""), took[2], self.source
 
 
-def read(path):
-    """The crates in the order of crates.txt, the words that stand behind `WORD:` at the end, and the last line."""
+def crates_of_file():
+    """The crates of crates.txt, in order, and those that each lists."""
     with open(os.path.join(TOP, "crates.txt"), encoding="utf-8") as file:
-        names = re.findall(r"(?m)^([a-z0-9_]+)[^:#\n]*:", file.read())
-    crates = {name: Crate() for name in names}
-    said, of_tests, crate, last = {}, False, None, ""
+        return {name: uses.split() for name, uses in re.findall(r"(?m)^([a-z0-9_]+)[^:#\n]*:(.*)$", file.read())}
+
+
+def read_table():
+    """The crates of bench/gate.tsv."""
+    found = {}
+    with open(TABLE, encoding="utf-8") as file:
+        rows = [line.rstrip("\n").split("\t") for line in file][1:]
+    for name, functions, proof, tests, of_tests, edits, of_edits, source in rows:
+        crate = found[name] = Crate()
+        crate.functions, crate.edits, crate.source = int(functions or 0), int(edits or 0), source
+        crate.tests, crate.runs = int(tests) if tests.isdigit() else 0, int(tests == "a run")
+        crate.seconds = {kind: float(it) for kind, it in zip(("proof", "tests", "edits"), (proof, of_tests, of_edits)) if it}
+    return found
+
+
+def files_of(crate, folder, ending):
+    for place, _, names in os.walk(os.path.join(TOP, "crates", crate, folder)):
+        yield from (os.path.join(place, it) for it in sorted(names) if it.endswith(ending))
+
+
+def functions_in(crate):
+    """How many functions, tests among them, the sources of a crate have."""
+    functions = tests = 0
+    for path in files_of(crate, "src", ".rt"):
+        with open(path, encoding="utf-8") as file:
+            text = file.read()
+        functions += len(re.findall(r"(?m)^ *(?:pub(?:\(\w+\))? )?(?:const )?(?:extern \"C\" )?fn \w+", text))
+        tests += len(re.findall(r"(?m)^ *#\[test\]", text))
+    return functions - tests, tests
+
+
+def estimated(name, crate):
+    """A crate with seconds by the rule for what has none; the number of its edits is that of its files."""
+    edits = len(list(files_of(name, "must-fail", ".edit")))
+    if edits != crate.edits:
+        crate.edits = edits
+        crate.seconds.pop("edits", None)
+    if "proof" not in crate.seconds:
+        crate.functions, crate.tests = functions_in(name)
+        crate.seconds["proof"] = A_CRATE + A_FUNCTION * crate.functions
+        if crate.tests:
+            crate.seconds["tests"] = crate.seconds["proof"] + A_CRATE + A_FUNCTION * 2 * crate.tests
+    if crate.edits and "edits" not in crate.seconds:
+        crate.seconds["edits"] = crate.seconds["proof"] + A_FURTHER_EDIT * (crate.edits - 1)
+    return crate
+
+
+def read_log(path):
+    """The crates that a log names, the words that stand behind `WORD:` at its end, and its last line."""
+    crates, said, of_tests, crate, last = {}, {}, False, None, ""
     with open(path, encoding="utf-8") as file:
         lines = file.read().splitlines()
     for line in lines:
@@ -173,100 +249,207 @@ def read(path):
     return crates, said, last
 
 
-def number(value):
-    return str(value) if value else ""
+def table_with(log=None):
+    """The crates of crates.txt by the table, by a log if there is one, and by the rule."""
+    told, measured = read_table() if os.path.isfile(TABLE) else {}, {}
+    if log:
+        measured, said, last = read_log(log)
+        if not last.endswith(" 0 failed"):
+            sys.exit(f"{log}: the gate did not pass: {last or 'it has no last line'}")
+        for crate in measured.values():
+            crate.source = said.get("day", str(datetime.date.today()))
+        measured = {name: it for name, it in measured.items() if "proof" in it.seconds}
+    return {name: estimated(name, measured.get(name) or told.get(name) or Crate()) for name in crates_of_file()}
 
 
-def seconds_of(crate, done):
-    return f"{crate.seconds[done]:.0f}" if done in crate.seconds else ""
+def write_table(crates):
+    with open(TABLE, "w", encoding="utf-8") as file:
+        file.writelines("\t".join(row) + "\n" for row in [HEAD, *(it.row(name) for name, it in crates.items())])
 
 
-def rows(crates):
-    kinds = ("proof", "tests", "edits")
-    yield "| Crate | Functions | Proof, s | Tests | Tests, s | Edits | Edits, s |"
-    yield "|---|---:|---:|---:|---:|---:|---:|"
+# The clock.
+
+
+def tasks_of(crates):
+    """The tasks of a run: seconds, and the tasks that must be done before."""
+    uses, tasks = crates_of_file(), {}
     for name, crate in crates.items():
-        tests = number(crate.tests) or ("a run" if crate.runs else "")
-        proof, of_tests, edits = (seconds_of(crate, it) for it in kinds)
-        yield f"| `{name}` | {number(crate.functions)} | {proof} | {tests} | {of_tests} | {number(crate.edits)} | {edits} |"
-    every = crates.values()
-    count = [sum(getattr(it, name) for it in every) for name in ("functions", "tests", "edits")]
-    took = [sum(it.seconds.get(kind, 0) for it in every) for kind in kinds]
-    proof, of_tests, edits = (number(round(it)) for it in took)
-    yield f"| all | {count[0]} | {proof} | {count[1]} | {of_tests} | {count[2]} | {edits} |"
+        tasks[name, "proof"] = crate.seconds["proof"], [(it, "proof") for it in uses[name] if it in crates]
+        tasks.update({(name, kind): (crate.seconds[kind], [(name, "proof")]) for kind in ("tests", "edits") if kind in crate.seconds})
+    return tasks
+
+
+def clock(crates, lanes):
+    """The seconds of clock of a run on so many processors, the longest chain of tasks first, and those of the longest chain."""
+    tasks = tasks_of(crates)
+    after = {name: [] for name in tasks}
+    for name, (_, before) in tasks.items():
+        for it in before:
+            after[it].append(name)
+
+    @functools.lru_cache(None)
+    def chain(name):
+        return tasks[name][0] + max(map(chain, after[name]), default=0)
+
+    waits = {name: len(before) for name, (_, before) in tasks.items()}
+    ready = [(-chain(name), name) for name, count in waits.items() if not count]
+    heapq.heapify(ready)
+    running, now = [], 0.0
+    while ready or running:
+        while ready and len(running) < lanes:
+            _, name = heapq.heappop(ready)
+            heapq.heappush(running, (now + tasks[name][0], name))
+        now, done = heapq.heappop(running)
+        for it in after[done]:
+            waits[it] -= 1
+            if not waits[it]:
+                heapq.heappush(ready, (-chain(it), it))
+    return now, max(map(chain, tasks), default=0)
+
+
+# What the documents say.
 
 
 def minutes(seconds):
-    return f"{float(seconds) / 60:.0f} minutes"
+    return f"{seconds / 60:.0f}"
 
 
-def first_line(said, last):
-    if "clock" not in said:
-        return f"{last}."
-    kit = said["kit"].split()[0] if said["kit"] else "the kit"
-    clock, processor = minutes(said["clock"]), minutes(said["processor"])
-    return f"On {said['day']}, with `{kit}` and {said['processors']} processors: {clock}, {processor} of processor time; {last}."
+def every_second(crates):
+    return sum(sum(it.seconds.values()) for it in crates.values())
 
 
-def write(path):
-    crates, said, last = read(path)
-    if not last.endswith(" 0 failed"):
-        sys.exit(f"{path}: the gate did not pass: {last or 'it has no last line'}")
-    with open(PAGE, encoding="utf-8") as file:
+def sums(crates):
+    kinds = {kind: sum(it.seconds.get(kind, 0) for it in crates.values()) for kind in ("proof", "tests", "edits")}
+    on_two, longest = clock(crates, 2)
+    on_four, _ = clock(crates, 4)
+    yield "| | Number | Minutes of processor time |"
+    yield "|---|---:|---:|"
+    yield f"| crates, with {sum(it.functions for it in crates.values())} functions | {len(crates)} | {minutes(kinds['proof'])} |"
+    yield f"| tests | {sum(it.tests for it in crates.values())} | {minutes(kinds['tests'])} |"
+    yield f"| must-fail edits | {sum(it.edits for it in crates.values())} | {minutes(kinds['edits'])} |"
+    yield f"| **all** | | **{minutes(every_second(crates))}** |"
+    yield ""
+    yield (
+        f"By a model that does the longest chain of tasks first, a run takes {minutes(on_two)} minutes of clock on two processors and "
+        f"{minutes(on_four)} on four; the longest chain takes {minutes(longest)}. "
+        f"{sum(it.source == 'the rule' for it in crates.values())} crates have their seconds by the rule, and not by a run."
+    )
+
+
+@functools.lru_cache(None)
+def below():
+    """The crates that each crate stands on, itself among them."""
+    found = {}
+    for name, uses in crates_of_file().items():
+        found[name] = {name}.union(*(found.get(it, set()) for it in uses))
+    return found
+
+
+def cost(name, crates):
+    """How many crates are above one, and the seconds of all of them: of proofs, and of all."""
+    changed = [it for it, uses in below().items() if name in uses and it in crates]
+    return len(changed) - 1, sum(crates[it].seconds["proof"] for it in changed), sum(sum(crates[it].seconds.values()) for it in changed)
+
+
+def a_span(values):
+    least, most = min(values), max(values)
+    return f"{least}" if least == most else f"{least} to {most}"
+
+
+def costs(crates, names=NAMED, groups=GROUPS):
+    yield "| A change in | Crates above | Proofs | With tests and edits |"
+    yield "|---|---:|---:|---:|"
+    for name in names:
+        if name not in crates:
+            sys.exit(f"crates.txt has no crate {name}")
+        above, proofs, every = cost(name, crates)
+        yield f"| `{name}` | {above} | {minutes(proofs)} min | {minutes(every)} min |"
+    for group, of in groups.items():
+        found = [cost(it, crates) for it in (crates if isinstance(of, tuple) else of) if not isinstance(of, tuple) or it.startswith(of)]
+        spans = [a_span([int(minutes(it)) if at else it for it in column]) for at, column in enumerate(zip(*found))]
+        yield f"| {group} | {spans[0]} | {spans[1]} min | {spans[2]} min |"
+
+
+def with_part(path, marks, lines):
+    """A page with these lines between two marks, and the page as it is."""
+    with open(path, encoding="utf-8") as file:
         text = file.read()
-    before, begin, rest = text.partition(f"{BEGIN}\n")
-    _, end, after = rest.partition(f"{END}\n")
+    before, begin, rest = text.partition(f"{marks[0]}\n")
+    _, end, after = rest.partition(f"{marks[1]}\n")
     if not begin or not end:
-        sys.exit(f"{PAGE} has no lines {BEGIN} and {END}")
-    table = "\n".join([first_line(said, last), "", *rows(crates)])
-    with open(PAGE, "w", encoding="utf-8") as file:
-        file.write(f"{before}{BEGIN}\n{table}\n{END}\n{after}")
-    if float(said.get("processor", 0)) > 60 * BUDGET:
-        sys.exit(f"the gate took {minutes(said['processor'])} of processor time, and its budget is {BUDGET}")
+        sys.exit(f"{path} has no lines {marks[0]} and {marks[1]}")
+    return before + begin + "\n".join(lines) + "\n" + end + after, text
+
+
+def pages(crates):
+    yield PAGE, *with_part(PAGE, SUMS, sums(crates))
+    yield COSTS_PAGE, *with_part(COSTS_PAGE, COSTS, costs(crates))
+
+
+def over_budget(crates):
+    took = every_second(crates)
+    return [f"the gate takes {minutes(took)} minutes of processor time, and its budget is {BUDGET}"] if took > 60 * BUDGET else []
+
+
+def write(log=None):
+    crates = table_with(log)
+    write_table(crates)
+    for path, wanted, _ in pages(crates):
+        with open(path, "w", encoding="utf-8") as file:
+            file.write(wanted)
+    if faults := over_budget(crates):
+        sys.exit(faults[0])
     return 0
-
-
-# What a change costs.
-
-
-def dependencies():
-    """The crates of crates.txt, and those that each stands on, also by way of others."""
-    below = {}
-    with open(os.path.join(TOP, "crates.txt"), encoding="utf-8") as file:
-        for name, uses in re.findall(r"(?m)^([a-z0-9_]+)[^:#\n]*:(.*)$", file.read()):
-            below[name] = {name}.union(*(below.get(it, set()) for it in uses.split()))
-    return below
-
-
-def written_seconds():
-    """The seconds of the table of GATE.md by crate: of its proof, its tests and its edits."""
-    with open(PAGE, encoding="utf-8") as file:
-        table = file.read().partition(f"{BEGIN}\n")[2].partition(f"{END}\n")[0]
-    rows = re.findall(r"(?m)^\| `(\w+)` \| \d* \| (\d*) \| [^|]* \| (\d*) \| \d* \| (\d*) \|$", table)
-    return {name: [int(it or 0) for it in times] for name, *times in rows}
 
 
 def change(names):
-    below, seconds = dependencies(), written_seconds()
-    print("| A change in | Crates above | Proofs | With tests and edits |")
-    print("|---|---:|---:|---:|")
-    for name in names:
-        if name not in below:
-            sys.exit(f"crates.txt has no crate {name}")
-        changed = [it for it, uses in below.items() if name in uses]
-        proofs = sum(seconds.get(it, [0])[0] for it in changed)
-        every = sum(sum(seconds.get(it, [])) for it in changed)
-        print(f"| `{name}` | {len(changed) - 1} | {proofs / 60:.0f} min | {every / 60:.0f} min |")
+    print("\n".join(costs(table_with(), names, {})))
     return 0
+
+
+PATH = re.compile(r"`((?:[\w.-]+/)+[\w.*-]+)`")
+# These words of a recipe stand for a construct, a rule or a crate.
+ANY = re.compile(r"\b(NAME|CRATE|CONSTRUCT|Construct|RULE)\b")
+
+
+def lost_paths():
+    """The paths in the tables of CONTRIBUTING.md that don't exist. One that names no crate is of the crate named before it in its row."""
+    with open(COSTS_PAGE, encoding="utf-8") as file:
+        lines = file.read().splitlines()
+    for line in (it for it in lines if it.startswith("|")):
+        crate = ""
+        for path in PATH.findall(line):
+            first = path.split("/")[0]
+            if ANY.search(path):
+                crate = first if os.path.isdir(os.path.join(TOP, "crates", first)) else crate
+                continue
+            if os.path.isdir(os.path.join(TOP, "crates", first)):
+                crate = first
+            places = [path, f"crates/{path}", f"crates/{crate}/{path}"]
+            if "*" not in path and not any(os.path.exists(os.path.join(TOP, it)) for it in places):
+                yield f"CONTRIBUTING.md names {path}, which doesn't exist"
+
+
+def check():
+    crates = table_with()
+    faults = over_budget(crates) + list(lost_paths())
+    with open(TABLE, encoding="utf-8") as file:
+        if [tuple(line.rstrip("\n").split("\t")) for line in file] != [HEAD, *(it.row(name) for name, it in crates.items())]:
+            faults.append("bench/gate.tsv lacks a crate or has one too many: run docs/gate.py write")
+    faults += [f"{os.path.relpath(path, TOP)} isn't what bench/gate.tsv gives: run docs/gate.py write" for path, wanted, text in pages(crates) if wanted != text]
+    print("".join(f"{it}\n" for it in faults), end="", file=sys.stderr)
+    return 1 if faults else 0
 
 
 def main(words):
     if words[:1] == ["run"] and words[2:] in ([], ["--anew"]) and len(words) > 1:
         return run(*words[1:])
-    if words[:1] == ["write"] and len(words) == 2:
-        return write(words[1])
+    if words[:1] == ["write"] and len(words) < 3:
+        return write(*words[1:])
     if words[:1] == ["change"] and len(words) > 1:
         return change(words[1:])
+    if words == ["check"]:
+        return check()
     sys.exit(__doc__)
 
 

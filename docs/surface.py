@@ -4,7 +4,7 @@
 usage: docs/surface.py [FACE..]
 
 A name is listed with the crate that exports it (its face), its module there, and the file that has it. The names of states are those of
-`Inline` and `Block` in engine_events, written as the functions of their modules; the others are in NAMES below. A name that its face
+`Inline` and `Block` in engine_states, written as the functions of their modules; the others are in NAMES below. A name that its face
 doesn't export is listed last, and the status is 1.
 """
 import glob
@@ -175,7 +175,7 @@ def root(crate):
 
 def states():
     """The names of states, as their faces have them: the face, the module, the function."""
-    text = read(os.path.join(TOP, "crates/engine_events/src/state.rt"))
+    text = read(os.path.join(TOP, "crates/engine_states/src/state.rt"))
     for kind, face in FACES.items():
         body = re.search(r"pub enum %s \{(.*?)\n\}" % kind, text, re.S)[1]
         modules = {**{name: name for name in [*root(face).inner, *root(face).taken]}, **MODULES}

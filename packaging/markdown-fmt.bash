@@ -1,20 +1,29 @@
 # Completions of markdown-fmt's options for bash.
 _markdown_fmt() {
-    local word=${COMP_WORDS[COMP_CWORD]}
-    # Readline takes `=` for the start of a word.
-    if [ "${COMP_WORDS[COMP_CWORD - 1]}" = --hard-breaks ] || [ "$word" = = ]; then
-        mapfile -t COMPREPLY < <(compgen -W 'spaces backslash' -- "${word#=}")
-        return
-    fi
-    if [ "${COMP_WORDS[COMP_CWORD - 1]}" = = ]; then
-        mapfile -t COMPREPLY < <(compgen -W 'spaces backslash' -- "$word")
-        return
+    local word=${COMP_WORDS[COMP_CWORD]} before=${COMP_WORDS[COMP_CWORD - 1]}
+    local rules='trailing-spaces file-ends blank-lines code-indented code-fenced heading-setext heading-atx
+        blank-around thematic-break bullet-marker marker-space list-indent list-number attention hard-break
+        gfm-table definition'
+    # Readline takes `=` for a word.
+    if [ "$word" = = ]; then
+        word=
+    elif [ "$before" = = ]; then
+        before=${COMP_WORDS[COMP_CWORD - 2]}
     fi
     compopt -o filenames
     mapfile -t COMPREPLY < <(
-        case $word in
-            -*) compgen -W '--check --padded-tables --hard-breaks=spaces --hard-breaks=backslash --gfm --frontmatter --math --mark --all --help --version' -- "$word" ;;
-            *) compgen -f -- "$word" ;;
+        case $before in
+            --disable | --enable) compgen -W "$rules" -- "$word" ;;
+            --hard-breaks) compgen -W 'spaces backslash' -- "$word" ;;
+            *)
+                case $word in
+                    -*)
+                        compgen -W '--check --diff --padded-tables --hard-breaks --disable --enable --ignore
+                            --config --gfm --frontmatter --math --mark --all --help --version' -- "$word"
+                        ;;
+                    *) compgen -f -- "$word" ;;
+                esac
+                ;;
         esac
     )
 }

@@ -31,13 +31,13 @@ function fault(call) {
 
 const same = (what, found, wanted) => check(`${what}: ${JSON.stringify(found)}`, JSON.stringify(found) === JSON.stringify(wanted));
 
-// The examples are rows, in the format of crates/tests_rows.
+// The examples are rows, in the format of tests/rows.
 const decoded = text => text.replace(/\u241b([0-9A-F]+);|[\u2400-\u2420]/g,
     (picture, code) => String.fromCodePoint(code ? parseInt(code, 16) : picture.codePointAt(0) - 0x2400));
 const fieldsOf = row => decoded(row.slice(row.indexOf("\n") + 1)).split("\n@is\n");
 const rowsOf = file => file.slice(0, -1).split("\n@table ").slice(1).flatMap(table => table.split("\n@row").slice(1)).map(fieldsOf);
 
-const folder = new URL("crates/tests_rows/data/commonmark/", top);
+const folder = new URL("tests/rows/commonmark/", top);
 let examples = 0;
 for (const name of readdirSync(folder)) {
     for (const [text, html] of rowsOf(readFileSync(new URL(name, folder), "utf8"))) {

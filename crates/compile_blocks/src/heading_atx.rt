@@ -13,12 +13,13 @@ ghost use Rattle.engine_events.specs.declared.event.Name.TheVariants as n;
 ghost use Rattle.html_bytes.specs.Pieces.{in_bytes};
 ghost use Rattle.html_leaves.specs.Prints.{KeepsEnding, LaysOut};
 ghost use Rattle.compile_rows.specs.Columns.{AreCounted};
-ghost use Rattle.compile_texts.specs.Meant.{IsMeant};
+ghost use Rattle.compile_blocks.specs.Meant.{IsMeant};
 ghost use Rattle.compile_raw.specs.Sound.{AreSound};
 
 use crate::printer::LeafPrinter;
+use crate::source::Source;
+use crate::text::text_within;
 use compile_raw::piece::piece_in;
-use compile_texts::{Source, text_within};
 use engine_events::event::{Event, Name};
 use markdown_options::Tables;
 use std::alloc::{AllocError, Allocator};

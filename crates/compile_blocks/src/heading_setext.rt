@@ -8,13 +8,14 @@ ghost use Rattle.event_meaning.specs.Blocks.{heading_setext_of};
 ghost use Rattle.html_bytes.specs.Pieces.{in_bytes};
 ghost use Rattle.html_leaves.specs.Prints.{KeepsEnding, LaysOut};
 ghost use Rattle.compile_rows.specs.Columns.{AreCounted};
-ghost use Rattle.compile_texts.specs.Meant.{IsMeant};
+ghost use Rattle.compile_blocks.specs.Meant.{IsMeant};
 ghost use Rattle.compile_raw.specs.Sound.{AreSound};
 
 use crate::printer::LeafPrinter;
+use crate::source::Source;
+use crate::text::text_within;
 use compile_levels::node::kids_in;
 use compile_raw::piece::piece_in;
-use compile_texts::{Source, text_within};
 use engine_events::event::{Event, Name};
 use markdown_options::Tables;
 use std::alloc::{AllocError, Allocator};

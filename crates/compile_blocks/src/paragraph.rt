@@ -9,11 +9,11 @@ ghost use Rattle.event_meaning.specs.Texts.{inlines_of};
 ghost use Rattle.html_bytes.specs.Pieces.{in_bytes};
 ghost use Rattle.html_leaves.specs.Prints.{KeepsEnding, LaysOut};
 ghost use Rattle.compile_rows.specs.Columns.{AreCounted};
-ghost use Rattle.compile_texts.specs.Meant.{IsMeant};
+ghost use Rattle.compile_blocks.specs.Meant.{IsMeant};
 ghost use Rattle.compile_raw.specs.Sound.{AreSound};
 
 use crate::printer::LeafPrinter;
-use compile_texts::Source;
+use crate::source::Source;
 use engine_events::event::Event;
 use markdown_options::Tables;
 use std::alloc::{AllocError, Allocator};

@@ -15,17 +15,18 @@ ghost use Rattle.event_meaning.specs.Children.{text_of};
 ghost use Rattle.html_bytes.specs.Pieces.{in_bytes};
 ghost use Rattle.html_leaves.specs.Prints.{KeepsEnding, LaysOut, page_view};
 ghost use Rattle.compile_blocks.specs.Leaf.{is_leaf, first_pieces};
-ghost use Rattle.compile_texts.specs.Meant.{IsMeant};
+ghost use Rattle.compile_blocks.specs.Meant.{IsMeant};
 ghost use Rattle.compile_raw.specs.Sound.{IsSound, StandsAt};
 
+use crate::gfm_table::push_table;
+use crate::source::Source;
+use crate::text::TextPrinter;
 use compile_levels::kind::BlockKind;
 use compile_levels::node::Node;
 use compile_raw::{
     ending_of, push_code_fenced, push_code_indented, push_html_flow, push_math_flow,
 };
 use compile_rows::Columns;
-use compile_tables::push_table;
-use compile_texts::{Source, TextPrinter};
 use html_leaves::Page;
 use markdown_options::{CompileOptions, LineEnding, Tables};
 use std::alloc::{AllocError, Allocator};

@@ -15,9 +15,9 @@ ghost use Rattle.compile_html.specs.Opened.{within};
 ghost use Rattle.compile_html.specs.Views.{opened_of, Prints, next_loose};
 
 use crate::printer::Printer;
+use compile_blocks::Source;
 use compile_levels::kind::BlockKind;
 use compile_levels::level::Holder;
-use compile_texts::Source;
 use compile_written::child::{child, inside_child, text_first};
 use engine_events::event::{Event, Name};
 use std::alloc::{AllocError, Allocator};

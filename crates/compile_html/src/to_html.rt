@@ -7,7 +7,7 @@ ghost use Rattle.definition_inline.specs.Definition.{Definition};
 ghost use Rattle.definition_page.specs.BlockPieces.{document_pieces};
 ghost use Rattle.definition_page.specs.InlinePieces.{Meaning};
 ghost use Rattle.definition_page.specs.Layout.{page_layout};
-ghost use Rattle.compile_texts.specs.Meant.{IsMeant};
+ghost use Rattle.compile_blocks.specs.Meant.{IsMeant};
 ghost use Rattle.compile_raw.specs.Sound.{AreSound};
 ghost use Rattle.event_grammar.specs.Faults.{fault};
 ghost use Rattle.event_grammar.specs.Trees.{Nodes, events_of};
@@ -18,7 +18,7 @@ ghost use Rattle.event_check.specs.Checked.{Refuses};
 ghost use Rattle.event_check.specs.declared.error.CompileError.TheVariants.{Memory};
 
 use crate::printer::Printer;
-use compile_texts::Source;
+use compile_blocks::Source;
 use compile_written::{footnote_labels, loose_lists, read_definitions};
 use engine_events::event::Event;
 use event_check::{Checked, CompileError, check_events};

@@ -2,5 +2,4 @@ pub mod Columns
 pub mod Points
 pub mod Links
 pub mod Events
-pub mod States
 pub mod Names

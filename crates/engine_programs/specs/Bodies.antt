@@ -2,9 +2,9 @@
 use Rattle.std.specs.Prelude.{◌≡◌, ℕ, Bool, false, ◌==◌, if◌then◌else◌, List, [], ◌∷◌, Option, None, Some}
 use Rattle.engine_events.specs.declared.event.Link.{Link}
 use Rattle.engine_events.specs.declared.event.Name.{Name as EventName}
-use Rattle.engine_events.specs.declared.resolve.Name.{Name as Resolver}
-use Rattle.engine_events.specs.declared.state.Name.{Name}
-use Rattle.engine_events.specs.declared.state.State.{State}
+use Rattle.engine_states.specs.declared.resolve.Name.{Name as Resolver}
+use Rattle.engine_states.specs.declared.state.Name.{Name}
+use Rattle.engine_states.specs.declared.state.State.{State}
 use Rattle.markdown_engine.specs.KeptState.{KeptState}
 use Rattle.markdown_engine.specs.Machine.{frame_at, past_byte, with_enter, with_exit, to_run_first, to_run_last}
 use Rattle.markdown_engine.specs.Reading.{Config, Effect, Steps}

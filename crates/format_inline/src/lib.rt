@@ -8,4 +8,4 @@ pub mod hard_break;
 mod layout;
 mod style;
 
-pub use style::{BreakStyle, Style, TableStyle};
+pub use style::{BreakStyle, TableStyle};

@@ -21,12 +21,3 @@ pub enum BreakStyle {
     /// With a backslash at the end of a line.
     Backslash,
 }
-
-/// What a caller may choose.
-#[derive(Clone, Copy, Debug, Default, PartialEq, Eq)]
-pub struct Style {
-    /// How tables are written.
-    pub tables: TableStyle,
-    /// How hard breaks are written.
-    pub hard_breaks: BreakStyle,
-}

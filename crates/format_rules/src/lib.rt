@@ -1,8 +1,12 @@
 //! The rules of the formatter: what they change in a text, found in its events.
 #![tactic(auto)]
 
+mod rule_set;
 mod rules;
+mod style;
 
 pub use format_document::Document;
-pub use format_inline::{BreakStyle, Style, TableStyle};
+pub use format_inline::{BreakStyle, TableStyle};
+pub use rule_set::{RULE_NAMES, RuleSet};
 pub use rules::{RULES, Rule, all_edits};
+pub use style::Style;

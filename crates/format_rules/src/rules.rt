@@ -1,11 +1,13 @@
 //! The rules, and their order.
+use crate::rule_set::RuleSet;
+use crate::style::Style;
 use format_blocks::{
     blank_around, blank_lines, code_fenced, code_indented, definition, file_ends, heading_atx,
     heading_setext, thematic_break, trailing_spaces,
 };
 use format_document::Document;
 use format_edits::Edits;
-use format_inline::{Style, attention, gfm_table, hard_break};
+use format_inline::{attention, gfm_table, hard_break};
 use format_lists::bullet_marker;
 use format_lists::list_lines::{self, Lines};
 use std::alloc::{AllocError, Global};
@@ -131,8 +133,37 @@ impl Rule {
         finished(alloc, document, edits)
     }
 
-    /// Adds the edits that the rule makes of a document.
+    /// The name of the rule, or none for those for the lines of lists.
+    fn name(self) -> Option<&'static str> {
+        match self {
+            Rule::TrailingSpaces => Some("trailing-spaces"),
+            Rule::FileEnds => Some("file-ends"),
+            Rule::BlankLines => Some("blank-lines"),
+            Rule::CodeIndented => Some("code-indented"),
+            Rule::CodeFenced => Some("code-fenced"),
+            Rule::HeadingSetext => Some("heading-setext"),
+            Rule::HeadingAtx => Some("heading-atx"),
+            Rule::BlankAround => Some("blank-around"),
+            Rule::ThematicBreak => Some("thematic-break"),
+            Rule::BulletMarker => Some("bullet-marker"),
+            Rule::ListLines(_) => None,
+            Rule::Attention => Some("attention"),
+            Rule::HardBreak => Some("hard-break"),
+            Rule::GfmTable => Some("gfm-table"),
+            Rule::Definition => Some("definition"),
+        }
+    }
+
+    /// Adds the edits that the rule makes of a document, if it is on.
     fn add(self, alloc: Global, document: &Document<'_>, style: &Style, edits: &mut Edits) {
+        match self.name() {
+            Some(name) if !style.rules.has(name) => {}
+            _ => self.add_all(alloc, document, style, edits),
+        }
+    }
+
+    /// Adds the edits that the rule makes of a document.
+    fn add_all(self, alloc: Global, document: &Document<'_>, style: &Style, edits: &mut Edits) {
         match self {
             Rule::TrailingSpaces => trailing_spaces::edit(document, edits),
             Rule::FileEnds => file_ends::edit(document, edits),
@@ -144,12 +175,23 @@ impl Rule {
             Rule::BlankAround => blank_around::edit(document, edits),
             Rule::ThematicBreak => thematic_break::edit(document, edits),
             Rule::BulletMarker => bullet_marker::edit(document, edits),
-            Rule::ListLines(lines) => list_lines::edit(alloc, document, lines, edits),
+            Rule::ListLines(lines) => {
+                list_lines::edit(alloc, document, lines_on(lines, &style.rules), edits);
+            }
             Rule::Attention => attention::edit(document, edits),
             Rule::HardBreak => hard_break::edit(document, style.hard_breaks, edits),
             Rule::GfmTable => gfm_table::edit(alloc, document, style.tables, edits),
             Rule::Definition => definition::edit(document, edits),
         }
+    }
+}
+
+/// Those of the rules for the lines of lists that are on.
+fn lines_on(lines: Lines, rules: &RuleSet) -> Lines {
+    Lines {
+        marker_space: lines.marker_space && rules.has("marker-space"),
+        indent: lines.indent && rules.has("list-indent"),
+        number: lines.number && rules.has("list-number"),
     }
 }
 

@@ -1,5 +1,5 @@
 -- What a printer has printed.
-use Rattle.html_containers.specs.ContainersView.{containers_view}
+use Rattle.html_blocks.specs.ContainersView.{containers_view}
 use Rattle.html_rows.specs.Printing.{PrinterView}
 use Rattle.html_page.specs.declared.printer.Printer.{Printer}
 

@@ -9,10 +9,9 @@ ghost use Rattle.html_looseness.specs.Printable.{IsPrintableRow};
 ghost use Rattle.html_leaves.specs.Prints.{LaysOut, KeepsEnding};
 
 use block_rows::Row;
-use html_blocks::LeafPrinter;
+use html_blocks::{LeafPrinter, table};
 use html_contents::Texts;
 use html_looseness::Level;
-use html_tables::table;
 use markdown_options::Tables;
 use std::alloc::{AllocError, Allocator};
 use text_pieces::Piece;

@@ -17,8 +17,7 @@ ghost use Rattle.html_leaves.specs.Prints.{KeepsEnding, page_view};
 
 use crate::leaf_block::print_leaf_block;
 use block_rows::Row;
-use html_blocks::LeafPrinter;
-use html_containers::Containers;
+use html_blocks::{Containers, LeafPrinter};
 use html_contents::Texts;
 use markdown_options::{CompileOptions, LineEnding, Tables};
 use std::alloc::{AllocError, Allocator};

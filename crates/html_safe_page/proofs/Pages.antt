@@ -109,10 +109,10 @@ unfolding void_rows
 void_words = refl
 
 pub start_worded : (tag : Tag) → is_tag_of start_rows tag ≡ true → is_worded tag ≡ true
-start_worded tag h = listed_worded start_rows tag start_words (and_parts (list_any (is_of_row tag) start_rows) (all_values tag.attributes) h).0
+start_worded tag h = listed_worded start_rows tag start_words (and_parts (list_any (is_of_row tag) start_rows) (all_values tag.name tag.attributes) h).0
 
 pub void_worded : (tag : Tag) → is_tag_of void_rows tag ≡ true → is_worded tag ≡ true
-void_worded tag h = listed_worded void_rows tag void_words (and_parts (list_any (is_of_row tag) void_rows) (all_values tag.attributes) h).0
+void_worded tag h = listed_worded void_rows tag void_words (and_parts (list_any (is_of_row tag) void_rows) (all_values tag.name tag.attributes) h).0
 
 open_same : (tag : Tag) (inside : Items) (r : Rest) → open_tag tag (Then inside tag.name r) ≡ Some (at_first (Element tag inside) r)
 open_same tag inside r = cond-true (bytes_eq tag.name tag.name) (Some (at_first (Element tag inside) r)) None (bytes_same tag.name)
@@ -120,7 +120,7 @@ open_same tag inside r = cond-true (bytes_eq tag.name tag.name) (Some (at_first 
 start_opens : (tag : Tag) (inside : Items) (r : Rest) → is_tag_of start_rows tag ≡ true
     → read_opening (spell_tag tag []) (Then inside tag.name r) ≡ Some (at_first (Element tag inside) r)
 start_opens tag inside r h =
-    let parts = and_parts (list_any (is_of_row tag) start_rows) (all_values tag.attributes) h in
+    let parts = and_parts (list_any (is_of_row tag) start_rows) (all_values tag.name tag.attributes) h in
     let rest = Then inside tag.name r in
     let other = read_tag void_rows void_end (spell_tag tag []) in
     ap (λ o. open_or o other rest) (tag_spelled start_rows tag [] start_words (start_worded tag h) refl refl parts.0 parts.1)
@@ -145,7 +145,7 @@ void_not_start tag h =
 
 void_opens : (tag : Tag) (r : Rest) → is_tag_of void_rows tag ≡ true → read_opening (spell_tag tag void_end) r ≡ Some (at_first (Void tag) r)
 void_opens tag r h =
-    let parts = and_parts (list_any (is_of_row tag) void_rows) (all_values tag.attributes) h in
+    let parts = and_parts (list_any (is_of_row tag) void_rows) (all_values tag.name tag.attributes) h in
     let bytes = spell_tag tag void_end in
     ap (λ o. open_or o (read_tag void_rows void_end bytes) r) (void_not_start tag (void_worded tag h))
     ∙ ap (λ o. open_or None o r) (tag_spelled void_rows tag void_end void_words (void_worded tag h) refl refl parts.0 parts.1)

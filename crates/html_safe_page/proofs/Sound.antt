@@ -123,7 +123,7 @@ pub tag_append : (tag : Tag) (x y : List ℕ) → spell_tag tag (x ++ y) ≡ spe
 tag_append tag x y = ap (λ z. tag.name ++ z) (attributes_append tag.attributes x y) ∙ sym (append_assoc tag.name (spell_attributes tag.attributes x) y)
 
 read_is_tag : (rows : List Row) (ending bytes : List ℕ) (tag : Tag) → IsRead rows ending bytes tag → is_tag_of rows tag ≡ true
-read_is_tag rows ending bytes tag h = and_from (list_any (is_of_row tag) rows) (all_values tag.attributes) h.listed h.values
+read_is_tag rows ending bytes tag h = and_from (list_any (is_of_row tag) rows) (all_values tag.name tag.attributes) h.listed h.values
 
 void_sound : (bytes : List ℕ) (tag : Tag) (r : Rest) → is_safe_rest r ≡ true → IsRead void_rows void_end bytes tag
     → IsRest (60 ∷ (bytes ++ (62 ∷ spell_rest r))) (at_first (Void tag) r)

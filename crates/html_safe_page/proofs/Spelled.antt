@@ -23,37 +23,38 @@ pub strip_spelled : (prefix rest : List ℕ) → strip prefix (prefix ++ rest) �
 strip_spelled [] rest = refl
 strip_spelled (p ∷ ps) rest = cond-true (eqb p p) (strip ps (ps ++ rest)) None (eq-eqb p p refl) ∙ strip_spelled ps rest
 
-abbrev pub all_values : List Attribute → Bool
-all_values attributes = list_all (λ a. is_value a.name a.value) attributes
+-- the attributes of a tag of this name have values that they may have
+abbrev pub all_values : List ℕ → List Attribute → Bool
+all_values tag attributes = list_all (λ a. is_value tag a.name a.value) attributes
 
 -- ---- what is read is what was spelled
 
-pub record AreRead (names : List (List ℕ)) (ending bytes : List ℕ) (attributes : List Attribute) : Type 0 where
+pub record AreRead (tag : List ℕ) (names : List (List ℕ)) (ending bytes : List ℕ) (attributes : List Attribute) : Type 0 where
   pub spelling : spell_attributes attributes ending ≡ bytes
   pub named : are_named names attributes ≡ true
-  pub values : all_values attributes ≡ true
+  pub values : all_values tag attributes ≡ true
 
 pub record IsRead (rows : List Row) (ending bytes : List ℕ) (tag : Tag) : Type 0 where
   pub spelling : spell_tag tag ending ≡ bytes
   pub listed : list_any (is_of_row tag) rows ≡ true
-  pub values : all_values tag.attributes ≡ true
+  pub values : all_values tag.name tag.attributes ≡ true
 
-value_sound : (name bytes : List ℕ) → IfSome (read_value name bytes) (λ v. (spell_text v [] ≡ bytes) × (is_value name v ≡ true))
-value_sound name bytes =
-    then_if (read_text bytes) (λ v. cond (is_value name v) (Some v) None) (λ v. spell_text v [] ≡ bytes) (λ v. (spell_text v [] ≡ bytes)
-    × (is_value name v ≡ true)) (text_sound bytes)
+value_sound : (tag name bytes : List ℕ) → IfSome (read_value tag name bytes) (λ v. (spell_text v [] ≡ bytes) × (is_value tag name v ≡ true))
+value_sound tag name bytes =
+    then_if (read_text bytes) (λ v. cond (is_value tag name v) (Some v) None) (λ v. spell_text v [] ≡ bytes) (λ v. (spell_text v [] ≡ bytes)
+    × (is_value tag name v ≡ true)) (text_sound bytes)
     (λ v h.
-    let P = λ (v : List ℕ). (spell_text v [] ≡ bytes) × (is_value name v ≡ true) in
-    elim (cases_Bool (is_value name v)) [
-      | inl e ↦ subst (λ o. IfSome o P) (sym (cond-true (is_value name v) (Some v) None e)) (h, e)
-      | inr e ↦ subst (λ o. IfSome o P) (sym (cond-false (is_value name v) (Some v) None e)) tt
+    let P = λ (v : List ℕ). (spell_text v [] ≡ bytes) × (is_value tag name v ≡ true) in
+    elim (cases_Bool (is_value tag name v)) [
+      | inl e ↦ subst (λ o. IfSome o P) (sym (cond-true (is_value tag name v) (Some v) None e)) (h, e)
+      | inr e ↦ subst (λ o. IfSome o P) (sym (cond-false (is_value tag name v) (Some v) None e)) tt
     ])
 
-abbrev after_value : List ℕ → List (List ℕ) → List ℕ → List ℕ → List ℕ → Option (List Attribute)
-after_value n ns ending rest v = option_map (λ others. attribute n v ∷ others) (read_attributes ns ending rest)
+abbrev after_value : List ℕ → List ℕ → List (List ℕ) → List ℕ → List ℕ → List ℕ → Option (List Attribute)
+after_value tag n ns ending rest v = option_map (λ others. attribute n v ∷ others) (read_attributes tag ns ending rest)
 
-abbrev after_quoted : List ℕ → List (List ℕ) → List ℕ → QuotedText → Option (List Attribute)
-after_quoted n ns ending q = option_and_then (after_value n ns ending q.rest) (read_value n q.inside)
+abbrev after_quoted : List ℕ → List ℕ → List (List ℕ) → List ℕ → QuotedText → Option (List Attribute)
+after_quoted tag n ns ending q = option_and_then (after_value tag n ns ending q.rest) (read_value tag n q.inside)
 
 quoted_value_sound : (name bytes : List ℕ) → IfSome (quoted_value name bytes) (λ q. attribute_start name ++ (q.inside ++ (34 ∷ q.rest)) ≡ bytes)
 quoted_value_sound name bytes =
@@ -62,21 +63,23 @@ quoted_value_sound name bytes =
     (λ start h.
     weaker (before_quote start) (λ q. q.inside ++ (34 ∷ q.rest) ≡ start) P (λ q k. ap (λ x. attribute_start name ++ x) k ∙ h) (quoted_sound start))
 
-pub attributes_sound : (names : List (List ℕ)) (ending bytes : List ℕ) → IfSome (read_attributes names ending bytes) (AreRead names ending bytes)
-attributes_sound [] ending bytes =
+pub attributes_sound : (tag : List ℕ) (names : List (List ℕ)) (ending bytes : List ℕ)
+    → IfSome (read_attributes tag names ending bytes) (AreRead tag names ending bytes)
+attributes_sound tag [] ending bytes =
     elim (cases_Bool (bytes_eq bytes ending)) [
       | inl e ↦
-          subst (λ o. IfSome o (AreRead [] ending bytes)) (sym (cond-true (bytes_eq bytes ending) (Some []) None e))
+          subst (λ o. IfSome o (AreRead tag [] ending bytes)) (sym (cond-true (bytes_eq bytes ending) (Some []) None e))
           (record { spelling = sym (same_bytes bytes ending e); named = refl; values = refl })
-      | inr e ↦ subst (λ o. IfSome o (AreRead [] ending bytes)) (sym (cond-false (bytes_eq bytes ending) (Some []) None e)) tt
+      | inr e ↦ subst (λ o. IfSome o (AreRead tag [] ending bytes)) (sym (cond-false (bytes_eq bytes ending) (Some []) None e)) tt
     ]
-attributes_sound (n ∷ ns) ending bytes =
-    let P = AreRead (n ∷ ns) ending bytes in
-    then_if (quoted_value n bytes) (after_quoted n ns ending) (λ q. attribute_start n ++ (q.inside ++ (34 ∷ q.rest)) ≡ bytes) P
+attributes_sound tag (n ∷ ns) ending bytes =
+    let P = AreRead tag (n ∷ ns) ending bytes in
+    then_if (quoted_value n bytes) (after_quoted tag n ns ending) (λ q. attribute_start n ++ (q.inside ++ (34 ∷ q.rest)) ≡ bytes) P
     (quoted_value_sound n bytes) (λ q from_quoted.
-    then_if (read_value n q.inside) (after_value n ns ending q.rest) (λ v. (spell_text v [] ≡ q.inside)
-    × (is_value n v ≡ true)) P (value_sound n q.inside) (λ v from_value.
-    map_if (read_attributes ns ending q.rest) (λ others. attribute n v ∷ others) (AreRead ns ending q.rest) P (attributes_sound ns ending q.rest) (λ others h.
+    then_if (read_value tag n q.inside) (after_value tag n ns ending q.rest) (λ v. (spell_text v [] ≡ q.inside)
+    × (is_value tag n v ≡ true)) P (value_sound tag n q.inside) (λ v from_value.
+    map_if (read_attributes tag ns ending q.rest) (λ others. attribute n v ∷ others) (AreRead tag ns ending q.rest) P
+    (attributes_sound tag ns ending q.rest) (λ others h.
     record {
       spelling =
           ap (λ x. attribute_start n ++ spell_text v (34 ∷ x)) h.spelling
@@ -84,20 +87,20 @@ attributes_sound (n ∷ ns) ending bytes =
           ∙ ap (λ x. attribute_start n ++ (x ++ (34 ∷ q.rest))) from_value.0
           ∙ from_quoted;
       named = and_from (bytes_eq n n) (are_named ns others) (bytes_same n) h.named;
-      values = and_from (is_value n v) (all_values others) from_value.1 h.values;
+      values = and_from (is_value tag n v) (all_values tag others) from_value.1 h.values;
     })))
 
 record IsReadRow (row : Row) (ending bytes : List ℕ) (tag : Tag) : Type 0 where
   spelling : spell_tag tag ending ≡ bytes
   listed : is_of_row tag row ≡ true
-  values : all_values tag.attributes ≡ true
+  values : all_values tag.name tag.attributes ≡ true
 
 row_sound : (row : Row) (ending bytes : List ℕ) → IfSome (read_row ending bytes row) (IsReadRow row ending bytes)
 row_sound row ending bytes =
-    then_if (strip row.name bytes) (λ rest. option_map (tag_of row.name) (read_attributes row.attributes ending rest)) (λ rest. row.name ++ rest ≡ bytes)
+    then_if (strip row.name bytes) (λ rest. option_map (tag_of row.name) (read_attributes row.name row.attributes ending rest)) (λ rest. row.name ++ rest ≡ bytes)
     (IsReadRow row ending bytes) (strip_sound row.name bytes) (λ rest from_name.
-    map_if (read_attributes row.attributes ending rest) (tag_of row.name) (AreRead row.attributes ending rest) (IsReadRow row ending bytes)
-    (attributes_sound row.attributes ending rest)
+    map_if (read_attributes row.name row.attributes ending rest) (tag_of row.name) (AreRead row.name row.attributes ending rest) (IsReadRow row ending bytes)
+    (attributes_sound row.name row.attributes ending rest)
     (λ attributes h. record {
       spelling = ap (λ x. row.name ++ x) h.spelling ∙ from_name;
       listed = and_from (bytes_eq row.name row.name) (are_named row.attributes attributes) (bytes_same row.name) h.named;
@@ -121,36 +124,36 @@ tag_sound (row ∷ rows) ending bytes =
 
 -- ---- what is spelled is read
 
-pub attributes_spelled : (names : List (List ℕ)) (attributes : List Attribute) (ending : List ℕ) → are_named names attributes ≡ true
-    → all_values attributes ≡ true
-    → read_attributes names ending (spell_attributes attributes ending) ≡ Some attributes
-attributes_spelled [] [] ending h k = cond-true (bytes_eq ending ending) (Some []) None (bytes_same ending)
-attributes_spelled [] (a ∷ others) ending h k = absurd (false≢true h)
-attributes_spelled (n ∷ ns) [] ending h k = absurd (false≢true h)
-attributes_spelled (n ∷ ns) (a ∷ others) ending h k =
+pub attributes_spelled : (tag : List ℕ) (names : List (List ℕ)) (attributes : List Attribute) (ending : List ℕ) → are_named names attributes ≡ true
+    → all_values tag attributes ≡ true
+    → read_attributes tag names ending (spell_attributes attributes ending) ≡ Some attributes
+attributes_spelled tag [] [] ending h k = cond-true (bytes_eq ending ending) (Some []) None (bytes_same ending)
+attributes_spelled tag [] (a ∷ others) ending h k = absurd (false≢true h)
+attributes_spelled tag (n ∷ ns) [] ending h k = absurd (false≢true h)
+attributes_spelled tag (n ∷ ns) (a ∷ others) ending h k =
     let named = and_parts (bytes_eq n a.name) (are_named ns others) h in
-    let valued = and_parts (is_value a.name a.value) (all_values others) k in
+    let valued = and_parts (is_value tag a.name a.value) (all_values tag others) k in
     let rest = spell_attributes others ending in
     let start = spell_text a.value (34 ∷ rest) in
     let text = spell_text a.value [] in
-    let value : read_value a.name text ≡ Some a.value =
-    ap (option_and_then (λ v. cond (is_value a.name v) (Some v) None)) (read_spelled a.value)
-    ∙ cond-true (is_value a.name a.value) (Some a.value) None valued.0 in
-    subst (λ m. read_attributes (m ∷ ns) ending (attribute_start a.name ++ start) ≡ Some (a ∷ others)) (sym (same_bytes n a.name named.0))
-    (ap (λ o. option_and_then (after_quoted a.name ns ending) (option_and_then before_quote o)) (strip_spelled (attribute_start a.name) start)
-    ∙ (ap (option_and_then (after_quoted a.name ns ending)) (quoted_spelled a.value rest)
-    ∙ (ap (option_and_then (after_value a.name ns ending rest)) value
-    ∙ ap (option_map (λ others. attribute a.name a.value ∷ others)) (attributes_spelled ns others ending named.1 valued.1))))
+    let value : read_value tag a.name text ≡ Some a.value =
+    ap (option_and_then (λ v. cond (is_value tag a.name v) (Some v) None)) (read_spelled a.value)
+    ∙ cond-true (is_value tag a.name a.value) (Some a.value) None valued.0 in
+    subst (λ m. read_attributes tag (m ∷ ns) ending (attribute_start a.name ++ start) ≡ Some (a ∷ others)) (sym (same_bytes n a.name named.0))
+    (ap (λ o. option_and_then (after_quoted tag a.name ns ending) (option_and_then before_quote o)) (strip_spelled (attribute_start a.name) start)
+    ∙ (ap (option_and_then (after_quoted tag a.name ns ending)) (quoted_spelled a.value rest)
+    ∙ (ap (option_and_then (after_value tag a.name ns ending rest)) value
+    ∙ ap (option_map (λ others. attribute a.name a.value ∷ others)) (attributes_spelled tag ns others ending named.1 valued.1))))
 
-row_spelled : (row : Row) (tag : Tag) (ending : List ℕ) → is_of_row tag row ≡ true → all_values tag.attributes ≡ true
+row_spelled : (row : Row) (tag : Tag) (ending : List ℕ) → is_of_row tag row ≡ true → all_values tag.name tag.attributes ≡ true
     → read_row ending (spell_tag tag ending) row ≡ Some tag
 row_spelled row tag ending h k =
     let parts = and_parts (bytes_eq row.name tag.name) (are_named row.attributes tag.attributes) h in
     let rest = spell_attributes tag.attributes ending in
-    let after = λ (name : List ℕ) (rest : List ℕ). option_map (tag_of name) (read_attributes row.attributes ending rest) in
+    let after = λ (name : List ℕ) (rest : List ℕ). option_map (tag_of name) (read_attributes name row.attributes ending rest) in
     subst (λ name. option_and_then (after name) (strip name (tag.name ++ rest)) ≡ Some tag) (sym (same_bytes row.name tag.name parts.0))
     (ap (option_and_then (after tag.name)) (strip_spelled tag.name rest)
-    ∙ ap (option_map (tag_of tag.name)) (attributes_spelled row.attributes tag.attributes ending parts.1 k))
+    ∙ ap (option_map (tag_of tag.name)) (attributes_spelled tag.name row.attributes tag.attributes ending parts.1 k))
 
 -- ---- tags with the same spelling
 
@@ -309,7 +312,7 @@ found rows row tag ending (Some other) hr ht w a sound here later =
     ap (λ t. Some t) (tags_same other tag ending ending (row_worded row other hr sound.listed) ht w w a a sound.spelling).0
 
 pub tag_spelled : (rows : List Row) (tag : Tag) (ending : List ℕ) → list_all is_worded_row rows ≡ true → is_worded tag ≡ true
-    → starts_word ending ≡ false → starts_attribute ending ≡ false → list_any (is_of_row tag) rows ≡ true → all_values tag.attributes ≡ true
+    → starts_word ending ≡ false → starts_attribute ending ≡ false → list_any (is_of_row tag) rows ≡ true → all_values tag.name tag.attributes ≡ true
     → read_tag rows ending (spell_tag tag ending) ≡ Some tag
 tag_spelled [] tag ending h t w a k v = absurd (false≢true k)
 tag_spelled (row ∷ rows) tag ending h t w a k v =

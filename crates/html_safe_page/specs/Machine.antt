@@ -42,10 +42,10 @@ abbrev pub after_letters : List ℕ → List ℕ
 after_letters [] = []
 after_letters (b ∷ bs) = if may_stand b bs then after_letters bs else b ∷ bs
 
--- what follows the attribute of this name that bytes begin with
-abbrev pub after_attribute : List ℕ → List ℕ → Option (List ℕ)
-after_attribute name bytes =
-    option_and_then (λ (q : QuotedText). if is_some (read_value name q.inside) then Some q.rest else None) (quoted_value name bytes)
+-- what follows the attribute of this name that bytes in a tag begin with
+abbrev pub after_attribute : List ℕ → List ℕ → List ℕ → Option (List ℕ)
+after_attribute tag name bytes =
+    option_and_then (λ (q : QuotedText). if is_some (read_value tag name q.inside) then Some q.rest else None) (quoted_value name bytes)
 
 -- a tag before its `>`, and what follows that
 abbrev pub split_tag : List ℕ → Option QuotedText

@@ -57,25 +57,25 @@ before_quote (b ∷ bs) = if b == double_quote then Some (record { inside = []; 
 abbrev pub quoted_value : List ℕ → List ℕ → Option QuotedText
 quoted_value name bytes = option_and_then before_quote (strip (attribute_start name) bytes)
 
-abbrev pub read_value : List ℕ → List ℕ → Option (List ℕ)
-read_value name bytes = option_and_then (λ v. if is_value name v then Some v else None) (read_text bytes)
+abbrev pub read_value : List ℕ → List ℕ → List ℕ → Option (List ℕ)
+read_value tag name bytes = option_and_then (λ v. if is_value tag name v then Some v else None) (read_text bytes)
 
 abbrev pub attribute : List ℕ → List ℕ → Attribute
 attribute name value = record { name = name; value = value }
 
--- attributes of these names, and what ends the tag
-abbrev pub read_attributes : List (List ℕ) → List ℕ → List ℕ → Option (List Attribute)
-read_attributes [] ending bytes = if bytes_eq bytes ending then Some [] else None
-read_attributes (n ∷ ns) ending bytes =
+-- attributes of these names in a tag, and what ends the tag
+abbrev pub read_attributes : List ℕ → List (List ℕ) → List ℕ → List ℕ → Option (List Attribute)
+read_attributes tag [] ending bytes = if bytes_eq bytes ending then Some [] else None
+read_attributes tag (n ∷ ns) ending bytes =
     option_and_then (λ (q : QuotedText).
-    option_and_then (λ v. option_map (λ others. attribute n v ∷ others) (read_attributes ns ending q.rest)) (read_value n q.inside))
+    option_and_then (λ v. option_map (λ others. attribute n v ∷ others) (read_attributes tag ns ending q.rest)) (read_value tag n q.inside))
     (quoted_value n bytes)
 
 abbrev pub tag_of : List ℕ → List Attribute → Tag
 tag_of name attributes = record { name = name; attributes = attributes }
 
 abbrev pub read_row : List ℕ → List ℕ → Row → Option Tag
-read_row ending bytes row = option_and_then (λ rest. option_map (tag_of row.name) (read_attributes row.attributes ending rest)) (strip row.name bytes)
+read_row ending bytes row = option_and_then (λ rest. option_map (tag_of row.name) (read_attributes row.name row.attributes ending rest)) (strip row.name bytes)
 
 abbrev pub read_tag : List Row → List ℕ → List ℕ → Option Tag
 read_tag [] ending bytes = None

@@ -105,14 +105,44 @@ are_named (n ∷ ns) (a ∷ others) = bytes_eq n a.name && are_named ns others
 abbrev pub is_of_row : Tag → Row → Bool
 is_of_row tag row = bytes_eq row.name tag.name && are_named row.attributes tag.attributes
 
--- the URLs that an attribute of this name takes
-abbrev pub is_value : List ℕ → List ℕ → Bool
-is_value name value =
+-- a text begins with another one
+abbrev pub begins_with : List ℕ → List ℕ → Bool
+begins_with [] text = true
+begins_with (p ∷ ps) [] = false
+begins_with (p ∷ ps) (b ∷ bs) = if b == p then begins_with ps bs else false
+
+-- the class of code begins so, and the text after it is free
+abbrev pub language : List ℕ
+language = codes "language-"
+
+-- the only class of a tag other than `code`
+abbrev pub class_of : List ℕ → List ℕ
+class_of tag =
+    if bytes_eq tag (codes "h2") then codes "sr-only"
+    else (if bytes_eq tag (codes "section") then codes "footnotes" else codes "data-footnote-backref")
+
+abbrev pub is_class : List ℕ → List ℕ → Bool
+is_class tag value = if bytes_eq tag (codes "code") then begins_with language value else bytes_eq (class_of tag) value
+
+abbrev pub alignments : List (List ℕ)
+alignments = codes "left" ∷ codes "right" ∷ codes "center" ∷ []
+
+-- attributes that are there or not, without a text
+abbrev pub empty_names : List (List ℕ)
+empty_names = codes "disabled" ∷ codes "checked" ∷ codes "data-footnotes" ∷ codes "data-footnote-ref" ∷ codes "data-footnote-backref" ∷ []
+
+-- whether a tag may have an attribute with this value; any may stand in `id`, `start`, `alt`, `title` and those named `aria-`
+abbrev pub is_value : List ℕ → List ℕ → List ℕ → Bool
+is_value tag name value =
     if bytes_eq name (codes "href") then permits href_protocols value
-    else (if bytes_eq name (codes "src") then permits src_protocols value else true)
+    else (if bytes_eq name (codes "src") then permits src_protocols value
+    else (if bytes_eq name (codes "class") then is_class tag value
+    else (if bytes_eq name (codes "type") then bytes_eq (codes "checkbox") value
+    else (if bytes_eq name (codes "align") then list_any (λ a. bytes_eq a value) alignments
+    else (if list_any (λ n. bytes_eq n name) empty_names then bytes_eq [] value else true)))))
 
 abbrev pub is_tag_of : List Row → Tag → Bool
-is_tag_of rows tag = list_any (is_of_row tag) rows && list_all (λ a. is_value a.name a.value) tag.attributes
+is_tag_of rows tag = list_any (is_of_row tag) rows && list_all (λ a. is_value tag.name a.name a.value) tag.attributes
 
 abbrev pub is_safe : Items → Bool
 is_safe End = true

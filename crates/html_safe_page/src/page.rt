@@ -116,7 +116,8 @@ pub fn unsafe_place<A: Allocator>(alloc: A, page: &str) -> Result<Option<usize>,
 /// - bytes other than `&`, `"`, `<` and `>`;
 /// - the references `&amp;`, `&quot;`, `&lt;` and `&gt;`;
 /// - tags of a fixed table, each void or closed, whose `href` and `src` have a permitted protocol
-///   or none.
+///   or none. Other values are fixed, but for those of `id`, `start`, `alt`, `title` and names with
+///   `aria-`, and what follows `language-` in the `class` of `code`.
 ///
 /// Time is linear in the page. Memory is taken for the list of open tags. The only error is out of
 /// memory.

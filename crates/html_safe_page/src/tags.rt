@@ -3,7 +3,7 @@ ghost use Rattle.std.specs.Prelude.{◌≡◌, [], map};
 ghost use Rattle.std.specs.List.{list_any};
 ghost use Rattle.std.specs.Str.{bytes_eq};
 ghost use Rattle.std.specs.Option.{is_some, option_map, option_copied};
-ghost use Rattle.html_safe_page.specs.SafePage.{attribute_start, void_end};
+ghost use Rattle.html_safe_page.specs.SafePage.{attribute_start, is_class, is_value, void_end};
 ghost use Rattle.html_safe_page.specs.Reader.{before_quote, strip, read_value, read_attributes, read_row, read_tag};
 ghost use Rattle.html_safe_page.specs.Machine.{after_attribute, is_frequent};
 ghost use Rattle.html_safe_page.specs.Table.{start_rows, void_rows};
@@ -74,16 +74,51 @@ const VOID_ROWS: [Row; 8] = [
     Row("input", &["type", "disabled", "checked"]),
 ];
 
-/// Whether an attribute of this name may have this value.
-fn is_value(name: &str, value: &[u8]) -> bool
-    ensures { result ≡ is_some (read_value name.now value.now) }
+/// The values of `align`.
+const ALIGNMENTS: [&str; 3] = ["left", "right", "center"];
+
+/// Attributes without a text: they are there or not.
+const EMPTY_NAMES: [&str; 5] = [
+    "disabled",
+    "checked",
+    "data-footnotes",
+    "data-footnote-ref",
+    "data-footnote-backref",
+];
+
+/// Whether a tag of this name may have this class.
+#[tactic(auto, using(crate::proofs::Values::stripped))]
+fn is_class(tag: &str, class: &[u8]) -> bool
+    ensures { result ≡ is_class tag.now class.now }
 {
-    is_text(value)
-        && match name {
-            "href" => is_permitted(&SAFE_PROTOCOL_HREF, value),
-            "src" => is_permitted(&SAFE_PROTOCOL_SRC, value),
-            _ => true,
-        }
+    match tag {
+        "code" => strip(b"language-", class).is_some(),
+        "h2" => "sr-only".as_bytes() == class,
+        "section" => "footnotes".as_bytes() == class,
+        _ => "data-footnote-backref".as_bytes() == class,
+    }
+}
+
+/// Whether a tag of this name may have this value of an attribute.
+fn is_allowed(tag: &str, name: &str, value: &[u8]) -> bool
+    ensures { result ≡ is_value tag.now name.now value.now }
+{
+    match name {
+        "href" => is_permitted(&SAFE_PROTOCOL_HREF, value),
+        "src" => is_permitted(&SAFE_PROTOCOL_SRC, value),
+        "class" => is_class(tag, value),
+        "type" => "checkbox".as_bytes() == value,
+        "align" => is_one_of(&ALIGNMENTS, value),
+        _ => value.is_empty() || !is_one_of(&EMPTY_NAMES, name.as_bytes()),
+    }
+}
+
+/// Whether bytes are a text that an attribute of a tag may have as its value.
+#[tactic(auto, using(crate::proofs::Values::value_more))]
+fn is_value(tag: &str, name: &str, value: &[u8]) -> bool
+    ensures { result ≡ is_some (read_value tag.now name.now value.now) }
+{
+    is_text(value) && is_allowed(tag, name, value)
 }
 
 /// `"`.
@@ -115,26 +150,26 @@ fn after_start<'a>(name: &str, bytes: &'a [u8]) -> Option<&'a [u8]>
     strip(b"=\"", named)
 }
 
-/// The bytes after an attribute of this name, if they begin with one.
-fn after_attribute<'a>(name: &str, bytes: &'a [u8]) -> Option<&'a [u8]>
-    ensures { option_copied result ≡ after_attribute name.now bytes.now }
+/// The bytes after an attribute of this name in a tag, if they begin with one.
+fn after_attribute<'a>(tag: &str, name: &str, bytes: &'a [u8]) -> Option<&'a [u8]>
+    ensures { option_copied result ≡ after_attribute tag.now name.now bytes.now }
 {
     let start = after_start(name, bytes)?;
     let (value, after) = split_quoted(start)?;
-    if is_value(name, value) {
+    if is_value(tag, name, value) {
         Some(after)
     } else {
         None
     }
 }
 
-/// Whether bytes are attributes of these names, followed by this ending.
-fn has_attributes(names: &[&str], ending: &[u8], bytes: &[u8]) -> bool
-    ensures { result ≡ is_some (read_attributes (names_of names.now) ending.now bytes.now) }
+/// Whether bytes in a tag are attributes of these names, followed by this ending.
+fn has_attributes(tag: &str, names: &[&str], ending: &[u8], bytes: &[u8]) -> bool
+    ensures { result ≡ is_some (read_attributes tag.now (names_of names.now) ending.now bytes.now) }
 {
     let mut rest = bytes;
     for name in names {
-        match after_attribute(name, rest) {
+        match after_attribute(tag, name, rest) {
             Some(after) => rest = after,
             None => return false,
         }
@@ -147,7 +182,7 @@ fn fits(row: &Row, ending: &[u8], tag: &[u8]) -> bool
     ensures { result ≡ is_some (read_row ending.now tag.now (row_of row.now)) }
 {
     match strip(row.0.as_bytes(), tag) {
-        Some(rest) => has_attributes(row.1, ending, rest),
+        Some(rest) => has_attributes(row.0, row.1, ending, rest),
         None => false,
     }
 }

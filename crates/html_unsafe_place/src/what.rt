@@ -19,7 +19,7 @@ pub enum Unsafe {
     EndTag,
     /// A tag with a name that no tag of a safe page has.
     TagName,
-    /// A tag with other attributes, another URL or other spaces than in a safe page.
+    /// A tag with other attributes, other values or other spaces than in a safe page.
     Attributes,
     /// The end of the page, where elements are open.
     OpenElements,
@@ -36,7 +36,7 @@ impl Unsafe {
             Unsafe::EndTag => "an end tag that doesn't end the innermost open element",
             Unsafe::TagName => "a tag that no safe page has",
             Unsafe::Attributes =>
-                "a tag with attributes, a URL or spaces that it has in no safe page",
+                "a tag with attributes, values or spaces that it has in no safe page",
             Unsafe::OpenElements => "the end of the page, where elements are open",
         }
     }

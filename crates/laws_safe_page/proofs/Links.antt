@@ -17,8 +17,8 @@ use Rattle.std.specs.List.{flat_map}
 -- ---- URLs
 
 -- a value is tested as it is printed
-tested_as_printed : (name text : List ℕ) → is_value name (plain text) ≡ is_value name (encode text)
-tested_as_printed name text = value_tested name (plain text) ∙ ap (is_value name) (sym (encode_spelled text))
+tested_as_printed : (tag name text : List ℕ) → is_value tag name (plain text) ≡ is_value tag name (encode text)
+tested_as_printed tag name text = value_tested tag name (plain text) ∙ ap (is_value tag name) (sym (encode_spelled text))
 
 only_permitted : (all : Bool) (protocols : List (List ℕ)) (url : List ℕ) → all ≡ false
     → ((text : List ℕ) → permits protocols (plain text) ≡ permits protocols (encode text))
@@ -35,12 +35,12 @@ words_text text = (plain text, append-nil (encode text) ∙ encode_spelled text,
 
 module _ (m : Meaning) (safe : AreSafe m.compile) where
   link_permitted : (url : List ℕ) → permits href_protocols (plain (link_url m.compile url)) ≡ true
-  link_permitted url = only_permitted m.compile.allow_dangerous_protocol href_protocols url safe.no_protocol (tested_as_printed (codes "href"))
+  link_permitted url = only_permitted m.compile.allow_dangerous_protocol href_protocols url safe.no_protocol (tested_as_printed (codes "a") (codes "href"))
 
   image_permitted : (url : List ℕ) → permits src_protocols (plain (image_url m.compile url)) ≡ true
   image_permitted url =
       only_permitted (m.compile.allow_any_img_src || m.compile.allow_dangerous_protocol) src_protocols url
-      (ap (λ b. b || m.compile.allow_dangerous_protocol) safe.no_source ∙ safe.no_protocol) (tested_as_printed (codes "src"))
+      (ap (λ b. b || m.compile.allow_dangerous_protocol) safe.no_source ∙ safe.no_protocol) (tested_as_printed (codes "img") (codes "src"))
 
   link_titled : (url title : List ℕ) → IsTag start_rows (tag (codes "a") (attribute (codes "href") (link_url m.compile url) ∷ title_attributes title))
   unfolding start_rows

@@ -7,7 +7,7 @@ use Rattle.event_meaning.specs.Spelled.{spelled}
 use Rattle.event_tokens.specs.Bytes.{HaveTheirBytes}
 use Rattle.markdown_tables.specs.Builtin.{builtin_tables}
 use Rattle.parse_alike.specs.Spelled.{IsPageOfText}
-use Rattle.parse_constructs.specs.Constructs.{NothingIsOff}
+use Rattle.parse_grammar.specs.Constructs.{NothingIsOff}
 use Rattle.parse_events.specs.Nested.{IsNested}
 use Rattle.parse_events.specs.Parsed.{AreEventsOf}
 use Rattle.parse_output.specs.Children.{HaveChildren}

@@ -5,7 +5,7 @@ use Rattle.markdown_engine.proofs.Prelude.{after_chunk, AreApart, ArePlaces, Cha
 use Rattle.markdown_engine.proofs.Prelude.{counts, Divides, drop_more, EditAt, end_of, Event, first_state, found_both, FoundLabels, fresh_config, HasCompleted}
 use Rattle.markdown_engine.proofs.Prelude.{Holds, HoldsAt, IsPlace, MayBegin, nothing_found, Outcome, place_at, Point, ReadsChain, Resolves, Source, source}
 use Rattle.markdown_engine.proofs.Prelude.{State, Steps, Text, text_to, Tokenizer, view_config, with_chunks, with_division, without_skips}
-use Rattle.engine_events.specs.declared.state.State.TheVariants as states
+use Rattle.engine_states.specs.declared.state.State.TheVariants as states
 use Rattle.engine_events.specs.Events.{point_of}
 use Rattle.markdown_engine.specs.Chains.{chain_content, with_chain}
 use Rattle.markdown_engine.specs.Chains.{chain_text, IsFresh, ReadsChainIn, is_empty}

@@ -6,7 +6,7 @@ use Rattle.markdown_engine.proofs.Prelude.{HasCompleted, Holds, HoldsAt, IsCut, 
 use Rattle.markdown_engine.proofs.Prelude.{place_at, Point, RanksAt, read_with, reading, ReadsChain, resolve_all, Resolves, Result, Runs, Source, source}
 use Rattle.markdown_engine.proofs.Prelude.{State, Steps, Subtokenizes, text_to, Tokenizer, view_config, with_chunks, with_division, with_skip, without_skips}
 use Rattle.std.specs.Prelude.{IfOk, IsErr}
-use Rattle.engine_events.specs.declared.state.State.TheVariants as states
+use Rattle.engine_states.specs.declared.state.State.TheVariants as states
 use Rattle.markdown_engine.specs.Chains.{AreReadable}
 use Rattle.markdown_engine.specs.Chains.{starts_line}
 use Rattle.markdown_engine.specs.Evaluation.{AreReadingOf, IsReadingOf, StaysReading, after_chain, chain_edits, chain_reading}

@@ -1,7 +1,7 @@
 -- More turns change nothing.
 use Rattle.std.proofs.Common.{◌≡◌, ℕ, zero, suc, ◌+◌, List, [], ◌∷◌, Bool, true, false, Some, None, refl, arith}
 use Rattle.markdown_engine.proofs.Prelude.{after_success, Config, feed, Frame, hand_on, State, Steps, Text}
-use Rattle.engine_events.specs.declared.state.State.TheVariants as states
+use Rattle.engine_states.specs.declared.state.State.TheVariants as states
 use Rattle.markdown_engine.specs.Evaluation.{Ending, after_attempt, evaluate}
 
 module _ {M : Type 0} (text : Text) (step : Steps M) where

@@ -5,7 +5,7 @@ use Rattle.std.proofs.lemmas.List.{reverse-append, reverse-reverse}
 use Rattle.markdown_engine.proofs.Prelude.{Attempt, byte_before, Config, continuation, end_state, HoldsAt, is_before, IsCut, IsFed, LawfulAt}
 use Rattle.markdown_engine.proofs.Prelude.{mark, MovesOn, Name, place_in, Point, RanksAt, remaining, Source, State, state_after, Steps}
 use Rattle.markdown_engine.proofs.Prelude.{VirtualByte, Walks}
-use Rattle.engine_events.specs.declared.state.State.TheVariants as states
+use Rattle.engine_states.specs.declared.state.State.TheVariants as states
 use Rattle.markdown_engine.specs.Machine.{Begins}
 use Rattle.markdown_engine.specs.Reading.{with_byte}
 use Rattle.markdown_engine.specs.Turns.{called, Halt, halted, handed, popped, range_start, Stops, StopsAs, turned, turns, walked}

@@ -6,7 +6,7 @@ use Rattle.std.proofs.Math.Seq.{take-append_seam}
 use Rattle.markdown_engine.proofs.Prelude.{after_success, AreNested, Attempt, Config, continuation, end_state, ends-nok, ends-ok, Event, feed, first, Frame}
 use Rattle.markdown_engine.proofs.Prelude.{hand_on, mark, Name, next, OnlyAdds, Outcome, restore, retry, Runs, second, State, state_after, Steps, Text}
 use Rattle.markdown_engine.proofs.Prelude.{Unwinds}
-use Rattle.engine_events.specs.declared.state.State.TheVariants as states
+use Rattle.engine_states.specs.declared.state.State.TheVariants as states
 use Rattle.markdown_engine.specs.Laws.{IsFront}
 
 pub front_take : (a b : List Event) → IsFront a b → take (length a) b ≡ a

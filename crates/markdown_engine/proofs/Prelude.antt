@@ -11,9 +11,9 @@ pub use Rattle.engine_edits.specs.Replacement.{IsOrdered, places, Places, replac
 pub use Rattle.engine_events.specs.declared.event.Content.{Content}
 pub use Rattle.engine_events.specs.declared.event.Event.{Event}
 pub use Rattle.engine_events.specs.declared.place.Point.{Point}
-pub use Rattle.engine_events.specs.declared.resolve.Name.{Name as Resolver}
-pub use Rattle.engine_events.specs.declared.state.Name.{Name}
-pub use Rattle.engine_events.specs.declared.state.State.{State}
+pub use Rattle.engine_states.specs.declared.resolve.Name.{Name as Resolver}
+pub use Rattle.engine_states.specs.declared.state.Name.{Name}
+pub use Rattle.engine_states.specs.declared.state.State.{State}
 pub use Rattle.markdown_engine.specs.Chains.{after_chunk, AreApart, ArePlaces, Chain, chains, chains_from, chunks_of, Divides, end_of, first_state, IsPlace}
 pub use Rattle.markdown_engine.specs.Chains.{MayBegin, place_at, ReadsChain, Subtokenizes, with_chunks}
 pub use Rattle.markdown_engine.specs.Context.{Context, context}

@@ -8,7 +8,7 @@ use Rattle.markdown_engine.proofs.Prelude.{line_start, lt-ltb, ltb-true, mark, M
 use Rattle.markdown_engine.proofs.Prelude.{read_with, restore, Result, Runs, seen_as, Source, source, State, state_after, Steps, Text, text_to, Tokenizer}
 use Rattle.markdown_engine.proofs.Prelude.{Turn, view_config, VirtualByte, weight, with_skip}
 use Rattle.std.specs.Prelude.{OnOk, is_err}
-use Rattle.engine_events.specs.declared.state.State.TheVariants as states
+use Rattle.engine_states.specs.declared.state.State.TheVariants as states
 use Rattle.std.specs.Borrow.{Bor}
 use Rattle.markdown_options.specs.declared.message.Message.{Message}
 use Rattle.markdown_engine.specs.Reading.{with_byte, at_point}

@@ -5,8 +5,8 @@ use Rattle.std.proofs.lemmas.Cmp.{nat_eq_equiv}
 use Rattle.std.proofs.lemmas.List.Folds.{list_any-append}
 use denote.Enum.Bare.{sameb}
 use denote.Enum.Declared.{tag_of}
-use Rattle.engine_events.specs.contracts.resolve.Name.{the_type}
-use Rattle.engine_events.specs.declared.resolve.Name.{Name}
+use Rattle.engine_states.specs.contracts.resolve.Name.{the_type}
+use Rattle.engine_states.specs.declared.resolve.Name.{Name}
 use Rattle.markdown_engine.proofs.Prelude.{AreOnce, is_registered}
 
 same_either_way : (a b : Name) → sameb the_type a b ≡ sameb the_type b a

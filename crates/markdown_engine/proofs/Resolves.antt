@@ -3,8 +3,8 @@ use Rattle.std.proofs.Common.{◌≡◌, ◌∙◌, ℕ, [], ◌∷◌, ◌⊎�
 use Rattle.markdown_engine.proofs.Prelude.{Config, context, Context, end_state, found_both, found_in, FoundLabels, HasCompleted, HasFlushed, HoldsAt}
 use Rattle.markdown_engine.proofs.Prelude.{IsRefused, nothing_found, Outcome, ParseState, read_with, resolve_all, resolve_each, Resolver, Resolves, SettlesAt}
 use Rattle.markdown_engine.proofs.Prelude.{source, State, Steps, Text, text_to, Tokenizer, view_config}
-use Rattle.engine_events.specs.declared.subresult.Subresult.{Subresult}
-use Rattle.engine_events.specs.declared.state.State.TheVariants as states
+use Rattle.engine_states.specs.declared.subresult.Subresult.{Subresult}
+use Rattle.engine_states.specs.declared.state.State.TheVariants as states
 use Rattle.markdown_engine.specs.Laws.{Ranks}
 use Rattle.markdown_engine.specs.Machine.{Around, HaltsWell, HasHalted, halt_of}
 use Rattle.markdown_engine.specs.Resolving.{Settles}

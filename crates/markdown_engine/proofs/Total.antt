@@ -2,7 +2,7 @@
 use Rattle.std.proofs.Common.{◌≡◌, ℕ, zero, suc, ◌+◌, ◌<◌, ◌≤◌, ◌++◌, [], ◌∷◌, length, map, List, Bool, true, false, refl, sym, subst, arith, ◌⊎◌, inl, inr}
 use Rattle.markdown_engine.proofs.Prelude.{Attempt, byte_before, Config, continuation, end_state, feed, HoldsAt, IsFed, LawfulAt, mark, Name, OnlyAdds}
 use Rattle.markdown_engine.proofs.Prelude.{place_in, Point, RanksAt, Source, State, state_after, Steps, Text, text_to}
-use Rattle.engine_events.specs.declared.state.State.TheVariants as states
+use Rattle.engine_states.specs.declared.state.State.TheVariants as states
 use Rattle.markdown_engine.specs.Outcomes.{HasOutcome, HasRun}
 use Rattle.markdown_engine.proofs.Outcomes.{ends, outcome_pop, outcome_retry, outcome_next}
 use Rattle.markdown_engine.proofs.Falls.{is_fed}

@@ -4,7 +4,7 @@ use Rattle.std.proofs.Common.{arith, append-nil, append_assoc}
 use Rattle.markdown_engine.proofs.Prelude.{after_success, AreNested, Attempt, Config, continuation, end_state, ends-nok, ends-ok, feed, first, Frame, hand_on}
 use Rattle.markdown_engine.proofs.Prelude.{HoldsAt, IsFed, LawfulAt, mark, Name, next, Outcome, Point, RanksAt, reading, retry, Runs, second, State}
 use Rattle.markdown_engine.proofs.Prelude.{state_after, Steps, Text, Unwinds}
-use Rattle.engine_events.specs.declared.state.State.TheVariants as states
+use Rattle.engine_states.specs.declared.state.State.TheVariants as states
 use Rattle.markdown_engine.specs.Evaluation.{after_mark, after_stack, evaluate}
 use Rattle.markdown_engine.proofs.Evaluation.{more_turns}
 use Rattle.markdown_engine.proofs.Outcomes.{front_nested, keeps, restored}

@@ -8,7 +8,7 @@ use Rattle.markdown_engine.proofs.Prelude.{Steps, Subtokenizes, with_division, w
 use Rattle.std.proofs.lemmas.List.{drop-drop, take-append-drop, take-map}
 use Rattle.std.specs.List.{drop-map}
 use Rattle.engine_events.specs.declared.event.Name.{Name}
-use Rattle.engine_events.specs.declared.state.State.TheVariants as states
+use Rattle.engine_states.specs.declared.state.State.TheVariants as states
 use Rattle.markdown_engine.specs.Order.{IsBalanced, IsNested, open_after}
 use Rattle.markdown_engine.specs.OrderLaws.{nested_append, nested_front, nested_in, opened_append}
 use Rattle.markdown_engine.specs.Resolving.{ResolvesAt}

@@ -1,12 +1,12 @@
 -- What states keep for one another.
 use Rattle.std.specs.Prelude.{ℕ, Bool, false, List, [], map, None, Option, string_bytes}
-use Rattle.engine_events.specs.declared.container.ContainerState.{ContainerState}
+use Rattle.engine_states.specs.declared.container.ContainerState.{ContainerState}
 use Rattle.engine_events.specs.declared.event.Content.{Content}
 use Rattle.engine_events.specs.declared.event.Name.{Name}
 use Rattle.engine_events.specs.declared.event.Name.TheVariants.{Data, SpaceOrTab}
-use Rattle.engine_events.specs.declared.label.Label.{Label}
-use Rattle.engine_events.specs.declared.label.LabelStart.{LabelStart}
-use Rattle.engine_events.specs.declared.state.Name.{Name as StateName}
+use Rattle.engine_states.specs.declared.label.Label.{Label}
+use Rattle.engine_states.specs.declared.label.LabelStart.{LabelStart}
+use Rattle.engine_states.specs.declared.state.Name.{Name as StateName}
 use Rattle.markdown_engine.specs.declared.tokenize_state.TokenizeState.{TokenizeState}
 
 pub record KeptState : Type 0 where

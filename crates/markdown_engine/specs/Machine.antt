@@ -3,20 +3,20 @@ use Rattle.std.specs.Prelude.{◌≡◌, ℕ, ◌+◌, ◌≤◌, ◌<◌, Bool,
 use Rattle.markdown_options.specs.declared.configuration.Constructs.{Constructs}
 use Rattle.engine_events.specs.declared.event.Name.{Name}
 use Rattle.engine_events.specs.declared.event.Kind.TheVariants.{Enter, Exit}
-use Rattle.engine_events.specs.declared.state.State.{State}
-use Rattle.engine_events.specs.declared.state.State.TheVariants as states
+use Rattle.engine_states.specs.declared.state.State.{State}
+use Rattle.engine_states.specs.declared.state.State.TheVariants as states
 use Rattle.engine_events.specs.declared.event.Link.{Link}
 use Rattle.engine_events.specs.Events.{event}
-pub use Rattle.engine_events.specs.States.{IsRefused}
+pub use Rattle.engine_states.specs.States.{IsRefused}
 pub use Rattle.markdown_engine.specs.Reading.{past_byte}
 use Rattle.markdown_engine.specs.declared.tokenizer.Tokenizer.{Tokenizer}
-use Rattle.engine_events.specs.declared.subresult.Subresult.{Subresult}
+use Rattle.engine_states.specs.declared.subresult.Subresult.{Subresult}
 use Rattle.engine_edits.specs.Edits.{edits_of}
 use Rattle.markdown_engine.specs.KeptState.{kept_state, nothing_kept}
 use Rattle.markdown_engine.specs.Context.{Context, context}
 use Rattle.markdown_engine.specs.Resolving.{FoundLabels, ResolverResult, Resolves, resolution, found_in}
 use Rattle.markdown_engine.specs.Reading.{Config, Effect, Frame, Steps, Outcome, Runs, end_state, mark, at_point, seen_as}
-use Rattle.engine_events.specs.declared.resolve.Name.{Name as Resolver}
+use Rattle.engine_states.specs.declared.resolve.Name.{Name as Resolver}
 use Rattle.markdown_engine.specs.Resolvers.{with_first, with_last}
 use Rattle.markdown_engine.specs.VirtualText.{Source, Text, Walks, is_before, is_feed, place_in, text_to}
 use Rattle.engine_events.specs.declared.place.Point.{Point}

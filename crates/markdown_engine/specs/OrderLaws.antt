@@ -10,7 +10,7 @@ use Rattle.engine_events.specs.declared.event.Kind.TheVariants.{Enter, Exit}
 use Rattle.engine_events.specs.declared.event.Link.{Link}
 use Rattle.engine_events.specs.declared.event.Name.{Name}
 use Rattle.engine_events.specs.declared.place.Point.{Point}
-use Rattle.engine_events.specs.declared.state.State.{State}
+use Rattle.engine_states.specs.declared.state.State.{State}
 use Rattle.markdown_engine.specs.declared.attempt.Attempt.{Attempt}
 use Rattle.markdown_engine.specs.declared.virtual_text.VirtualByte.{VirtualByte}
 use Rattle.markdown_engine.specs.Laws.{IsFed}

@@ -1,6 +1,6 @@
 -- That reading comes to an outcome.
 use Rattle.std.specs.Prelude.{Bool, List, []}
-use Rattle.engine_events.specs.declared.state.State.{State}
+use Rattle.engine_states.specs.declared.state.State.{State}
 use Rattle.markdown_engine.specs.declared.attempt.Attempt.{Attempt}
 use Rattle.markdown_engine.specs.Reading.{Config, Steps, Runs, Outcome}
 use Rattle.markdown_engine.specs.VirtualText.{Text}

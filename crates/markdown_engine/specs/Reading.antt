@@ -2,10 +2,10 @@
 use Rattle.std.specs.Prelude.{◌≡◌, ℕ, Bool, true, false, List, [], ◌∷◌, length, take, Option, Some, None, cond, if◌then◌else◌}
 use Rattle.engine_events.specs.declared.event.Event.{Event}
 use Rattle.engine_events.specs.declared.place.Point.{Point}
-use Rattle.engine_events.specs.declared.state.Name.{Name}
-use Rattle.engine_events.specs.declared.resolve.Name.{Name as Resolver}
-use Rattle.engine_events.specs.declared.state.State.{State}
-use Rattle.engine_events.specs.declared.state.State.TheVariants as states
+use Rattle.engine_states.specs.declared.state.Name.{Name}
+use Rattle.engine_states.specs.declared.resolve.Name.{Name as Resolver}
+use Rattle.engine_states.specs.declared.state.State.{State}
+use Rattle.engine_states.specs.declared.state.State.TheVariants as states
 use Rattle.markdown_engine.specs.declared.attempt.Attempt.{Attempt}
 use Rattle.engine_edits.specs.Edits.{EditAt}
 use Rattle.markdown_engine.specs.KeptState.{KeptState}

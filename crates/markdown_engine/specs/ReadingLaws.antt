@@ -1,6 +1,6 @@
 -- Reading comes to one outcome.
 use Rattle.std.proofs.Common.{◌≡◌, Bool, true, false, List, [], refl, sym, subst}
-use Rattle.engine_events.specs.declared.state.State.{State}
+use Rattle.engine_states.specs.declared.state.State.{State}
 use Rattle.markdown_engine.specs.Reading.{Config, Frame, Steps, Runs, ends-ok, ends-nok, next, retry, first, second, after_success, hand_on}
 use Rattle.markdown_engine.specs.VirtualText.{Text}
 

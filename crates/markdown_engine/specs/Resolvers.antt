@@ -2,8 +2,8 @@
 use Rattle.std.specs.Prelude.{◌≡◌, Bool, false, List, [], ◌∷◌, ◌++◌, if◌then◌else◌}
 use Rattle.std.specs.List.{list_any}
 use denote.Enum.Bare.{sameb}
-use Rattle.engine_events.specs.contracts.resolve.Name.{the_type}
-use Rattle.engine_events.specs.declared.resolve.Name.{Name}
+use Rattle.engine_states.specs.contracts.resolve.Name.{the_type}
+use Rattle.engine_states.specs.declared.resolve.Name.{Name}
 
 abbrev pub is_registered : Name → List Name → Bool
 is_registered name names = list_any (λ n. sameb the_type n name) names

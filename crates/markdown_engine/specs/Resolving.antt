@@ -1,9 +1,9 @@
 -- What resolvers do once a text is read.
 use Rattle.std.specs.Prelude.{◌≡◌, ℕ, Bool, true, false, List, [], ◌∷◌, ◌++◌, length, map, string_bytes, Option, None, Some}
-use Rattle.engine_events.specs.declared.resolve.Name.{Name as Resolver}
-use Rattle.engine_events.specs.declared.state.Name.{Name}
-use Rattle.engine_events.specs.declared.state.State.TheVariants as states
-use Rattle.engine_events.specs.declared.subresult.Subresult.{Subresult}
+use Rattle.engine_states.specs.declared.resolve.Name.{Name as Resolver}
+use Rattle.engine_states.specs.declared.state.Name.{Name}
+use Rattle.engine_states.specs.declared.state.State.TheVariants as states
+use Rattle.engine_states.specs.declared.subresult.Subresult.{Subresult}
 use Rattle.engine_edits.specs.Replacement.{IsOrdered, events_after}
 use Rattle.markdown_engine.specs.Context.{Context}
 use Rattle.markdown_engine.specs.Laws.{HoldsAt, Holds}

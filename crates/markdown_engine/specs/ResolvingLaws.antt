@@ -4,7 +4,7 @@ use Rattle.engine_events.specs.declared.event.Event.{Event}
 use Rattle.engine_events.specs.declared.event.Name.{Name as EventName}
 use Rattle.engine_events.specs.declared.event.Link.{Link}
 use Rattle.engine_events.specs.declared.place.Point.{Point}
-use Rattle.engine_events.specs.declared.state.State.TheVariants as states
+use Rattle.engine_states.specs.declared.state.State.TheVariants as states
 use Rattle.engine_events.specs.Events.{link_of, point_of}
 use Rattle.engine_edits.specs.Edits.{EditAt}
 use Rattle.engine_edits.specs.Replacement.{IsOrdered, Places, events_after, places, with_new_links, with_link_as}

@@ -1,5 +1,6 @@
 //! Attempts that wait for how a part of the text is read.
-use engine_events::{Point, State};
+use engine_events::Point;
+use engine_states::State;
 
 /// An attempt that waits, with the mark to go back to.
 #[derive(Clone, Copy, Debug, PartialEq, Eq)]

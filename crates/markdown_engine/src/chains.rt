@@ -5,7 +5,7 @@
 ghost use Rattle.std.specs.Prelude.{◌≡◌, ◌≤◌, ◌<◌, OnOk, OnErr, IfOk, IfErr, [], length};
 ghost use Rattle.std.specs.Option.{option_copied};
 ghost use Rattle.markdown_options.specs.Messages.{IsOutOfMemory};
-ghost use Rattle.engine_events.specs.declared.state.State.TheVariants as states;
+ghost use Rattle.engine_states.specs.declared.state.State.TheVariants as states;
 ghost use Rattle.engine_edits.specs.Edits.{edits_of};
 ghost use Rattle.engine_chunks.specs.Chunks.{chunks};
 ghost use Rattle.engine_chunks.specs.Parts.{counts, with_division};
@@ -26,8 +26,9 @@ use crate::virtual_text::line_start;
 use engine_chunks::chunks::chunks;
 use engine_chunks::divide_events;
 use engine_edits::EditMap;
-use engine_events::state::{Block, Inline, Name};
-use engine_events::{Content, Event, Point, State, Subresult};
+use engine_events::{Content, Event, Point};
+use engine_states::state::{Block, Inline, Name};
+use engine_states::{State, Subresult};
 use markdown_options::{Message, Tables};
 use std::alloc::Allocator;
 

@@ -3,7 +3,7 @@ ghost use Rattle.std.specs.Prelude.{◌≡◌, OnOk, IfOk};
 ghost use Rattle.markdown_engine.specs.Resolving.{IsNotDone, KeepsDone, found_in, found_of, found_both, nothing_found};
 
 use crate::tokenizer::{Machine, Tokenizer};
-use engine_events::{State, Subresult, resolve};
+use engine_states::{State, Subresult, resolve};
 use markdown_options::{Message, Tables};
 use std::alloc::{AllocError, Allocator};
 use std::mem;
@@ -40,7 +40,7 @@ pub(crate) fn add_found<A: Allocator>(
 impl<'a, M: Machine<T>, T: Tables, A: Allocator + Clone> Tokenizer<'a, M, T, A> {
     ghost use Rattle.std.specs.Prelude.{◌≡◌, IfErr, IfOk, IsErr, OnErr, OnOk, [], false, length, true};
     ghost use Rattle.markdown_options.specs.Messages.{IsOutOfMemory};
-    ghost use Rattle.engine_events.specs.declared.state.State.TheVariants as states;
+    ghost use Rattle.engine_states.specs.declared.state.State.TheVariants as states;
     ghost use Rattle.markdown_engine.specs.Machine.{Completes, HaltsWell, HasFailed, IsResolved, IsValid, IsValidUnlessFailed, IsWhole};
     ghost use Rattle.markdown_engine.specs.Machine.{bytes_of, read_with, view_config};
     ghost use Rattle.markdown_engine.specs.Evaluation.{IsReadingOf};

@@ -15,7 +15,8 @@ pub mod virtual_text;
 pub use chains::subtokenize;
 pub use engine_chunks::{divide_events, link, link_all, link_to};
 pub use engine_edits::EditMap;
-pub use engine_events::{container, event, label, place, resolve, state, subresult};
+pub use engine_events::{event, place};
+pub use engine_states::{container, label, resolve, state, subresult};
 pub use engine_text::{char, location, skip, slice};
 pub use fitting::{are_apart, are_places};
 pub use markdown_options::{

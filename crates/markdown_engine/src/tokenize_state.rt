@@ -1,7 +1,8 @@
 //! What states keep for one another.
+use engine_events::Content;
 use engine_events::event::Name;
-use engine_events::state::Name as StateName;
-use engine_events::{ContainerState, Content, Label, LabelStart};
+use engine_states::state::Name as StateName;
+use engine_states::{ContainerState, Label, LabelStart};
 use std::alloc::{AllocError, Allocator};
 
 /// What states keep for one another; a failed attempt leaves what was written here.

@@ -1,7 +1,7 @@
 //! The tokenizer and the machines that it runs.
 ghost use Rattle.std.specs.Prelude.{◌≡◌, ◌+◌, ◌<◌, ◌≤◌, ◌++◌, [], ◌∷◌, length, None, Some, false, true, ◌⊎◌, List, OnOk, OnErr, IfOk, IfErr, IsOk};
 ghost use Rattle.markdown_options.specs.Messages.{IsOutOfMemory};
-ghost use Rattle.engine_events.specs.declared.state.State.TheVariants as states;
+ghost use Rattle.engine_states.specs.declared.state.State.TheVariants as states;
 ghost use Rattle.markdown_engine.specs.Reading.{Steps, mark, restore, continuation, with_byte};
 ghost use Rattle.std.specs.BTreeMap.{insert_entry};
 ghost use Rattle.markdown_engine.specs.Machine.{Became, Began, HasEnded, HasFailed, HasFlushed, HasPushed, HasReached, IsRefused, SameText, Shows, frame_at};
@@ -12,7 +12,7 @@ ghost use Rattle.markdown_engine.specs.VirtualText.{is_before, line_start};
 ghost use Rattle.markdown_engine.specs.Laws.{Holds, Ranks, Lawful};
 ghost use Rattle.markdown_engine.specs.Context.{Context};
 ghost use Rattle.markdown_engine.specs.Resolving.{Resolves, Settles, Resolving, found_of};
-ghost use Rattle.engine_events.specs.declared.resolve.Name.{Name as Resolver};
+ghost use Rattle.engine_states.specs.declared.resolve.Name.{Name as Resolver};
 ghost use Rattle.markdown_engine.specs.Order.{IsInnermost};
 
 use crate::attempt::Attempt;
@@ -21,8 +21,9 @@ use crate::tokenize_state::TokenizeState;
 use crate::virtual_text::{VirtualByte, is_before, line_start, place_in, place_over, virtual_byte};
 use engine_edits::EditMap;
 use engine_events::event::Name as EventName;
-use engine_events::state::Name;
-use engine_events::{Event, Kind, Link, Point, State, Subresult, resolve};
+use engine_events::{Event, Kind, Link, Point};
+use engine_states::state::Name;
+use engine_states::{State, Subresult, resolve};
 use markdown_options::{Message, Tables};
 use std::alloc::{AllocError, Allocator};
 use std::collections::BTreeMap;

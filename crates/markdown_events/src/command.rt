@@ -1,5 +1,5 @@
 //! The words of the command line.
-use markdown_input::{Fault, Flags, STANDARD_INPUT};
+use markdown_input::{Fault, Flags, STANDARD_INPUT, is_flag};
 
 /// What `--help` prints.
 const HELP: &str = "\
@@ -17,6 +17,7 @@ Options:
       --all          All four
   -h, --help         Print help
   -V, --version      Print version
+      --             What follows is the name of a file
 
 A line is: enter or exit, the name, LINE:COLUMN(OFFSET), and at a tab how many of
 its columns are before this place, otherwise 0.
@@ -39,6 +40,8 @@ pub(crate) struct Command<'w> {
     pub(crate) flags: Flags,
     /// The name of the file to read, if there is one.
     file: Option<&'w str>,
+    /// Whether all further words are names of files.
+    names_only: bool,
 }
 
 impl<'w> Command<'w> {
@@ -49,6 +52,7 @@ impl<'w> Command<'w> {
             answer: None,
             flags: Flags::default(),
             file: None,
+            names_only: false,
         };
         for word in words {
             command = command.with(word.as_str())?;
@@ -58,11 +62,19 @@ impl<'w> Command<'w> {
 
     /// The same with one more word. The first of help and version counts.
     fn with(self, word: &'w str) -> Result<Command<'w>, Fault> {
+        if self.names_only {
+            return self.with_file(word);
+        }
         match word {
             "-h" | "--help" => Ok(self.with_answer(HELP)),
             "-V" | "--version" => Ok(self.with_answer(VERSION)),
+            "--" => Ok(Command {
+                names_only: true,
+                ..self
+            }),
             _ => match self.flags.with(word) {
                 Some(flags) => Ok(Command { flags, ..self }),
+                None if is_flag(word) => Err(Fault::Words),
                 None => self.with_file(word),
             },
         }
@@ -75,9 +87,9 @@ impl<'w> Command<'w> {
         }
     }
 
-    /// The same with the name of a file. Fails if it looks like a flag, or if there is one already.
+    /// The same with the name of a file. Fails if there is one already.
     fn with_file(self, name: &'w str) -> Result<Command<'w>, Fault> {
-        if self.file.is_some() || (name.starts_with('-') && name != STANDARD_INPUT) {
+        if self.file.is_some() {
             return Err(Fault::Words);
         }
         Ok(Command {

@@ -15,7 +15,7 @@ use std::process::ExitCode;
 
 fn main(rt: HostRuntime) -> ExitCode {
     match run(&rt) {
-        Ok(()) => ExitCode::SUCCESS,
+        Ok(status) => status,
         Err(fault) => {
             let _ = eprintln!(rt; "markdown-events: {}", fault.words());
             ExitCode::from(status(fault))
@@ -31,13 +31,31 @@ fn status(fault: Fault) -> u8 {
     }
 }
 
-/// Runs the command line.
-fn run(rt: &HostRuntime) -> Result<(), Fault> {
+/// Runs the command line. A file whose events can't be printed is named.
+fn run(rt: &HostRuntime) -> Result<ExitCode, Fault> {
     let words = words(rt)?;
     let command = Command::read(&words)?;
     if let Some(answer) = command.answer {
         return print_answer(rt, answer).map_err(|error| Fault::writing(&error));
     }
+    match print_file(rt, command) {
+        Ok(()) => Ok(ExitCode::SUCCESS),
+        Err(fault) => {
+            let name = command.name();
+            let _ = eprintln!(rt; "markdown-events: {name}: {}", fault.words());
+            Ok(ExitCode::from(status(fault)))
+        }
+    }
+}
+
+/// Prints the help or the version to standard output.
+fn print_answer(rt: &HostRuntime, answer: &str) -> io::Result<ExitCode> {
+    print!(rt; "{answer}")?;
+    Ok(ExitCode::SUCCESS)
+}
+
+/// Prints the events of a file.
+fn print_file(rt: &HostRuntime, command: Command<'_>) -> Result<(), Fault> {
     let text = text(rt, command.name())?;
     if text.len() > SIZE_MAX {
         return Err(Fault::Size);
@@ -47,11 +65,6 @@ fn run(rt: &HostRuntime) -> Result<(), Fault> {
         return Err(Fault::Memory);
     };
     print_events(rt, &events).map_err(|error| Fault::writing(&error))
-}
-
-/// Prints the help or the version to standard output.
-fn print_answer(rt: &HostRuntime, answer: &str) -> io::Result<()> {
-    print!(rt; "{answer}")
 }
 
 /// Prints events to standard output.

@@ -1,67 +1,57 @@
 //! The words of the command line.
-use markdown_format::{BreakStyle, Style, TableStyle};
-use markdown_input::{Fault, Flags, STANDARD_INPUT};
+use crate::help::{HELP, VERSION};
+use crate::options::{Options, hard_breaks_of};
+use crate::refusal::Refusal;
+use markdown_input::{Fault, STANDARD_INPUT, is_flag};
 use std::alloc::Global;
-
-/// What `--help` prints.
-const HELP: &str = "\
-Formats Markdown. The page that a text stands for stays the same, to the byte.
-
-Usage: markdown-fmt [OPTIONS] [FILE..]
-
-It formats the files in place, and writes only those that change. Standard
-input, whose name is -, is formatted to standard output.
-
-Options:
-      --check         Write nothing; print the names of files that would change
-      --padded-tables Pad the cells of tables, so that bars stand in columns
-      --hard-breaks=spaces, --hard-breaks=backslash
-                      End lines with hard breaks so (otherwise they stay)
-      --gfm           Read GitHub Flavored Markdown
-      --frontmatter   Read frontmatter at the start of a text
-      --math          Read $a$, and blocks between lines of $$
-      --mark          Read ==text== as marked text
-      --all           All four
-  -h, --help          Print help
-  -V, --version       Print version
-
-Exit status:
-  0  all files are formatted
-  1  with --check: files would change
-  2  the command line is wrong, or a file can't be read or written
-";
-
-/// What `--version` prints.
-const VERSION: &str = "markdown-fmt 0.1.0\n";
 
 /// What a command line asks for.
 #[derive(Drop)]
 pub(crate) struct Command<'w> {
+    alloc: Global,
     /// What to print, and nothing else to do: the help or the version.
     pub(crate) answer: Option<&'static str>,
     /// Whether files are only checked.
     pub(crate) checks: bool,
-    /// How texts are formatted.
-    pub(crate) style: Style,
-    /// Which constructs are on beside those of CommonMark.
-    pub(crate) flags: Flags,
-    /// The names of the files. There is at least one.
+    /// Whether what would change is printed. Then files are only checked.
+    pub(crate) prints_diff: bool,
+    /// How files are formatted.
+    pub(crate) options: Options,
+    /// The file of settings, if one is named.
+    pub(crate) config: Option<&'w str>,
+    /// The names of the files and folders. There is at least one.
     pub(crate) files: Vec<&'w str>,
+    /// The option whose value is the next word.
+    wanting: Option<&'w str>,
+    /// Whether all further words are names of files.
+    names_only: bool,
 }
 
 impl<'w> Command<'w> {
-    /// Reads the words, without the name of the program. Flags and files may come in any order.
-    /// Fails with `Words` if a flag is wrong, or with `Memory`.
-    pub(crate) fn read(alloc: Global, words: &'w [String]) -> Result<Command<'w>, Fault> {
+    /// Reads the words, without the name of the program. Flags and files may come in any order. What the
+    /// words ask for is added to options. Fails with `Rule`, with `Words` if an option is wrong, or with
+    /// `Memory`.
+    pub(crate) fn read(
+        alloc: Global,
+        words: &'w [String],
+        options: Options,
+    ) -> Result<Command<'w>, Refusal<'w>> {
         let mut command = Command {
+            alloc,
             answer: None,
             checks: false,
-            style: Style::default(),
-            flags: Flags::default(),
+            prints_diff: false,
+            options,
+            config: None,
             files: Vec::new(alloc),
+            wanting: None,
+            names_only: false,
         };
         for word in words {
             command.add(word.as_str())?;
+        }
+        if command.wanting.is_some() {
+            return Err(Refusal::Fault(Fault::Words));
         }
         if command.files.is_empty() {
             command.files.push(STANDARD_INPUT)?;
@@ -69,19 +59,32 @@ impl<'w> Command<'w> {
         Ok(command)
     }
 
-    /// Adds a word. The first of help and version counts.
-    fn add(&mut self, word: &'w str) -> Result<(), Fault> {
+    /// Adds a word.
+    fn add(&mut self, word: &'w str) -> Result<(), Refusal<'w>> {
+        if let Some(option) = self.wanting {
+            self.wanting = None;
+            return self.set_value(option, word);
+        }
+        if self.names_only {
+            self.files.push(word)?;
+            return Ok(());
+        }
+        self.add_word(word)
+    }
+
+    /// Adds a word that is no value. The first of help and version counts.
+    fn add_word(&mut self, word: &'w str) -> Result<(), Refusal<'w>> {
         match word {
             "-h" | "--help" => self.set_answer(HELP),
             "-V" | "--version" => self.set_answer(VERSION),
+            "--" => self.names_only = true,
             "--check" => self.checks = true,
-            "--padded-tables" => self.style.tables = TableStyle::Padded,
-            "--hard-breaks=spaces" => self.style.hard_breaks = BreakStyle::Spaces,
-            "--hard-breaks=backslash" => self.style.hard_breaks = BreakStyle::Backslash,
-            _ => match self.flags.with(word) {
-                Some(flags) => self.flags = flags,
-                None => self.add_file(word)?,
-            },
+            "--diff" => self.prints_diff = true,
+            "--padded-tables" => self.options.set_padded(true),
+            "--hard-breaks" | "--disable" | "--enable" | "--ignore" | "--config" => {
+                self.wanting = Some(word);
+            }
+            _ => return self.add_other(word),
         }
         Ok(())
     }
@@ -90,12 +93,52 @@ impl<'w> Command<'w> {
         self.answer = Some(self.answer.unwrap_or(answer));
     }
 
-    /// Adds the name of a file. Fails if it looks like a flag.
-    fn add_file(&mut self, name: &'w str) -> Result<(), Fault> {
-        if name.starts_with('-') && name != STANDARD_INPUT {
-            return Err(Fault::Words);
+    /// Adds a flag for constructs, an option with its value, or the name of a file.
+    fn add_other(&mut self, word: &'w str) -> Result<(), Refusal<'w>> {
+        if let Some(flags) = self.options.flags.with(word) {
+            self.options.flags = flags;
+            return Ok(());
         }
-        self.files.push(name)?;
-        Ok(())
+        if !is_flag(word) {
+            self.files.push(word)?;
+            return Ok(());
+        }
+        match word.split_once('=') {
+            Some((option, value)) => self.set_value(option, value),
+            None => Err(Refusal::Fault(Fault::Words)),
+        }
+    }
+
+    /// Sets the value of an option.
+    fn set_value(&mut self, option: &'w str, value: &'w str) -> Result<(), Refusal<'w>> {
+        match option {
+            "--disable" => self.set_rule(value, false),
+            "--enable" => self.set_rule(value, true),
+            "--hard-breaks" => self.set_hard_breaks(value),
+            "--ignore" => Ok(self.options.ignore(self.alloc, value)?),
+            "--config" => {
+                self.config = Some(value);
+                Ok(())
+            }
+            _ => Err(Refusal::Fault(Fault::Words)),
+        }
+    }
+
+    fn set_rule(&mut self, name: &'w str, is_on: bool) -> Result<(), Refusal<'w>> {
+        if self.options.style.rules.set(name, is_on) {
+            Ok(())
+        } else {
+            Err(Refusal::Rule(name))
+        }
+    }
+
+    fn set_hard_breaks(&mut self, value: &str) -> Result<(), Refusal<'w>> {
+        match hard_breaks_of(value) {
+            Some(hard_breaks) => {
+                self.options.style.hard_breaks = hard_breaks;
+                Ok(())
+            }
+            None => Err(Refusal::Fault(Fault::Words)),
+        }
     }
 }

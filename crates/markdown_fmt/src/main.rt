@@ -1,15 +1,22 @@
 //! Formats Markdown. The page of a text stays the same.
 #![tactic(auto)]
 
+mod changes;
 mod command;
+mod config;
+mod diff;
 mod files;
+mod help;
+mod options;
 mod outcome;
+mod refusal;
 
 use command::Command;
-use files::format_files;
+use files::format_all;
 use markdown_input::{Fault, words};
+use options::Options;
 use outcome::Outcome;
-use std::io;
+use refusal::Refusal;
 use std::process::ExitCode;
 
 fn main(rt: HostRuntime) -> ExitCode {
@@ -20,18 +27,40 @@ fn main(rt: HostRuntime) -> ExitCode {
     ExitCode::from(outcome.status())
 }
 
-/// Runs the command line.
+/// Runs the command line. Its words are read twice, since they add to the file of settings that they name.
 fn run(rt: &HostRuntime) -> Result<Outcome, Fault> {
     let words = words(rt)?;
-    let command = Command::read(rt.alloc(), &words)?;
+    let command = match Command::read(rt.alloc(), &words, Options::new(rt.alloc())) {
+        Ok(command) => command,
+        Err(refusal) => return print_refusal(rt, refusal),
+    };
     if let Some(answer) = command.answer {
-        return print_answer(rt, answer).map_err(|error| Fault::writing(&error));
+        return print_answer(rt, answer);
     }
-    format_files(rt, &command)
+    let Some(options) = config::options(rt, command.config)? else {
+        return Ok(Outcome::Fault);
+    };
+    match Command::read(rt.alloc(), &words, options) {
+        Ok(command) => Ok(format_all(rt, &command)),
+        Err(refusal) => print_refusal(rt, refusal),
+    }
+}
+
+/// Prints why the words are wrong.
+fn print_refusal(rt: &HostRuntime, refusal: Refusal<'_>) -> Result<Outcome, Fault> {
+    match refusal {
+        Refusal::Rule(word) => {
+            let _ = eprintln!(rt; "markdown-fmt: no rule {word:?}; --help lists the rules");
+            Ok(Outcome::Fault)
+        }
+        Refusal::Fault(fault) => Err(fault),
+    }
 }
 
 /// Prints the help or the version to standard output.
-fn print_answer(rt: &HostRuntime, answer: &str) -> io::Result<Outcome> {
-    print!(rt; "{answer}")?;
-    Ok(Outcome::Clean)
+fn print_answer(rt: &HostRuntime, answer: &str) -> Result<Outcome, Fault> {
+    match print!(rt; "{answer}") {
+        Ok(()) => Ok(Outcome::Clean),
+        Err(error) => Err(Fault::writing(&error)),
+    }
 }

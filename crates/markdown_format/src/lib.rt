@@ -4,5 +4,5 @@
 mod entry;
 
 pub use entry::format;
-pub use format_rules::{BreakStyle, Style, TableStyle};
+pub use format_rules::{BreakStyle, RULE_NAMES, RuleSet, Style, TableStyle};
 pub use markdown::SIZE_MAX;

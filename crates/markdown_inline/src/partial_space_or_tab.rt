@@ -4,8 +4,8 @@
 //! space_or_tab ::= 1*(' ' | '\t')
 //! ```
 ghost use Rattle.std.specs.Prelude.{◌≡◌};
-ghost use Rattle.engine_events.specs.declared.state.Inline.TheVariants as inline;
-ghost use Rattle.engine_events.specs.declared.state.Name.TheVariants as state_names;
+ghost use Rattle.engine_states.specs.declared.state.Inline.TheVariants as inline;
+ghost use Rattle.engine_states.specs.declared.state.Name.TheVariants as state_names;
 ghost use Rattle.markdown_engine.specs.Machine.{config, KeepsParseState};
 ghost use Rattle.markdown_inline.specs.SpaceOrTab.{with_any_white, with_white};
 

@@ -13,5 +13,5 @@ pub use below::markdown_files;
 pub use config::{Config, ConfigFault, config_file};
 pub use fault::Fault;
 pub use flags::Flags;
-pub use read::{STANDARD_INPUT, text, words};
+pub use read::{STANDARD_INPUT, is_flag, text, words};
 pub use write::replace;

@@ -20,6 +20,11 @@ fn read_words(rt: &(impl Env + AllocGlobal)) -> io::Result<Vec<String>> {
     Ok(words)
 }
 
+/// Whether a word of a command line is a flag, and not the name of a file.
+pub fn is_flag(word: &str) -> bool {
+    word.starts_with('-') && word != STANDARD_INPUT
+}
+
 /// The text of a file, or of standard input. Fails with `Read`, `Utf8` or `Memory`.
 pub fn text(rt: &(impl Files + Input + AllocGlobal), name: &str) -> Result<String, Fault> {
     read_text(rt, name).map_err(|error| Fault::reading(&error))

@@ -1,5 +1,5 @@
 //! The words of the command line.
-use markdown_input::{Fault, STANDARD_INPUT};
+use markdown_input::{Fault, STANDARD_INPUT, is_flag};
 use std::alloc::Global;
 
 /// What `--help` prints.
@@ -15,6 +15,7 @@ It reads the files, or standard input, whose name is -. Columns are in bytes.
 Options:
   -h, --help     Print help
   -V, --version  Print version
+      --         What follows are names of files
 
 Exit status:
   0  all pages are safe
@@ -32,6 +33,8 @@ pub(crate) struct Command<'w> {
     pub(crate) answer: Option<&'static str>,
     /// The names of the files to check. There is at least one.
     pub(crate) files: Vec<&'w str>,
+    /// Whether all further words are names of files.
+    names_only: bool,
 }
 
 impl<'w> Command<'w> {
@@ -41,6 +44,7 @@ impl<'w> Command<'w> {
         let mut command = Command {
             answer: None,
             files: Vec::new(alloc),
+            names_only: false,
         };
         for word in words {
             command.add(word.as_str())?;
@@ -54,23 +58,17 @@ impl<'w> Command<'w> {
     /// Adds a word. The first of help and version counts.
     fn add(&mut self, word: &'w str) -> Result<(), Fault> {
         match word {
+            _ if self.names_only => self.files.push(word)?,
             "-h" | "--help" => self.set_answer(HELP),
             "-V" | "--version" => self.set_answer(VERSION),
-            _ => self.add_file(word)?,
+            "--" => self.names_only = true,
+            _ if is_flag(word) => return Err(Fault::Words),
+            _ => self.files.push(word)?,
         }
         Ok(())
     }
 
     fn set_answer(&mut self, answer: &'static str) {
         self.answer = Some(self.answer.unwrap_or(answer));
-    }
-
-    /// Adds the name of a file. Fails if it looks like an option.
-    fn add_file(&mut self, name: &'w str) -> Result<(), Fault> {
-        if name.starts_with('-') && name != STANDARD_INPUT {
-            return Err(Fault::Words);
-        }
-        self.files.push(name)?;
-        Ok(())
     }
 }

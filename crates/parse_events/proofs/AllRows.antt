@@ -20,12 +20,12 @@ use Rattle.parse_output.specs.Placed.{ArePlaced}
 use Rattle.parse_output.specs.Written.{open_in}
 use Rattle.parse_slots.specs.Left.{ends, left_by}
 use Rattle.parse_references.specs.Sound.{AreSound}
-use Rattle.parse_constructs.specs.Constructs.{NothingIsOff}
-use Rattle.parse_constructs.proofs.Documents.{documents_have_nothing_off}
-use Rattle.parse_leading.proofs.Agree.{documents_agree}
-use Rattle.parse_leading.proofs.Documents.{documents_lead_on}
-use Rattle.parse_matches.proofs.Law.{met_grammar_matches}
-use Rattle.parse_matches.proofs.Places.{places_fit}
+use Rattle.parse_grammar.specs.Constructs.{NothingIsOff}
+use Rattle.parse_grammar.proofs.ConstructDocuments.{documents_have_nothing_off}
+use Rattle.parse_grammar.proofs.Agree.{documents_agree}
+use Rattle.parse_grammar.proofs.LeadingDocuments.{documents_lead_on}
+use Rattle.parse_grammar.proofs.MatchLaw.{met_grammar_matches}
+use Rattle.parse_grammar.proofs.Places.{places_fit}
 use Rattle.parse_alike.specs.Spelled.{IsPageOfText}
 use Rattle.parse_open.specs.Texts.{text_blocks}
 use Rattle.parse_open.proofs.FilledBytes.{documents_are_filled, tree_is}

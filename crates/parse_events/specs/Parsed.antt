@@ -10,7 +10,7 @@ use Rattle.event_grammar.specs.Trees.{AreNodes, Nodes, events_of}
 use Rattle.event_tokens.specs.Bytes.{HaveTheirBytes}
 use Rattle.event_meaning.specs.Spelled.{spelled}
 use Rattle.parse_alike.specs.Spelled.{IsPageOfText}
-use Rattle.parse_constructs.specs.Constructs.{NothingIsOff}
+use Rattle.parse_grammar.specs.Constructs.{NothingIsOff}
 use Rattle.parse_output.specs.Children.{HaveChildren}
 use Rattle.parse_output.specs.Placed.{ArePlaced}
 use Rattle.parse_slots.specs.Left.{ends, left_by}

@@ -14,7 +14,7 @@ ghost use Rattle.markdown_options.specs.Messages.{IsOutOfMemory};
 ghost use Rattle.block_rows.specs.Rows.{rows_of, rows_size, rows_value, value_with};
 ghost use Rattle.event_check.specs.Matches.{MatchesGrammar};
 ghost use Rattle.parse_output.specs.Placed.{ArePlaced};
-ghost use Rattle.parse_constructs.specs.Constructs.{NothingIsOff};
+ghost use Rattle.parse_grammar.specs.Constructs.{NothingIsOff};
 ghost use Rattle.parse_output.specs.Children.{HaveChildren, holds_blocks};
 ghost use Rattle.parse_lines.specs.Open.{still_open};
 ghost use Rattle.parse_leaves.specs.Texts.{KnowsTargets, reading_by};
@@ -53,7 +53,7 @@ pub const SIZE_MAX: usize = usize::MAX / 8;
 /// `event_tokens`. The bytes are whole characters, so each event begins and ends between characters. If its
 /// name can hold no other, it has at least a byte, or a column of a tab.
 ///
-/// No event is of a construct that is off, by the table of names in `parse_constructs`.
+/// No event is of a construct that is off, by the table of names in `parse_grammar`.
 pub fn parse<'a, T: Tables, A: Allocator + Clone>(
     alloc: A,
     value: &'a str,

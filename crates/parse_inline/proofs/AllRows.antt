@@ -17,9 +17,9 @@ use Rattle.definition_inline.specs.Inline as inline
 use Rattle.definition_inline.specs.Inline.{LinkTexts}
 use Rattle.inline_rows.specs.InlineRows.{inline_rows}
 use Rattle.laws_inline.proofs.NestedLinks.{links_hold_no_links_from}
-use Rattle.parse_rows.specs.Rows.{step_row}
-use Rattle.parse_rows.proofs.Parts.{spaces_after}
-use Rattle.parse_rows.proofs.Steps.{rows_of_steps}
+use Rattle.parse_written.specs.Rows.{step_row}
+use Rattle.parse_written.proofs.Parts.{spaces_after}
+use Rattle.parse_written.proofs.Steps.{rows_of_steps}
 use Rattle.parse_written.specs.Laid.{MayBeSpaces}
 use Rattle.parse_written.proofs.Contents.{written_from_law}
 use Rattle.parse_written.proofs.Laid.{laid_law}

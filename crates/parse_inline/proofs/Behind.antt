@@ -8,8 +8,8 @@ use Rattle.definition_text.specs.Content.{part}
 use Rattle.definition_inline.specs.Label.{label_at}
 use Rattle.definition_inline.specs.Resource.{LinkResource}
 use Rattle.parse_links.specs.Tails.{SpellsReference, after_reference}
-use Rattle.parse_rows.specs.Marks.{call_text}
-use Rattle.parse_rows.proofs.Marks.{call_bytes_law}
+use Rattle.parse_written.specs.Marks.{call_text}
+use Rattle.parse_written.proofs.Marks.{call_bytes_law}
 use Rattle.parse_written.specs.Tails.{AsLabel, AsResource, AsText, HasTail}
 use Rattle.parse_written.proofs.Tails.{tail_law}
 

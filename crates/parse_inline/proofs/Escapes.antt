@@ -26,7 +26,7 @@ use Rattle.parse_strings.specs.References.{AreMarks, is_semicolon, marked_decode
 use Rattle.parse_strings.specs.Strings.{WritesNodeIn}
 use Rattle.parse_strings.proofs.Texts.{marked}
 use Rattle.inline_references.proofs.Written.{read_is_written}
-use Rattle.parse_rows.proofs.Leaves.{reference_bytes_law}
+use Rattle.parse_written.proofs.RowLeaves.{reference_bytes_law}
 use Rattle.parse_written.specs.Leaves.{IsReference}
 use Rattle.event_grammar.specs.declared.slot.Form.TheVariants.{Plain}
 use Rattle.event_grammar.specs.Grammar.{text_row}

@@ -19,9 +19,9 @@ use Rattle.inline_rows.specs.declared.row.InlineRow.TheVariants as rows
 use Rattle.inline_rows.specs.declared.row.LinkTarget.{LinkTarget}
 use Rattle.inline_rows.specs.declared.row.VerbatimText.{VerbatimText}
 use Rattle.event_meaning.specs.Texts.{append}
-use Rattle.parse_rows.specs.Rows.{AreEntered, AreHeld, IsLinkedStart}
-use Rattle.parse_rows.proofs.Marks.{sequence_law}
-use Rattle.parse_rows.proofs.Rows.{first_row_law}
+use Rattle.parse_written.specs.Rows.{AreEntered, AreHeld, IsLinkedStart}
+use Rattle.parse_written.proofs.Marks.{sequence_law}
+use Rattle.parse_written.proofs.LaidRows.{first_row_law}
 use Rattle.parse_written.specs.Laid.{EntersLinked}
 use Rattle.parse_written.specs.Written.{linked_start}
 use Rattle.parse_inline.specs.declared.opened.Open as opened

@@ -30,15 +30,15 @@ use Rattle.definition_inline.proofs.Scanning.{drop-codes_of}
 use Rattle.event_meaning.specs.Texts as texts
 use Rattle.parse_strings.proofs.Characters.{fits_data}
 use Rattle.parse_strings.proofs.Codes.{alone_codes, feed_codes}
-use Rattle.parse_rows.specs.Bytes.{Passes}
+use Rattle.parse_written.specs.Bytes.{Passes}
 use Rattle.inline_leaves.specs.Leaves.{kind_view}
 use Rattle.inline_leaves.specs.declared.leaf.LiteralKind.{LiteralKind}
 use Rattle.inline_leaves.specs.declared.leaf.LiteralKind.TheVariants.{Www, Protocol, Email}
 use Rattle.inline_leaves.proofs.Codes.{after_codes, prefix_codes}
-use Rattle.parse_rows.specs.Parts.{AreEscapes, EndsLine, HasPartForm}
-use Rattle.parse_rows.proofs.Parts.{parts_law}
-use Rattle.parse_rows.proofs.Bytes.{text_bytes_law}
-use Rattle.parse_rows.proofs.Leaves.{break_bytes_law, line_bytes_law}
+use Rattle.parse_written.specs.Parts.{AreEscapes, EndsLine, HasPartForm}
+use Rattle.parse_written.proofs.Parts.{parts_law}
+use Rattle.parse_written.proofs.Bytes.{text_bytes_law}
+use Rattle.parse_written.proofs.RowLeaves.{break_bytes_law, line_bytes_law}
 use Rattle.inline_rows.specs.declared.row.SpelledLeaf.TheVariants as spelled
 use Rattle.parse_written.specs.Leaves.{AreAllSpaces, HasForm, IsAutolink, IsHtml, is_target}
 use Rattle.parse_written.proofs.Forms.{leaf_law}

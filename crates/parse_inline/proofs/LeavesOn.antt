@@ -10,7 +10,7 @@ use Rattle.definition_inline.proofs.LeavesFound.{LeafStands, leaf_stands}
 use Rattle.inline_leaves.specs.declared.leaf.LeafPart.TheVariants as leaf
 use Rattle.definition_inline.specs.CharacterReference.{number_of, numbered_text}
 use Rattle.definition_text.specs.Content.{content_codes}
-use Rattle.parse_rows.specs.Rows.{AreLeavesLaid}
+use Rattle.parse_written.specs.Rows.{AreLeavesLaid}
 use Rattle.parse_written.specs.Written.{IsFound}
 
 module _ (context : InlineContext) where

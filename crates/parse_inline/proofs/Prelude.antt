@@ -71,12 +71,12 @@ pub use Rattle.parse_output.specs.Forest.{append, cut, data_nodes, one, void_nod
 pub use Rattle.parse_output.specs.Open.{Entered, Mark}
 pub use Rattle.parse_output.specs.Written.{end_in}
 pub use Rattle.parse_output.specs.declared.end.End.{End}
-pub use Rattle.parse_rows.proofs.Bytes.{inline_bytes_law}
-pub use Rattle.parse_rows.proofs.Raw.{raw_bytes_law}
-pub use Rattle.parse_rows.specs.Bytes.{AreBytesAt}
-pub use Rattle.parse_rows.specs.Marks.{sequence_size}
-pub use Rattle.parse_rows.specs.Parts.{escaped}
-pub use Rattle.parse_rows.specs.Rows.{IsData, IsFirstLaid, IsPartLaid}
+pub use Rattle.parse_written.proofs.Bytes.{inline_bytes_law}
+pub use Rattle.parse_written.proofs.Raw.{raw_bytes_law}
+pub use Rattle.parse_written.specs.Bytes.{AreBytesAt}
+pub use Rattle.parse_written.specs.Marks.{sequence_size}
+pub use Rattle.parse_written.specs.Parts.{escaped}
+pub use Rattle.parse_written.specs.Rows.{IsData, IsFirstLaid, IsPartLaid}
 pub use Rattle.parse_strings.proofs.Codes.{codes_split, line_bytes, no_ends}
 pub use Rattle.parse_strings.proofs.Parts.{owed_indent}
 pub use Rattle.parse_strings.proofs.PlainNodes.{plain_both, plain_none, plain_one, plain_quiet, plain_void, sought_names}

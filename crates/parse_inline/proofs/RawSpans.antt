@@ -22,7 +22,7 @@ use Rattle.engine_events.specs.declared.event.Name.TheVariants as n
 use Rattle.definition_text.specs.Runs.{after_run}
 use Rattle.definition_inline.specs.CodeText.{code_text}
 use Rattle.definition_inline.specs.Inline as inline
-use Rattle.parse_rows.specs.Bytes.{IsRawInBytes}
+use Rattle.parse_written.specs.Bytes.{IsRawInBytes}
 use Rattle.event_grammar.specs.declared.slot.Between.{Between}
 use Rattle.event_grammar.specs.declared.slot.Between.TheVariants.{Lines}
 use Rattle.event_grammar.specs.declared.slot.Form.TheVariants.{Plain}

@@ -25,7 +25,7 @@ use Rattle.inline_leaves.specs.declared.leaf.LeafPart.TheVariants.{Literal}
 use Rattle.inline_rows.specs.View.{spelled_view}
 use Rattle.inline_rows.specs.declared.row.SpelledLeaf.{SpelledLeaf}
 use Rattle.parse_alike.specs.Inline.{ArePartsAlike}
-use Rattle.parse_rows.specs.Bytes.{AreBytesAt}
+use Rattle.parse_written.specs.Bytes.{AreBytesAt}
 use Rattle.parse_inline.specs.Texts.{FillsText}
 
 -- the names of a literal of a kind (GFM 6.9)

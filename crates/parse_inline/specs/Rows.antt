@@ -36,8 +36,8 @@ use Rattle.parse_strings.specs.Plain.{ArePlain}
 use Rattle.parse_alike.specs.Inline.{ArePartsAlike}
 use Rattle.parse_alike.specs.LabelMatch.{HaveSameWords}
 use Rattle.parse_alike.specs.Strings.{HaveTextsOfBytes}
-use Rattle.parse_rows.specs.Bytes.{AreBytesAt}
-use Rattle.parse_rows.specs.Rows.{step_row}
+use Rattle.parse_written.specs.Bytes.{AreBytesAt}
+use Rattle.parse_written.specs.Rows.{step_row}
 use Rattle.parse_written.specs.Laid.{AreLaid, Open, OpenSpan, OpenLinked, Step}
 use Rattle.parse_written.specs.Written.{EndNoLine}
 use Rattle.parse_inline.specs.declared.opened.Open as opened

@@ -16,7 +16,7 @@ use Rattle.parse_references.specs.Sound.{AreSound}
 use Rattle.parse_strings.specs.Plain.{ArePlain}
 use Rattle.parse_alike.specs.Inline.{ArePartsAlike}
 pub use Rattle.parse_alike.specs.Meanings.{AreMeanings}
-use Rattle.parse_rows.specs.Bytes.{AreBytesAt}
+use Rattle.parse_written.specs.Bytes.{AreBytesAt}
 
 -- nodes are parts of a text, as the grammar has them, wherever the bytes that they are written for may stand
 abbrev pub FillsText : List ℕ → Nodes → Type 0

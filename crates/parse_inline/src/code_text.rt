@@ -13,7 +13,7 @@ ghost use Rattle.parse_inline.specs.Leaves.{Anywhere, WritesLeaves};
 ghost use Rattle.parse_inline.specs.Lines.{are_raw_names, is_raw_marker, raw_leaf};
 ghost use Rattle.parse_lines.specs.InContent.{IsWhole, StandsInContent, Stop};
 ghost use Rattle.parse_lines.specs.Open.{still_open};
-ghost use Rattle.parse_rows.specs.Bytes.{IsRawInBytes};
+ghost use Rattle.parse_written.specs.Bytes.{IsRawInBytes};
 
 use crate::lines::push_lines;
 use engine_events::event::Name;

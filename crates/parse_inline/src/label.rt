@@ -15,7 +15,7 @@ ghost use Rattle.parse_inline.specs.declared.opened.Open.TheVariants as held;
 ghost use Rattle.parse_inline.specs.Leaving.{AreHeld, leave_label, open_around};
 ghost use Rattle.parse_inline.specs.Rows.{EndsLabel, EntersLabel, LeavesLinked, WritesBehind, WritesMark};
 ghost use Rattle.parse_inline.specs.Texts.{StandsInText};
-ghost use Rattle.parse_rows.specs.Bytes.{AreBytesAt};
+ghost use Rattle.parse_written.specs.Bytes.{AreBytesAt};
 ghost use Rattle.parse_written.specs.Tails.{HasTail};
 ghost use Rattle.parse_written.specs.Written.{EndsLinked};
 

@@ -23,9 +23,9 @@ ghost use Rattle.parse_lines.specs.InContent.{IsApart, IsWhole, StandsInContent,
 ghost use Rattle.parse_lines.specs.Open.{still_open};
 ghost use Rattle.inline_rows.specs.View.{spelled_view};
 ghost use Rattle.parse_alike.specs.HtmlText.{html_leaves};
-ghost use Rattle.parse_rows.specs.Bytes.{AreBytesAt};
-ghost use Rattle.parse_rows.specs.Parts.{escaped};
-ghost use Rattle.parse_rows.specs.Rows.{IsPartLaid};
+ghost use Rattle.parse_written.specs.Bytes.{AreBytesAt};
+ghost use Rattle.parse_written.specs.Parts.{escaped};
+ghost use Rattle.parse_written.specs.Rows.{IsPartLaid};
 ghost use Rattle.parse_written.specs.Laid.{IsLeafLaid};
 ghost use Rattle.parse_written.specs.Leaves.{IsReference, is_target};
 

@@ -10,7 +10,7 @@ ghost use Rattle.parse_lines.specs.Open.{still_open};
 ghost use Rattle.parse_inline.specs.declared.opened.Open.TheVariants as held;
 ghost use Rattle.parse_inline.specs.Leaving.{AreHeld, open_around, sequence_name, span_name, text_name};
 ghost use Rattle.parse_inline.specs.Rows.{EntersSpan, LeavesSpan};
-ghost use Rattle.parse_rows.specs.Marks.{sequence_size};
+ghost use Rattle.parse_written.specs.Marks.{sequence_size};
 
 use crate::opened::Open;
 use crate::reading::Reading;

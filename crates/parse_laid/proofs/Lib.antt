@@ -17,3 +17,5 @@ pub mod HeadingSetext
 pub mod EmptyRests
 pub mod Outermost
 pub mod Refused
+pub mod Codes
+pub mod DelimiterLines

@@ -15,3 +15,13 @@ pub mod SoundBytes
 pub mod Ends
 pub mod Fronts
 pub mod Texts
+pub mod Ordered
+pub mod BytewiseNodes
+pub mod BytewiseChildren
+pub mod BytewiseStrings
+pub mod BytewiseLabels
+pub mod BytewiseTexts
+pub mod BytewiseTables
+pub mod BytewiseBlocks
+pub mod BytewiseGrammar
+pub mod BytewiseEvents

@@ -7,3 +7,6 @@ pub mod Steps
 pub mod Fronts
 pub mod Texts
 pub mod NodeLaws
+pub mod BytewiseSound
+pub mod BytewiseLaws
+pub mod BytewiseExamples

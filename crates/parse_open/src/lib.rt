@@ -1,5 +1,8 @@
+// FROM parse_open
 //! What is open in a document after some of its rows, the blocks that all rows make, and what the nodes spell that are written so far.
 #![tactic(auto)]
+
+pub mod bytewise;
 
 ghost use Rattle.parse_open.specs.BlockLaws.{BareBlocksReadTheSame, RowsLeadToBlocks};
 ghost use Rattle.parse_open.specs.Lines.{LinesAreCounted, SpreadBlocksCompose};

@@ -20,7 +20,7 @@ use Rattle.parse_leaves.proofs.RowLeaves.{own_size}
 use Rattle.parse_leaves.proofs.TextLeaves.{none_alike}
 use Rattle.parse_tables.proofs.Steps.{IsEntered, IsExited, open_both}
 use Rattle.parse_tables.proofs.BodyWritten.{entered_open, entered_stands, entered_written, same_prefixed, same_taken}
-use Rattle.parse_tables.proofs.DelimiterLines.{line_delimiters, row_delimiters}
+use Rattle.parse_laid.proofs.DelimiterLines.{line_delimiters, row_delimiters}
 use Rattle.parse_tables.proofs.Fills.{table_fill}
 use Rattle.parse_tables.proofs.RowsWritten.{around_line, lines_both, same_row}
 use Rattle.parse_tables.proofs.Sound.{table_sound}

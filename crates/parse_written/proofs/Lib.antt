@@ -15,3 +15,11 @@ pub mod Laid
 pub mod HtmlEnds
 pub mod Forms
 pub mod Tails
+pub mod Steps
+pub mod LaidRows
+pub mod Parts
+pub mod Bytes
+pub mod RefusedRows
+pub mod Raw
+pub mod Marks
+pub mod RowLeaves

@@ -3,3 +3,9 @@ pub mod Leaves
 pub mod Tails
 pub mod Laid
 pub mod Laws
+pub mod Rows
+pub mod Parts
+pub mod Bytes
+pub mod Marks
+pub mod RowLaws
+pub mod RefusedRows

@@ -2,11 +2,11 @@
 use Rattle.std.specs.Prelude.{◌==◌}
 use Rattle.markdown_options.specs.declared.configuration.Constructs.{Constructs}
 use Rattle.engine_events.specs.declared.event.Name.TheVariants as names
-use Rattle.engine_events.specs.declared.state.Block.TheVariants as state_block
-use Rattle.engine_events.specs.declared.state.State.TheVariants as states
+use Rattle.engine_states.specs.declared.state.Block.TheVariants as state_block
+use Rattle.engine_states.specs.declared.state.State.TheVariants as states
 use Rattle.engine_programs.specs.Bodies.{FixedName, Body, Answer, Enter, Exit, On, Test, around}
 use Rattle.definition_text.specs.Ascii.{greater_than}
-use Rattle.state_block_table.specs.BlockWords.{over_indent, next}
+use Rattle.state_table.specs.BlockWords.{over_indent, next}
 use Rattle.state_table.specs.Words.{is_space_or_tab}
 
 module _ {M : Type 0} where

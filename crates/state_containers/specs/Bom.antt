@@ -1,10 +1,10 @@
 -- What the states of `partial_bom` do.
 use Rattle.std.specs.Prelude.{refl, ◌==◌}
 use Rattle.engine_events.specs.declared.event.Name.TheVariants as names
-use Rattle.engine_events.specs.declared.state.Block.TheVariants as state_block
-use Rattle.engine_events.specs.declared.state.State.TheVariants as states
+use Rattle.engine_states.specs.declared.state.Block.TheVariants as state_block
+use Rattle.engine_states.specs.declared.state.State.TheVariants as states
 use Rattle.engine_programs.specs.Bodies.{FixedName, Body, Answer, Consume, Enter, Exit, Keep, Byte, On, Test, has}
-use Rattle.state_block_table.specs.BlockWords.{next}
+use Rattle.state_table.specs.BlockWords.{next}
 use Rattle.state_table.specs.Words.{count_one}
 use Rattle.state_containers.specs.Open.{is_mark}
 

@@ -1,7 +1,7 @@
 -- The states of this crate by their names.
-use Rattle.engine_events.specs.declared.state.Block.{Block as BlockName}
-use Rattle.engine_events.specs.declared.state.Block.TheVariants as state_block
-use Rattle.engine_events.specs.declared.state.State.TheVariants as states
+use Rattle.engine_states.specs.declared.state.Block.{Block as BlockName}
+use Rattle.engine_states.specs.declared.state.Block.TheVariants as state_block
+use Rattle.engine_states.specs.declared.state.State.TheVariants as states
 use Rattle.markdown_engine.specs.Context.{Context}
 use Rattle.engine_programs.specs.Bodies.{Body, Answer}
 use Rattle.state_containers.specs.BlockQuote.{block_quote_start, block_quote_cont_start, block_quote_cont_before}

@@ -2,11 +2,11 @@
 use Rattle.std.specs.Prelude.{false, refl, ◌==◌}
 use Rattle.markdown_options.specs.declared.configuration.Constructs.{Constructs}
 use Rattle.engine_events.specs.declared.event.Name.TheVariants as names
-use Rattle.engine_events.specs.declared.state.Block.TheVariants as state_block
-use Rattle.engine_events.specs.declared.state.State.TheVariants as states
+use Rattle.engine_states.specs.declared.state.Block.TheVariants as state_block
+use Rattle.engine_states.specs.declared.state.State.TheVariants as states
 use Rattle.engine_programs.specs.Bodies.{FixedName, Body, Answer, Consume, Enter, Exit, Keep, Tries, Byte, On, Test, around}
 use Rattle.definition_text.specs.Ascii.{line_feed, plus, hyphen}
-use Rattle.state_block_table.specs.BlockWords.{over_white, at_line_end, no_limit, next, retry}
+use Rattle.state_table.specs.BlockWords.{over_white, at_line_end, no_limit, next, retry}
 use Rattle.state_table.specs.Words.{at_marker, count_one}
 
 abbrev pub frontmatter_closed : {M : Type 0} → Body M

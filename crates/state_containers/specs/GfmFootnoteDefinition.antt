@@ -2,11 +2,11 @@
 use Rattle.std.specs.Prelude.{true, false, nat_lt, refl, ◌==◌, ◌||◌}
 use Rattle.markdown_options.specs.declared.configuration.Constructs.{Constructs}
 use Rattle.engine_events.specs.declared.event.Name.TheVariants as names
-use Rattle.engine_events.specs.declared.state.Block.TheVariants as state_block
-use Rattle.engine_events.specs.declared.state.State.TheVariants as states
+use Rattle.engine_states.specs.declared.state.Block.TheVariants as state_block
+use Rattle.engine_states.specs.declared.state.State.TheVariants as states
 use Rattle.engine_programs.specs.Bodies.{FixedName, Body, Answer, Consume, Enter, EnterLink, Exit, Keep, Tries, Byte, On, AfterFeed, Test, around}
 use Rattle.definition_text.specs.Ascii.{colon, left_bracket, backslash, right_bracket, caret}
-use Rattle.state_block_table.specs.BlockWords.{over_indent, white_to, no_limit, is_white, next, retry, string_link}
+use Rattle.state_table.specs.BlockWords.{over_indent, white_to, no_limit, is_white, next, retry, string_link}
 use Rattle.state_table.specs.Words.{count_one, is_space_or_tab}
 use Rattle.state_containers.specs.Open.{go_on_blank, go_on_indented}
 

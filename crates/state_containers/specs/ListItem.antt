@@ -3,11 +3,11 @@ use Rattle.std.specs.Prelude.{true, false, not, nat_lt, refl, ◌==◌, ◌&&◌
 use Rattle.std.specs.Char.{is_ascii_digit}
 use Rattle.markdown_options.specs.declared.configuration.Constructs.{Constructs}
 use Rattle.engine_events.specs.declared.event.Name.TheVariants as names
-use Rattle.engine_events.specs.declared.state.Block.TheVariants as state_block
-use Rattle.engine_events.specs.declared.state.State.TheVariants as states
+use Rattle.engine_states.specs.declared.state.Block.TheVariants as state_block
+use Rattle.engine_states.specs.declared.state.State.TheVariants as states
 use Rattle.engine_programs.specs.Bodies.{FixedName, Body, Answer, Consume, Enter, Exit, Keep, Tries, Byte, On, Test, around}
 use Rattle.definition_text.specs.Ascii.{right_parenthesis, asterisk, plus, hyphen, dot}
-use Rattle.state_block_table.specs.BlockWords.{over_indent, white_to, next, retry}
+use Rattle.state_table.specs.BlockWords.{over_indent, white_to, next, retry}
 use Rattle.state_table.specs.Words.{more, is_space_or_tab}
 use Rattle.state_containers.specs.Open.{filled, go_on_blank, go_on_indented, item_width, value_with}
 

@@ -3,17 +3,17 @@ use Rattle.std.specs.Prelude.{ℕ, ◌+◌, ◌-◌, ◌*◌, ◌^◌, min, Bool
 use Rattle.std.specs.Prelude.{List, [], ◌∷◌, ◌++◌, take, drop, slice_get, slice_set, Option, None, Some}
 use Rattle.std.specs.List.{fold, prefix_len, take_while}
 use denote.Enum.Bare.{sameb}
-use Rattle.engine_events.specs.contracts.container.Container.{the_type}
-use Rattle.engine_events.specs.declared.container.Container.{Container}
-use Rattle.engine_events.specs.declared.container.Container.TheVariants as containers
-use Rattle.engine_events.specs.declared.container.ContainerState.{ContainerState}
+use Rattle.engine_states.specs.contracts.container.Container.{the_type}
+use Rattle.engine_states.specs.declared.container.Container.{Container}
+use Rattle.engine_states.specs.declared.container.Container.TheVariants as containers
+use Rattle.engine_states.specs.declared.container.ContainerState.{ContainerState}
 use Rattle.markdown_engine.specs.KeptState.{KeptState}
-use Rattle.engine_events.specs.declared.state.Block.TheVariants as state_block
-use Rattle.engine_events.specs.declared.state.Inline.TheVariants as state_inline
-use Rattle.engine_events.specs.declared.state.State.TheVariants as states
+use Rattle.engine_states.specs.declared.state.Block.TheVariants as state_block
+use Rattle.engine_states.specs.declared.state.Inline.TheVariants as state_inline
+use Rattle.engine_states.specs.declared.state.State.TheVariants as states
 use Rattle.engine_programs.specs.Bodies.{Answer, Body, Keep, On, Test, Tries, has}
 use Rattle.state_table.specs.Words.{is_space_or_tab, more}
-use Rattle.state_block_table.specs.BlockWords.{next, part}
+use Rattle.state_table.specs.BlockWords.{next, part}
 
 -- the one that is asked next whether it goes on
 abbrev pub next_open : KeptState → Option ContainerState

@@ -18,8 +18,8 @@ use engine_programs::steps::exit_to;
 use markdown_engine::event::Name as EventName;
 use markdown_engine::state::{Block, State};
 use markdown_engine::tokenizer::Tokenizer;
-use state_block_table::steps::around_to;
-use state_block_table::white::over_indent;
+use state_table::steps::around_to;
+use state_table::white::over_indent;
 use std::alloc::Allocator;
 
 /// At the start.

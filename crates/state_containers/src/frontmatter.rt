@@ -21,8 +21,8 @@ use markdown_engine::event::Name as EventName;
 use markdown_engine::state::{Block, State};
 use markdown_engine::tokenizer::Tokenizer;
 use markdown_options::constants::FRONTMATTER_SEQUENCE_SIZE;
-use state_block_table::steps::{consume_to, enter_both_to, enter_to, exit_before, exit_over_white};
-use state_block_table::{next, retry};
+use state_table::block::{next, retry};
+use state_table::steps::{consume_to, enter_both_to, enter_to, exit_before, exit_over_white};
 use std::alloc::Allocator;
 
 /// After a closing fence.

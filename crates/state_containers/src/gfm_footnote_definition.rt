@@ -10,7 +10,7 @@ ghost use Rattle.engine_events.specs.declared.event.Name.TheVariants as names;
 ghost use Rattle.engine_programs.specs.Bodies.{FixedName};
 ghost use Rattle.engine_programs.specs.Stacks.{Does, IsOpen};
 ghost use Rattle.markdown_engine.specs.Machine.{constructs_of};
-ghost use Rattle.state_block_table.specs.BlockTable.{footnote_string_tokens};
+ghost use Rattle.state_table.specs.BlockTable.{footnote_string_tokens};
 ghost use Rattle.state_containers.specs.GfmFootnoteDefinition.{gfm_footnote_definition_start, gfm_footnote_definition_label_before};
 ghost use Rattle.state_containers.specs.GfmFootnoteDefinition.{gfm_footnote_definition_label_at_marker};
 ghost use Rattle.state_containers.specs.GfmFootnoteDefinition.{gfm_footnote_definition_label_inside, gfm_footnote_definition_label_escape};
@@ -26,10 +26,10 @@ use markdown_engine::event::Name as EventName;
 use markdown_engine::state::{Block, State};
 use markdown_engine::tokenizer::Tokenizer;
 use markdown_options::constants::{LINK_REFERENCE_SIZE_MAX, TAB_SIZE};
-use state_block_table::links::STRING;
-use state_block_table::steps::{around_if, around_to, consume_to};
-use state_block_table::white::{over_indent, white_to};
-use state_block_table::{next, retry};
+use state_table::block::{next, retry};
+use state_table::links::STRING;
+use state_table::steps::{around_if, around_to, consume_to};
+use state_table::white::{over_indent, white_to};
 use std::alloc::Allocator;
 
 /// At the start.

@@ -23,9 +23,9 @@ use markdown_engine::event::Name as EventName;
 use markdown_engine::state::{Block, State};
 use markdown_engine::tokenizer::Tokenizer;
 use markdown_options::constants::{LIST_ITEM_VALUE_SIZE_MAX, TAB_SIZE};
-use state_block_table::steps::{around_to, consume_to, enter_before, enter_both_to, exit_before};
-use state_block_table::white::{over_indent, white_to};
-use state_block_table::{next, retry};
+use state_table::block::{next, retry};
+use state_table::steps::{around_to, consume_to, enter_before, enter_both_to, exit_before};
+use state_table::white::{over_indent, white_to};
 use std::alloc::Allocator;
 
 /// At the start.

@@ -10,7 +10,7 @@ use markdown_engine::container::{Container, ContainerState};
 use markdown_engine::state::{Block, State};
 use markdown_engine::tokenize_state::TokenizeState;
 use markdown_engine::tokenizer::Tokenizer;
-use state_block_table::white::white_to;
+use state_table::white::white_to;
 use std::alloc::{AllocError, Allocator};
 
 /// The container that is asked next whether it goes on.

@@ -16,7 +16,7 @@ use engine_programs::steps::exit_to;
 use markdown_engine::event::Name as EventName;
 use markdown_engine::state::{Block, State};
 use markdown_engine::tokenizer::Tokenizer;
-use state_block_table::steps::{consume_to, enter_to};
+use state_table::steps::{consume_to, enter_to};
 use std::alloc::Allocator;
 
 /// At the start of a text.

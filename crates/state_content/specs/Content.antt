@@ -1,12 +1,12 @@
 -- What the states of `content` do.
 use Rattle.std.specs.Prelude.{false, ◌==◌}
 use Rattle.engine_events.specs.declared.event.Name.TheVariants as names
-use Rattle.engine_events.specs.declared.resolve.Name.TheVariants as resolvers
-use Rattle.engine_events.specs.declared.state.Block.TheVariants as state_block
-use Rattle.engine_events.specs.declared.state.State.TheVariants as states
+use Rattle.engine_states.specs.declared.resolve.Name.TheVariants as resolvers
+use Rattle.engine_states.specs.declared.state.Block.TheVariants as state_block
+use Rattle.engine_states.specs.declared.state.State.TheVariants as states
 use Rattle.engine_programs.specs.Bodies.{FixedName, Body, Answer, Consume, EnterLink, Exit, RegisterFirst, Tries, Byte, On, around}
 use Rattle.definition_text.specs.Ascii.{line_feed}
-use Rattle.state_block_table.specs.BlockWords.{at_line_end, next, retry, interrupting, content_link}
+use Rattle.state_table.specs.BlockWords.{at_line_end, next, retry, interrupting, content_link}
 
 module _ {M : Type 0} where
   -- at the start of a line that may begin a definition

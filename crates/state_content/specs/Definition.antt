@@ -2,12 +2,12 @@
 use Rattle.std.specs.Prelude.{false, refl, ◌==◌}
 use Rattle.markdown_options.specs.declared.configuration.Constructs.{Constructs}
 use Rattle.engine_events.specs.declared.event.Name.TheVariants as names
-use Rattle.engine_events.specs.declared.state.Block.TheVariants as state_block
-use Rattle.engine_events.specs.declared.state.Inline.TheVariants as state_inline
-use Rattle.engine_events.specs.declared.state.State.TheVariants as states
+use Rattle.engine_states.specs.declared.state.Block.TheVariants as state_block
+use Rattle.engine_states.specs.declared.state.Inline.TheVariants as state_inline
+use Rattle.engine_states.specs.declared.state.State.TheVariants as states
 use Rattle.engine_programs.specs.Bodies.{FixedName, Body, Answer, Enter, Exit, Keep, Hold, Tries, On, Test, around}
 use Rattle.definition_text.specs.Ascii.{colon, left_bracket}
-use Rattle.state_block_table.specs.BlockWords.{over_white, at_line_end, no_limit, is_white, next, retry, part}
+use Rattle.state_table.specs.BlockWords.{over_white, at_line_end, no_limit, is_white, next, retry, part}
 
 module _ {M : Type 0} where
   -- at the start of a line

@@ -1,11 +1,11 @@
 -- What the states of `paragraph` do.
 use Rattle.std.specs.Prelude.{◌==◌}
 use Rattle.engine_events.specs.declared.event.Name.TheVariants as names
-use Rattle.engine_events.specs.declared.state.Block.TheVariants as state_block
-use Rattle.engine_events.specs.declared.state.State.TheVariants as states
+use Rattle.engine_states.specs.declared.state.Block.TheVariants as state_block
+use Rattle.engine_states.specs.declared.state.State.TheVariants as states
 use Rattle.engine_programs.specs.Bodies.{FixedName, Body, Answer, Consume, Enter, EnterLink, Exit, Byte, On}
 use Rattle.definition_text.specs.Ascii.{line_feed}
-use Rattle.state_block_table.specs.BlockWords.{next, text_after}
+use Rattle.state_table.specs.BlockWords.{next, text_after}
 
 module _ {M : Type 0} where
   -- at the first byte

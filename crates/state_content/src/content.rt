@@ -18,9 +18,9 @@ use markdown_engine::event::Name as EventName;
 use markdown_engine::resolve;
 use markdown_engine::state::{Block, State};
 use markdown_engine::tokenizer::Tokenizer;
-use state_block_table::links::CONTENT;
-use state_block_table::steps::{around_if, consume_to, enter_link_to};
-use state_block_table::{next, retry};
+use state_table::block::{next, retry};
+use state_table::links::CONTENT;
+use state_table::steps::{around_if, consume_to, enter_link_to};
 use std::alloc::Allocator;
 
 /// At the start of a line that may begin a definition.

@@ -12,7 +12,7 @@ use markdown_engine::subresult::Subresult;
 use markdown_engine::tokenizer::{Machine, Tokenizer};
 use markdown_engine::{Message, resolve};
 use markdown_options::Tables;
-use state_block_table::{Group, group_of};
+use state_table::block::{Group, group_of};
 use std::alloc::Allocator;
 
 /// The machine of a paragraph.

@@ -21,9 +21,9 @@ use engine_programs::steps::{attempt_to, exit_to};
 use markdown_engine::event::Name as EventName;
 use markdown_engine::state::{Block, Inline, State};
 use markdown_engine::tokenizer::Tokenizer;
-use state_block_table::steps::around_if;
-use state_block_table::white::over_white;
-use state_block_table::{next, part, retry};
+use state_table::block::{next, part, retry};
+use state_table::steps::around_if;
+use state_table::white::over_white;
 use std::alloc::Allocator;
 
 /// At the start of a line.

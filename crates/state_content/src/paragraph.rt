@@ -16,9 +16,9 @@ use engine_programs::steps::exit_to;
 use markdown_engine::event::Name as EventName;
 use markdown_engine::state::{Block, State};
 use markdown_engine::tokenizer::Tokenizer;
-use state_block_table::links::text_after;
-use state_block_table::next;
-use state_block_table::steps::{consume_to, enter_link_to};
+use state_table::block::next;
+use state_table::links::text_after;
+use state_table::steps::{consume_to, enter_link_to};
 use std::alloc::Allocator;
 
 /// At the first byte.

@@ -1,10 +1,10 @@
 -- What a machine of documents does, by what it does with its flow: its states by their names, and how they may stand.
 use Rattle.std.specs.Prelude.{ℕ}
-use Rattle.engine_events.specs.declared.state.Block.{Block as BlockName}
-use Rattle.engine_events.specs.declared.state.Inline.{Inline as InlineName}
-use Rattle.engine_events.specs.declared.state.Name.{Name}
-use Rattle.engine_events.specs.declared.state.Name.TheVariants.{Block, Inline}
-use Rattle.engine_events.specs.declared.state.State.TheVariants as states
+use Rattle.engine_states.specs.declared.state.Block.{Block as BlockName}
+use Rattle.engine_states.specs.declared.state.Inline.{Inline as InlineName}
+use Rattle.engine_states.specs.declared.state.Name.{Name}
+use Rattle.engine_states.specs.declared.state.Name.TheVariants.{Block, Inline}
+use Rattle.engine_states.specs.declared.state.State.TheVariants as states
 use Rattle.markdown_engine.specs.Context.{Context}
 use Rattle.markdown_engine.specs.Laws.{HoldsAt}
 use Rattle.engine_programs.specs.Bodies.{Body, Answer}
@@ -13,9 +13,9 @@ use Rattle.engine_programs.specs.Stacks.{program_valid}
 use Rattle.state_table.specs.declared.Group.{Group as InlineGroup}
 use Rattle.state_table.specs.declared.Group.TheVariants as inline_groups
 use Rattle.state_table.specs.Table.{inline_group, first}
-use Rattle.state_block_table.specs.declared.Group.{Group}
-use Rattle.state_block_table.specs.declared.Group.TheVariants as groups
-use Rattle.state_block_table.specs.BlockTable.{block_group, block_row, label_sort}
+use Rattle.state_table.specs.declared.block.Group.{Group}
+use Rattle.state_table.specs.declared.block.Group.TheVariants as groups
+use Rattle.state_table.specs.BlockTable.{block_group, block_row, label_sort}
 use Rattle.state_labels.specs.LabelStates.{label_body}
 use Rattle.state_document.specs.Readers.{Calls}
 use Rattle.state_flow_leaves.specs.LeavesStates.{leaves_body}

@@ -2,13 +2,13 @@
 use Rattle.std.proofs.Common.{◌≡◌, ℕ, ◌<◌, ◌++◌, true, refl, length, List, [], arith}
 use Rattle.engine_events.specs.declared.event.Name.{Name as EventName}
 use Rattle.engine_events.specs.declared.place.Point.{Point}
-use Rattle.engine_events.specs.declared.state.Block.{Block as BlockName}
-use Rattle.engine_events.specs.declared.state.Block.TheVariants as state_block
-use Rattle.engine_events.specs.declared.state.Inline.{Inline as InlineName}
-use Rattle.engine_events.specs.declared.state.Inline.TheVariants as state_inline
-use Rattle.engine_events.specs.declared.state.Name.{Name}
-use Rattle.engine_events.specs.declared.state.Name.TheVariants.{Block, Inline}
-use Rattle.engine_events.specs.declared.state.State.TheVariants as states
+use Rattle.engine_states.specs.declared.state.Block.{Block as BlockName}
+use Rattle.engine_states.specs.declared.state.Block.TheVariants as state_block
+use Rattle.engine_states.specs.declared.state.Inline.{Inline as InlineName}
+use Rattle.engine_states.specs.declared.state.Inline.TheVariants as state_inline
+use Rattle.engine_states.specs.declared.state.Name.{Name}
+use Rattle.engine_states.specs.declared.state.Name.TheVariants.{Block, Inline}
+use Rattle.engine_states.specs.declared.state.State.TheVariants as states
 use Rattle.markdown_engine.specs.declared.attempt.Attempt.{Attempt}
 use Rattle.markdown_engine.specs.Context.{Context}
 use Rattle.markdown_engine.specs.Laws.{LawfulAt}
@@ -23,9 +23,9 @@ use Rattle.engine_programs.specs.ProgramLaws.{program_begins, program_lawful, pr
 use Rattle.state_table.specs.declared.Group.{Group as InlineGroup}
 use Rattle.state_table.specs.declared.Group.TheVariants as inline_groups
 use Rattle.state_table.specs.Table.{inline_group}
-use Rattle.state_block_table.specs.declared.Group.{Group}
-use Rattle.state_block_table.specs.declared.Group.TheVariants as groups
-use Rattle.state_block_table.specs.BlockTable.{block_group}
+use Rattle.state_table.specs.declared.block.Group.{Group}
+use Rattle.state_table.specs.declared.block.Group.TheVariants as groups
+use Rattle.state_table.specs.BlockTable.{block_group}
 use Rattle.state_labels.specs.LabelStates.{label_body}
 use Rattle.state_flow_leaves.specs.LeavesStates.{leaves_body}
 use Rattle.state_containers.specs.ContainerStates.{container_body}

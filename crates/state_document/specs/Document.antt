@@ -1,17 +1,17 @@
 -- What the states of `document` do.
 use Rattle.std.specs.Prelude.{Bool, false, refl, ◌==◌, if◌then◌else◌, List, length, take}
 use Rattle.definition_text.specs.Ascii.{line_feed}
-use Rattle.engine_events.specs.declared.container.Container.TheVariants as containers
-use Rattle.engine_events.specs.declared.container.ContainerState.{ContainerState}
+use Rattle.engine_states.specs.declared.container.Container.TheVariants as containers
+use Rattle.engine_states.specs.declared.container.ContainerState.{ContainerState}
 use Rattle.engine_events.specs.declared.event.Name.TheVariants as names
-use Rattle.engine_events.specs.declared.state.Block.TheVariants as state_block
-use Rattle.engine_events.specs.declared.state.Inline.TheVariants as state_inline
-use Rattle.engine_events.specs.declared.state.State.TheVariants as states
+use Rattle.engine_states.specs.declared.state.Block.TheVariants as state_block
+use Rattle.engine_states.specs.declared.state.Inline.TheVariants as state_inline
+use Rattle.engine_states.specs.declared.state.State.TheVariants as states
 use Rattle.markdown_engine.specs.Context.{Context}
 use Rattle.markdown_engine.specs.Reading.{Config}
 use Rattle.engine_programs.specs.Bodies.{FixedName, Body, Answer, Consume, EnterLink, Exit, Flag, Flags, Keep, Tries, Byte, On, Test, Move}
 use Rattle.state_table.specs.Words.{more}
-use Rattle.state_block_table.specs.BlockWords.{next, retry, part, free, flow_link}
+use Rattle.state_table.specs.BlockWords.{next, retry, part, free, flow_link}
 use Rattle.state_containers.specs.Open.{is_more_open, is_open, begun_containers}
 use Rattle.state_document.specs.Readers.{Calls}
 

@@ -1,7 +1,7 @@
 -- What holds of a machine is kept by bodies that change it by functions that keep it, and is a part of what holds whenever a state is next.
 use Rattle.std.proofs.Common.{◌≡◌, ℕ, Bool, true, false, Option, None, Some, cond, if◌then◌else◌}
 use Rattle.std.proofs.lemmas.Bool.{and_parts}
-use Rattle.engine_events.specs.declared.state.Name.{Name}
+use Rattle.engine_states.specs.declared.state.Name.{Name}
 use Rattle.markdown_engine.specs.declared.attempt.Attempt.{Attempt}
 use Rattle.markdown_engine.specs.Laws.{HoldsAt, LawfulAt, RanksAt}
 use Rattle.markdown_engine.specs.Machine.{past_byte, to_run_first, to_run_last, with_enter, with_exit}

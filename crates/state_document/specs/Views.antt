@@ -1,6 +1,6 @@
 -- States that don't ask the machine, where only a part of the machine is seen.
 use Rattle.std.specs.Prelude.{Bool, true, false, ◌&&◌}
-use Rattle.engine_events.specs.declared.state.State.{State}
+use Rattle.engine_states.specs.declared.state.State.{State}
 use Rattle.markdown_engine.specs.declared.tokenizer.Tokenizer.{Tokenizer}
 use Rattle.markdown_engine.specs.Machine.{Shows, view_config}
 use Rattle.markdown_engine.specs.Reading.{seen_as}

@@ -2,12 +2,12 @@
 ghost use Rattle.std.specs.Prelude.{length};
 ghost use Rattle.markdown_engine.specs.Resolving.{resolves_nothing, settles_whole};
 ghost use Rattle.engine_programs.specs.Bodies.{step_by};
-ghost use Rattle.engine_events.specs.declared.state.Name.TheVariants as any_states;
+ghost use Rattle.engine_states.specs.declared.state.Name.TheVariants as any_states;
 ghost use Rattle.engine_programs.specs.Stacks.{IsOpen, program_rank};
 ghost use Rattle.markdown_engine.specs.Machine.{read_with};
 ghost use Rattle.state_table.specs.Table.{sorts};
 ghost use Rattle.state_labels.specs.LabelStates.{label_body};
-ghost use Rattle.state_block_table.specs.BlockTable.{block_sorts};
+ghost use Rattle.state_table.specs.BlockTable.{block_sorts};
 ghost use Rattle.state_flow_leaves.specs.LeavesStates.{leaves_body};
 ghost use Rattle.state_containers.specs.ContainerStates.{container_body};
 ghost use Rattle.state_document.specs.Blocks.{blocks_bodies, blocks_sorts, blocks_valid};
@@ -20,7 +20,7 @@ use markdown_engine::subresult::Subresult;
 use markdown_engine::tokenizer::{Machine, Tokenizer};
 use markdown_engine::{Message, resolve};
 use markdown_options::Tables;
-use state_block_table::{Group, group_of};
+use state_table::block::{Group, group_of};
 use std::alloc::Allocator;
 
 /// The machine of documents: its states read the containers of each line, and `reader` reads what

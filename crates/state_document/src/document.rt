@@ -12,7 +12,7 @@ ghost use Rattle.markdown_engine.specs.Machine.{Became, SameText, config, read_w
 ghost use Rattle.markdown_engine.specs.Order.{open_after};
 ghost use Rattle.engine_programs.specs.Bodies.{FixedName};
 ghost use Rattle.engine_programs.specs.Stacks.{Does, IsOpen};
-ghost use Rattle.state_block_table.specs.BlockWords.{flow_link};
+ghost use Rattle.state_table.specs.BlockWords.{flow_link};
 ghost use Rattle.state_document.specs.Document.{document_start, document_before_frontmatter, document_container_existing_before};
 ghost use Rattle.state_document.specs.Document.{document_container_existing_after, document_container_new_before};
 ghost use Rattle.state_document.specs.Document.{document_container_new_before_not_block_quote, document_container_new_before_not_list};
@@ -30,9 +30,9 @@ use markdown_engine::event::Name as EventName;
 use markdown_engine::state::{Block, Inline, State};
 use markdown_engine::tokenizer::Tokenizer;
 use markdown_options::Tables;
-use state_block_table::links::FLOW;
-use state_block_table::{next, part, retry};
 use state_containers::open::{begin_container, is_more_open, is_open};
+use state_table::block::{next, part, retry};
+use state_table::links::FLOW;
 use std::alloc::Allocator;
 
 /// At the start of a text.

@@ -1,10 +1,10 @@
 //! The lines of a text: containers, and the flow in them.
 #![tactic(auto)]
 
-ghost use Rattle.engine_events.specs.declared.state.Name.TheVariants as any_states;
+ghost use Rattle.engine_states.specs.declared.state.Name.TheVariants as any_states;
 ghost use Rattle.markdown_engine.specs.Machine.{read_with};
 ghost use Rattle.engine_programs.specs.Stacks.{IsOpen};
-ghost use Rattle.state_block_table.specs.BlockTable.{block_sorts};
+ghost use Rattle.state_table.specs.BlockTable.{block_sorts};
 ghost use Rattle.state_document.specs.DocumentStates.{document_body};
 ghost use Rattle.state_document.specs.Views.{Sees};
 

@@ -17,7 +17,7 @@ use Rattle.engine_events.specs.declared.event.Name.TheVariants as names
 use Rattle.engine_events.specs.Events.{event}
 use Rattle.engine_events.specs.Names.{same_name}
 use Rattle.engine_edits.specs.Edits.{EditAt, with_edit}
-use Rattle.state_block_table.specs.BlockWords.{chunk_of}
+use Rattle.state_table.specs.BlockWords.{chunk_of}
 use Rattle.state_edits_data.specs.Each.{enter_event, exit_event, is_event, later, place_at}
 use Rattle.state_edits_blocks.specs.declared.gfm_table_row.Row.{Row}
 use Rattle.state_edits_blocks.specs.declared.gfm_table_row.RowKind.{RowKind}

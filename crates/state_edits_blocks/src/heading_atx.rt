@@ -16,8 +16,8 @@ use crate::added::put;
 use engine_edits::EditMap;
 use markdown_engine::Message;
 use markdown_engine::event::{Event, Kind, Name};
-use state_block_table::links::TEXT;
 use state_edits_data::each::{enter_event, exit_event, is_bound_at, is_event, later, place_at};
+use state_table::links::TEXT;
 use std::alloc::Allocator;
 
 /// What is known of the heading that is open.

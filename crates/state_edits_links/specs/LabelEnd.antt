@@ -2,14 +2,14 @@
 use Rattle.std.specs.Prelude.{ℕ, ◌-◌, true, false, nat_lt, if◌then◌else◌, List, [], ◌∷◌}
 use Rattle.std.specs.List.{fold}
 use denote.Enum.Bare.{sameb}
-use Rattle.engine_events.specs.contracts.label.LabelKind.{the_type}
+use Rattle.engine_states.specs.contracts.label.LabelKind.{the_type}
 use Rattle.engine_events.specs.declared.event.Event.{Event}
 use Rattle.engine_events.specs.declared.event.Name.{Name}
 use Rattle.engine_events.specs.declared.event.Name.TheVariants as names
-use Rattle.engine_events.specs.declared.label.Label.{Label}
-use Rattle.engine_events.specs.declared.label.LabelKind.{LabelKind}
-use Rattle.engine_events.specs.declared.label.LabelKind.TheVariants as kinds
-use Rattle.engine_events.specs.declared.label.LabelStart.{LabelStart}
+use Rattle.engine_states.specs.declared.label.Label.{Label}
+use Rattle.engine_states.specs.declared.label.LabelKind.{LabelKind}
+use Rattle.engine_states.specs.declared.label.LabelKind.TheVariants as kinds
+use Rattle.engine_states.specs.declared.label.LabelStart.{LabelStart}
 use Rattle.engine_edits.specs.Edits.{EditAt, with_edit}
 use Rattle.markdown_engine.specs.KeptState.{KeptState}
 use Rattle.state_edits_data.specs.Each.{enter_event, exit_event, later, place_at}

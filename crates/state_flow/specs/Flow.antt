@@ -2,13 +2,13 @@
 use Rattle.std.specs.Prelude.{false, refl, ◌==◌, ◌||◌, ◌-◌}
 use Rattle.markdown_options.specs.declared.configuration.Constructs.{Constructs}
 use Rattle.engine_events.specs.declared.event.Name.TheVariants as names
-use Rattle.engine_events.specs.declared.state.Block.{Block as BlockName}
-use Rattle.engine_events.specs.declared.state.Block.TheVariants as state_block
-use Rattle.engine_events.specs.declared.state.Inline.TheVariants as state_inline
-use Rattle.engine_events.specs.declared.state.State.TheVariants as states
+use Rattle.engine_states.specs.declared.state.Block.{Block as BlockName}
+use Rattle.engine_states.specs.declared.state.Block.TheVariants as state_block
+use Rattle.engine_states.specs.declared.state.Inline.TheVariants as state_inline
+use Rattle.engine_states.specs.declared.state.State.TheVariants as states
 use Rattle.engine_programs.specs.Bodies.{FixedName, Body, Answer, Keep, Tries, Byte, On, Test, around}
 use Rattle.definition_text.specs.Ascii.{line_feed, number_sign, dollar, asterisk, hyphen, less_than, equals, underscore, backtick, tilde}
-use Rattle.state_block_table.specs.BlockWords.{is_indented, is_white, no_limit, next, retry, part, free}
+use Rattle.state_table.specs.BlockWords.{is_indented, is_white, no_limit, next, retry, part, free}
 use Rattle.state_table.specs.Words.{is_space_or_tab}
 
 module _ {M : Type 0} where

@@ -18,9 +18,9 @@ use engine_programs::steps::attempt_to;
 use markdown_engine::event::Name as EventName;
 use markdown_engine::state::{Block, Inline, State};
 use markdown_engine::tokenizer::Tokenizer;
-use state_block_table::steps::{around_if, around_to};
-use state_block_table::white::is_indented;
-use state_block_table::{next, part, retry};
+use state_table::block::{next, part, retry};
+use state_table::steps::{around_if, around_to};
+use state_table::white::is_indented;
 use std::alloc::Allocator;
 
 /// Tries the block that begins with `start`. If there is none, goes on with the other state from here.

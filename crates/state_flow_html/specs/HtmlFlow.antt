@@ -3,13 +3,13 @@ use Rattle.std.specs.Prelude.{ℕ, List, true, false, refl, ◌==◌, ◌||◌}
 use Rattle.std.specs.Char.{is_ascii_alphabetic, is_ascii_alphanumeric}
 use Rattle.markdown_options.specs.declared.configuration.Constructs.{Constructs}
 use Rattle.engine_events.specs.declared.event.Name.TheVariants as names
-use Rattle.engine_events.specs.declared.state.Block.{Block as BlockName}
-use Rattle.engine_events.specs.declared.state.Block.TheVariants as state_block
-use Rattle.engine_events.specs.declared.state.State.TheVariants as states
+use Rattle.engine_states.specs.declared.state.Block.{Block as BlockName}
+use Rattle.engine_states.specs.declared.state.Block.TheVariants as state_block
+use Rattle.engine_states.specs.declared.state.State.TheVariants as states
 use Rattle.engine_programs.specs.Bodies.{FixedName, Body, Answer, Consume, Enter, Exit, Keep, Tries, Byte, On, Test, around, has}
 use Rattle.definition_text.specs.Ascii.{line_feed, exclamation_mark, double_quote, single_quote, hyphen, dot, slash, colon, less_than, equals}
 use Rattle.definition_text.specs.Ascii.{greater_than, question_mark, left_bracket, right_bracket, underscore, backtick}
-use Rattle.state_block_table.specs.BlockWords.{at_line_end, indent_max, is_white, next, retry, concrete, all_free}
+use Rattle.state_table.specs.BlockWords.{at_line_end, indent_max, is_white, next, retry, concrete, all_free}
 use Rattle.state_table.specs.Words.{count_one, is_space_or_tab, less}
 use Rattle.state_flow_html.specs.HtmlNames.{is_cdata, is_raw_name, is_block_name, is_short_name, kind_raw, kind_comment, kind_instruction}
 use Rattle.state_flow_html.specs.HtmlNames.{kind_declaration, kind_cdata, kind_basic, kind_complete, ends_before_blank}

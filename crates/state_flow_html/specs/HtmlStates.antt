@@ -1,14 +1,14 @@
 -- The states of this crate by their names, and that they fit the table.
 use Rattle.std.specs.Prelude.{◌≡◌, true, refl}
-use Rattle.engine_events.specs.declared.state.Block.{Block as BlockName}
-use Rattle.engine_events.specs.declared.state.Block.TheVariants as state_block
-use Rattle.engine_events.specs.declared.state.Name.TheVariants.{Block}
-use Rattle.engine_events.specs.declared.state.State.TheVariants as states
+use Rattle.engine_states.specs.declared.state.Block.{Block as BlockName}
+use Rattle.engine_states.specs.declared.state.Block.TheVariants as state_block
+use Rattle.engine_states.specs.declared.state.Name.TheVariants.{Block}
+use Rattle.engine_states.specs.declared.state.State.TheVariants as states
 use Rattle.markdown_engine.specs.Context.{Context}
-use Rattle.state_block_table.specs.declared.Group.TheVariants as groups
+use Rattle.state_table.specs.declared.block.Group.TheVariants as groups
 use Rattle.engine_programs.specs.Bodies.{Body, Answer}
 use Rattle.engine_programs.specs.Sorts.{fits, implies}
-use Rattle.state_block_table.specs.BlockTable.{block_sorts, is_in_group}
+use Rattle.state_table.specs.BlockTable.{block_sorts, is_in_group}
 use Rattle.state_flow_html.specs.HtmlFlow.{html_flow_start, html_flow_before, html_flow_open}
 use Rattle.state_flow_html.specs.HtmlFlow.{html_flow_declaration_open, html_flow_comment_open_inside, html_flow_cdata_open_inside}
 use Rattle.state_flow_html.specs.HtmlFlow.{html_flow_tag_close_start, html_flow_tag_name, html_flow_basic_self_closing}

@@ -46,11 +46,11 @@ use engine_programs::steps::check_to;
 use markdown_engine::event::Name as EventName;
 use markdown_engine::state::{Block, State};
 use markdown_engine::tokenizer::Tokenizer;
-use state_block_table::steps::{
+use state_table::block::{next, retry};
+use state_table::steps::{
     around_if, consume_if, consume_to, enter_before, exit_before, exit_block,
 };
-use state_block_table::white::indent_max;
-use state_block_table::{next, retry};
+use state_table::white::indent_max;
 use std::alloc::Allocator;
 
 /// At a byte of a line, which may begin the end of a block of some kind.

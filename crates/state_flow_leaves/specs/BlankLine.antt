@@ -1,8 +1,8 @@
 -- What the states of `blank_line` do.
-use Rattle.engine_events.specs.declared.state.Block.TheVariants as state_block
-use Rattle.engine_events.specs.declared.state.State.TheVariants as states
+use Rattle.engine_states.specs.declared.state.Block.TheVariants as state_block
+use Rattle.engine_states.specs.declared.state.State.TheVariants as states
 use Rattle.engine_programs.specs.Bodies.{Body, Answer}
-use Rattle.state_block_table.specs.BlockWords.{over_white, at_line_end, no_limit}
+use Rattle.state_table.specs.BlockWords.{over_white, at_line_end, no_limit}
 
 module _ {M : Type 0} where
   -- at the start of a line

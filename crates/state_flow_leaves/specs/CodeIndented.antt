@@ -2,13 +2,13 @@
 use Rattle.std.specs.Prelude.{ℕ, Bool, false, ◌==◌, ◌&&◌, ◌||◌}
 use Rattle.markdown_options.specs.declared.configuration.Constructs.{Constructs}
 use Rattle.engine_events.specs.declared.event.Name.TheVariants as names
-use Rattle.engine_events.specs.declared.state.Block.TheVariants as state_block
-use Rattle.engine_events.specs.declared.state.State.TheVariants as states
+use Rattle.engine_states.specs.declared.state.Block.TheVariants as state_block
+use Rattle.engine_states.specs.declared.state.State.TheVariants as states
 use Rattle.markdown_engine.specs.Reading.{Config}
 use Rattle.markdown_engine.specs.VirtualText.{is_feed}
 use Rattle.engine_programs.specs.Bodies.{FixedName, Body, Answer, Consume, Enter, Exit, Tries, Byte, On, Test, around}
 use Rattle.definition_text.specs.Ascii.{line_feed}
-use Rattle.state_block_table.specs.BlockWords.{white_to, at_line_end, next, retry, free}
+use Rattle.state_table.specs.BlockWords.{white_to, at_line_end, next, retry, free}
 use Rattle.state_table.specs.Words.{is_space_or_tab}
 
 -- the columns that make a line indented code

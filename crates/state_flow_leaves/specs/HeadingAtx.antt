@@ -2,12 +2,12 @@
 use Rattle.std.specs.Prelude.{nat_lt, refl, ◌==◌}
 use Rattle.markdown_options.specs.declared.configuration.Constructs.{Constructs}
 use Rattle.engine_events.specs.declared.event.Name.TheVariants as names
-use Rattle.engine_events.specs.declared.resolve.Name.TheVariants as resolvers
-use Rattle.engine_events.specs.declared.state.Block.TheVariants as state_block
-use Rattle.engine_events.specs.declared.state.State.TheVariants as states
+use Rattle.engine_states.specs.declared.resolve.Name.TheVariants as resolvers
+use Rattle.engine_states.specs.declared.state.Block.TheVariants as state_block
+use Rattle.engine_states.specs.declared.state.State.TheVariants as states
 use Rattle.engine_programs.specs.Bodies.{FixedName, Body, Answer, Consume, Enter, EnterLink, Exit, Keep, Register, Byte, On, Test}
 use Rattle.definition_text.specs.Ascii.{number_sign}
-use Rattle.state_block_table.specs.BlockWords.{white_to, at_line_end, no_limit, is_white, next, retry, free, text_link}
+use Rattle.state_table.specs.BlockWords.{white_to, at_line_end, no_limit, is_white, next, retry, free, text_link}
 use Rattle.state_table.specs.Words.{count_one, is_space_or_tab}
 
 abbrev pub heading_atx_end : {M : Type 0} → Body M

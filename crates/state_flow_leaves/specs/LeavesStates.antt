@@ -1,14 +1,14 @@
 -- The states of this crate by their names, and that they fit the table.
 use Rattle.std.specs.Prelude.{◌≡◌, true, refl}
-use Rattle.engine_events.specs.declared.state.Block.{Block as BlockName}
-use Rattle.engine_events.specs.declared.state.Block.TheVariants as state_block
-use Rattle.engine_events.specs.declared.state.Name.TheVariants.{Block}
-use Rattle.engine_events.specs.declared.state.State.TheVariants as states
+use Rattle.engine_states.specs.declared.state.Block.{Block as BlockName}
+use Rattle.engine_states.specs.declared.state.Block.TheVariants as state_block
+use Rattle.engine_states.specs.declared.state.Name.TheVariants.{Block}
+use Rattle.engine_states.specs.declared.state.State.TheVariants as states
 use Rattle.markdown_engine.specs.Context.{Context}
-use Rattle.state_block_table.specs.declared.Group.TheVariants as groups
+use Rattle.state_table.specs.declared.block.Group.TheVariants as groups
 use Rattle.engine_programs.specs.Bodies.{Body, Answer}
 use Rattle.engine_programs.specs.Sorts.{fits, implies}
-use Rattle.state_block_table.specs.BlockTable.{block_sorts, is_in_group}
+use Rattle.state_table.specs.BlockTable.{block_sorts, is_in_group}
 use Rattle.state_flow_leaves.specs.BlankLine.{blank_line_start, blank_line_after}
 use Rattle.state_flow_leaves.specs.NonLazyContinuation.{non_lazy_continuation_start, non_lazy_continuation_after}
 use Rattle.state_flow_leaves.specs.ThematicBreak.{thematic_break_start, thematic_break_before, thematic_break_at_break}

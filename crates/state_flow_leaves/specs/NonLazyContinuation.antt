@@ -1,12 +1,12 @@
 -- What the states of `partial_non_lazy_continuation` do.
 use Rattle.std.specs.Prelude.{Bool, nat_lt, ◌==◌}
 use Rattle.engine_events.specs.declared.event.Name.TheVariants as names
-use Rattle.engine_events.specs.declared.state.Block.TheVariants as state_block
-use Rattle.engine_events.specs.declared.state.State.TheVariants as states
+use Rattle.engine_states.specs.declared.state.Block.TheVariants as state_block
+use Rattle.engine_states.specs.declared.state.State.TheVariants as states
 use Rattle.markdown_engine.specs.Reading.{Config}
 use Rattle.engine_programs.specs.Bodies.{FixedName, Body, Answer, Byte, On, Test, around}
 use Rattle.definition_text.specs.Ascii.{line_feed}
-use Rattle.state_block_table.specs.BlockWords.{next}
+use Rattle.state_table.specs.BlockWords.{next}
 
 module _ {M : Type 0} where
   -- a fence keeps its byte in `marker`, an HTML block its kind, which is 1 to 7

@@ -2,17 +2,17 @@
 use Rattle.std.specs.Prelude.{ℕ, Bool, true, false, not, nat_lt, refl, ◌==◌, ◌&&◌, ◌||◌, if◌then◌else◌, List, [], length, drop, slice_get, Option, None, Some}
 use Rattle.markdown_options.specs.declared.configuration.Constructs.{Constructs}
 use Rattle.engine_events.specs.declared.event.Name.TheVariants as names
-use Rattle.engine_events.specs.declared.state.Block.TheVariants as state_block
-use Rattle.engine_events.specs.declared.state.Inline.TheVariants as state_inline
-use Rattle.engine_events.specs.declared.state.State.TheVariants as states
+use Rattle.engine_states.specs.declared.state.Block.TheVariants as state_block
+use Rattle.engine_states.specs.declared.state.Inline.TheVariants as state_inline
+use Rattle.engine_states.specs.declared.state.State.TheVariants as states
 use Rattle.markdown_engine.specs.Reading.{Config}
 use Rattle.engine_programs.specs.Bodies.{FixedName, HeldName, Body, Answer, Consume, Enter, EnterLink, Exit, Keep, Hold, Tries, Byte, On}
 use Rattle.engine_programs.specs.Bodies.{Test, around, has}
 use Rattle.definition_text.specs.Ascii.{line_feed, dollar, backtick, tilde}
 use Rattle.definition_text.specs.Columns.{indent}
 use Rattle.definition_text.specs.Lines.{ends_line}
-use Rattle.state_block_table.specs.BlockWords.{over_white, over_indent, at_line_end, no_limit, next, retry, part}
-use Rattle.state_block_table.specs.BlockWords.{concrete, all_free, string_link}
+use Rattle.state_table.specs.BlockWords.{over_white, over_indent, at_line_end, no_limit, next, retry, part}
+use Rattle.state_table.specs.BlockWords.{concrete, all_free, string_link}
 use Rattle.state_table.specs.Words.{more, at_marker, count_one, is_space_or_tab}
 
 -- nothing, or a byte that begins a line ending

@@ -2,11 +2,11 @@
 use Rattle.std.specs.Prelude.{ℕ, nat_lt, refl, ◌==◌}
 use Rattle.markdown_options.specs.declared.configuration.Constructs.{Constructs}
 use Rattle.engine_events.specs.declared.event.Name.TheVariants as names
-use Rattle.engine_events.specs.declared.state.Block.TheVariants as state_block
-use Rattle.engine_events.specs.declared.state.State.TheVariants as states
+use Rattle.engine_states.specs.declared.state.Block.TheVariants as state_block
+use Rattle.engine_states.specs.declared.state.State.TheVariants as states
 use Rattle.engine_programs.specs.Bodies.{FixedName, Body, Answer, Consume, Enter, Exit, Keep, Byte, On, Test}
 use Rattle.definition_text.specs.Ascii.{line_feed, asterisk, hyphen, underscore}
-use Rattle.state_block_table.specs.BlockWords.{over_white, no_limit, next, retry, free}
+use Rattle.state_table.specs.BlockWords.{over_white, no_limit, next, retry, free}
 use Rattle.state_table.specs.Words.{at_marker, count_one}
 
 module _ {M : Type 0} where

@@ -10,7 +10,7 @@ ghost use Rattle.state_flow_leaves.specs.BlankLine.{blank_line_start, blank_line
 
 use markdown_engine::state::{Block, State};
 use markdown_engine::tokenizer::Tokenizer;
-use state_block_table::white::over_white;
+use state_table::white::over_white;
 use std::alloc::Allocator;
 
 /// At the start of a line.

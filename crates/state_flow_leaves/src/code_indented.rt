@@ -19,9 +19,9 @@ use markdown_engine::event::Name as EventName;
 use markdown_engine::state::{Block, State};
 use markdown_engine::tokenizer::Tokenizer;
 use markdown_options::constants::CODE_INDENT;
-use state_block_table::steps::{around_to, consume_to, enter_to, exit_before, exit_block};
-use state_block_table::white::white_to;
-use state_block_table::{next, retry};
+use state_table::block::{next, retry};
+use state_table::steps::{around_to, consume_to, enter_to, exit_before, exit_block};
+use state_table::white::white_to;
 use std::alloc::Allocator;
 
 /// Whether this is the start of a line that isn't one of this block: where a container begins or

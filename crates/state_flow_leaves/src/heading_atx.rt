@@ -20,11 +20,11 @@ use markdown_engine::resolve;
 use markdown_engine::state::{Block, State};
 use markdown_engine::tokenizer::Tokenizer;
 use markdown_options::constants::HEADING_ATX_OPENING_FENCE_SIZE_MAX;
-use state_block_table::links::TEXT;
-use state_block_table::steps::{
+use state_table::links::TEXT;
+use state_table::steps::{
     consume_to, enter_before, enter_link_to, enter_to, exit_before, exit_block,
 };
-use state_block_table::white::white_to;
+use state_table::white::white_to;
 use std::alloc::Allocator;
 
 /// At the end.

@@ -14,7 +14,7 @@ ghost use Rattle.state_flow_leaves.specs.NonLazyContinuation.{is_in_html, non_la
 use markdown_engine::event::Name as EventName;
 use markdown_engine::state::{Block, State};
 use markdown_engine::tokenizer::Tokenizer;
-use state_block_table::steps::around_if;
+use state_table::steps::around_if;
 use std::alloc::Allocator;
 
 /// The kinds of HTML blocks are less than this, and the bytes of fences aren't.

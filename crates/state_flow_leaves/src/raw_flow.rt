@@ -30,13 +30,13 @@ use markdown_engine::event::Name as EventName;
 use markdown_engine::state::{Block, State};
 use markdown_engine::tokenizer::Tokenizer;
 use markdown_options::constants::{CODE_FENCED_SEQUENCE_SIZE_MIN, MATH_FLOW_SEQUENCE_SIZE_MIN};
-use state_block_table::links::STRING;
-use state_block_table::steps::{
+use state_table::block::{next, retry};
+use state_table::links::STRING;
+use state_table::steps::{
     consume_to, enter_both_to, enter_data_to, enter_to, exit_before, exit_block, exit_both_before,
     exit_both_over_white, exit_over_white,
 };
-use state_block_table::white::{over_indent, white_to};
-use state_block_table::{next, retry};
+use state_table::white::{over_indent, white_to};
 use std::alloc::Allocator;
 use text_bytes::white_size;
 

@@ -17,7 +17,7 @@ use markdown_engine::event::Name as EventName;
 use markdown_engine::state::{Block, State};
 use markdown_engine::tokenizer::Tokenizer;
 use markdown_options::constants::THEMATIC_BREAK_MARKER_COUNT_MIN;
-use state_block_table::steps::{
+use state_table::steps::{
     consume_to, enter_before, enter_to, exit_before, exit_block, exit_over_white,
 };
 use std::alloc::Allocator;

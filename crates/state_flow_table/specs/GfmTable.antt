@@ -2,13 +2,13 @@
 use Rattle.std.specs.Prelude.{ℕ, List, true, false, refl, length, ◌==◌, ◌||◌}
 use Rattle.markdown_options.specs.declared.configuration.Constructs.{Constructs}
 use Rattle.engine_events.specs.declared.event.Name.TheVariants as names
-use Rattle.engine_events.specs.declared.resolve.Name.TheVariants as resolvers
-use Rattle.engine_events.specs.declared.state.Block.TheVariants as state_block
-use Rattle.engine_events.specs.declared.state.State.TheVariants as states
+use Rattle.engine_states.specs.declared.resolve.Name.TheVariants as resolvers
+use Rattle.engine_states.specs.declared.state.Block.TheVariants as state_block
+use Rattle.engine_states.specs.declared.state.State.TheVariants as states
 use Rattle.engine_programs.specs.Bodies.{FixedName, Body, Answer, Consume, Enter, EnterLink, Exit, Keep, Register, Byte, On, AfterFeed, Test, around}
 use Rattle.definition_text.specs.Ascii.{line_feed, hyphen, colon, backslash, vertical_bar}
-use Rattle.state_block_table.specs.BlockWords.{over_white, over_indent, white_to, is_indented, at_line_end, no_limit, is_white, next, retry, free}
-use Rattle.state_block_table.specs.BlockWords.{interrupting, text_link}
+use Rattle.state_table.specs.BlockWords.{over_white, over_indent, white_to, is_indented, at_line_end, no_limit, is_white, next, retry, free}
+use Rattle.state_table.specs.BlockWords.{interrupting, text_link}
 use Rattle.state_table.specs.Words.{more, is_space_or_tab}
 use Rattle.state_left.specs.Before.{is_after_rows}
 use Rattle.state_left.specs.Left.{is_head_left}

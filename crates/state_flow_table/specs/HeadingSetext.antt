@@ -2,12 +2,12 @@
 use Rattle.std.specs.Prelude.{ℕ, List, refl, length, ◌==◌}
 use Rattle.markdown_options.specs.declared.configuration.Constructs.{Constructs}
 use Rattle.engine_events.specs.declared.event.Name.TheVariants as names
-use Rattle.engine_events.specs.declared.resolve.Name.TheVariants as resolvers
-use Rattle.engine_events.specs.declared.state.Block.TheVariants as state_block
-use Rattle.engine_events.specs.declared.state.State.TheVariants as states
+use Rattle.engine_states.specs.declared.resolve.Name.TheVariants as resolvers
+use Rattle.engine_states.specs.declared.state.Block.TheVariants as state_block
+use Rattle.engine_states.specs.declared.state.State.TheVariants as states
 use Rattle.engine_programs.specs.Bodies.{FixedName, Body, Answer, Consume, Enter, Exit, Keep, Register, Byte, On, Test}
 use Rattle.definition_text.specs.Ascii.{hyphen, equals}
-use Rattle.state_block_table.specs.BlockWords.{over_white, at_line_end, no_limit, next, retry, free}
+use Rattle.state_table.specs.BlockWords.{over_white, at_line_end, no_limit, next, retry, free}
 use Rattle.state_table.specs.Words.{at_marker}
 use Rattle.state_left.specs.Before.{is_after_content}
 use Rattle.state_left.specs.Left.{is_paragraph_left}

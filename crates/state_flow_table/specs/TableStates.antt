@@ -1,7 +1,7 @@
 -- The states of this crate by their names.
-use Rattle.engine_events.specs.declared.state.Block.{Block as BlockName}
-use Rattle.engine_events.specs.declared.state.Block.TheVariants as state_block
-use Rattle.engine_events.specs.declared.state.State.TheVariants as states
+use Rattle.engine_states.specs.declared.state.Block.{Block as BlockName}
+use Rattle.engine_states.specs.declared.state.Block.TheVariants as state_block
+use Rattle.engine_states.specs.declared.state.State.TheVariants as states
 use Rattle.markdown_engine.specs.Context.{Context}
 use Rattle.engine_programs.specs.Bodies.{Body, Answer}
 use Rattle.state_flow_table.specs.HeadingSetext.{heading_setext_start, heading_setext_before, heading_setext_inside}

@@ -34,14 +34,14 @@ use markdown_engine::event::Name as EventName;
 use markdown_engine::resolve;
 use markdown_engine::state::{Block, State};
 use markdown_engine::tokenizer::Tokenizer;
-use state_block_table::links::TEXT;
-use state_block_table::retry;
-use state_block_table::steps::{
+use state_left::{is_after_rows, is_head_left};
+use state_table::block::retry;
+use state_table::links::TEXT;
+use state_table::steps::{
     around_if, around_to, consume_to, enter_before, enter_link_to, enter_to, exit_before,
     exit_block,
 };
-use state_block_table::white::{is_indented, over_indent, over_white, white_to};
-use state_left::{is_after_rows, is_head_left};
+use state_table::white::{is_indented, over_indent, over_white, white_to};
 use std::alloc::Allocator;
 
 /// At the end.

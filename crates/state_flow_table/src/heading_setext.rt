@@ -17,10 +17,10 @@ use markdown_engine::event::Name as EventName;
 use markdown_engine::resolve;
 use markdown_engine::state::{Block, State};
 use markdown_engine::tokenizer::Tokenizer;
-use state_block_table::steps::{
+use state_left::{is_after_content, is_paragraph_left};
+use state_table::steps::{
     consume_to, enter_before, enter_to, exit_before, exit_block, exit_over_white,
 };
-use state_left::{is_after_content, is_paragraph_left};
 use std::alloc::Allocator;
 
 /// At the end.

@@ -2,9 +2,9 @@
 #![tactic(auto)]
 
 ghost use Rattle.markdown_engine.specs.Machine.{read_with};
-ghost use Rattle.engine_events.specs.declared.state.Name.TheVariants as any_states;
+ghost use Rattle.engine_states.specs.declared.state.Name.TheVariants as any_states;
 ghost use Rattle.engine_programs.specs.Stacks.{Does, IsOpen};
-ghost use Rattle.state_block_table.specs.BlockTable.{block_sorts};
+ghost use Rattle.state_table.specs.BlockTable.{block_sorts};
 ghost use Rattle.state_flow_table.specs.TableStates.{table_body};
 
 pub mod cells;

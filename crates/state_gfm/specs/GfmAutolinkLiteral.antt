@@ -6,8 +6,8 @@ use denote.Enum.Bare.{sameb}
 use Rattle.markdown_options.specs.contracts.beside.Kind.{the_type}
 use Rattle.markdown_options.specs.declared.beside.Kind.TheVariants.{Other}
 use Rattle.engine_events.specs.declared.event.Name.TheVariants as names
-use Rattle.engine_events.specs.declared.state.Inline.TheVariants as state_inline
-use Rattle.engine_events.specs.declared.state.State.TheVariants as states
+use Rattle.engine_states.specs.declared.state.Inline.TheVariants as state_inline
+use Rattle.engine_states.specs.declared.state.State.TheVariants as states
 use Rattle.engine_text.specs.Bytes.{first_code, goes_on, width}
 use Rattle.engine_text.specs.Characters.{kind_of_any}
 use Rattle.markdown_engine.specs.Reading.{Config}

@@ -1,11 +1,11 @@
 -- What the states of `gfm_label_start_footnote` do.
 use Rattle.std.specs.Prelude.{Bool, ◌==◌}
 use Rattle.engine_events.specs.declared.event.Name.TheVariants as names
-use Rattle.engine_events.specs.declared.state.Inline.TheVariants as state_inline
-use Rattle.engine_events.specs.declared.state.State.TheVariants as states
+use Rattle.engine_states.specs.declared.state.Inline.TheVariants as state_inline
+use Rattle.engine_states.specs.declared.state.State.TheVariants as states
 use Rattle.engine_programs.specs.Bodies.{FixedName, Body, Answer, Enter, Exit, Byte, On, Test, around}
 use Rattle.state_table.specs.Words.{next}
-use Rattle.engine_events.specs.declared.label.LabelKind.TheVariants as kinds
+use Rattle.engine_states.specs.declared.label.LabelKind.TheVariants as kinds
 use Rattle.state_labels.specs.Start.{begin_label}
 use Rattle.definition_text.specs.Ascii.{left_bracket, caret}
 

@@ -1,8 +1,8 @@
 -- What the states of `gfm_task_list_item_check` do.
 use Rattle.std.specs.Prelude.{Bool, true, false, refl, nat_lt, ◌==◌, ◌||◌, ◌-◌, ◌^◌}
 use Rattle.engine_events.specs.declared.event.Name.TheVariants as names
-use Rattle.engine_events.specs.declared.state.Inline.TheVariants as state_inline
-use Rattle.engine_events.specs.declared.state.State.TheVariants as states
+use Rattle.engine_states.specs.declared.state.Inline.TheVariants as state_inline
+use Rattle.engine_states.specs.declared.state.State.TheVariants as states
 use Rattle.engine_programs.specs.Bodies.{FixedName, Body, Answer, Consume, Enter, Exit, Keep, Tries, Byte, On, AfterFeed, Test, around}
 use Rattle.state_table.specs.Words.{next, retry}
 use Rattle.definition_text.specs.Ascii.{tab, line_feed, space, capital_x, left_bracket, right_bracket, small_x}

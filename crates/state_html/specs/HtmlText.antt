@@ -2,11 +2,11 @@
 use Rattle.std.specs.Prelude.{codes, ℕ, Bool, false, refl, slice_get, ◌==◌, ◌||◌, ◌-◌, ◌^◌}
 use Rattle.std.specs.Char.{is_ascii_alphabetic, is_ascii_alphanumeric}
 use Rattle.engine_events.specs.declared.event.Name.TheVariants as names
-use Rattle.engine_events.specs.declared.state.Inline.TheVariants as state_inline
-use Rattle.engine_events.specs.declared.state.State.TheVariants as states
+use Rattle.engine_states.specs.declared.state.Inline.TheVariants as state_inline
+use Rattle.engine_states.specs.declared.state.State.TheVariants as states
 use Rattle.engine_programs.specs.Bodies.{FixedName, Body, Answer, Consume, Enter, Exit, Keep, Tries, Byte, On, AfterFeed, Test, around, has}
 use Rattle.state_table.specs.Words.{next, retry, at_marker, count_anew, count_one}
-use Rattle.engine_events.specs.declared.state.Inline.{Inline as InlineName}
+use Rattle.engine_states.specs.declared.state.Inline.{Inline as InlineName}
 use Rattle.definition_text.specs.Ascii.{tab, line_feed, space, exclamation_mark, double_quote, single_quote, hyphen, dot, slash, colon, less_than, equals}
 use Rattle.definition_text.specs.Ascii.{greater_than, question_mark, left_bracket, right_bracket, underscore, backtick}
 

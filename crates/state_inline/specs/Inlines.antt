@@ -1,10 +1,10 @@
 -- What the machine of texts and strings does: its states by their names, and that they fit the table.
 use Rattle.std.specs.Prelude.{ℕ, Bool, false, List, Option, slice_get, unwrap_or}
-use Rattle.engine_events.specs.declared.state.Inline.{Inline as InlineName}
-use Rattle.engine_events.specs.declared.state.Inline.TheVariants as state_inline
-use Rattle.engine_events.specs.declared.state.Name.{Name}
-use Rattle.engine_events.specs.declared.state.Name.TheVariants.{Inline}
-use Rattle.engine_events.specs.declared.state.State.TheVariants as states
+use Rattle.engine_states.specs.declared.state.Inline.{Inline as InlineName}
+use Rattle.engine_states.specs.declared.state.Inline.TheVariants as state_inline
+use Rattle.engine_states.specs.declared.state.Name.{Name}
+use Rattle.engine_states.specs.declared.state.Name.TheVariants.{Inline}
+use Rattle.engine_states.specs.declared.state.State.TheVariants as states
 use Rattle.markdown_engine.specs.Context.{Context}
 use Rattle.engine_programs.specs.Bodies.{Body, Answer, Test, Tries}
 use Rattle.state_table.specs.declared.Group.{Group}

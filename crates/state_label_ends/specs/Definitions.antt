@@ -7,13 +7,13 @@ use denote.Enum.Bare.{sameb}
 use Rattle.engine_events.specs.Columns.{between}
 use Rattle.engine_events.specs.contracts.event.Kind.{the_type as the_kinds}
 use Rattle.engine_events.specs.contracts.event.Name.{the_type as the_names}
-use Rattle.engine_events.specs.contracts.label.LabelKind.{the_type as the_label_kinds}
+use Rattle.engine_states.specs.contracts.label.LabelKind.{the_type as the_label_kinds}
 use Rattle.engine_events.specs.declared.event.Event.{Event}
 use Rattle.engine_events.specs.declared.event.Kind.TheVariants as event_kinds
 use Rattle.engine_events.specs.declared.event.Name.TheVariants as names
-use Rattle.engine_events.specs.declared.label.LabelKind.{LabelKind}
-use Rattle.engine_events.specs.declared.label.LabelKind.TheVariants as kinds
-use Rattle.engine_events.specs.declared.label.LabelStart.{LabelStart}
+use Rattle.engine_states.specs.declared.label.LabelKind.{LabelKind}
+use Rattle.engine_states.specs.declared.label.LabelKind.TheVariants as kinds
+use Rattle.engine_states.specs.declared.label.LabelStart.{LabelStart}
 use Rattle.definition_text.specs.Content.{content_codes}
 use Rattle.definition_inline.specs.LabelMatch.{normal_label}
 use Rattle.definition_inline.specs.Label.{is_label}

@@ -2,18 +2,18 @@
 use Rattle.std.specs.Prelude.{is_some, ℕ, Bool, true, false, not, nat_lt, List, Option, None, Some, refl, length, take, ◌==◌, ◌&&◌, ◌||◌, ◌-◌, ◌∷◌, ◌++◌, []}
 use Rattle.std.specs.Prelude.{if◌then◌else◌}
 use Rattle.engine_events.specs.declared.event.Name.TheVariants as names
-use Rattle.engine_events.specs.declared.resolve.Name.TheVariants as resolvers
-use Rattle.engine_events.specs.declared.state.Inline.TheVariants as state_inline
-use Rattle.engine_events.specs.declared.state.State.TheVariants as states
+use Rattle.engine_states.specs.declared.resolve.Name.TheVariants as resolvers
+use Rattle.engine_states.specs.declared.state.Inline.TheVariants as state_inline
+use Rattle.engine_states.specs.declared.state.State.TheVariants as states
 use Rattle.markdown_engine.specs.Context.{Context}
 use Rattle.markdown_engine.specs.Reading.{Config}
 use Rattle.engine_programs.specs.Bodies.{FixedName, Body, Answer, Enter, Exit, Keep, Hold, RegisterFirst, Tries, Byte, On, Test, around}
 use Rattle.state_table.specs.Words.{next, retry, disconnect}
-use Rattle.engine_events.specs.contracts.label.LabelKind.{the_type}
-use Rattle.engine_events.specs.declared.label.Label.{Label}
-use Rattle.engine_events.specs.declared.label.LabelKind.TheVariants as kinds
-use Rattle.engine_events.specs.declared.label.LabelStart.{LabelStart}
-use Rattle.engine_events.specs.declared.state.Inline.{Inline as InlineName}
+use Rattle.engine_states.specs.contracts.label.LabelKind.{the_type}
+use Rattle.engine_states.specs.declared.label.Label.{Label}
+use Rattle.engine_states.specs.declared.label.LabelKind.TheVariants as kinds
+use Rattle.engine_states.specs.declared.label.LabelStart.{LabelStart}
+use Rattle.engine_states.specs.declared.state.Inline.{Inline as InlineName}
 use Rattle.state_label_ends.specs.Definitions.{has_kind, is_among, is_defined, label_text, last_start, plus}
 use denote.Enum.Bare.{sameb}
 use Rattle.definition_text.specs.Ascii.{tab, line_feed, space, double_quote, single_quote, left_parenthesis, right_parenthesis, left_bracket, right_bracket}

@@ -25,7 +25,7 @@ ghost use Rattle.state_label_ends.specs.LabelEnd.{label_end_resource_title_after
 ghost use Rattle.state_label_ends.specs.LabelEnd.{label_end_reference_full_after, label_end_reference_full_missing};
 ghost use Rattle.state_label_ends.specs.LabelEnd.{label_end_reference_collapsed, label_end_reference_collapsed_open};
 ghost use Rattle.std.specs.Prelude.{◌≡◌, ◌++◌, Some, OnOk};
-ghost use Rattle.engine_events.specs.declared.label.LabelKind.TheVariants as kinds;
+ghost use Rattle.engine_states.specs.declared.label.LabelKind.TheVariants as kinds;
 ghost use Rattle.state_label_ends.specs.Definitions.{has_kind, last_start};
 ghost use Rattle.state_label_ends.specs.LabelEnd.{end_after_link, end_follow, end_form, end_loosen, end_undefine, formed_start};
 ghost use Rattle.state_label_ends.specs.LabelEnd.{has_start, is_inactive, is_reference_defined, undefined_start};

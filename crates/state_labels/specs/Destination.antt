@@ -2,12 +2,12 @@
 use Rattle.std.specs.Prelude.{ℕ, Bool, nat_lt, refl, ◌==◌, ◌||◌}
 use Rattle.std.specs.Int.{is_in_range}
 use Rattle.engine_events.specs.declared.event.Name.TheVariants as names
-use Rattle.engine_events.specs.declared.state.Inline.TheVariants as state_inline
-use Rattle.engine_events.specs.declared.state.State.TheVariants as states
+use Rattle.engine_states.specs.declared.state.Inline.TheVariants as state_inline
+use Rattle.engine_states.specs.declared.state.State.TheVariants as states
 use Rattle.engine_programs.specs.Bodies.{FixedName, HeldName, Body, Answer, Consume, Enter, EnterLink, Exit, Keep, Byte, On, Test, around}
 use Rattle.state_table.specs.Words.{next, retry, more, less}
 use Rattle.state_labels.specs.Chunk.{first_link}
-use Rattle.engine_events.specs.declared.state.State.{State}
+use Rattle.engine_states.specs.declared.state.State.{State}
 use Rattle.definition_text.specs.Ascii.{tab, line_feed, space, left_parenthesis, right_parenthesis, less_than, greater_than, backslash, delete}
 
 -- a byte that can't stand in a destination with no angle brackets; NUL may

@@ -1,8 +1,8 @@
 -- What the states of `partial_label` do.
 use Rattle.std.specs.Prelude.{ℕ, true, false, not, nat_lt, refl, ◌==◌, ◌||◌, if◌then◌else◌}
 use Rattle.engine_events.specs.declared.event.Name.TheVariants as names
-use Rattle.engine_events.specs.declared.state.Inline.TheVariants as state_inline
-use Rattle.engine_events.specs.declared.state.State.TheVariants as states
+use Rattle.engine_states.specs.declared.state.Inline.TheVariants as state_inline
+use Rattle.engine_states.specs.declared.state.State.TheVariants as states
 use Rattle.engine_programs.specs.Bodies.{FixedName, HeldName, Body, Answer, Consume, Enter, EnterLink, Exit, Keep, Tries, Byte, On, Test, around, has}
 use Rattle.state_table.specs.Words.{next, retry, more, is_space_or_tab}
 use Rattle.state_labels.specs.Chunk.{part_link}

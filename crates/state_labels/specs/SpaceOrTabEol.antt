@@ -1,8 +1,8 @@
 -- What the states of `partial_space_or_tab_eol` do.
 use Rattle.std.specs.Prelude.{false, refl, ◌==◌, ◌||◌, ◌-◌, ◌^◌}
 use Rattle.engine_events.specs.declared.event.Name.TheVariants as names
-use Rattle.engine_events.specs.declared.state.Inline.TheVariants as state_inline
-use Rattle.engine_events.specs.declared.state.State.TheVariants as states
+use Rattle.engine_states.specs.declared.state.Inline.TheVariants as state_inline
+use Rattle.engine_states.specs.declared.state.State.TheVariants as states
 use Rattle.engine_programs.specs.Bodies.{FixedName, Body, Answer, Consume, EnterLink, Exit, Keep, Tries, On}
 use Rattle.state_table.specs.Words.{next, retry}
 use Rattle.state_labels.specs.Chunk.{part_link}

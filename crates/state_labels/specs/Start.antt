@@ -1,9 +1,9 @@
 -- The starts of labels, which may find their ends.
 use Rattle.std.specs.Prelude.{ℕ, ◌-◌, false, [], ◌∷◌, ◌++◌, length, refl}
-use Rattle.engine_events.specs.declared.label.LabelKind.{LabelKind}
-use Rattle.engine_events.specs.declared.label.LabelStart.{LabelStart}
-use Rattle.engine_events.specs.declared.resolve.Name.TheVariants as resolvers
-use Rattle.engine_events.specs.declared.state.State.TheVariants as states
+use Rattle.engine_states.specs.declared.label.LabelKind.{LabelKind}
+use Rattle.engine_states.specs.declared.label.LabelStart.{LabelStart}
+use Rattle.engine_states.specs.declared.resolve.Name.TheVariants as resolvers
+use Rattle.engine_states.specs.declared.state.State.TheVariants as states
 use Rattle.engine_programs.specs.Bodies.{Body, Answer, Keep, RegisterFirst}
 
 -- the last events, so many of these

@@ -2,8 +2,8 @@
 use Rattle.std.specs.Prelude.{Bool, ◌==◌}
 use Rattle.std.specs.Char.{is_ascii_punctuation}
 use Rattle.engine_events.specs.declared.event.Name.TheVariants as names
-use Rattle.engine_events.specs.declared.state.Inline.TheVariants as state_inline
-use Rattle.engine_events.specs.declared.state.State.TheVariants as states
+use Rattle.engine_states.specs.declared.state.Inline.TheVariants as state_inline
+use Rattle.engine_states.specs.declared.state.State.TheVariants as states
 use Rattle.engine_programs.specs.Bodies.{FixedName, Body, Answer, Enter, Exit, Byte, On, Test, around}
 use Rattle.state_table.specs.Words.{next}
 use Rattle.definition_text.specs.Ascii.{backslash}

@@ -2,8 +2,8 @@
 use Rattle.std.specs.Prelude.{is_some, ℕ, Bool, not, nat_lt, nat_le, List, Option, refl, length, ◌==◌, ◌&&◌, ◌||◌, ◌-◌, if◌then◌else◌}
 use Rattle.std.specs.Char.{is_ascii_alphanumeric, is_ascii_digit, is_ascii_hexdigit}
 use Rattle.engine_events.specs.declared.event.Name.TheVariants as names
-use Rattle.engine_events.specs.declared.state.Inline.TheVariants as state_inline
-use Rattle.engine_events.specs.declared.state.State.TheVariants as states
+use Rattle.engine_states.specs.declared.state.Inline.TheVariants as state_inline
+use Rattle.engine_states.specs.declared.state.State.TheVariants as states
 use Rattle.markdown_engine.specs.Reading.{Config}
 use Rattle.engine_programs.specs.Bodies.{FixedName, Body, Answer, Consume, Enter, Exit, Keep, Byte, On, Test, around, has}
 use Rattle.state_table.specs.Words.{next, count_one}

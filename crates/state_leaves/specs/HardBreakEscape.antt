@@ -1,8 +1,8 @@
 -- What the states of `hard_break_escape` do.
 use Rattle.std.specs.Prelude.{Bool, ◌==◌}
 use Rattle.engine_events.specs.declared.event.Name.TheVariants as names
-use Rattle.engine_events.specs.declared.state.Inline.TheVariants as state_inline
-use Rattle.engine_events.specs.declared.state.State.TheVariants as states
+use Rattle.engine_states.specs.declared.state.Inline.TheVariants as state_inline
+use Rattle.engine_states.specs.declared.state.State.TheVariants as states
 use Rattle.engine_programs.specs.Bodies.{FixedName, Body, Answer, Consume, Enter, Exit, Byte, On, Test}
 use Rattle.state_table.specs.Words.{next}
 use Rattle.definition_text.specs.Ascii.{line_feed, backslash}

@@ -1,9 +1,9 @@
 -- The states of this crate by their names, and that they fit the table.
 use Rattle.std.specs.Prelude.{◌≡◌, true, refl, ℕ, List, Option}
-use Rattle.engine_events.specs.declared.state.Inline.{Inline as InlineName}
-use Rattle.engine_events.specs.declared.state.Inline.TheVariants as state_inline
-use Rattle.engine_events.specs.declared.state.Name.TheVariants.{Inline}
-use Rattle.engine_events.specs.declared.state.State.TheVariants as states
+use Rattle.engine_states.specs.declared.state.Inline.{Inline as InlineName}
+use Rattle.engine_states.specs.declared.state.Inline.TheVariants as state_inline
+use Rattle.engine_states.specs.declared.state.Name.TheVariants.{Inline}
+use Rattle.engine_states.specs.declared.state.State.TheVariants as states
 use Rattle.markdown_engine.specs.Context.{Context}
 use Rattle.state_table.specs.declared.Group.TheVariants as groups
 use Rattle.engine_programs.specs.Bodies.{Body, Answer}

@@ -1,8 +1,8 @@
 -- What the states of `raw_text` do.
 use Rattle.std.specs.Prelude.{ℕ, Bool, false, not, Option, None, Some, refl, length, slice_get, ◌==◌, ◌&&◌, ◌||◌, ◌-◌}
 use Rattle.engine_events.specs.declared.event.Name.TheVariants as names
-use Rattle.engine_events.specs.declared.state.Inline.TheVariants as state_inline
-use Rattle.engine_events.specs.declared.state.State.TheVariants as states
+use Rattle.engine_states.specs.declared.state.Inline.TheVariants as state_inline
+use Rattle.engine_states.specs.declared.state.State.TheVariants as states
 use Rattle.markdown_engine.specs.Reading.{Config}
 use Rattle.engine_programs.specs.Bodies.{FixedName, HeldName, Body, Answer, Consume, Enter, Exit, Keep, Hold, Byte, On, Test, around, has}
 use Rattle.state_table.specs.Words.{next, retry, more, at_marker, count_one}

@@ -2,7 +2,7 @@
 #![tactic(auto)]
 
 ghost use Rattle.markdown_engine.specs.Machine.{read_with, tables_of};
-ghost use Rattle.engine_events.specs.declared.state.Name.TheVariants as any_states;
+ghost use Rattle.engine_states.specs.declared.state.Name.TheVariants as any_states;
 ghost use Rattle.engine_programs.specs.Stacks.{Does, IsOpen};
 ghost use Rattle.state_table.specs.Table.{sorts};
 ghost use Rattle.state_leaves.specs.LeafStates.{leaf_body};

@@ -2,9 +2,9 @@
 use Rattle.std.proofs.Common.{◌≡◌, ◌∙◌, ℕ, true, false, length, ◌⊎◌, inl, inr, refl, ap}
 use Rattle.std.specs.Borrow.{Bor}
 use Rattle.markdown_options.specs.declared.message.Message.{Message}
-use Rattle.engine_events.specs.States.{IsRefused}
-use Rattle.engine_events.specs.declared.state.State.{State}
-use Rattle.engine_events.specs.declared.state.State.TheVariants as states
+use Rattle.engine_states.specs.States.{IsRefused}
+use Rattle.engine_states.specs.declared.state.State.{State}
+use Rattle.engine_states.specs.declared.state.State.TheVariants as states
 use Rattle.markdown_engine.specs.declared.parse_state.ParseState.{ParseState}
 use Rattle.markdown_engine.specs.declared.tokenizer.Tokenizer.{Tokenizer}
 use Rattle.markdown_engine.specs.Context.{Context, context}

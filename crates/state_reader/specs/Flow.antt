@@ -4,15 +4,15 @@ use Rattle.std.specs.BTreeMap.{insert_entry}
 use Rattle.std.specs.Ordering.{nat_cmp}
 use denote.Enum.Bare.{sameb}
 use Rattle.engine_edits.specs.Edits.{edits_of}
-use Rattle.engine_events.specs.contracts.state.Block.{the_type}
+use Rattle.engine_states.specs.contracts.state.Block.{the_type}
 use Rattle.engine_events.specs.declared.event.Event.{Event}
 use Rattle.engine_events.specs.declared.event.Name.TheVariants as names
 use Rattle.engine_events.specs.declared.place.Point.{Point}
-use Rattle.engine_events.specs.declared.state.Block.TheVariants as state_block
-use Rattle.engine_events.specs.declared.state.Name.{Name}
-use Rattle.engine_events.specs.declared.state.Name.TheVariants.{Block, Inline}
-use Rattle.engine_events.specs.declared.state.State.{State}
-use Rattle.engine_events.specs.declared.state.State.TheVariants as states
+use Rattle.engine_states.specs.declared.state.Block.TheVariants as state_block
+use Rattle.engine_states.specs.declared.state.Name.{Name}
+use Rattle.engine_states.specs.declared.state.Name.TheVariants.{Block, Inline}
+use Rattle.engine_states.specs.declared.state.State.{State}
+use Rattle.engine_states.specs.declared.state.State.TheVariants as states
 use Rattle.engine_events.specs.Names.{same_name}
 use Rattle.markdown_engine.specs.Context.{Context, without_labels}
 use Rattle.markdown_engine.specs.KeptState.{kept_state}
@@ -23,7 +23,7 @@ use Rattle.markdown_engine.specs.Turns.{Halt, halt_at, halted, range_start}
 use Rattle.markdown_engine.specs.VirtualText.{IsCut, Skips, Source, line_start}
 use Rattle.engine_programs.specs.Bodies.{step_by}
 use Rattle.engine_programs.specs.Stacks.{program_rank, program_valid}
-use Rattle.state_block_table.specs.BlockWords.{next}
+use Rattle.state_table.specs.BlockWords.{next}
 use Rattle.state_flow.specs.Flows.{flows_bodies, flows_sorts}
 use Rattle.state_flow.specs.declared.flows.Flows.{Flows}
 use Rattle.state_reader.specs.declared.flow.Flow.{Flow}

@@ -3,8 +3,8 @@ use Rattle.std.specs.Prelude.{ℕ, ◌-◌, Bool, true, false, not, nat_lt, ◌=
 use Rattle.std.specs.Prelude.{Option, None, Some}
 use Rattle.std.specs.List.{fold}
 use Rattle.std.specs.Option.{option_map}
-use Rattle.engine_events.specs.declared.container.Container.{Container}
-use Rattle.engine_events.specs.declared.container.Container.TheVariants as containers
+use Rattle.engine_states.specs.declared.container.Container.{Container}
+use Rattle.engine_states.specs.declared.container.Container.TheVariants as containers
 use Rattle.engine_events.specs.declared.event.Event.{Event}
 use Rattle.engine_events.specs.declared.place.Point.{Point}
 use Rattle.markdown_engine.specs.Context.{Context}

@@ -1,7 +1,7 @@
 -- Containers, by the lines and events at which they begin and end.
 use Rattle.std.specs.Prelude.{ℕ, ◌==◌, if◌then◌else◌, List, slice_get, slice_set, Option, None, Some}
-use Rattle.engine_events.specs.declared.container.Container.{Container}
-use Rattle.engine_events.specs.declared.container.Container.TheVariants as containers
+use Rattle.engine_states.specs.declared.container.Container.{Container}
+use Rattle.engine_states.specs.declared.container.Container.TheVariants as containers
 use Rattle.state_reader.specs.declared.span.Span.{Span}
 
 -- the kind of the container that begins, by the number of what was tried

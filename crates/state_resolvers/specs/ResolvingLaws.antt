@@ -2,8 +2,8 @@
 use Rattle.std.proofs.Common.{◌≡◌, refl, ℕ, Bool, true, false, ◌&&◌, if◌then◌else◌, List, [], ◌∷◌, length}
 use Rattle.engine_events.specs.declared.event.Event.{Event}
 use Rattle.engine_events.specs.declared.place.Point.{Point}
-use Rattle.engine_events.specs.declared.resolve.Name.{Name as Resolver}
-use Rattle.engine_events.specs.declared.resolve.Name.TheVariants as resolvers
+use Rattle.engine_states.specs.declared.resolve.Name.{Name as Resolver}
+use Rattle.engine_states.specs.declared.resolve.Name.TheVariants as resolvers
 use Rattle.engine_edits.specs.Edits.{EditAt}
 use Rattle.engine_edits.specs.Replacement.{events_after}
 use Rattle.markdown_engine.specs.Context.{Context}

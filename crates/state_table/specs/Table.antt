@@ -1,10 +1,10 @@
 -- How each inline state may stand, and in which group of crates it is.
 use Rattle.std.specs.Prelude.{ℕ, Bool, true, false, List, [], ◌∷◌}
 use Rattle.engine_events.specs.declared.event.Name.TheVariants as names
-use Rattle.engine_events.specs.declared.state.Inline.{Inline as InlineName}
-use Rattle.engine_events.specs.declared.state.Inline.TheVariants as state_inline
-use Rattle.engine_events.specs.declared.state.Name.{Name}
-use Rattle.engine_events.specs.declared.state.Name.TheVariants.{Inline}
+use Rattle.engine_states.specs.declared.state.Inline.{Inline as InlineName}
+use Rattle.engine_states.specs.declared.state.Inline.TheVariants as state_inline
+use Rattle.engine_states.specs.declared.state.Name.{Name}
+use Rattle.engine_states.specs.declared.state.Name.TheVariants.{Inline}
 use Rattle.state_table.specs.declared.Group.{Group}
 use Rattle.state_table.specs.declared.Group.TheVariants as groups
 use Rattle.engine_programs.specs.Bodies.{Token, FixedName, HeldName}

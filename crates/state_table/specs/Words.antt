@@ -1,9 +1,9 @@
 -- Words of the inline states.
 use Rattle.std.specs.Prelude.{ℕ, ◌+◌, ◌-◌, ◌^◌, min, Bool, false, refl, ◌==◌, ◌||◌}
-use Rattle.engine_events.specs.declared.state.Inline.{Inline as InlineName}
-use Rattle.engine_events.specs.declared.state.Name.TheVariants.{Inline}
-use Rattle.engine_events.specs.declared.state.State.{State}
-use Rattle.engine_events.specs.declared.state.State.TheVariants as states
+use Rattle.engine_states.specs.declared.state.Inline.{Inline as InlineName}
+use Rattle.engine_states.specs.declared.state.Name.TheVariants.{Inline}
+use Rattle.engine_states.specs.declared.state.State.{State}
+use Rattle.engine_states.specs.declared.state.State.TheVariants as states
 use Rattle.markdown_engine.specs.Reading.{Config}
 use Rattle.engine_programs.specs.Bodies.{Body, Keep, has}
 

@@ -1,9 +1,14 @@
-//! The table of the inline states.
+//! The tables of the inline states and of the block states.
 #![tactic(auto)]
 
 ghost use Rattle.std.specs.Prelude.{◌≡◌};
 ghost use Rattle.state_table.specs.Words.{next, retry};
 ghost use Rattle.state_table.specs.Table.{inline_group};
+
+pub mod block;
+pub mod links;
+pub mod steps;
+pub mod white;
 
 use markdown_engine::state::{Inline, Name, State};
 

@@ -7,9 +7,9 @@ use Rattle.state_verdicts.proofs.Prelude.{is_code, is_email_byte, is_feed, is_le
 use Rattle.state_verdicts.proofs.Prelude.{nothing, past_byte, plain, Point, retry, Sees, State, tab, Text, text_byte, with_byte}
 use Rattle.engine_events.specs.declared.event.Kind.TheVariants.{Enter, Exit}
 use Rattle.engine_events.specs.declared.event.Name.TheVariants as names
-use Rattle.engine_events.specs.declared.state.Inline.TheVariants as state_inline
-use Rattle.engine_events.specs.declared.state.Name.TheVariants.{Inline}
-use Rattle.engine_events.specs.declared.state.State.TheVariants as states
+use Rattle.engine_states.specs.declared.state.Inline.TheVariants as state_inline
+use Rattle.engine_states.specs.declared.state.Name.TheVariants.{Inline}
+use Rattle.engine_states.specs.declared.state.State.TheVariants as states
 use Rattle.state_verdicts.specs.Autolink.{AutolinkVerdict, autolink_events}
 use Rattle.state_verdicts.specs.Verdicts.{Reads}
 use Rattle.state_verdicts.proofs.AutolinkBytes.{name_byte, scheme_byte, uri_byte}

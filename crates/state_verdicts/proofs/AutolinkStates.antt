@@ -3,9 +3,9 @@ use Rattle.std.proofs.Common.{◌≡◌, ℕ, Bool, nat_lt, ◌==◌, ◌||◌, 
 use Rattle.state_verdicts.proofs.Prelude.{Config, Context, Effect, ends_url, InlineName, Inlines, is_ascii_alphabetic, is_ascii_alphanumeric, is_atext, more}
 use Rattle.state_verdicts.proofs.Prelude.{next, past_byte, plain, retry, run, with_enter, with_exit}
 use Rattle.engine_events.specs.declared.event.Name.TheVariants as names
-use Rattle.engine_events.specs.declared.state.Inline.TheVariants as state_inline
-use Rattle.engine_events.specs.declared.state.Name.TheVariants.{Inline}
-use Rattle.engine_events.specs.declared.state.State.TheVariants as states
+use Rattle.engine_states.specs.declared.state.Inline.TheVariants as state_inline
+use Rattle.engine_states.specs.declared.state.Name.TheVariants.{Inline}
+use Rattle.engine_states.specs.declared.state.State.TheVariants as states
 use Rattle.state_inline.specs.Inlines.{bodies}
 
 -- over the `<`

@@ -5,9 +5,9 @@ use Rattle.state_verdicts.proofs.Prelude.{Inlines, is_eol, leaf, LeavesEvents, n
 use Rattle.state_verdicts.proofs.Prelude.{Verdict, VirtualByte, with_byte, with_enter, with_exit}
 use Rattle.definition_inline.specs.Inline.{EscapedBreak}
 use Rattle.engine_events.specs.declared.event.Name.TheVariants as names
-use Rattle.engine_events.specs.declared.state.Inline.TheVariants as state_inline
-use Rattle.engine_events.specs.declared.state.Name.TheVariants.{Inline}
-use Rattle.engine_events.specs.declared.state.State.TheVariants as states
+use Rattle.engine_states.specs.declared.state.Inline.TheVariants as state_inline
+use Rattle.engine_states.specs.declared.state.Name.TheVariants.{Inline}
+use Rattle.engine_states.specs.declared.state.State.TheVariants as states
 use Rattle.state_inline.specs.Inlines.{bodies}
 use Rattle.state_verdicts.specs.HardBreakEscape.{BreakVerdict}
 use Rattle.state_verdicts.specs.Verdicts.{Reads}

@@ -2,9 +2,9 @@
 use Rattle.std.proofs.Common.{◌≡◌, ℕ, Bool, true, false, List, Option, Some, None, sym, subst}
 use Rattle.state_verdicts.proofs.Prelude.{AddressVerdict, Chooses, Config, Context, Effect, Event, feed, Found, GoesOn, hand_on, InlineName, Inlines, plain}
 use Rattle.state_verdicts.proofs.Prelude.{Point, ReferenceVerdict, run, SpanNames, SpanVerdict, State, Text, tries, Verdict, VirtualByte, with_byte}
-use Rattle.engine_events.specs.declared.state.Inline.TheVariants as state_inline
-use Rattle.engine_events.specs.declared.state.Name.TheVariants.{Inline}
-use Rattle.engine_events.specs.declared.state.State.TheVariants as states
+use Rattle.engine_states.specs.declared.state.Inline.TheVariants as state_inline
+use Rattle.engine_states.specs.declared.state.Name.TheVariants.{Inline}
+use Rattle.engine_states.specs.declared.state.State.TheVariants as states
 use Rattle.markdown_engine.specs.Reading.{first, next, second}
 use Rattle.markdown_engine.specs.ReadingLaws.{one_outcome}
 use Rattle.state_inline.specs.Inlines.{bodies}

@@ -3,9 +3,9 @@ use Rattle.std.proofs.Common.{◌≡◌, ◌∙◌, ℕ, suc, Bool, true, false,
 use Rattle.state_verdicts.proofs.Prelude.{as_byte, at_byte, begins_run, Config, Context, Inlines, next, of_span, plain, Point, raw_at, retry, run, run_length}
 use Rattle.state_verdicts.proofs.Prelude.{SpanVerdict, Text, with_byte}
 use Rattle.definition_inline.specs.MathText.{may_open_math}
-use Rattle.engine_events.specs.declared.state.Inline.TheVariants as state_inline
-use Rattle.engine_events.specs.declared.state.Name.TheVariants.{Inline}
-use Rattle.engine_events.specs.declared.state.State.TheVariants as states
+use Rattle.engine_states.specs.declared.state.Inline.TheVariants as state_inline
+use Rattle.engine_states.specs.declared.state.Name.TheVariants.{Inline}
+use Rattle.engine_states.specs.declared.state.State.TheVariants as states
 use Rattle.state_inline.specs.Inlines.{bodies}
 use Rattle.state_verdicts.specs.CodeText.{CodeTextVerdict, code_names}
 use Rattle.state_verdicts.specs.MathText.{MathTextVerdict, math_names}

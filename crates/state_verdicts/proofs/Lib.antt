@@ -1,4 +1,8 @@
+pub mod AreCodes
+pub mod TextSees
+pub mod TextShows
 mod Prelude
+mod BlockPrelude
 pub mod Turns
 pub mod Seen
 pub mod EscapeReads
@@ -24,3 +28,14 @@ pub mod TrailingReads
 pub mod ChoiceReads
 pub mod TextReads
 pub mod TextChoices
+pub mod BlockTurns
+pub mod LineCodes
+pub mod Skips
+pub mod WhiteReads
+pub mod BreakTexts
+pub mod ThematicBreakStates
+pub mod ThematicBreakReads
+pub mod HeadingAtxReads
+pub mod FenceStates
+pub mod FenceLines
+pub mod CodeFencedReads

@@ -2,7 +2,7 @@
 use Rattle.std.proofs.Common.{◌≡◌, ◌∙◌, ℕ, ◌+◌, ◌<◌, ◌≤◌, ◌⊎◌, Bool, true, false, List, Option, Some, None, inl, inr, refl, ap, subst, arith}
 use Rattle.state_verdicts.proofs.Prelude.{as_byte, byte_of, cases_lt, Config, Context, ended, feed, has, Inlines, longer, Name, plain, Point, run, Stretch}
 use Rattle.state_verdicts.proofs.Prelude.{Text, VirtualByte}
-use Rattle.engine_events.specs.declared.state.State.TheVariants as states
+use Rattle.engine_states.specs.declared.state.State.TheVariants as states
 use Rattle.markdown_engine.specs.Reading.{next, place_after, retry}
 use Rattle.state_inline.specs.Inlines.{bodies}
 use Rattle.state_verdicts.specs.Verdicts.{Reads}

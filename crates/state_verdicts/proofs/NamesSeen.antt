@@ -8,7 +8,7 @@ use Rattle.std.proofs.lemmas.Str.{IsUtf8-from_ascii, is_utf8-from_IsUtf8}
 use Rattle.std.specs.Str.{IsAscii}
 use Rattle.engine_events.specs.Columns.{between}
 use Rattle.state_leaves.specs.CharacterReference.{has_text}
-use Rattle.state_codes.specs.TextBytes.{StandsAt}
+use Rattle.state_verdicts.specs.TextBytes.{StandsAt}
 
 -- what lies in a range lies between these
 in_range : (a z b : ℕ) → 0 < a → z < 128 → is_in_range a z b ≡ true → (0 < b) × (b < 128)

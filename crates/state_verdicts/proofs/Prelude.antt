@@ -21,9 +21,9 @@ pub use Rattle.engine_events.specs.Events.{event}
 pub use Rattle.engine_events.specs.declared.event.Event.{Event}
 pub use Rattle.engine_events.specs.declared.event.Name.{Name as EventName}
 pub use Rattle.engine_events.specs.declared.place.Point.{Point}
-pub use Rattle.engine_events.specs.declared.state.Inline.{Inline as InlineName}
-pub use Rattle.engine_events.specs.declared.state.Name.{Name}
-pub use Rattle.engine_events.specs.declared.state.State.{State}
+pub use Rattle.engine_states.specs.declared.state.Inline.{Inline as InlineName}
+pub use Rattle.engine_states.specs.declared.state.Name.{Name}
+pub use Rattle.engine_states.specs.declared.state.State.{State}
 pub use Rattle.engine_programs.specs.Bodies.{has, run, run as run_body}
 pub use Rattle.markdown_engine.specs.Context.{Context}
 pub use Rattle.markdown_engine.specs.KeptState.{KeptState}
@@ -31,8 +31,8 @@ pub use Rattle.markdown_engine.specs.Machine.{past_byte, plain, tries, with_ente
 pub use Rattle.markdown_engine.specs.Reading.{byte_of, Config, Effect, ends-nok, ends-ok, feed, hand_on, with_byte}
 pub use Rattle.markdown_engine.specs.VirtualText.{as_byte, is_feed, Text}
 pub use Rattle.markdown_engine.specs.declared.virtual_text.VirtualByte.{VirtualByte}
-pub use Rattle.state_codes.specs.Codes.{byte, is_code, nothing, Sees, tab, text_byte}
-pub use Rattle.state_codes.specs.TextBytes.{Shows}
+pub use Rattle.state_verdicts.specs.Codes.{byte, is_code, nothing, Sees, tab, text_byte}
+pub use Rattle.state_verdicts.specs.TextBytes.{Shows}
 pub use Rattle.state_html.specs.Autolink.{ends_url, is_atext}
 pub use Rattle.state_inline.specs.declared.inlines.Inlines.{Inlines}
 pub use Rattle.state_leaves.specs.CharacterReference.{goes_on, is_known, is_name, is_value_known}

@@ -7,9 +7,9 @@ use Rattle.state_verdicts.proofs.Prelude.{not-true, nothing, or_from, or_parts, 
 use Rattle.state_verdicts.proofs.Prelude.{run_of, Sees, SpanNames, spanning, State, Stretch, tab, Text, text_byte, with_enter, with_exit}
 use Rattle.engine_events.specs.declared.event.Kind.TheVariants.{Enter, Exit}
 use Rattle.engine_events.specs.declared.event.Name.TheVariants as names
-use Rattle.engine_events.specs.declared.state.Inline.TheVariants as state_inline
-use Rattle.engine_events.specs.declared.state.Name.TheVariants.{Inline}
-use Rattle.engine_events.specs.declared.state.State.TheVariants as states
+use Rattle.engine_states.specs.declared.state.Inline.TheVariants as state_inline
+use Rattle.engine_states.specs.declared.state.Name.TheVariants.{Inline}
+use Rattle.engine_states.specs.declared.state.State.TheVariants as states
 use Rattle.state_inline.specs.Inlines.{bodies}
 use Rattle.state_verdicts.specs.RawText.{closing, ending, others, run}
 use Rattle.state_verdicts.specs.Verdicts.{Reads}

@@ -2,9 +2,9 @@
 use Rattle.std.proofs.Common.{◌≡◌, ℕ, Bool, true, false, not, ◌==◌, ◌&&◌, ◌||◌, if◌then◌else◌, List, Option, Some, None, refl}
 use Rattle.std.proofs.lemmas.Bool.{not-false}
 use Rattle.engine_events.specs.declared.event.Name.TheVariants as names
-use Rattle.engine_events.specs.declared.state.Inline.TheVariants as state_inline
-use Rattle.engine_events.specs.declared.state.Name.TheVariants.{Inline}
-use Rattle.engine_events.specs.declared.state.State.TheVariants as states
+use Rattle.engine_states.specs.declared.state.Inline.TheVariants as state_inline
+use Rattle.engine_states.specs.declared.state.Name.TheVariants.{Inline}
+use Rattle.engine_states.specs.declared.state.State.TheVariants as states
 use Rattle.state_verdicts.proofs.Prelude.{Config, Context, has, Inlines, is_other, more, next, past_byte, plain, retry, run, SpanNames, spanning, with_enter}
 use Rattle.state_verdicts.proofs.Prelude.{with_exit}
 use Rattle.state_inline.specs.Inlines.{bodies}

@@ -10,9 +10,9 @@ use Rattle.definition_inline.specs.CharacterReference.{reference_after, referenc
 use Rattle.definition_inline.specs.Inline.{Character}
 use Rattle.engine_events.specs.declared.event.Kind.TheVariants.{Enter, Exit}
 use Rattle.engine_events.specs.declared.event.Name.TheVariants as names
-use Rattle.engine_events.specs.declared.state.Inline.TheVariants as state_inline
-use Rattle.engine_events.specs.declared.state.Name.TheVariants.{Inline}
-use Rattle.engine_events.specs.declared.state.State.TheVariants as states
+use Rattle.engine_states.specs.declared.state.Inline.TheVariants as state_inline
+use Rattle.engine_states.specs.declared.state.Name.TheVariants.{Inline}
+use Rattle.engine_states.specs.declared.state.State.TheVariants as states
 use Rattle.state_inline.specs.Inlines.{bodies}
 use Rattle.state_verdicts.specs.CharacterReference.{CharacterReferenceVerdict, IsReference, decimal, hexadecimal}
 use Rattle.state_verdicts.specs.CharacterReference.{named as by_name}

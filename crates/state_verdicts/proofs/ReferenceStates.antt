@@ -3,9 +3,9 @@ use Rattle.std.proofs.Common.{◌≡◌, ℕ, Bool, false, ◌==◌, ◌&&◌, �
 use Rattle.state_verdicts.proofs.Prelude.{Config, Context, goes_on, Inlines, is_ascii_alphanumeric, is_ascii_digit, is_value_known, more, next, past_byte}
 use Rattle.state_verdicts.proofs.Prelude.{plain, referring, run, with_enter, with_exit}
 use Rattle.engine_events.specs.declared.event.Name.TheVariants as names
-use Rattle.engine_events.specs.declared.state.Inline.TheVariants as state_inline
-use Rattle.engine_events.specs.declared.state.Name.TheVariants.{Inline}
-use Rattle.engine_events.specs.declared.state.State.TheVariants as states
+use Rattle.engine_states.specs.declared.state.Inline.TheVariants as state_inline
+use Rattle.engine_states.specs.declared.state.Name.TheVariants.{Inline}
+use Rattle.engine_states.specs.declared.state.State.TheVariants as states
 use Rattle.state_inline.specs.Inlines.{bodies}
 
 -- over the `&`

@@ -9,9 +9,9 @@ use Rattle.state_verdicts.proofs.Prelude.{referring, retry, run, Sees, Stretch, 
 use Rattle.definition_text.specs.Content.{part}
 use Rattle.engine_events.specs.declared.event.Kind.TheVariants.{Enter, Exit}
 use Rattle.engine_events.specs.declared.event.Name.TheVariants as names
-use Rattle.engine_events.specs.declared.state.Inline.TheVariants as state_inline
-use Rattle.engine_events.specs.declared.state.Name.TheVariants.{Inline}
-use Rattle.engine_events.specs.declared.state.State.TheVariants as states
+use Rattle.engine_states.specs.declared.state.Inline.TheVariants as state_inline
+use Rattle.engine_states.specs.declared.state.Name.TheVariants.{Inline}
+use Rattle.engine_states.specs.declared.state.State.TheVariants as states
 use Rattle.state_inline.specs.Inlines.{bodies}
 use Rattle.state_verdicts.specs.Verdicts.{Reads}
 use Rattle.state_verdicts.proofs.Loops.{At, StretchEnd, byte_at, end_at, over_capped, stops}

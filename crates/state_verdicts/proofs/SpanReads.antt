@@ -10,9 +10,9 @@ use Rattle.definition_text.specs.Content.{up_to}
 use Rattle.definition_inline.specs.CodeText.{code_text, raw_leaf, raw_part}
 use Rattle.definition_inline.specs.Inline.{Code, Math}
 use Rattle.engine_events.specs.declared.event.Kind.TheVariants.{Enter, Exit}
-use Rattle.engine_events.specs.declared.state.Inline.TheVariants as state_inline
-use Rattle.engine_events.specs.declared.state.Name.TheVariants.{Inline}
-use Rattle.engine_events.specs.declared.state.State.TheVariants as states
+use Rattle.engine_states.specs.declared.state.Inline.TheVariants as state_inline
+use Rattle.engine_states.specs.declared.state.Name.TheVariants.{Inline}
+use Rattle.engine_states.specs.declared.state.State.TheVariants as states
 use Rattle.state_inline.specs.Inlines.{bodies}
 use Rattle.state_verdicts.specs.RawText.{is_text}
 use Rattle.state_verdicts.specs.Verdicts.{Reads}

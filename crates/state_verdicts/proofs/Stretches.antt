@@ -3,7 +3,7 @@ use Rattle.std.proofs.Common.{◌≡◌, ◌∙◌, ℕ, suc, ◌+◌, Bool, tru
 use Rattle.std.proofs.Common.{arith}
 use Rattle.state_verdicts.proofs.Prelude.{as_byte, byte, byte_of, cases_Bool, code_byte, ended, has, is_eol, longer, ne_eqb, nothing, Point, prefix_len, Sees}
 use Rattle.state_verdicts.proofs.Prelude.{Stretch, tab, Text, text_byte}
-use Rattle.state_codes.specs.Codes.{Fills, column, full}
+use Rattle.state_verdicts.specs.Codes.{Fills, column, full}
 use Rattle.state_verdicts.proofs.Seen.{seen_column}
 
 drop_next : (k c : ℕ) (cs : List ℕ) → drop (1 + k) (c ∷ cs) ≡ drop k cs

@@ -3,8 +3,8 @@ use Rattle.std.proofs.Common.{◌≡◌, ◌∙◌, ℕ, Bool, true, false, List
 use Rattle.definition_text.specs.Ascii.{ampersand, backslash, backtick, dollar, less_than}
 use Rattle.state_verdicts.proofs.Prelude.{as_byte, at_byte, break_events, byte_at, Chooses, Config, Context, ends_apart, escape_at, escape_events}
 use Rattle.state_verdicts.proofs.Prelude.{escaped_break_at, Found, GoesOn, hand_on, InlineName, Inlines, next, Point, retry, run, Sees, Text, tries, Verdict}
-use Rattle.engine_events.specs.declared.state.Inline.TheVariants as state_inline
-use Rattle.engine_events.specs.declared.state.Name.TheVariants.{Inline}
+use Rattle.engine_states.specs.declared.state.Inline.TheVariants as state_inline
+use Rattle.engine_states.specs.declared.state.Name.TheVariants.{Inline}
 use Rattle.state_inline.specs.Inlines.{bodies}
 use Rattle.state_verdicts.specs.Autolink.{AutolinkChoice}
 use Rattle.state_verdicts.specs.CharacterEscape.{EscapeChoice}

@@ -1,10 +1,10 @@
 -- Before a part that begins with another byte, and at the text's end.
 use Rattle.std.proofs.Common.{◌≡◌, ℕ, Bool, true, false, ◌==◌, List, [], ◌∷◌, Option, Some, None, refl}
 use Rattle.state_verdicts.proofs.Prelude.{as_byte, byte_at, Config, Context, ends-ok, Inlines, list_any, or_parts, plain, Point, retry, run, Text, with_byte}
-use Rattle.engine_events.specs.declared.resolve.Name.TheVariants as resolvers
-use Rattle.engine_events.specs.declared.state.Inline.TheVariants as state_inline
-use Rattle.engine_events.specs.declared.state.Name.TheVariants.{Inline}
-use Rattle.engine_events.specs.declared.state.State.TheVariants as states
+use Rattle.engine_states.specs.declared.resolve.Name.TheVariants as resolvers
+use Rattle.engine_states.specs.declared.state.Inline.TheVariants as state_inline
+use Rattle.engine_states.specs.declared.state.Name.TheVariants.{Inline}
+use Rattle.engine_states.specs.declared.state.State.TheVariants as states
 use Rattle.markdown_engine.specs.Machine.{to_run_last}
 use Rattle.state_inline.specs.Inlines.{bodies}
 use Rattle.state_verdicts.specs.Text.{ChoiceLaw, DataChoice, TextEndVerdict, first_bytes}

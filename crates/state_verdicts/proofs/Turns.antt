@@ -1,7 +1,7 @@
 -- Reading by the states of texts, turn by turn.
 use Rattle.std.proofs.Common.{◌≡◌, ℕ, Bool, List, Option, sym, subst}
 use Rattle.state_verdicts.proofs.Prelude.{Config, Context, Effect, Inlines, Name, run, Text, VirtualByte, with_byte}
-use Rattle.engine_events.specs.declared.state.State.TheVariants as states
+use Rattle.engine_states.specs.declared.state.State.TheVariants as states
 use Rattle.markdown_engine.specs.Reading.{Runs, next, retry}
 use Rattle.engine_programs.specs.Bodies.{step_by}
 use Rattle.state_inline.specs.Inlines.{bodies}

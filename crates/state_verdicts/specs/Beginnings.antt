@@ -1,13 +1,13 @@
 -- Bytes with which a construct may begin, and what is said of each of them.
 use Rattle.std.specs.Prelude.{◌≡◌, ℕ, Bool, List, ◌∷◌, Option, Some}
 use Rattle.engine_events.specs.declared.place.Point.{Point}
-use Rattle.engine_events.specs.declared.state.Inline.{Inline as InlineName}
+use Rattle.engine_states.specs.declared.state.Inline.{Inline as InlineName}
 use Rattle.markdown_engine.specs.Context.{Context}
 use Rattle.markdown_engine.specs.Reading.{Config}
 use Rattle.markdown_engine.specs.VirtualText.{Text, as_byte}
 use Rattle.state_table.specs.Words.{retry}
 use Rattle.state_inline.specs.declared.inlines.Inlines.{Inlines}
-use Rattle.state_codes.specs.Codes.{Sees}
+use Rattle.state_verdicts.specs.Codes.{Sees}
 use Rattle.state_verdicts.specs.Choices.{Chooses}
 use Rattle.state_verdicts.specs.Verdicts.{Comes, Reads, at_byte}
 

@@ -3,7 +3,7 @@ use Rattle.std.specs.Prelude.{◌<◌, ◌^◌, length}
 use Rattle.definition_text.specs.Ascii.{backtick}
 use Rattle.definition_inline.specs.CodeText.{code_text_at}
 use Rattle.engine_events.specs.declared.event.Name.TheVariants as names
-use Rattle.engine_events.specs.declared.state.Inline.TheVariants as state_inline
+use Rattle.engine_states.specs.declared.state.Inline.TheVariants as state_inline
 use Rattle.state_verdicts.specs.Beginnings.{Beginning, AtByte, BeforeByte, AreSeen, ComesNext, all_codes, attempt, choice}
 use Rattle.state_verdicts.specs.RawText.{ReadsSpan, SpanNames}
 use Rattle.state_verdicts.specs.Verdicts.{Comes}

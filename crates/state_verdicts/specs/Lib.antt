@@ -1,3 +1,6 @@
+pub mod Codes
+pub mod TextCodes
+pub mod TextBytes
 pub mod Verdicts
 pub mod Choices
 pub mod Beginnings
@@ -11,3 +14,8 @@ pub mod CodeText
 pub mod MathText
 pub mod Autolink
 pub mod HardBreakTrailing
+pub mod Lines
+pub mod BlockVerdicts
+pub mod ThematicBreak
+pub mod HeadingAtx
+pub mod CodeFenced

@@ -13,7 +13,7 @@ use Rattle.markdown_engine.specs.Reading.{Config}
 use Rattle.markdown_engine.specs.VirtualText.{Text, as_byte}
 use Rattle.state_leaves.specs.RawText.{begins_run}
 use Rattle.state_inline.specs.declared.inlines.Inlines.{Inlines}
-use Rattle.state_codes.specs.Codes.{Sees}
+use Rattle.state_verdicts.specs.Codes.{Sees}
 use Rattle.state_verdicts.specs.Beginnings.{Beginning, all_codes, at_hand}
 use Rattle.state_verdicts.specs.Stretch.{Stretch}
 use Rattle.state_verdicts.specs.Verdicts.{Comes, Leaves}

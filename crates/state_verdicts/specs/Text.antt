@@ -4,10 +4,10 @@ use Rattle.std.specs.List.{list_any}
 use Rattle.definition_text.specs.Ascii.{backslash}
 use Rattle.definition_inline.specs.CharacterEscape.{escape_at}
 use Rattle.engine_events.specs.declared.place.Point.{Point}
-use Rattle.engine_events.specs.declared.resolve.Name.TheVariants as resolvers
-use Rattle.engine_events.specs.declared.state.Inline.{Inline as InlineName}
-use Rattle.engine_events.specs.declared.state.Inline.TheVariants as state_inline
-use Rattle.engine_events.specs.declared.state.Name.TheVariants.{Inline}
+use Rattle.engine_states.specs.declared.resolve.Name.TheVariants as resolvers
+use Rattle.engine_states.specs.declared.state.Inline.{Inline as InlineName}
+use Rattle.engine_states.specs.declared.state.Inline.TheVariants as state_inline
+use Rattle.engine_states.specs.declared.state.Name.TheVariants.{Inline}
 use Rattle.markdown_engine.specs.Machine.{to_run_last, tries}
 use Rattle.markdown_engine.specs.Reading.{Config, hand_on, with_byte}
 use Rattle.markdown_engine.specs.VirtualText.{as_byte}

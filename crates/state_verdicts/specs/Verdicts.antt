@@ -3,7 +3,7 @@ use Rattle.std.specs.Prelude.{◌≡◌, ℕ, Bool, true, false, List, [], ◌++
 use Rattle.definition_inline.specs.Inline.{Found}
 use Rattle.engine_events.specs.declared.event.Event.{Event}
 use Rattle.engine_events.specs.declared.place.Point.{Point}
-use Rattle.engine_events.specs.declared.state.State.{State}
+use Rattle.engine_states.specs.declared.state.State.{State}
 use Rattle.markdown_engine.specs.Context.{Context}
 use Rattle.markdown_engine.specs.KeptState.{KeptState}
 use Rattle.markdown_engine.specs.Reading.{Config, Runs, with_byte}
@@ -11,7 +11,7 @@ use Rattle.markdown_engine.specs.VirtualText.{Text, as_byte}
 use Rattle.engine_programs.specs.Bodies.{step_by}
 use Rattle.state_inline.specs.declared.inlines.Inlines.{Inlines}
 use Rattle.state_inline.specs.Inlines.{bodies}
-use Rattle.state_codes.specs.Codes.{Sees}
+use Rattle.state_verdicts.specs.Codes.{Sees}
 
 -- these events were added, this is kept, and reading is at this place; and neither edits nor resolvers were added
 pub record Leaves (c d : Config Inlines) (keeps : KeptState) (added : List Event) (p : Point) : Type 0 where

@@ -1,7 +1,7 @@
 -- The counting machine is lawful.
 use Rattle.std.proofs.Common.{◌≡◌, ℕ, List, [], Option, Some, None, refl, sym, ap, subst}
 use Rattle.engine_events.specs.declared.event.Event.{Event}
-use Rattle.engine_events.specs.declared.state.Name.{Name}
+use Rattle.engine_states.specs.declared.state.Name.{Name}
 use Rattle.markdown_engine.specs.Laws.{LawfulAt}
 use Rattle.markdown_engine.specs.Order.{AreTidy, IsTidy, open_after}
 use Rattle.markdown_engine.specs.OrderLaws.{from_start}

@@ -1,8 +1,8 @@
 -- Machines with one state, which goes over each byte in the same way, and makes no attempt.
 use Rattle.std.specs.Prelude.{◌≡◌, ℕ, ◌+◌, ◌*◌, [], Option, Some, None}
 use Rattle.engine_events.specs.declared.place.Point.{Point}
-use Rattle.engine_events.specs.declared.state.Name.{Name}
-use Rattle.engine_events.specs.declared.state.State.TheVariants as states
+use Rattle.engine_states.specs.declared.state.Name.{Name}
+use Rattle.engine_states.specs.declared.state.State.TheVariants as states
 use Rattle.markdown_engine.specs.declared.virtual_text.VirtualByte.{VirtualByte}
 use Rattle.markdown_engine.specs.Laws.{HoldsAt, IsFed, IsFront, IsStill, RanksAt, remaining}
 use Rattle.markdown_engine.specs.Machine.{past_byte, plain}

@@ -2,7 +2,7 @@
 use Rattle.std.proofs.Common.{◌∙◌, ℕ, None, Option, Some, [], refl}
 use Rattle.engine_events.specs.declared.event.Name.TheVariants.{Data}
 use Rattle.engine_events.specs.declared.place.Point.{Point}
-use Rattle.engine_events.specs.declared.state.Name.{Name}
+use Rattle.engine_states.specs.declared.state.Name.{Name}
 use Rattle.markdown_engine.specs.Laws.{LawfulAt}
 use Rattle.markdown_engine.specs.Machine.{past_byte, with_enter}
 use Rattle.markdown_engine.specs.Order.{Reaches, open_after}

@@ -5,9 +5,9 @@ use Rattle.engine_events.specs.declared.event.Event.{Event}
 use Rattle.engine_events.specs.declared.event.Name.{Name as EventName}
 use Rattle.engine_events.specs.declared.event.Name.TheVariants.{AttentionSequence, Data}
 use Rattle.engine_events.specs.declared.place.Point.{Point}
-use Rattle.engine_events.specs.declared.state.Name.{Name}
-use Rattle.engine_events.specs.declared.state.State.{State}
-use Rattle.engine_events.specs.declared.state.State.TheVariants as states
+use Rattle.engine_states.specs.declared.state.Name.{Name}
+use Rattle.engine_states.specs.declared.state.State.{State}
+use Rattle.engine_states.specs.declared.state.State.TheVariants as states
 use Rattle.markdown_engine.specs.declared.attempt.Attempt.{Attempt}
 use Rattle.markdown_engine.specs.declared.virtual_text.VirtualByte.{VirtualByte}
 use Rattle.markdown_engine.specs.Descent.{AllBelow, DescendsAt}

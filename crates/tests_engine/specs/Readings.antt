@@ -2,9 +2,9 @@
 use Rattle.std.specs.Prelude.{◌≡◌, ℕ, Bool, List, [], MatchOption, Option}
 use Rattle.engine_events.specs.declared.event.Content.{Content}
 use Rattle.engine_events.specs.declared.event.Event.{Event}
-use Rattle.engine_events.specs.declared.state.Name.{Name}
-use Rattle.engine_events.specs.declared.state.State.TheVariants as states
-use Rattle.engine_events.specs.declared.subresult.Subresult.{Subresult}
+use Rattle.engine_states.specs.declared.state.Name.{Name}
+use Rattle.engine_states.specs.declared.state.State.TheVariants as states
+use Rattle.engine_states.specs.declared.subresult.Subresult.{Subresult}
 use Rattle.markdown_engine.specs.Chains.{AreReadable, SubtokenizesIn}
 use Rattle.markdown_engine.specs.Context.{Context}
 use Rattle.markdown_engine.specs.Machine.{fresh_config}

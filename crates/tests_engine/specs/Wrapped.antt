@@ -4,12 +4,12 @@ use Rattle.engine_events.specs.declared.event.Event.{Event}
 use Rattle.engine_events.specs.declared.event.Kind.TheVariants.{Enter, Exit}
 use Rattle.engine_events.specs.declared.event.Name.TheVariants.{Paragraph}
 use Rattle.engine_events.specs.declared.place.Point.{Point}
-use Rattle.engine_events.specs.declared.resolve.Name.{Name as Resolver}
-use Rattle.engine_events.specs.declared.resolve.Name.TheVariants.{Text}
-use Rattle.engine_events.specs.declared.state.Inline.TheVariants.{DataInside}
-use Rattle.engine_events.specs.declared.state.Name.TheVariants.{Inline}
-use Rattle.engine_events.specs.declared.state.State.{State}
-use Rattle.engine_events.specs.declared.state.State.TheVariants as states
+use Rattle.engine_states.specs.declared.resolve.Name.{Name as Resolver}
+use Rattle.engine_states.specs.declared.resolve.Name.TheVariants.{Text}
+use Rattle.engine_states.specs.declared.state.Inline.TheVariants.{DataInside}
+use Rattle.engine_states.specs.declared.state.Name.TheVariants.{Inline}
+use Rattle.engine_states.specs.declared.state.State.{State}
+use Rattle.engine_states.specs.declared.state.State.TheVariants as states
 use Rattle.engine_events.specs.Events.{event, point_of}
 use Rattle.engine_edits.specs.Edits.{EditAt, with_edit}
 use Rattle.markdown_engine.specs.Laws.{HoldsAt}

@@ -9,8 +9,8 @@ use Rattle.engine_events.specs.declared.event.Link.{Link}
 use Rattle.engine_events.specs.declared.event.Name.{Name as EventName}
 use Rattle.engine_events.specs.declared.event.Name.TheVariants.{Paragraph}
 use Rattle.engine_events.specs.declared.place.Point.{Point}
-use Rattle.engine_events.specs.declared.resolve.Name.{Name as Resolver}
-use Rattle.engine_events.specs.declared.resolve.Name.TheVariants.{Text}
+use Rattle.engine_states.specs.declared.resolve.Name.{Name as Resolver}
+use Rattle.engine_states.specs.declared.resolve.Name.TheVariants.{Text}
 use Rattle.engine_events.specs.Events.{event, link_of, point_of}
 use Rattle.engine_edits.specs.Edits.{EditAt, edit_at, with_edit}
 use Rattle.engine_edits.specs.Replacement.{IsOrdered, Places, events_after, places, with_new_links, with_link_as, replacement}

@@ -2,7 +2,7 @@
 ghost use Rattle.std.specs.Prelude.{IfErr, IfOk, []};
 ghost use Rattle.std.specs.Option.{option_copied};
 ghost use Rattle.markdown_options.specs.Messages.{IsOutOfMemory};
-ghost use Rattle.engine_events.specs.declared.state.State.TheVariants as states;
+ghost use Rattle.engine_states.specs.declared.state.State.TheVariants as states;
 ghost use Rattle.markdown_engine.specs.Chains.{MayBegin, chains};
 ghost use Rattle.markdown_engine.specs.Context.{context};
 ghost use Rattle.markdown_engine.specs.Machine.{fresh_config};

@@ -1,7 +1,7 @@
 use crate::compare::assert_same;
 use engine_events::event::{Content, Event, Kind, Link, Name};
 use engine_events::place::{START, column_after, tab_size};
-use engine_events::state::State;
+use engine_states::state::State;
 use markdown_options::{Message, unist};
 
 #[test]

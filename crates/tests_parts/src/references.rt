@@ -1,4 +1,4 @@
-//! What numbers and names are decoded to. Texts are in `tests_rows`.
+//! What numbers and names are decoded to. Texts are in `tests/rows`.
 use crate::asserts::assert_so;
 use inline_references::{builtin_reference, decode_numeric};
 use markdown_options::Message;

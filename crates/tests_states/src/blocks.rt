@@ -5,11 +5,11 @@ use markdown_engine::Message;
 use markdown_engine::event::Kind::{Enter, Exit};
 use markdown_engine::event::{Event, Kind, Link, Name};
 use markdown_engine::place::Point;
-use state_block_table::links::CONTENT;
 use state_edits_blocks::gfm_table::table_edits;
 use state_edits_blocks::heading_atx::atx_edits;
 use state_edits_blocks::heading_setext::setext_edits;
 use state_edits_blocks::list_item::list_edits;
+use state_table::links::CONTENT;
 use std::alloc::{AllocError, Global};
 
 /// An event, with its index.

@@ -1,6 +1,6 @@
 use Rattle.std.proofs.Common.{◌≡◌, ◌∙◌, List, ℕ, ap, length, refl, subst, sym}
 use Rattle.markdown_engine.proofs.Prelude.{AreApart, chunks, Config, found_in, IfOk-weaker, IsPlace, Name, place_at, Point, read_with, seen_as}
-use Rattle.engine_events.specs.declared.state.State.TheVariants as states
+use Rattle.engine_states.specs.declared.state.State.TheVariants as states
 use Rattle.markdown_engine.proofs.ChainSteps.{chain_read}
 use Rattle.markdown_engine.proofs.Push.{same_read}
 use Rattle.markdown_engine.proofs.Resolves.{completed_at}

@@ -5,7 +5,7 @@ use Rattle.markdown_engine.specs.Order.{open_after}
 use Rattle.markdown_engine.specs.Reading.{Config}
 use Rattle.engine_events.specs.declared.event.Name.TheVariants.{Data}
 use Rattle.engine_programs.specs.Rounds.{on_ok}
-use Rattle.state_block_table.specs.BlockWords.{flow_link}
+use Rattle.state_table.specs.BlockWords.{flow_link}
 use Rattle.state_document.proofs.document.enter_line.Goals as goal
 
 pub returns-clause-open_events : goal.returns-clause-open_events

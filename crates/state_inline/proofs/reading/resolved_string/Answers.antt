@@ -2,9 +2,9 @@ use Rattle.std.proofs.Common.{◌≡◌, ℕ, [], true, length, refl, ap, subst,
 use Rattle.state_inline.proofs.Prelude.{at_outcome, bodies, Config, context, fresh_config, inline_resolved, Inlines, Outcome, ParseState, resolve_all, Runs}
 use Rattle.state_inline.proofs.Prelude.{seen_as, Source, source, step_by, text_start, text_to, view_config, whole_run, without_skips}
 use Rattle.markdown_engine.specs.Machine.{config}
-use Rattle.engine_events.specs.declared.state.Inline.TheVariants as state_inline
-use Rattle.engine_events.specs.declared.state.Name.TheVariants.{Inline}
-use Rattle.engine_events.specs.declared.state.State.TheVariants as states
+use Rattle.engine_states.specs.declared.state.Inline.TheVariants as state_inline
+use Rattle.engine_states.specs.declared.state.Name.TheVariants.{Inline}
+use Rattle.engine_states.specs.declared.state.State.TheVariants as states
 use Rattle.state_inline.proofs.reading.resolved_string.Goals as goal
 
 pub returns-clause-reads : goal.returns-clause-reads

@@ -1,10 +1,10 @@
 use Rattle.std.proofs.Common.{Bool, cond, Option, Some, None, ◌≡◌, ◌∙◌, ◌⊎◌, ◌<◌, ℕ, List, [], true, false, length, refl, ap, subst, inl, inr, arith}
 use Rattle.engine_events.specs.declared.event.Event.{Event}
-use Rattle.engine_events.specs.declared.resolve.Name.{Name as Resolver}
-use Rattle.engine_events.specs.declared.state.Name.{Name}
+use Rattle.engine_states.specs.declared.resolve.Name.{Name as Resolver}
+use Rattle.engine_states.specs.declared.state.Name.{Name}
 use Rattle.engine_events.specs.declared.place.Point.{Point}
-use Rattle.engine_events.specs.declared.state.State.{State}
-use Rattle.engine_events.specs.declared.state.State.TheVariants as states
+use Rattle.engine_states.specs.declared.state.State.{State}
+use Rattle.engine_states.specs.declared.state.State.TheVariants as states
 use Rattle.markdown_engine.specs.declared.attempt.Attempt.{Attempt}
 use Rattle.markdown_engine.specs.declared.tokenizer.Tokenizer.{Tokenizer}
 use Rattle.markdown_engine.specs.Machine.{Around, Begins, HasCompleted, GoesAll, IsAfter, OpensRange, IsRefused, config, fresh_config, source}

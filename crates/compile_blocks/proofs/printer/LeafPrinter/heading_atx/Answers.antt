@@ -1,9 +1,10 @@
 use Rattle.std.proofs.Common.{◌≡◌, ◌≤◌, ◌∙◌, ℕ, false, List, length, sym, ap, subst}
 use Rattle.compile_blocks.proofs.Prelude.{Heading, heading_atx_of, in_bytes, Inlines, inlines_of, layout_after, leaf_block_pieces, OnOk, page_view, PageLeaf}
-use Rattle.compile_blocks.proofs.Prelude.{text_in, text_kids, text_law, text_sound}
+use Rattle.compile_blocks.proofs.Prelude.{text_in, text_kids}
 use Rattle.engine_events.specs.declared.event.Name.TheVariants as n
 use Rattle.compile_blocks.proofs.Ranks.{size_parts}
 use Rattle.compile_blocks.proofs.printer.LeafPrinter.heading_atx.Goals as goal
+use Rattle.compile_blocks.proofs.TextKids.{text_law, text_sound}
 
 pub returns-clause-printed : goal.returns-clause-printed
 returns-clause-printed g c = λ m ds place kids meant size events sound.

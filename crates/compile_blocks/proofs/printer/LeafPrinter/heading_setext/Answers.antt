@@ -1,11 +1,12 @@
 use Rattle.std.proofs.Common.{◌≡◌, ◌∙◌, ℕ, false, List, sym, ap, subst}
 use Rattle.compile_blocks.proofs.Prelude.{Heading, heading_setext_of, in_bytes, Inlines, inlines_of, layout_after, leaf_block_pieces, OnOk, page_view}
-use Rattle.compile_blocks.proofs.Prelude.{PageLeaf, text_in, text_kids, text_law, text_sound}
+use Rattle.compile_blocks.proofs.Prelude.{PageLeaf, text_in, text_kids}
 use Rattle.engine_events.specs.declared.event.Name.TheVariants as n
 use Rattle.event_meaning.specs.Blocks.{underline_rank}
 use Rattle.event_meaning.specs.Children.{kids_in}
 use Rattle.compile_raw.proofs.Sound.{kids_sound}
 use Rattle.compile_blocks.proofs.printer.LeafPrinter.heading_setext.Goals as goal
+use Rattle.compile_blocks.proofs.TextKids.{text_law, text_sound}
 
 pub returns-clause-printed : goal.returns-clause-printed
 returns-clause-printed g c = λ m ds place kids meant events sound.

@@ -1,7 +1,7 @@
 use Rattle.std.proofs.Common.{◌≡◌, ◌≤◌, List, length}
 use Rattle.definition_inline.specs.Definition.{Definition}
 use Rattle.compile_html.proofs.Prelude.{GoesOn, KeepsEnding, LayoutState, Meaning}
-use Rattle.compile_texts.specs.Meant.{IsMeant}
+use Rattle.compile_blocks.specs.Meant.{IsMeant}
 use Rattle.compile_rows.specs.Columns.{AreCounted}
 use Rattle.compile_html.proofs.printer.Printer.all.Given as goal
 

@@ -1,6 +1,6 @@
 use Rattle.std.proofs.Common.{◌≡◌, ◌∙◌, ◌⊎◌, ℕ, inl, inr, true, false, Bool, length, refl, subst, sym}
 use Rattle.markdown_engine.proofs.Prelude.{IsRefused, MovesOn, read_with, State, Tokenizer, view_config}
-use Rattle.engine_events.specs.declared.state.State.TheVariants as states
+use Rattle.engine_states.specs.declared.state.State.TheVariants as states
 use Rattle.markdown_engine.specs.Machine.{HasReached}
 use Rattle.markdown_engine.proofs.Push.{halted_as, halts_from, not_refused, only_memory, opened_valid, pushed_as, same_cut, same_read, unless_refused, valid_at, valid_or_refused}
 use Rattle.markdown_engine.proofs.Computing.{stays_unless}

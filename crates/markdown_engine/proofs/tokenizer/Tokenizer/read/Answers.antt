@@ -1,4 +1,4 @@
-use Rattle.engine_events.specs.declared.state.State.TheVariants as states
+use Rattle.engine_states.specs.declared.state.State.TheVariants as states
 use Rattle.std.proofs.Common.{◌∙◌, ℕ, ◌-◌, inl, inr, length, take, true, false, refl, sym, ap, not}
 use Rattle.markdown_engine.proofs.Prelude.{read_with, source, view_config}
 use Rattle.markdown_engine.proofs.tokenizer.Tokenizer.read.Goals as goal

@@ -1,5 +1,5 @@
 use Rattle.std.proofs.Common.{◌≡◌, ◌∙◌, List, false, sym, ap, subst}
-use Rattle.engine_events.specs.declared.resolve.Name.{Name}
+use Rattle.engine_states.specs.declared.resolve.Name.{Name}
 use Rattle.markdown_engine.proofs.Prelude.{AreOnce, is_registered}
 use Rattle.markdown_engine.proofs.ResolverLaws.{once_if}
 use Rattle.markdown_engine.proofs.tokenizer.Tokenizer.register_resolver.Goals as goal

@@ -1,5 +1,5 @@
 use Rattle.std.proofs.Common.{◌≡◌, ◌∙◌, ap, length}
-use Rattle.engine_events.specs.declared.state.Name.TheVariants.{Inline}
+use Rattle.engine_states.specs.declared.state.Name.TheVariants.{Inline}
 use Rattle.markdown_engine.specs.Machine.{config}
 use Rattle.tests_engine.specs.Brackets.{close_state}
 use Rattle.tests_engine.specs.BracketsLaws.{close_innermost}

@@ -1,5 +1,0 @@
-mod Prelude
-pub mod Found
-pub mod HeadAt
-pub mod GfmTableLaid
-pub mod GfmTableLeft

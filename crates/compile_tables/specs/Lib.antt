@@ -1,3 +1,0 @@
--- What the printers of tables are stated with.
-pub mod Found
-pub mod GfmTable

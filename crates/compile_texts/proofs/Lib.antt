@@ -1,3 +1,0 @@
-mod Prelude
-pub mod TextKids
-pub mod TextLaid

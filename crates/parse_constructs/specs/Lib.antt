@@ -1,3 +1,0 @@
-pub mod Constructs
-pub mod Nodes
-pub mod Laws

@@ -1,6 +1,0 @@
-pub mod Leaves
-pub mod Kept
-pub mod Inside
-pub mod Defined
-pub mod Called
-pub mod There

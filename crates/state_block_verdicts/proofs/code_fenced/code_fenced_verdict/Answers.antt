@@ -1,5 +1,0 @@
-use Rattle.state_block_verdicts.proofs.CodeFencedReads.{code_fenced_verdict}
-use Rattle.state_block_verdicts.proofs.code_fenced.code_fenced_verdict.Goals as goal
-
-pub returns : goal.returns
-returns g c = code_fenced_verdict _

@@ -1,5 +1,0 @@
-use Rattle.state_block_verdicts.proofs.HeadingAtxReads.{heading_atx_verdict}
-use Rattle.state_block_verdicts.proofs.heading_atx.heading_atx_verdict.Goals as goal
-
-pub returns : goal.returns
-returns g c = heading_atx_verdict _

@@ -1,5 +1,0 @@
-use Rattle.state_block_verdicts.proofs.Skips.{skips_once}
-use Rattle.state_block_verdicts.proofs.lines.skips_once_law.Goals as goal
-
-pub returns : goal.returns
-returns c = skips_once

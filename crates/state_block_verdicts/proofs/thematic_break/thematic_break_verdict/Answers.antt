@@ -1,5 +1,0 @@
-use Rattle.state_block_verdicts.proofs.ThematicBreakReads.{thematic_break_verdict}
-use Rattle.state_block_verdicts.proofs.thematic_break.thematic_break_verdict.Goals as goal
-
-pub returns : goal.returns
-returns g c = thematic_break_verdict _

@@ -1,5 +1,0 @@
-pub mod Lines
-pub mod Verdicts
-pub mod ThematicBreak
-pub mod HeadingAtx
-pub mod CodeFenced

@@ -1,3 +1,0 @@
-pub mod AreCodes
-pub mod TextSees
-pub mod TextShows

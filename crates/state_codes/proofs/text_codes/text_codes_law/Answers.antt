@@ -1,6 +1,0 @@
-use Rattle.state_codes.proofs.AreCodes.{are_codes}
-use Rattle.state_codes.proofs.TextSees.{tab_codes, text_codes}
-use Rattle.state_codes.proofs.text_codes.text_codes_law.Goals as goal
-
-pub returns : goal.returns
-returns c = record { text = text_codes; tab = tab_codes; codes = are_codes }

@@ -1,0 +1,134 @@
+-- Lines and white space at the front of codes.
+use Rattle.std.proofs.Common.{◌≡◌, ◌∙◌, ℕ, suc, ◌+◌, ◌*◌, ◌<◌, ◌≤◌, Bool, true, false, not, ◌==◌, if◌then◌else◌, List, [], ◌∷◌, length, take, drop, refl, sym}
+use Rattle.std.proofs.Common.{ap, arith, inl, inr}
+use Rattle.state_verdicts.proofs.BlockPrelude.{after_line, bare, cases_Bool, indent, is_eol, is_inner, is_white, line_of, prefix_len}
+use Rattle.state_verdicts.proofs.Seen.{white_inner}
+
+module _ (p : ℕ → Bool) where
+  prefix_by : (c : ℕ) (cs : List ℕ) (is : Bool) → p c ≡ is → prefix_len p (c ∷ cs) ≡ (if is then 1 + prefix_len p cs else 0)
+  prefix_by c cs is h = ap (λ (b : Bool). if b then 1 + prefix_len p cs else 0) h
+
+  -- how long a prefix is
+  pub prefix_more : (c : ℕ) (cs : List ℕ) → p c ≡ true → prefix_len p (c ∷ cs) ≡ suc (prefix_len p cs)
+  prefix_more c cs h = prefix_by c cs true h ∙ (let e : 1 + prefix_len p cs ≡ suc (prefix_len p cs) = omega arith in e)
+
+  pub prefix_none : (c : ℕ) (cs : List ℕ) → p c ≡ false → prefix_len p (c ∷ cs) ≡ 0
+  prefix_none c cs h = prefix_by c cs false h
+
+  -- the rest after a prefix
+  pub rest_more : (c : ℕ) (cs : List ℕ) → p c ≡ true → drop (prefix_len p (c ∷ cs)) (c ∷ cs) ≡ drop (prefix_len p cs) cs
+  rest_more c cs h = ap (λ (n : ℕ). drop n (c ∷ cs)) (prefix_more c cs h)
+
+  pub rest_none : (c : ℕ) (cs : List ℕ) → p c ≡ false → drop (prefix_len p (c ∷ cs)) (c ∷ cs) ≡ c ∷ cs
+  rest_none c cs h = ap (λ (n : ℕ). drop n (c ∷ cs)) (prefix_none c cs h)
+
+  -- no longer than the codes
+  pub rest_within : (cs : List ℕ) → length (drop (prefix_len p cs) cs) ≤ length cs
+  rest_within [] = omega arith
+  rest_within (c ∷ cs) = elim (cases_Bool (p c)) [
+    | inl h ↦ let f = rest_within cs in let e = ap length (rest_more c cs h) in omega (arith, f, e)
+    | inr h ↦ let e = ap length (rest_none c cs h) in omega (arith, e)
+  ]
+
+inner_is : (c : ℕ) (b : Bool) → is_eol c ≡ b → is_inner c ≡ not b
+inner_is c b h = ap not h
+
+-- a line by its first code
+pub line_more : (c : ℕ) (cs : List ℕ) → is_eol c ≡ false → line_of (c ∷ cs) ≡ c ∷ line_of cs
+line_more c cs h = ap (λ (n : ℕ). take n (c ∷ cs)) (prefix_more is_inner c cs (inner_is c false h))
+
+pub line_none : (c : ℕ) (cs : List ℕ) → is_eol c ≡ true → line_of (c ∷ cs) ≡ []
+line_none c cs h = ap (λ (n : ℕ). take n (c ∷ cs)) (prefix_none is_inner c cs (inner_is c true h))
+
+pub after_more : (c : ℕ) (cs : List ℕ) → is_eol c ≡ false → after_line (c ∷ cs) ≡ after_line cs
+after_more c cs h = rest_more is_inner c cs (inner_is c false h)
+
+pub after_none : (c : ℕ) (cs : List ℕ) → is_eol c ≡ true → after_line (c ∷ cs) ≡ c ∷ cs
+after_none c cs h = rest_none is_inner c cs (inner_is c true h)
+
+-- the line after its white space ends where the line does
+pub after_bare : (cs : List ℕ) → after_line (bare cs) ≡ after_line cs
+after_bare [] = refl
+after_bare (c ∷ cs) = elim (cases_Bool (is_white c)) [
+  | inl h ↦ ap after_line (rest_more is_white c cs h) ∙ (after_bare cs ∙ sym (after_more c cs (white_inner c h)))
+  | inr h ↦ ap after_line (rest_none is_white c cs h)
+]
+
+-- no white space is left after it
+pub bare_apart : (cs : List ℕ) → indent (bare cs) ≡ 0
+bare_apart [] = refl
+bare_apart (c ∷ cs) = elim (cases_Bool (is_white c)) [
+  | inl h ↦ ap indent (rest_more is_white c cs h) ∙ bare_apart cs
+  | inr h ↦ ap indent (rest_none is_white c cs h) ∙ prefix_none is_white c cs h
+]
+
+-- so the first code is none
+pub none_white : (c : ℕ) (cs : List ℕ) → indent (c ∷ cs) ≡ 0 → is_white c ≡ false
+none_white c cs h = none_by (is_white c) refl
+  where
+    none_by : (b : Bool) → is_white c ≡ b → b ≡ false
+    none_by true k = let e = prefix_more is_white c cs k in absurd (omega (arith, e, h))
+    none_by false k = refl
+
+-- ---- how many bytes codes may give
+
+-- a tab gives up to four, and any other code one
+abbrev pub weight : List ℕ → ℕ
+weight [] = 0
+weight (c ∷ cs) = (if c == 9 then 4 else 1) + weight cs
+
+weighs : (c : ℕ) (cs : List ℕ) (is : Bool) → (c == 9) ≡ is → weight (c ∷ cs) ≡ (if is then 4 else 1) + weight cs
+weighs c cs is h = ap (λ (b : Bool). (if b then 4 else 1) + weight cs) h
+
+-- at least one
+pub weight_some : (c : ℕ) (cs : List ℕ) → weight cs < weight (c ∷ cs)
+weight_some c cs = elim (cases_Bool (c == 9)) [
+  | inl h ↦ let e = weighs c cs true h in omega (arith, e)
+  | inr h ↦ let e = weighs c cs false h in omega (arith, e)
+]
+
+pub weight_four : (cs : List ℕ) → weight cs ≤ 4 * length cs
+weight_four [] = omega arith
+weight_four (c ∷ cs) = elim (cases_Bool (c == 9)) [
+  | inl h ↦ let e = weighs c cs true h in let f = weight_four cs in omega (arith, e, f)
+  | inr h ↦ let e = weighs c cs false h in let f = weight_four cs in omega (arith, e, f)
+]
+
+pub weight_bare : (cs : List ℕ) → weight (bare cs) ≤ weight cs
+weight_bare [] = omega arith
+weight_bare (c ∷ cs) = elim (cases_Bool (is_white c)) [
+  | inl h ↦ let e = ap weight (rest_more is_white c cs h) in let f = weight_bare cs in let s = weight_some c cs in omega (arith, e, f, s)
+  | inr h ↦ let e = ap weight (rest_none is_white c cs h) in omega (arith, e)
+]
+
+pub weight_line_bare : (cs : List ℕ) → weight (line_of (bare cs)) ≤ weight (line_of cs)
+weight_line_bare [] = omega arith
+weight_line_bare (c ∷ cs) = elim (cases_Bool (is_white c)) [
+  | inl h ↦
+      let e = ap (λ (l : List ℕ). weight (line_of l)) (rest_more is_white c cs h) in
+      let f = weight_line_bare cs in
+      let s = weight_some c (line_of cs) in
+      let l = ap weight (line_more c cs (white_inner c h)) in omega (arith, e, f, s, l)
+  | inr h ↦ let e = ap (λ (l : List ℕ). weight (line_of l)) (rest_none is_white c cs h) in omega (arith, e)
+]
+
+-- the weight of the white space at the front
+abbrev pub white_weight : List ℕ → ℕ
+white_weight cs = weight (take (indent cs) cs)
+
+pub white_weighs : (c : ℕ) (cs : List ℕ) → is_white c ≡ true → white_weight (c ∷ cs) ≡ (if c == 9 then 4 else 1) + white_weight cs
+white_weighs c cs h = ap (λ (n : ℕ). weight (take n (c ∷ cs))) (prefix_more is_white c cs h)
+
+pub white_within : (cs : List ℕ) → white_weight cs ≤ weight (line_of cs)
+white_within [] = omega arith
+white_within (c ∷ cs) = elim (cases_Bool (is_white c)) [
+  | inl h ↦
+      let e = white_weighs c cs h in
+      let l = ap weight (line_more c cs (white_inner c h)) in
+      let f = white_within cs in by_first (if c == 9 then 4 else 1) e l f
+  | inr h ↦ let e = ap (λ (n : ℕ). weight (take n (c ∷ cs))) (prefix_none is_white c cs h) in omega (arith, e)
+]
+  where
+    by_first : (n : ℕ) → white_weight (c ∷ cs) ≡ n + white_weight cs → weight (line_of (c ∷ cs)) ≡ n + weight (line_of cs)
+        → white_weight cs ≤ weight (line_of cs) → white_weight (c ∷ cs) ≤ weight (line_of (c ∷ cs))
+    by_first n e l f = omega (arith, e, l, f)

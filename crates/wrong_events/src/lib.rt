@@ -1,8 +1,0 @@
-//! Functions on events with the contracts of others, on which wrong bodies are tried.
-//!
-//! Each calls the function whose contract it has. The gate puts a wrong body in its place
-//! (`must-fail/`), which the prover must refuse. The functions' own crates are too dear for that.
-#![tactic(auto)]
-
-pub mod edit_map;
-pub mod to_html;
