@@ -2,9 +2,10 @@
 _markdown_lint() {
     local word=${COMP_WORDS[COMP_CWORD]} before=${COMP_WORDS[COMP_CWORD - 1]}
     local rules='heading-increment list-marker list-indent nested-list-indent trailing-spaces tab-indent
-        blank-lines heading-blank-lines duplicate-heading second-title heading-punctuation list-numbers
-        fence-blank-lines list-blank-lines raw-html bare-url code-language empty-link no-alt-text
-        final-newline missing-fragment undefined-reference unused-definition missing-file'
+        reversed-link blank-lines line-length heading-space heading-blank-lines duplicate-heading
+        second-title heading-punctuation list-numbers fence-blank-lines list-blank-lines raw-html
+        bare-url emphasis-spaces code-language empty-link no-alt-text final-newline missing-fragment
+        undefined-reference unused-definition table-cells missing-file'
     compopt -o filenames
     mapfile -t COMPREPLY < <(
         case $before in
@@ -14,7 +15,7 @@ _markdown_lint() {
                 case $word in
                     -*)
                         compgen -W '--gfm --frontmatter --math --mark --all --disable --only --siblings
-                            --columns --config --fix --json --help --version' -- "$word"
+                            --line-length --columns --ignore --config --fix --json --help --version' -- "$word"
                         ;;
                     *) compgen -f -- "$word" ;;
                 esac

@@ -5,16 +5,15 @@
 //! nor are blank lines, nor tabs after a marker.
 //!
 //! Example: `b` after a tab, on the line after `- a`.
+use crate::code::Code;
 use engine_events::event::Name;
-use lint_document::document::{Depth, Step, is_space, is_white};
+use lint_document::document::{Step, is_space, is_white};
 use lint_document::{Document, Report, Rule, Span};
 use std::alloc::AllocError;
 
 /// Reads the indents of lines.
 #[derive(Clone, Copy)]
 pub(crate) struct TabIndent {
-    /// The code and math that are open.
-    code: Depth,
     /// The tabs in the indent of this line, while it isn't known whether the line is code.
     indent: Option<Span>,
 }
@@ -23,22 +22,20 @@ impl TabIndent {
     /// At the start of a text.
     pub(crate) fn new(document: &Document<'_>) -> TabIndent {
         TabIndent {
-            code: Depth::default(),
             indent: indent_at(document, 0),
         }
     }
 
-    /// Reads the next event, and reports the indent of its line if that has a tab and the line is no code.
+    /// Reads the next event, before which code is open or not. Reports the indent of its line if that has a
+    /// tab and the line is no code.
     pub(crate) fn read(
         &mut self,
         document: &Document<'_>,
         step: &Step<'_>,
+        code: &Code,
         report: &mut Report,
     ) -> Result<(), AllocError> {
-        let found = self.found(step);
-        if is_code(step.name) {
-            self.code.count(step.kind);
-        }
+        let found = self.found(step, code);
         if step.starts_line() {
             self.indent = indent_at(document, step.index);
         }
@@ -49,26 +46,18 @@ impl TabIndent {
     }
 
     /// The tabs before this event, if it is the first after the indent and the line is no code.
-    fn found(&mut self, step: &Step<'_>) -> Option<Span> {
+    fn found(&mut self, step: &Step<'_>, code: &Code) -> Option<Span> {
         let indent = self.indent?;
         if step.name == Name::SpaceOrTab || step.index < indent.end {
             return None;
         }
         self.indent = None;
-        if self.code.is_inside() || step.name == Name::CodeIndented {
+        if code.is_open() || step.name == Name::CodeIndented {
             None
         } else {
             Some(indent)
         }
     }
-}
-
-/// Whether an event is code or math.
-fn is_code(name: Name) -> bool {
-    matches!(
-        name,
-        Name::CodeFenced | Name::CodeIndented | Name::CodeText | Name::MathFlow | Name::MathText
-    )
 }
 
 /// The indent of the line that starts at an index, from its first tab on, if it has one and the line

@@ -11,6 +11,8 @@ pub enum Rule {
     SecondTitle,
     /// A heading that ends in punctuation.
     HeadingPunctuation,
+    /// A line of a paragraph that begins with `#` signs and no space after them.
+    HeadingSpace,
     /// A heading with no blank line before or after it.
     HeadingBlankLines,
     /// A fenced code block with no blank line before or after it.
@@ -25,6 +27,10 @@ pub enum Rule {
     TrailingSpaces,
     /// A tab in the indent of a line.
     TabIndent,
+    /// A line that is too long. It is off by default.
+    LineLength,
+    /// White space inside the markers of emphasis.
+    EmphasisSpaces,
     /// A list right after a list with another marker.
     ListMarker,
     /// An item that is indented otherwise than the first of its list.
@@ -33,6 +39,8 @@ pub enum Rule {
     NestedListIndent,
     /// A number that doesn't go on with those of its list.
     ListNumbers,
+    /// A row of a table with another number of cells than the head.
+    TableCells,
     /// A tag of raw HTML.
     RawHtml,
     /// A fenced code block without a language.
@@ -43,6 +51,8 @@ pub enum Rule {
     NoAltText,
     /// A link that leads nowhere.
     EmptyLink,
+    /// A link with its text in parentheses and its destination in brackets.
+    ReversedLink,
     /// A link to a fragment that no heading and no tag has.
     MissingFragment,
     /// A link to a file that isn't there.
@@ -64,11 +74,12 @@ struct Names {
 
 impl Rule {
     /// All rules, in the order of their findings at one place.
-    pub const ALL: [Rule; 24] = [
+    pub const ALL: [Rule; 29] = [
         Rule::HeadingIncrement,
         Rule::DuplicateHeading,
         Rule::SecondTitle,
         Rule::HeadingPunctuation,
+        Rule::HeadingSpace,
         Rule::HeadingBlankLines,
         Rule::FenceBlankLines,
         Rule::ListBlankLines,
@@ -76,15 +87,19 @@ impl Rule {
         Rule::FinalNewline,
         Rule::TrailingSpaces,
         Rule::TabIndent,
+        Rule::LineLength,
+        Rule::EmphasisSpaces,
         Rule::ListMarker,
         Rule::ListIndent,
         Rule::NestedListIndent,
         Rule::ListNumbers,
+        Rule::TableCells,
         Rule::RawHtml,
         Rule::CodeLanguage,
         Rule::BareUrl,
         Rule::NoAltText,
         Rule::EmptyLink,
+        Rule::ReversedLink,
         Rule::MissingFragment,
         Rule::MissingFile,
         Rule::UndefinedReference,
@@ -125,6 +140,7 @@ impl Rule {
             Rule::DuplicateHeading => numbered("duplicate-heading", "MD024"),
             Rule::SecondTitle => numbered("second-title", "MD025"),
             Rule::HeadingPunctuation => numbered("heading-punctuation", "MD026"),
+            Rule::HeadingSpace => numbered("heading-space", "MD018"),
             Rule::HeadingBlankLines => numbered("heading-blank-lines", "MD022"),
             Rule::FenceBlankLines => numbered("fence-blank-lines", "MD031"),
             Rule::ListBlankLines => numbered("list-blank-lines", "MD032"),
@@ -132,15 +148,19 @@ impl Rule {
             Rule::FinalNewline => numbered("final-newline", "MD047"),
             Rule::TrailingSpaces => numbered("trailing-spaces", "MD009"),
             Rule::TabIndent => numbered("tab-indent", "MD010"),
+            Rule::LineLength => numbered("line-length", "MD013"),
+            Rule::EmphasisSpaces => numbered("emphasis-spaces", "MD037"),
             Rule::ListMarker => numbered("list-marker", "MD004"),
             Rule::ListIndent => numbered("list-indent", "MD005"),
             Rule::NestedListIndent => numbered("nested-list-indent", "MD007"),
             Rule::ListNumbers => numbered("list-numbers", "MD029"),
+            Rule::TableCells => numbered("table-cells", "MD056"),
             Rule::RawHtml => numbered("raw-html", "MD033"),
             Rule::CodeLanguage => numbered("code-language", "MD040"),
             Rule::BareUrl => numbered("bare-url", "MD034"),
             Rule::NoAltText => numbered("no-alt-text", "MD045"),
             Rule::EmptyLink => numbered("empty-link", "MD042"),
+            Rule::ReversedLink => numbered("reversed-link", "MD011"),
             Rule::MissingFragment => numbered("missing-fragment", "MD051"),
             Rule::MissingFile => Names {
                 name: "missing-file",

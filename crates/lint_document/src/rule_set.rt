@@ -8,18 +8,18 @@ use crate::rule::Rule;
 #[derive(Clone, Copy)]
 pub struct RuleSet {
     /// Whether each rule is in it, in the order of `Rule::ALL`.
-    members: [bool; 24],
+    members: [bool; 29],
 }
 
 impl RuleSet {
     /// No rule.
     pub const NONE: RuleSet = RuleSet {
-        members: [false; 24],
+        members: [false; 29],
     };
 
     /// All rules.
     pub const ALL: RuleSet = RuleSet {
-        members: [true; 24],
+        members: [true; 29],
     };
 
     /// Whether a rule is in it.

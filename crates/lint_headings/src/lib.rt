@@ -4,6 +4,7 @@
 mod duplicate_heading;
 mod heading_increment;
 mod heading_punctuation;
+mod heading_space;
 mod rules;
 mod second_title;
 

@@ -2,6 +2,7 @@
 use crate::duplicate_heading::DuplicateHeading;
 use crate::heading_increment::HeadingIncrement;
 use crate::heading_punctuation;
+use crate::heading_space::HeadingSpace;
 use crate::second_title::SecondTitle;
 use lint_document::document::Step;
 use lint_document::{Document, Heading, Headings, Report};
@@ -14,6 +15,7 @@ pub struct HeadingRules {
     increment: HeadingIncrement,
     title: SecondTitle,
     duplicate: DuplicateHeading,
+    space: HeadingSpace,
 }
 
 impl HeadingRules {
@@ -24,6 +26,7 @@ impl HeadingRules {
             increment: HeadingIncrement::new(),
             title: SecondTitle::default(),
             duplicate: DuplicateHeading::new(alloc, siblings)?,
+            space: HeadingSpace::default(),
         })
     }
 
@@ -35,6 +38,7 @@ impl HeadingRules {
         step: &Step<'_>,
         report: &mut Report,
     ) -> Result<(), AllocError> {
+        self.space.read(document, step, report)?;
         match self.headings.read(step, number) {
             Some(heading) => self.check(document, &heading, report),
             None => Ok(()),

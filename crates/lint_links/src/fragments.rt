@@ -11,15 +11,15 @@ use std::collections::BTreeSet;
 
 /// The fragments of a text.
 #[derive(Drop)]
-pub(crate) struct Fragments {
+pub struct Fragments {
     headings: Slugs,
     tags: BTreeSet<String>,
     alloc: Global,
 }
 
 impl Fragments {
-    /// The fragments of a text.
-    pub(crate) fn of(alloc: Global, document: &Document<'_>) -> Result<Fragments, AllocError> {
+    /// The fragments of a text. Fails if memory runs out.
+    pub fn of(alloc: Global, document: &Document<'_>) -> Result<Fragments, AllocError> {
         let mut fragments = Fragments {
             headings: Slugs::new(alloc),
             tags: BTreeSet::new(alloc),
@@ -30,7 +30,7 @@ impl Fragments {
     }
 
     /// Whether a link to this fragment leads somewhere.
-    pub(crate) fn has(&self, fragment: &str) -> bool {
+    pub fn has(&self, fragment: &str) -> bool {
         fragment == "top" || self.headings.has(fragment) || self.tags.contains(fragment)
     }
 

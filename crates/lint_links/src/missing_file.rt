@@ -13,6 +13,9 @@ use std::str::from_utf8;
 pub trait Folder {
     /// Whether there is a file or a folder at a path from here. It may say so if it can't know.
     fn has(&self, path: &str) -> Result<bool, AllocError>;
+
+    /// Whether the text of the file at a path from here has a fragment. It may say so if it can't know.
+    fn has_fragment(&mut self, path: &str, fragment: &str) -> Result<bool, AllocError>;
 }
 
 /// Reports a URL, which is at this place, if it leads to a file that isn't in the folder.
@@ -35,7 +38,7 @@ pub(crate) fn check<F: Folder>(
 }
 
 /// The path of a URL that leads to a file beside the text (RFC 3986, 4.2).
-fn path_of(url: &str) -> Option<&str> {
+pub(crate) fn path_of(url: &str) -> Option<&str> {
     let end = url.find(['?', '#']).unwrap_or(url.len());
     let path = url.get(..end)?;
     let is_elsewhere = path.is_empty() || path.starts_with('/') || has_protocol(path);

@@ -2,10 +2,12 @@
 //!
 //! Such a link leads to the top of the page. The fragment of a heading is GitHub's: its text in small
 //! letters, with a hyphen for each space, without punctuation, and with `-1`, `-2`, .. if it is taken.
-//! `#top` leads to the top, and what begins with `user-content-` isn't looked at.
+//! `#top` leads to the top, and what begins with `user-content-` isn't looked at. In links to other files
+//! fragments of lines aren't looked at either, such as `#L10`.
 //!
 //! Example: `[a](#Usage)` in a text whose only heading is `# Usage`: the fragment is `usage`.
 use crate::fragments::Fragments;
+use crate::missing_file::{Folder, path_of};
 use crate::target::unescaped;
 use lint_document::{Document, Report, Rule, Span};
 use std::alloc::{AllocError, Global};
@@ -33,21 +35,29 @@ impl MissingFragment {
         }
     }
 
-    /// Reads a URL, which is at this place.
-    pub(crate) fn read(
+    /// Reads a URL, which is at this place of a text in a folder. Reports it if it leads to a fragment that
+    /// another file doesn't have.
+    pub(crate) fn read<F: Folder>(
         &mut self,
+        folder: &mut F,
         span: Span,
         url: &str,
-        report: &Report,
+        report: &mut Report,
     ) -> Result<(), AllocError> {
-        let Some(fragment) = url.strip_prefix('#') else {
+        if !report.has(Rule::MissingFragment) {
             return Ok(());
-        };
-        if report.has(Rule::MissingFragment) {
-            let fragment = String::from_str(report.alloc(), fragment)?;
-            self.links.push(FragmentLink { span, fragment })?;
         }
-        Ok(())
+        match (path_of(url), url.split_once('#')) {
+            (None, Some(("", fragment))) => {
+                let fragment = String::from_str(report.alloc(), fragment)?;
+                self.links.push(FragmentLink { span, fragment })?;
+                Ok(())
+            }
+            (Some(path), Some((_, fragment))) if !is_of_lines(fragment) => {
+                check_elsewhere(folder, span, path, fragment, report)
+            }
+            _ => Ok(()),
+        }
     }
 
     /// Reports the links to fragments that aren't in the text.
@@ -76,9 +86,40 @@ impl MissingFragment {
     }
 }
 
+/// Reports a link, which is at this place, if it leads to a fragment that the file at a path doesn't have. In
+/// both bytes may be escaped.
+fn check_elsewhere<F: Folder>(
+    folder: &mut F,
+    span: Span,
+    path: &str,
+    fragment: &str,
+    report: &mut Report,
+) -> Result<(), AllocError> {
+    let path = unescaped(report.alloc(), path)?;
+    let bytes = unescaped(report.alloc(), fragment)?;
+    let (Ok(path), Ok(fragment)) = (from_utf8(&path), from_utf8(&bytes)) else {
+        return Ok(());
+    };
+    if leads_anywhere(fragment) || folder.has_fragment(path, fragment)? {
+        return Ok(());
+    }
+    let what = format!(in report.alloc(); "nothing in {path:?} has the fragment {fragment:?}")?;
+    report.add_made(Rule::MissingFragment, span, what)
+}
+
+/// Whether a fragment stands for lines of a file, as `L10` or `L10-L20`.
+fn is_of_lines(fragment: &str) -> bool {
+    matches!(fragment.as_bytes(), [b'L', b'0'..=b'9', ..])
+}
+
+/// Whether a link to a fragment isn't looked at.
+fn leads_anywhere(fragment: &str) -> bool {
+    fragment.is_empty() || fragment.starts_with("user-content-")
+}
+
 /// Whether a link to a fragment leads somewhere.
 fn is_there(alloc: Global, fragments: &Fragments, fragment: &str) -> Result<bool, AllocError> {
-    if fragment.is_empty() || fragment.starts_with("user-content-") {
+    if leads_anywhere(fragment) {
         return Ok(true);
     }
     let bytes = unescaped(alloc, fragment)?;

@@ -4,6 +4,7 @@ use crate::empty_link::EmptyLink;
 use crate::missing_file::{self, Folder};
 use crate::missing_fragment::MissingFragment;
 use crate::no_alt_text::NoAltText;
+use crate::reversed_link;
 use crate::target::Targets;
 use lint_document::document::Step;
 use lint_document::{Document, Report, Span};
@@ -36,11 +37,12 @@ impl LinkRules {
         &mut self,
         document: &Document<'_>,
         step: &Step<'_>,
-        folder: &F,
+        folder: &mut F,
         report: &mut Report,
     ) -> Result<(), AllocError> {
         self.url.read(step, report)?;
         self.empty.read(document, step, report)?;
+        reversed_link::check(document, step, report)?;
         self.images.read(step, report)?;
         match self.targets.read(document, step)? {
             Some(span) => self.check_target(span, folder, report),
@@ -48,16 +50,17 @@ impl LinkRules {
         }
     }
 
-    /// Reports the last destination, which is at this place, if it leads to no file.
+    /// Reports the last destination, which is at this place, if it leads to no file, or to no fragment of
+    /// another file.
     fn check_target<F: Folder>(
         &mut self,
         span: Span,
-        folder: &F,
+        folder: &mut F,
         report: &mut Report,
     ) -> Result<(), AllocError> {
         let url = self.targets.url();
         missing_file::check(folder, span, url, report)?;
-        self.fragments.read(span, url, report)
+        self.fragments.read(folder, span, url, report)
     }
 
     /// Reads the end of the text.

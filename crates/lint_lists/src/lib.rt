@@ -1,4 +1,4 @@
-//! The rules of the linter on lists, one file each.
+//! The rules of the linter on lists and tables, one file each.
 #![tactic(auto)]
 
 mod item;
@@ -7,5 +7,6 @@ mod list_marker;
 pub mod list_numbers;
 mod nested_list_indent;
 mod rules;
+mod table_cells;
 
 pub use rules::ListRules;

@@ -1,7 +1,8 @@
-//! list-marker (MD004): lists side by side whose markers differ.
+//! list-marker (MD004): a list on the line after a list with another marker.
 //!
 //! Another marker begins another list (CommonMark 5.3), so what looks like one list is two: a browser puts
-//! space between them, and an ordered one counts anew.
+//! space between them, and an ordered one counts anew. After a blank line two lists are meant, which need
+//! two markers. In an item of another list there may be no blank line, so lists there aren't looked at.
 //!
 //! Example: `- a` and on the next line `* b`.
 use engine_events::event::{Kind, Name};
@@ -26,6 +27,8 @@ pub(crate) struct ListMarkers {
     open: Vec<List>,
     /// The marker of the list that was the last thing to end.
     last: Option<u8>,
+    /// Whether the last line was blank.
+    is_blank: bool,
 }
 
 impl ListMarkers {
@@ -34,24 +37,31 @@ impl ListMarkers {
         ListMarkers {
             open: Vec::new(alloc),
             last: None,
+            is_blank: false,
         }
     }
 
-    /// Reads the next event. Reports the list whose first marker ends there, if it comes right after a list
-    /// with another marker.
+    /// Reads the next event. Reports the list whose first marker ends there, if it comes on the line after a
+    /// list with another marker.
     pub(crate) fn read(&mut self, step: &Step<'_>, report: &mut Report) -> Result<(), AllocError> {
         match (step.kind, step.name) {
-            (Kind::Enter, Name::ListOrdered | Name::ListUnordered) => self.open.push(List {
-                start: step.index,
-                before: self.last.take(),
-                marker: None,
-            })?,
+            (Kind::Enter, Name::ListOrdered | Name::ListUnordered) => {
+                let before = self.last.take();
+                let is_apart = self.is_blank || !self.open.is_empty();
+                self.open.push(List {
+                    start: step.index,
+                    before: if is_apart { None } else { before },
+                    marker: None,
+                })?;
+            }
             (Kind::Exit, Name::ListOrdered | Name::ListUnordered) => {
                 self.last = marker_of(self.open.pop());
             }
             (Kind::Exit, Name::ListItemMarker) => {
                 return check_marker(self.open.last_mut(), step, report);
             }
+            (_, Name::LineEnding) => self.is_blank = false,
+            (_, Name::BlankLineEnding) => self.is_blank = true,
             _ if is_between(step.name) => {}
             _ => self.last = None,
         }
@@ -95,10 +105,6 @@ fn check_marker(
 fn is_between(name: Name) -> bool {
     matches!(
         name,
-        Name::LineEnding
-            | Name::BlankLineEnding
-            | Name::SpaceOrTab
-            | Name::BlockQuotePrefix
-            | Name::BlockQuoteMarker
+        Name::SpaceOrTab | Name::BlockQuotePrefix | Name::BlockQuoteMarker
     )
 }

@@ -1,40 +1,47 @@
-//! All rules on lists.
+//! All rules on lists and tables.
 use crate::item::{Item, Items};
 use crate::list_marker::ListMarkers;
+use crate::table_cells::TableCells;
 use crate::{list_indent, list_numbers, nested_list_indent};
 use lint_document::Report;
 use lint_document::document::Step;
 use std::alloc::{AllocError, Global};
 
-/// The rules on lists, with what they know of the text so far.
+/// The rules on lists and tables, with what they know of the text so far.
 #[derive(Drop)]
 pub struct ListRules {
     markers: ListMarkers,
     items: Items,
+    cells: TableCells,
+    /// The columns that a list of bullets is indented by for each level.
+    level_indent: usize,
 }
 
 impl ListRules {
-    /// No event was read.
-    pub fn new(alloc: Global) -> ListRules {
+    /// No event was read. Lists of bullets should be indented by so many columns a level.
+    pub fn new(alloc: Global, level_indent: usize) -> ListRules {
         ListRules {
             markers: ListMarkers::new(alloc),
             items: Items::new(alloc),
+            cells: TableCells::default(),
+            level_indent,
         }
     }
 
     /// Reads the next event.
     pub fn read(&mut self, step: &Step<'_>, report: &mut Report) -> Result<(), AllocError> {
         self.markers.read(step, report)?;
+        self.cells.read(step, report)?;
         match self.items.read(step)? {
-            Some(item) => check_item(&item, report),
+            Some(item) => check_item(&item, self.level_indent, report),
             None => Ok(()),
         }
     }
 }
 
-/// Reports what is wrong with an item.
-fn check_item(item: &Item, report: &mut Report) -> Result<(), AllocError> {
+/// Reports what is wrong with an item, where lists of bullets are indented by so many columns a level.
+fn check_item(item: &Item, level_indent: usize, report: &mut Report) -> Result<(), AllocError> {
     list_indent::check(item, report)?;
-    nested_list_indent::check(item, report)?;
+    nested_list_indent::check(item, level_indent, report)?;
     list_numbers::check(item, report)
 }

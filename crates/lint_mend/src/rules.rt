@@ -30,18 +30,19 @@ fn findings_but_numbers(
     mut rules: RuleSet,
 ) -> Result<Vec<Finding>, AllocError> {
     rules.remove(Rule::ListNumbers);
-    let settings = Settings {
-        rules,
-        siblings: false,
-    };
-    findings_of(alloc, document, &settings, &AnyFile)
+    findings_of(alloc, document, &Settings::new(rules), &mut AnyFile)
 }
 
 /// A folder where every file is. No rule that is mended asks for files.
+#[derive(Clone, Copy)]
 struct AnyFile;
 
 impl Folder for AnyFile {
     fn has(&self, _path: &str) -> Result<bool, AllocError> {
+        Ok(true)
+    }
+
+    fn has_fragment(&mut self, _path: &str, _fragment: &str) -> Result<bool, AllocError> {
         Ok(true)
     }
 }

@@ -7,4 +7,4 @@ mod rules;
 pub mod switch;
 
 pub use rules::RawRules;
-pub use switch::{Switch, switches};
+pub use switch::{Comments, Switch, comments};

@@ -1,7 +1,7 @@
 //! All rules on raw HTML and code.
 use crate::code_language::CodeLanguage;
 use crate::raw_html::RawHtml;
-use crate::switch::{Switch, push_switches};
+use crate::switch::{CommentReader, Comments};
 use lint_document::document::Step;
 use lint_document::{Document, Report};
 use std::alloc::{AllocError, Global};
@@ -11,7 +11,7 @@ use std::alloc::{AllocError, Global};
 pub struct RawRules {
     html: RawHtml,
     language: CodeLanguage,
-    switches: Vec<Switch>,
+    comments: CommentReader,
 }
 
 impl RawRules {
@@ -20,7 +20,7 @@ impl RawRules {
         RawRules {
             html: RawHtml::default(),
             language: CodeLanguage::default(),
-            switches: Vec::new(alloc),
+            comments: CommentReader::new(alloc),
         }
     }
 
@@ -31,14 +31,14 @@ impl RawRules {
         step: &Step<'_>,
         report: &mut Report,
     ) -> Result<(), AllocError> {
-        push_switches(&mut self.switches, step)?;
+        self.comments.read(step)?;
         self.language.read(step, report)?;
         self.html.read(document, step, report)
     }
 
-    /// The comments so far that turn rules off or on, in their order.
-    pub fn into_switches(self) -> Vec<Switch> {
-        let RawRules { switches, .. } = self;
-        switches
+    /// The comments that turn rules off or on, after the last event was read. Fails if memory runs out.
+    pub fn into_comments(self) -> Result<Comments, AllocError> {
+        let RawRules { comments, .. } = self;
+        comments.into_comments()
     }
 }

@@ -7,5 +7,5 @@ mod silence;
 mod walk;
 
 pub use lint_document::{Columns, Document, Finding, Place, Places, Rule, RuleSet, Span};
-pub use lint_links::Folder;
+pub use lint_links::{Folder, Fragments};
 pub use rules::{Settings, findings_of, right_numbers};

@@ -1,10 +1,12 @@
 //! Which rules there are, and what they find.
+ghost use Rattle.std.specs.Prelude.{◌≡◌};
+
 use crate::silence::without_silenced;
 use crate::walk::check;
 use lint_document::{Document, Finding, Report, RuleSet};
 use lint_links::Folder;
 use lint_lists::list_numbers;
-use lint_raw::switches;
+use lint_raw::comments;
 use std::alloc::{AllocError, Global};
 
 /// What is to be found.
@@ -14,6 +16,24 @@ pub struct Settings {
     pub rules: RuleSet,
     /// Whether headings of different sections may have the same text.
     pub siblings: bool,
+    /// The most characters that a line may have, for `line-length`.
+    pub line_length: usize,
+    /// The columns that lists of bullets are indented by for each level, for `nested-list-indent`.
+    pub level_indent: usize,
+}
+
+impl Settings {
+    /// These rules, with the values that they have if none is asked for.
+    pub fn new(rules: RuleSet) -> Settings
+        ensures rules { result.rules ≡ rules }
+    {
+        Settings {
+            rules,
+            siblings: false,
+            line_length: 80,
+            level_indent: 2,
+        }
+    }
 }
 
 /// What the rules find in a document, which is in a folder, by where it is; at one place in the order of
@@ -22,11 +42,11 @@ pub fn findings_of<F: Folder>(
     alloc: Global,
     document: &Document<'_>,
     settings: &Settings,
-    folder: &F,
+    folder: &mut F,
 ) -> Result<Vec<Finding>, AllocError> {
     let mut report = Report::new(alloc, settings.rules);
-    let switches = check(alloc, document, settings.siblings, folder, &mut report)?;
-    without_silenced(alloc, report.into_findings()?, &switches)
+    let comments = check(alloc, document, settings, folder, &mut report)?;
+    without_silenced(alloc, report.into_findings()?, &comments)
 }
 
 /// The numbers of items that `list-numbers` would find, one after the other, if each was mended; but for those
@@ -34,5 +54,5 @@ pub fn findings_of<F: Folder>(
 pub fn right_numbers(alloc: Global, document: &Document<'_>) -> Result<Vec<Finding>, AllocError> {
     let mut report = Report::new(alloc, RuleSet::ALL);
     list_numbers::renumber(document, &mut report)?;
-    without_silenced(alloc, report.into_findings()?, &switches(alloc, document)?)
+    without_silenced(alloc, report.into_findings()?, &comments(alloc, document)?)
 }

@@ -1,26 +1,28 @@
 //! The rules, while they read the events of a text. All read them in one walk.
+use crate::rules::Settings;
 use lint_blanks::BlankRules;
 use lint_document::document::Step;
 use lint_document::{Document, Report};
 use lint_headings::HeadingRules;
 use lint_links::{Folder, LinkRules};
 use lint_lists::ListRules;
-use lint_raw::{RawRules, Switch};
+use lint_raw::{Comments, RawRules};
 use lint_references::ReferenceRules;
 use std::alloc::{AllocError, Global};
 
-/// Reports what the rules find in a document, which is in a folder. If `siblings`, headings of different
-/// sections may have the same text. Returns the comments that turn rules off or on, in their order.
+/// Reports what the rules find in a document, which is in a folder. Returns the comments that turn rules off
+/// or on.
 pub(crate) fn check<F: Folder>(
     alloc: Global,
     document: &Document<'_>,
-    siblings: bool,
-    folder: &F,
+    settings: &Settings,
+    folder: &mut F,
     report: &mut Report,
-) -> Result<Vec<Switch>, AllocError> {
-    let mut walk = Walk::new(alloc, document, siblings)?;
+) -> Result<Comments, AllocError> {
+    let mut walk = Walk::new(alloc, document, settings)?;
     walk.read(document, folder, report)?;
-    Ok(walk.into_switches())
+    let Walk { raw, .. } = walk;
+    raw.into_comments()
 }
 
 /// The rules, with what they know of the text so far.
@@ -36,12 +38,16 @@ struct Walk {
 
 impl Walk {
     /// No event was read.
-    fn new(alloc: Global, document: &Document<'_>, siblings: bool) -> Result<Walk, AllocError> {
+    fn new(
+        alloc: Global,
+        document: &Document<'_>,
+        settings: &Settings,
+    ) -> Result<Walk, AllocError> {
         Ok(Walk {
-            headings: HeadingRules::new(alloc, siblings)?,
+            headings: HeadingRules::new(alloc, settings.siblings)?,
             references: ReferenceRules::new(alloc, document)?,
-            blanks: BlankRules::new(document),
-            lists: ListRules::new(alloc),
+            blanks: BlankRules::new(document, settings.line_length),
+            lists: ListRules::new(alloc, settings.level_indent),
             raw: RawRules::new(alloc),
             links: LinkRules::new(alloc),
         })
@@ -51,7 +57,7 @@ impl Walk {
     fn read<F: Folder>(
         &mut self,
         document: &Document<'_>,
-        folder: &F,
+        folder: &mut F,
         report: &mut Report,
     ) -> Result<(), AllocError> {
         for (number, step) in document.steps().enumerate() {
@@ -68,7 +74,7 @@ impl Walk {
         document: &Document<'_>,
         number: usize,
         step: &Step<'_>,
-        folder: &F,
+        folder: &mut F,
         report: &mut Report,
     ) -> Result<(), AllocError> {
         self.blanks.read(document, step, report)?;
@@ -77,11 +83,5 @@ impl Walk {
         self.raw.read(document, step, report)?;
         self.links.read(document, step, folder, report)?;
         self.references.read(document, number, step, report)
-    }
-
-    /// The comments that turn rules off or on, in their order.
-    fn into_switches(self) -> Vec<Switch> {
-        let Walk { raw, .. } = self;
-        raw.into_switches()
     }
 }

@@ -5,124 +5,116 @@
 //!     siblings = true
 //!     columns = "characters"
 //!     disable = ["raw-html", "MD026"]
+//!     ignore = ["vendor", "docs/old"]
+//!     line-length = 100
+//!     nested-list-indent = 4
 //!
 //! Other keys are `math`, `mark`, and `only`, which is a list of rules as `disable` is.
-use crate::config_fault::ConfigFault;
-use crate::key_line::{line_of_index, line_of_item, line_of_key};
-use crate::options::{Options, columns_of};
+use crate::options::{Options, columns_of, length_of};
 use lint_document::{Columns, Rule};
-use std::alloc::{AllocError, Global};
+use markdown_input::{Config, ConfigFault};
+use std::alloc::Global;
 use toml::Value;
 
 /// Reads a file of settings. Fails with `Line` if it isn't TOML, or has an unknown key or a wrong value, or
 /// with `Memory`.
 pub fn options_of_config(alloc: Global, text: &str) -> Result<Options, ConfigFault> {
-    let table = match toml::table_from_str(alloc, text) {
-        Ok(table) => table,
-        Err(error) => return Err(toml_fault(alloc, text, &error)),
-    };
     let config = Config { alloc, text };
-    let mut options = Options::new();
+    let table = config.table()?;
+    let mut options = Options::new(alloc);
     for (key, value) in table.iter() {
-        config.set(&mut options, key.as_str(), value)?;
+        set(&config, &mut options, key.as_str(), value)?;
     }
     Ok(options)
 }
 
-/// The fault where a file isn't TOML.
-fn toml_fault(alloc: Global, text: &str, error: &toml::de::Error) -> ConfigFault {
-    let Some(span) = error.span() else {
-        return ConfigFault::Memory;
+/// Sets what a key asks for.
+fn set(
+    config: &Config<'_>,
+    options: &mut Options,
+    key: &str,
+    value: &Value,
+) -> Result<(), ConfigFault> {
+    match key {
+        "siblings" => options.siblings = config.switch(key, value)?,
+        "columns" => options.columns = columns(config, key, value)?,
+        "line-length" => options.line_length = Some(length(config, key, value)?),
+        "nested-list-indent" => options.level_indent = Some(length(config, key, value)?),
+        "disable" | "only" | "ignore" => return set_list(config, options, key, value),
+        _ => return set_flag(config, options, key, value),
+    }
+    Ok(())
+}
+
+/// Turns a construct on or off.
+fn set_flag(
+    config: &Config<'_>,
+    options: &mut Options,
+    key: &str,
+    value: &Value,
+) -> Result<(), ConfigFault> {
+    let Some(flags) = options.flags.with_key(key, true) else {
+        return Err(config.key_fault(key, "unknown key"));
     };
-    line_fault(alloc, line_of_index(text, span.start), error.message())
+    if config.switch(key, value)? {
+        options.flags = flags;
+    }
+    Ok(())
 }
 
-/// A fault on a line.
-fn line_fault(alloc: Global, line: usize, what: &str) -> ConfigFault {
-    match String::from_str(alloc, what) {
-        Ok(what) => ConfigFault::Line(line, what),
-        Err(_) => ConfigFault::Memory,
+fn columns(config: &Config<'_>, key: &str, value: &Value) -> Result<Columns, ConfigFault> {
+    match value.as_str().and_then(columns_of) {
+        Some(columns) => Ok(columns),
+        None => Err(config.key_fault(key, "wants \"bytes\" or \"characters\"")),
     }
 }
 
-/// A file of settings.
-#[derive(Clone, Copy)]
-struct Config<'a> {
-    alloc: Global,
-    text: &'a str,
+fn length(config: &Config<'_>, key: &str, value: &Value) -> Result<usize, ConfigFault> {
+    match value.as_integer().and_then(length_of) {
+        Some(length) => Ok(length),
+        None => Err(config.key_fault(key, "wants a number from 1 on")),
+    }
 }
 
-impl Config<'_> {
-    /// Sets what a key asks for.
-    fn set(&self, options: &mut Options, key: &str, value: &Value) -> Result<(), ConfigFault> {
-        match key {
-            "gfm" => options.flags.gfm = self.switch(key, value)?,
-            "frontmatter" => options.flags.frontmatter = self.switch(key, value)?,
-            "math" => options.flags.math = self.switch(key, value)?,
-            "mark" => options.flags.mark = self.switch(key, value)?,
-            "siblings" => options.siblings = self.switch(key, value)?,
-            "columns" => options.columns = self.columns(key, value)?,
-            "disable" | "only" => self.set_rules(options, key, value)?,
-            _ => return Err(self.key_fault(key, "unknown key")),
-        }
-        Ok(())
-    }
-
-    /// The fault of a key.
-    fn key_fault(&self, key: &str, what: &str) -> ConfigFault {
-        line_fault(self.alloc, line_of_key(self.text, key), what)
-    }
-
-    fn switch(&self, key: &str, value: &Value) -> Result<bool, ConfigFault> {
-        match value.as_bool() {
-            Some(is_on) => Ok(is_on),
-            None => Err(self.key_fault(key, "wants true or false")),
-        }
-    }
-
-    fn columns(&self, key: &str, value: &Value) -> Result<Columns, ConfigFault> {
-        match value.as_str().and_then(columns_of) {
-            Some(columns) => Ok(columns),
-            None => Err(self.key_fault(key, "wants \"bytes\" or \"characters\"")),
-        }
-    }
-
-    /// Turns the rules of a list off, or asks for them alone.
-    fn set_rules(
-        &self,
-        options: &mut Options,
-        key: &str,
-        value: &Value,
-    ) -> Result<(), ConfigFault> {
-        let Some(words) = value.as_array() else {
-            return Err(self.key_fault(key, "wants a list of rules"));
-        };
-        for word in words {
-            let rule = self.rule(key, word)?;
-            if key == "only" {
-                options.add_only(rule);
-            } else {
-                options.disable(rule);
-            }
-        }
-        Ok(())
-    }
-
-    /// The rule of a word in a list.
-    fn rule(&self, key: &str, word: &Value) -> Result<Rule, ConfigFault> {
+/// Turns the rules of a list off, asks for them alone, or leaves out the folders of a list.
+fn set_list(
+    config: &Config<'_>,
+    options: &mut Options,
+    key: &str,
+    value: &Value,
+) -> Result<(), ConfigFault> {
+    let Some(words) = value.as_array() else {
+        return Err(list_fault(config, key));
+    };
+    for word in words {
         let Some(word) = word.as_str() else {
-            return Err(self.key_fault(key, "wants a list of rules"));
+            return Err(list_fault(config, key));
         };
-        match Rule::of_word(word) {
-            Some(rule) => Ok(rule),
-            None => Err(self.unknown_rule(key, word)?),
+        match key {
+            "ignore" => options.ignore(config.alloc, word)?,
+            "only" => options.add_only(rule(config, key, word)?),
+            _ => options.disabled.insert(rule(config, key, word)?),
         }
     }
+    Ok(())
+}
 
-    /// The fault where a word of a list is no rule.
-    fn unknown_rule(&self, key: &str, word: &str) -> Result<ConfigFault, AllocError> {
-        let line = line_of_item(self.text, key, word);
-        let what = format!(in self.alloc; "no rule {word:?}")?;
-        Ok(ConfigFault::Line(line, what))
+/// The fault where a key wants a list.
+fn list_fault(config: &Config<'_>, key: &str) -> ConfigFault {
+    let what = match key {
+        "ignore" => "wants a list of folders",
+        _ => "wants a list of rules",
+    };
+    config.key_fault(key, what)
+}
+
+/// The rule of a word in a list.
+fn rule(config: &Config<'_>, key: &str, word: &str) -> Result<Rule, ConfigFault> {
+    match Rule::of_word(word) {
+        Some(rule) => Ok(rule),
+        None => {
+            let what = format!(in config.alloc; "no rule {word:?}")?;
+            Err(config.item_fault(key, word, what.as_str()))
+        }
     }
 }

@@ -1,5 +1,5 @@
 //! Why words ask for no findings.
-use std::alloc::AllocError;
+use std::alloc::{AllocError, AllocFailed};
 
 /// Why words ask for no findings.
 #[derive(Drop)]
@@ -16,6 +16,12 @@ pub enum Refusal {
 
 impl From<AllocError> for Refusal {
     fn from(_error: AllocError) -> Refusal {
+        Refusal::Memory
+    }
+}
+
+impl<T: Drop> From<AllocFailed<T>> for Refusal {
+    fn from(_error: AllocFailed<T>) -> Refusal {
         Refusal::Memory
     }
 }

@@ -1,130 +1,174 @@
 //! What the words of the command line ask for.
-use crate::command::command;
 use crate::help::{HELP, VERSION};
-use crate::options::{Options, columns_of};
+use crate::options::{Options, columns_of, length_of};
 use crate::refusal::Refusal;
-use clap::error::ErrorKind;
-use clap::{ArgMatches, Error};
-use lint_document::Rule;
-use markdown_input::Flags;
-use std::alloc::Global;
+use lint_document::{Columns, Rule, RuleSet};
+use markdown_input::{Flags, STANDARD_INPUT};
+use std::alloc::{AllocError, Global};
 
 /// What the words of the command line ask for.
 #[derive(Drop)]
 pub struct Request<'w> {
-    matches: ArgMatches<'w>,
+    /// The file of settings, if one is named.
+    pub config: Option<&'w str>,
+    /// Whether findings are mended.
+    pub fix: bool,
+    /// Whether findings are printed as JSON.
+    pub json: bool,
+    /// The names of the files and folders to check, or none if none is named.
+    pub files: Vec<&'w str>,
+    flags: Flags,
+    siblings: bool,
+    columns: Option<Columns>,
+    line_length: Option<usize>,
+    disabled: RuleSet,
+    only: Option<RuleSet>,
+    ignored: Vec<&'w str>,
+    /// The option whose value is the next word.
+    open: Option<Key>,
+    /// Whether all words from here on are names of files.
+    is_past_options: bool,
 }
 
-/// The refusal for an error of the command.
-fn refusal_of(error: &Error) -> Refusal {
-    match error.kind() {
-        ErrorKind::OutOfMemory => Refusal::Memory,
-        ErrorKind::DisplayHelp => Refusal::Answer(HELP),
-        ErrorKind::DisplayVersion => Refusal::Answer(VERSION),
-        _ => Refusal::Words,
+/// An option with a value.
+#[derive(Clone, Copy)]
+enum Key {
+    Columns,
+    Config,
+    Disable,
+    Ignore,
+    LineLength,
+    Only,
+}
+
+/// The option with a value that a word names, if it names one.
+fn key_of(word: &str) -> Result<Key, Refusal> {
+    match word {
+        "--columns" => Ok(Key::Columns),
+        "--config" => Ok(Key::Config),
+        "--disable" => Ok(Key::Disable),
+        "--ignore" => Ok(Key::Ignore),
+        "--line-length" => Ok(Key::LineLength),
+        "--only" => Ok(Key::Only),
+        _ => Err(Refusal::Words),
     }
 }
 
 impl<'w> Request<'w> {
-    /// Reads the words of the command line, without the name of the program. Flags and files may come in
-    /// any order.
+    /// Reads the words of the command line, without the name of the program. Options and files may come in
+    /// any order, and after `--` there are only files. Fails with `Answer` at the first word that asks for
+    /// the help or the version, or with what is wrong.
     pub fn read(alloc: Global, words: &'w [String]) -> Result<Request<'w>, Refusal> {
-        let command = command(alloc)?;
-        match command.try_get_matches_from(words) {
-            Ok(matches) => Request { matches }.checked(alloc),
-            Err(error) => Err(refusal_of(&error)),
-        }
-    }
-
-    /// The file of settings, if one is named.
-    pub fn config(&self) -> Option<&'w str> {
-        self.matches.get_str("config")
-    }
-
-    /// Whether findings are mended.
-    pub fn fix(&self) -> bool {
-        self.is_set("fix")
-    }
-
-    /// Whether findings are printed as JSON.
-    pub fn json(&self) -> bool {
-        self.is_set("json")
-    }
-
-    /// The names of the files and folders to check, or none if none is named.
-    pub fn files(&self) -> Option<&[&'w str]> {
-        self.matches.get_strs("files")
-    }
-
-    /// Adds what the words ask for to what the settings ask for. `--only` drops that of the settings.
-    pub fn add_to(&self, options: &mut Options) {
-        options.flags = self.flags(options.flags);
-        options.siblings = options.siblings || self.is_set("siblings");
-        if let Some(columns) = self.matches.get_str("columns").and_then(columns_of) {
-            options.columns = columns;
-        }
-        self.add_disabled(options);
-        self.add_only(options);
-    }
-
-    fn add_disabled(&self, options: &mut Options) {
-        let Some(words) = self.matches.get_strs("disable") else {
-            return;
+        let mut request = Request {
+            config: None,
+            fix: false,
+            json: false,
+            files: Vec::new(alloc),
+            flags: Flags::default(),
+            siblings: false,
+            columns: None,
+            line_length: None,
+            disabled: RuleSet::NONE,
+            only: None,
+            ignored: Vec::new(alloc),
+            open: None,
+            is_past_options: false,
         };
         for word in words {
-            if let Some(rule) = Rule::of_word(word) {
-                options.disable(rule);
+            request.add(alloc, word.as_str())?;
+        }
+        match request.open {
+            Some(_) => Err(Refusal::Words),
+            None => Ok(request),
+        }
+    }
+
+    /// Adds a word.
+    fn add(&mut self, alloc: Global, word: &'w str) -> Result<(), Refusal> {
+        let is_option = !self.is_past_options && word.starts_with('-') && word != STANDARD_INPUT;
+        match self.open.take() {
+            Some(_) if is_option => Err(Refusal::Words),
+            Some(key) => self.set(alloc, key, word),
+            None if is_option => self.add_option(alloc, word),
+            None => Ok(self.files.push(word)?),
+        }
+    }
+
+    /// Adds a word that begins with `-`.
+    fn add_option(&mut self, alloc: Global, word: &'w str) -> Result<(), Refusal> {
+        match word {
+            "-h" | "--help" => return Err(Refusal::Answer(HELP)),
+            "-V" | "--version" => return Err(Refusal::Answer(VERSION)),
+            "--siblings" => self.siblings = true,
+            "--fix" => self.fix = true,
+            "--json" => self.json = true,
+            "--" => self.is_past_options = true,
+            _ => match (self.flags.with(word), word.split_once('=')) {
+                (Some(flags), _) => self.flags = flags,
+                (None, Some((name, value))) => return self.set(alloc, key_of(name)?, value),
+                (None, None) => self.open = Some(key_of(word)?),
+            },
+        }
+        Ok(())
+    }
+
+    /// Sets the value of an option.
+    fn set(&mut self, alloc: Global, key: Key, value: &'w str) -> Result<(), Refusal> {
+        match key {
+            Key::Config => self.config = Some(value),
+            Key::Ignore => self.ignored.push(value)?,
+            Key::Disable => self.disabled.insert(rule_of(alloc, value)?),
+            Key::Only => {
+                let mut only = self.only.unwrap_or(RuleSet::NONE);
+                only.insert(rule_of(alloc, value)?);
+                self.only = Some(only);
+            }
+            Key::Columns => self.columns = Some(wanted(columns_of(value))?),
+            Key::LineLength => {
+                self.line_length = Some(wanted(value.parse().ok().and_then(length_of))?);
             }
         }
+        Ok(())
     }
 
-    fn add_only(&self, options: &mut Options) {
-        let Some(words) = self.matches.get_strs("only") else {
-            return;
-        };
-        options.clear_only();
-        for word in words {
-            if let Some(rule) = Rule::of_word(word) {
-                options.add_only(rule);
-            }
+    /// Adds what the words ask for to what the settings ask for. `--only`, `--columns` and `--line-length`
+    /// drop those of the settings. Fails if memory runs out.
+    pub fn add_to(&self, alloc: Global, options: &mut Options) -> Result<(), AllocError> {
+        options.flags = both(options.flags, self.flags);
+        options.siblings = options.siblings || self.siblings;
+        options.columns = self.columns.unwrap_or(options.columns);
+        options.line_length = self.line_length.or(options.line_length);
+        options.only = self.only.or(options.only);
+        options.disabled.change(&self.disabled, true);
+        for name in &self.ignored {
+            options.ignore(alloc, name)?;
         }
-    }
-
-    /// The request, if its values are right.
-    fn checked(self, alloc: Global) -> Result<Request<'w>, Refusal> {
-        check_rules(alloc, self.matches.get_strs("disable"))?;
-        check_rules(alloc, self.matches.get_strs("only"))?;
-        match self.matches.get_str("columns") {
-            Some(word) if columns_of(word).is_none() => Err(Refusal::Words),
-            _ => Ok(self),
-        }
-    }
-
-    /// The flags for constructs, with those of the settings.
-    fn flags(&self, flags: Flags) -> Flags {
-        let all = self.is_set("all");
-        Flags {
-            gfm: flags.gfm || all || self.is_set("gfm"),
-            frontmatter: flags.frontmatter || all || self.is_set("frontmatter"),
-            math: flags.math || all || self.is_set("math"),
-            mark: flags.mark || all || self.is_set("mark"),
-        }
-    }
-
-    fn is_set(&self, flag: &str) -> bool {
-        self.matches.get_count(flag) > 0
+        Ok(())
     }
 }
 
-/// Fails if a word is no rule.
-fn check_rules(alloc: Global, words: Option<&[&str]>) -> Result<(), Refusal> {
-    let Some(words) = words else {
-        return Ok(());
-    };
-    for word in words {
-        if Rule::of_word(word).is_none() {
-            return Err(Refusal::Rule(String::from_str(alloc, word)?));
-        }
+/// What is on by one of two.
+fn both(first: Flags, second: Flags) -> Flags {
+    Flags {
+        gfm: first.gfm || second.gfm,
+        frontmatter: first.frontmatter || second.frontmatter,
+        math: first.math || second.math,
+        mark: first.mark || second.mark,
     }
-    Ok(())
+}
+
+/// A value, or `Words` if there is none.
+fn wanted<T>(value: Option<T>) -> Result<T, Refusal> {
+    match value {
+        Some(value) => Ok(value),
+        None => Err(Refusal::Words),
+    }
+}
+
+/// The rule of a word.
+fn rule_of(alloc: Global, word: &str) -> Result<Rule, Refusal> {
+    match Rule::of_word(word) {
+        Some(rule) => Ok(rule),
+        None => Err(Refusal::Rule(String::from_str(alloc, word)?)),
+    }
 }

@@ -2,11 +2,11 @@
 use crate::mend::{mended_file, mended_text};
 use crate::outcome::Outcome;
 use lint_events::events_of;
-use lint_files::{FolderOf, markdown_files};
+use lint_files::{FolderOf, KnownFragments};
 use lint_output::{Form, write_findings};
 use lint_rules::{Document, Finding, Settings, findings_of};
 use lint_settings::Options;
-use markdown_input::{Fault, STANDARD_INPUT, text};
+use markdown_input::{Fault, STANDARD_INPUT, markdown_files, text};
 use markdown_tables::Builtin;
 use std::io::{BufWriter, Write};
 use std::path::Path;
@@ -20,12 +20,14 @@ pub(crate) struct Lint<'a> {
     pub(crate) fix: bool,
     /// Whether findings are printed as JSON.
     pub(crate) json: bool,
+    /// The fragments of the files that links led to so far.
+    pub(crate) known: KnownFragments,
 }
 
 impl Lint<'_> {
     /// Checks files and folders, and prints what is found in them. One that can't be checked is named on
     /// standard error, and the others are checked all the same.
-    pub(crate) fn check_all(&self, names: &[&str]) -> Result<Outcome, Fault> {
+    pub(crate) fn check_all(&mut self, names: &[&str]) -> Result<Outcome, Fault> {
         let mut writer = match BufWriter::new(self.rt.alloc(), self.rt.stdout()) {
             Ok(writer) => writer,
             Err(error) => return Err(Fault::writing(&error)),
@@ -41,11 +43,11 @@ impl Lint<'_> {
     }
 
     /// Checks a file, or the files below a folder.
-    fn check_name<W: Write>(&self, name: &str, writer: &mut W) -> Result<Outcome, Fault> {
+    fn check_name<W: Write>(&mut self, name: &str, writer: &mut W) -> Result<Outcome, Fault> {
         if name == STANDARD_INPUT || !Path::new(name).is_dir(self.rt) {
             return self.check_file(name, writer);
         }
-        let files = match markdown_files(self.rt, name) {
+        let files = match markdown_files(self.rt, name, &self.options.ignored) {
             Ok(files) => files,
             Err(error) => return Ok(self.fault(name, Fault::reading(&error))),
         };
@@ -64,7 +66,7 @@ impl Lint<'_> {
     }
 
     /// Checks a file, or standard input. Fails if the findings can't be written.
-    fn check_file<W: Write>(&self, name: &str, writer: &mut W) -> Result<Outcome, Fault> {
+    fn check_file<W: Write>(&mut self, name: &str, writer: &mut W) -> Result<Outcome, Fault> {
         let text = match self.text(name) {
             Ok(text) => text,
             Err(fault) => return Ok(self.fault(name, fault)),
@@ -106,7 +108,7 @@ impl Lint<'_> {
     }
 
     /// The findings of a text. Fails with `Size` or `Memory`.
-    fn findings(&self, name: &str, text: &str) -> Result<Vec<Finding>, Fault> {
+    fn findings(&mut self, name: &str, text: &str) -> Result<Vec<Finding>, Fault> {
         let flags = self.options.flags;
         let events = events_of(self.rt.alloc(), text, &flags.options(), &Builtin)?;
         let document = Document {
@@ -114,15 +116,24 @@ impl Lint<'_> {
             events: &events,
             gfm: flags.gfm,
         };
-        let settings = Settings {
-            rules: self.options.rules(),
-            siblings: self.options.siblings,
-        };
-        let folder = FolderOf {
+        let settings = settings_of(&self.options);
+        let mut folder = FolderOf {
             rt: self.rt,
             file: name,
+            known: &mut self.known,
         };
-        Ok(findings_of(self.rt.alloc(), &document, &settings, &folder)?)
+        Ok(findings_of(self.rt.alloc(), &document, &settings, &mut folder)?)
+    }
+}
+
+/// What is to be found.
+fn settings_of(options: &Options) -> Settings {
+    let usual = Settings::new(options.rules());
+    Settings {
+        siblings: options.siblings,
+        line_length: options.line_length.unwrap_or(usual.line_length),
+        level_indent: options.level_indent.unwrap_or(usual.level_indent),
+        ..usual
     }
 }
 

@@ -7,6 +7,7 @@ mod outcome;
 mod settings;
 
 use lint::Lint;
+use lint_files::KnownFragments;
 use lint_settings::{Refusal, Request};
 use markdown_input::{Fault, STANDARD_INPUT, words};
 use outcome::Outcome;
@@ -38,19 +39,21 @@ fn run(rt: &HostRuntime) -> Result<Outcome, Fault> {
 
 /// Checks the files of a request.
 fn check(rt: &HostRuntime, request: &Request<'_>) -> Result<Outcome, Fault> {
-    let Some(mut options) = options(rt, request.config())? else {
+    let Some(mut options) = options(rt, request.config)? else {
         return Ok(Outcome::Fault);
     };
-    request.add_to(&mut options);
-    let lint = Lint {
+    request.add_to(rt.alloc(), &mut options)?;
+    let mut lint = Lint {
         rt,
+        known: KnownFragments::new(rt.alloc(), options.flags),
         options,
-        fix: request.fix(),
-        json: request.json(),
+        fix: request.fix,
+        json: request.json,
     };
-    match request.files() {
-        Some(files) => lint.check_all(files),
-        None => lint.check_all(&[STANDARD_INPUT]),
+    if request.files.is_empty() {
+        lint.check_all(&[STANDARD_INPUT])
+    } else {
+        lint.check_all(&request.files)
     }
 }
 

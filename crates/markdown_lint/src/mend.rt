@@ -1,8 +1,7 @@
 //! Files, mended.
 use lint_mend::fix_source;
 use lint_settings::Options;
-use markdown_input::Fault;
-use std::fs;
+use markdown_input::{Fault, replace};
 
 /// The text of a file after its findings are mended as far as that can be done. It is written to the file if
 /// it differs.
@@ -16,10 +15,8 @@ pub(crate) fn mended_file(
     if mended.as_str() == text {
         return Ok(mended);
     }
-    match fs::write(rt, name, mended.as_str()) {
-        Ok(()) => Ok(mended),
-        Err(error) => Err(Fault::writing(&error)),
-    }
+    replace(rt, name, text, mended.as_str())?;
+    Ok(mended)
 }
 
 /// A text after its findings are mended as far as that can be done. Fails with `Size` or `Memory`.

@@ -1,7 +1,9 @@
 //! The file of settings.
-use lint_files::config_file;
-use lint_settings::{ConfigFault, Options, options_of_config};
-use markdown_input::{Fault, text};
+use lint_settings::{Options, options_of_config};
+use markdown_input::{ConfigFault, Fault, config_file, text};
+
+/// The name of a file of settings.
+const CONFIG_NAME: &str = ".markdown-lint.toml";
 
 /// What the file of settings asks for: the one that is named, or the first one around. None if it can't be
 /// used; then standard error says why.
@@ -9,9 +11,9 @@ pub(crate) fn options(rt: &HostRuntime, named: Option<&str>) -> Result<Option<Op
     if let Some(path) = named {
         return options_of_file(rt, path);
     }
-    match config_file(rt) {
+    match config_file(rt, CONFIG_NAME) {
         Ok(Some(path)) => options_of_file(rt, path.as_path().as_str()),
-        Ok(None) => Ok(Some(Options::new())),
+        Ok(None) => Ok(Some(Options::new(rt.alloc()))),
         Err(error) => Err(Fault::reading(&error)),
     }
 }
