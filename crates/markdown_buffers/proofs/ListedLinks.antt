@@ -11,10 +11,10 @@ use Rattle.markdown_buffers.specs.Links.{AreLinksOf, HoldsLinks, OfLinks, Stores
 use Rattle.markdown_buffers.specs.Pages.{HoldsPage}
 use Rattle.markdown_buffers.proofs.Listed.{of_meant}
 
--- two facts of the value, if there is one
-pub both_facts : {T E : Type 0} (r : Result T E) (P Q : T → Type 0) → IfOk r P → IfOk r Q → IfOk r (λ t. P t × Q t)
-both_facts (Ok t) P Q p q = (p, q)
-both_facts (Err e) P Q p q = tt
+-- what follows from two facts of the value, if there is one
+pub from_both : {T E : Type 0} (r : Result T E) (P Q R : T → Type 0) → ((t : T) → P t → Q t → R t) → IfOk r P → IfOk r Q → IfOk r R
+from_both (Ok t) P Q R f p q = f t p q
+from_both (Err e) P Q R f p q = tt
 
 -- nothing is stored
 pub no_links : (Meant : ParseOptions → Type 0) (text : List ℕ) (old new : List FlatLink) (count : ℕ) (before after : List ℕ) (size status : ℕ)
