@@ -128,16 +128,28 @@ def table(model):
             answers.append(model.answer(edited, data))
             count += 1
     print("%d lists, %d edits, %d names" % (len(TEXTS + MORE_TEXTS), count, len(seen)))
-    return {"stdin": "\n".join(lines) + "\n", "stdout": "\n".join(answers) + "\n"}
+    more, their_answers = others()
+    return {"stdin": "\n".join(lines + more) + "\n", "stdout": "\n".join(answers + their_answers) + "\n"}
+
+
+def others():
+    """What the stored run has besides, from the first page on: lines that are not the model's, and their answers."""
+    with open(os.path.join(CRATE, "stdin"), encoding="utf-8") as file:
+        lines = file.read().splitlines()
+    with open(os.path.join(CRATE, "stdout"), encoding="utf-8") as file:
+        answers = file.read().splitlines()
+    at = next(k for k, line in enumerate(lines) if line.startswith("page "))
+    count = sum(not line.startswith("text ") for line in lines[at:])
+    return lines[at:], answers[len(answers) - count :]
 
 
 def write_table(model, check):
     for file, wanted in table(model).items():
         path = os.path.join(CRATE, file)
         if not check:
-            with open(path, "w", encoding="ascii") as out:
+            with open(path, "w", encoding="utf-8") as out:
                 out.write(wanted)
-        elif open(path, encoding="ascii").read() != wanted:
+        elif open(path, encoding="utf-8").read() != wanted:
             sys.exit("%s is not what bench/events.py writes" % os.path.relpath(path))
 
 

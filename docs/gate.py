@@ -11,8 +11,8 @@ usage: docs/gate.py run LOG [--anew]   runs `rt ci [--anew]` at the top of the r
 `rt ci` tells no times. So `run` looks at its jobs four times a second: a job is a process that it starts, with all that
 this one starts, and its time is processor time. What a job takes after the last look at it is missed.
 
-What has no seconds is estimated by a rule: a crate takes 6 seconds and 2.4 for each function, its first edit as long as its proof,
-and each further edit 25 seconds.
+What has no seconds is estimated by a rule: a crate takes 6 seconds and 2.4 for each function, a program 40 more, tests 6 seconds, 2.4
+for each function and 3 for each test; the first edit takes as long as the proof, and each further one 25 seconds.
 """
 import datetime
 import functools
@@ -34,7 +34,7 @@ BUDGET = 200
 INTERVAL = 0.25
 TICKS = os.sysconf("SC_CLK_TCK")
 # The rule for what has no seconds.
-A_CRATE, A_FUNCTION, A_FURTHER_EDIT = 6, 2.4, 25
+A_CRATE, A_FUNCTION, A_PROGRAM, A_TEST, A_FURTHER_EDIT = 6, 2.4, 40, 3, 25
 # The crates and groups of crates whose cost CONTRIBUTING.md names.
 NAMED = (
     "markdown_options definition_text definition_inline definition_block definition_page text_search text_bytes inline_leaves inline_runs "
@@ -214,10 +214,13 @@ def estimated(name, crate):
         crate.edits = edits
         crate.seconds.pop("edits", None)
     if "proof" not in crate.seconds:
-        crate.functions, crate.tests = functions_in(name)
-        crate.seconds["proof"] = A_CRATE + A_FUNCTION * crate.functions
+        functions, crate.tests = functions_in(name)
+        # In a crate of tests all functions are tests'.
+        crate.functions = 0 if crate.tests else functions
+        crate.runs = int(os.path.isfile(os.path.join(TOP, "crates", name, "src", "main.rt")))
+        crate.seconds["proof"] = A_CRATE + A_FUNCTION * crate.functions + A_PROGRAM * crate.runs
         if crate.tests:
-            crate.seconds["tests"] = crate.seconds["proof"] + A_CRATE + A_FUNCTION * 2 * crate.tests
+            crate.seconds["tests"] = A_CRATE + A_FUNCTION * functions + A_TEST * crate.tests
     if crate.edits and "edits" not in crate.seconds:
         crate.seconds["edits"] = crate.seconds["proof"] + A_FURTHER_EDIT * (crate.edits - 1)
     return crate

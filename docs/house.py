@@ -27,7 +27,7 @@ from pathlib import Path
 
 TOP = Path(__file__).resolve().parent.parent
 # Groups whose files count apart: tests and examples, and the machines of the road by states.
-TESTS = ("tests_", "examples_", "markdown_bench")
+TESTS = ("tests_", "examples_")
 MACHINES = ("engine_", "state_", "markdown_engine")
 # The constructors of the definition's trees, by which files go by cases: what they are of, their names, and how many of them one function has to take.
 LEAF = "Data Escape Character Code Math Autolink Literal Html EscapedBreak TrailingBreak LineEnd TaskCheck".split()

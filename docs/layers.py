@@ -37,7 +37,7 @@ LAYERS = (
     "markdown_events markdown_lint markdown_fmt markdown_safe markdown_c_options markdown_buffers",
     "markdown_c",
     "tests_ wrong_",
-    "examples_ markdown_bench",
+    "examples_",
 )
 
 

@@ -10,7 +10,7 @@ trap 'rm -rf "$scratch"' EXIT
 mkdir "$scratch/crates"
 cp -R "$top/crates/examples_library" "$scratch/crates/example"
 rm -rf "$scratch/crates/example/out" "$scratch/crates/example/must-fail"
-sed -i 's/examples_library/example/g' "$scratch"/crates/example/src/*.rt "$scratch"/crates/example/specs/*.antt
+find "$scratch/crates/example" -name '*.rt' -o -name '*.antt' | xargs sed -i 's/examples_library/example/g'
 sed -n 's/^examples_library:/example:/p' "$top/crates.txt" > "$scratch/crates.txt"
 cp "$top/HANDLES" "$scratch"
 git init -q "$scratch"

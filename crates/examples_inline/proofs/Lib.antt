@@ -24,3 +24,4 @@ mod Mixed
 mod Documents
 mod CharacterReferenceTexts
 mod UrlTexts
+mod ToolTexts

@@ -8,7 +8,3 @@ pub mod LettersLaws
 pub mod Brackets
 pub mod BracketsOrderLaws
 pub mod BracketsLaws
-pub mod Pairs
-pub mod PairsLaws
-pub mod Wrapped
-pub mod WrappedLaws

@@ -4,7 +4,5 @@
 pub mod brackets;
 pub mod count;
 pub mod letters;
-pub mod pairs;
 pub mod readings;
 pub mod tables;
-pub mod wrapped;

@@ -14,8 +14,4 @@ mod machines;
 #[cfg(test)]
 mod memory;
 #[cfg(test)]
-mod pairs;
-#[cfg(test)]
 mod text;
-#[cfg(test)]
-mod wrapped;

@@ -1,12 +1,15 @@
 //! Lines, and what is printed for each.
+use crate::deep::print_deep;
 use crate::edits::Edit;
+use crate::lists::{bytes_of, events_of};
+use crate::names::Names;
+use crate::pages::print_page_of;
 use engine_events::event::Event;
 use event_check::{CompileError, check_events, gfm_table_align, list_item_loose, list_loose};
 use event_grammar::EventFault;
 use markdown_tables::Builtin;
 use std::alloc::{AllocError, Global};
 use std::io::{self, ErrorKind};
-use tests_lists::{Names, bytes_of, events_of};
 
 /// The text and the list that edits are applied to.
 #[derive(Drop)]
@@ -31,8 +34,9 @@ impl Answers {
     }
 
     /// Reads one line. `text TEXT` is the text of the lists after it. `list EVENTS` is a list, whose fault is printed. `loose`, `item`
-    /// and `align` ask for more of the list. Every other line is an edit of it, and the fault of the edited list is printed.
-    pub fn print(&mut self, rt: &impl Print, line: &str) -> io::Result<()> {
+    /// and `align` ask for more of the list. `page` has options, a text and a list of its own, whose page is printed; `deep` names a
+    /// list that is 100,000 deep. Every other line is an edit of the list, and the fault of the edited list is printed.
+    pub fn print(&mut self, rt: &(impl AllocGlobal + Print), line: &str) -> io::Result<()> {
         let alloc = self.alloc;
         let (kind, rest) = line.split_once(' ').unwrap_or((line, ""));
         match kind {
@@ -45,6 +49,8 @@ impl Answers {
                 print_fault(rt, self.fault(&self.events)?)
             }
             "loose" | "item" | "align" => self.print_more(rt, kind, rest),
+            "page" => print_page_of(rt, &self.names, rest),
+            "deep" => print_deep(rt, rest),
             _ => {
                 let edit = Edit::read(&self.names, line).ok_or(ErrorKind::InvalidData)?;
                 let edited = edit.apply(alloc, &self.events)?;

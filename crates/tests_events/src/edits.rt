@@ -1,8 +1,9 @@
 //! Edits that make other lists of a list.
+use crate::lists::point_of;
+use crate::names::Names;
 use engine_events::event::{Event, Name};
 use engine_events::place::Point;
 use std::alloc::{AllocError, Global};
-use tests_lists::{Names, point_of};
 
 /// An edit of a list, by the indices of its events.
 #[derive(Clone, Copy)]

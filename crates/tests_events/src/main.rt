@@ -1,9 +1,14 @@
-//! Prints the faults of lists of events, which are read from standard input. With a number as its word it checks each list so
+//! Prints the faults and the pages of lists of events, which are read from standard input. With a number as its word it checks each list so
 //! many times, to be timed.
 #![tactic(auto)]
 
 mod answers;
+mod deep;
 mod edits;
+mod lists;
+mod names;
+mod options;
+mod pages;
 
 use answers::Answers;
 use std::env;
