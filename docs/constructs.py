@@ -26,6 +26,7 @@ NEEDED = ("Definition", "Reader", "Printer", "Laws", "Tests")
 # The room of the code of a crate, by its name's prefix; the first that fits counts.
 PREFIXES = {
     "definition_": "Definition",
+    "event_definition": "Definition",
     "state_": "States",
     "parse_": "Events",
     "compile_": "Events",
@@ -59,6 +60,13 @@ SHARED = {
     "definition_inline/SpanRows.antt": "attention gfm_strikethrough mark",
     "definition_inline/Spans.antt": "attention gfm_strikethrough mark",
     "definition_inline/Title.antt": "definition label_end",
+    "event_definition/Attention.antt": "gfm_strikethrough mark",
+    "event_definition/CodeFenced.antt": "math_flow",
+    "event_definition/CodeText.antt": "math_text",
+    "event_definition/Destination.antt": "definition label_end",
+    "event_definition/HardBreak.antt": "hard_break_escape hard_break_trailing",
+    "event_definition/LabelEnd.antt": "label_start_image label_start_link",
+    "event_definition/Resource.antt": "label_end",
     "block_leaves/code_fenced.rt": "math_flow",
     "block_parser/code_fenced.rt": "math_flow",
     "inline_content/run.rt": "attention gfm_strikethrough mark",
@@ -324,7 +332,7 @@ A file has the name of its construct, which is the name of its switch in `Constr
 
 | Entry | Files |
 |---|---|
-| Definition | what the construct is, as definitions |
+| Definition | what the construct is, as definitions; its events, in `event_definition` |
 | Reader | from a text to rows |
 | Printer | from rows to HTML |
 | Events | from rows to events (`parse_`), and from events to HTML (`compile_`) |

@@ -3,7 +3,7 @@ use crate::help::{HELP, VERSION};
 use crate::options::{Options, columns_of, length_of};
 use crate::refusal::Refusal;
 use lint_document::{Columns, Rule, RuleSet};
-use markdown_input::{Flags, STANDARD_INPUT};
+use markdown_input::{Flags, is_flag};
 use std::alloc::{AllocError, Global};
 
 /// What the words of the command line ask for.
@@ -85,7 +85,7 @@ impl<'w> Request<'w> {
 
     /// Adds a word.
     fn add(&mut self, alloc: Global, word: &'w str) -> Result<(), Refusal> {
-        let is_option = !self.is_past_options && word.starts_with('-') && word != STANDARD_INPUT;
+        let is_option = !self.is_past_options && is_flag(word);
         match self.open.take() {
             Some(_) if is_option => Err(Refusal::Words),
             Some(key) => self.set(alloc, key, word),

@@ -1,0 +1,2 @@
+//! What the events of a text are.
+#![tactic(auto)]
