@@ -70,7 +70,7 @@ same("texts", markdown.toHtml(note, { footnotes: true, ...texts }), [
     '<p>c <a href="#a&quot;&amp;fnref-b" data-footnote-backref="" aria-label="B$&amp;" class="data-footnote-backref">↩</a></p>',
     "</li>", "</ol>", "</section>", "",
 ].join("\n"));
-const tables = readFileSync(new URL("crates/tests_rows/data/gfm_footnote_options.rows", top), "utf8").slice(0, -1).split("\n@table ").slice(1);
+const tables = readFileSync(new URL("tests/rows/gfm_footnote_options.rows", top), "utf8").slice(0, -1).split("\n@table ").slice(1);
 const asked = [
     { prefix: "x<" }, { prefix: "" }, { footnoteLabel: "Notes & more" }, { footnoteLabelTag: "h1" }, { footnoteLabelAttributes: 'class="x" hidden' },
     { footnoteBackLabel: 'Zurück "oben"' },
