@@ -10,7 +10,7 @@ pub(crate) fn diff(alloc: Global, name: &str, old: &str, new: &str) -> Result<St
     let old = lines_of(alloc, old)?;
     let new = lines_of(alloc, new)?;
     let changes = changes(alloc, &old, &new)?;
-    let mut diff = Diff {
+    let mut hunks = Hunks {
         alloc,
         old: &old,
         new: &new,
@@ -19,13 +19,13 @@ pub(crate) fn diff(alloc: Global, name: &str, old: &str, new: &str) -> Result<St
     let mut hunk = Vec::new(alloc);
     for change in &changes {
         if is_apart(hunk.last(), change) {
-            diff.push_hunk(&hunk)?;
+            hunks.push_hunk(&hunk)?;
             hunk = Vec::new(alloc);
         }
         hunk.push(*change)?;
     }
-    diff.push_hunk(&hunk)?;
-    Ok(diff.text)
+    hunks.push_hunk(&hunk)?;
+    Ok(hunks.text)
 }
 
 /// The lines of a text with their endings.
@@ -45,9 +45,9 @@ fn is_apart(before: Option<&Change>, change: &Change) -> bool {
     }
 }
 
-/// A diff that is being written.
+/// The changed parts of a text, as they are written.
 #[derive(Drop)]
-struct Diff<'a> {
+struct Hunks<'a> {
     alloc: Global,
     /// The lines of both texts.
     old: &'a [&'a str],
@@ -56,7 +56,7 @@ struct Diff<'a> {
     text: String,
 }
 
-impl Diff<'_> {
+impl Hunks<'_> {
     /// Adds changes that are near each other, and the lines around them.
     fn push_hunk(&mut self, changes: &[Change]) -> Result<(), AllocError> {
         let (Some(first), Some(last)) = (changes.first(), changes.last()) else {
