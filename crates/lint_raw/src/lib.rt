@@ -7,4 +7,4 @@ mod rules;
 pub mod switch;
 
 pub use rules::RawRules;
-pub use switch::{Comments, Switch, comments};
+pub use switch::{Comments, Switch, comments_of};

@@ -63,7 +63,7 @@ pub struct Comments {
 }
 
 /// The comments of a text. Each is on one line.
-pub fn comments(alloc: Global, document: &Document<'_>) -> Result<Comments, AllocError> {
+pub fn comments_of(alloc: Global, document: &Document<'_>) -> Result<Comments, AllocError> {
     let mut reader = CommentReader::new(alloc);
     for step in document.steps() {
         reader.read(&step)?;

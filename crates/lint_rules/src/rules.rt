@@ -6,7 +6,7 @@ use crate::walk::check;
 use lint_document::{Document, Finding, Report, RuleSet};
 use lint_links::Folder;
 use lint_lists::list_numbers;
-use lint_raw::comments;
+use lint_raw::comments_of;
 use std::alloc::{AllocError, Global};
 
 /// What is to be found.
@@ -54,5 +54,9 @@ pub fn findings_of<F: Folder>(
 pub fn right_numbers(alloc: Global, document: &Document<'_>) -> Result<Vec<Finding>, AllocError> {
     let mut report = Report::new(alloc, RuleSet::ALL);
     list_numbers::renumber(document, &mut report)?;
-    without_silenced(alloc, report.into_findings()?, &comments(alloc, document)?)
+    without_silenced(
+        alloc,
+        report.into_findings()?,
+        &comments_of(alloc, document)?,
+    )
 }
