@@ -1,5 +1,5 @@
 #!/bin/sh
-# Tries the wrong bodies that the gate doesn't try, and writes what refused each into the table of docs/GATE.md.
+# Tries the wrong bodies that the gate doesn't try, and writes what refused each into bench/wrong.tsv.
 #
 #     bench/wrong.sh [CRATE..]
 #

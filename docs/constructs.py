@@ -22,7 +22,7 @@ ROWS = "tests/rows"
 
 ROOMS = ("Definition", "Reader", "Printer", "Events", "States", "Proofs", "Laws", "Tests")
 # The rooms that each construct needs. Not each has proofs of its own: many functions are proved with none.
-NEEDED = ("Definition", "Reader", "Printer", "Laws", "Tests")
+NEEDED = ("Definition", "Reader", "Printer", "Events", "Laws", "Tests")
 # The room of the code of a crate, by its name's prefix; the first that fits counts.
 PREFIXES = {
     "definition_": "Definition",
@@ -114,6 +114,13 @@ SHARED = {
     "laws_endings/PrintedTable.antt": "gfm_table",
     "laws_footnotes/Footnotes.antt": "gfm_footnote_definition",
     "laws_footnotes/footnotes.rt": "gfm_footnote_definition",
+    "compile_rows/rows.rt": "attention gfm_strikethrough mark label_start_image label_start_link gfm_label_start_footnote",
+    "compile_rows/leaf.rt": "autolink html_text hard_break_escape hard_break_trailing math_text code_text",
+    "parse_inline/code_text.rt": "math_text",
+    "parse_inline/gfm_footnote_call.rt": "gfm_label_start_footnote",
+    "parse_inline/label.rt": "label_end label_start_image label_start_link",
+    "parse_inline/leaf.rt": "autolink html_text hard_break_escape hard_break_trailing math_text code_text",
+    "parse_inline/span.rt": "attention gfm_strikethrough mark",
     "tests/rows/hard_break.rows": "hard_break_escape hard_break_trailing",
     "tests/rows/list.rows": "list_item",
     "tests/rows/raw_html.rows": "html_text",
@@ -339,6 +346,8 @@ A file has the name of its construct, which is the name of its switch in `Constr
 | States | the machines of the road by states |
 | Proofs | specifications and lemmas of these |
 | Laws, Tests | what follows for every text; texts and pages |
+
+Each name of an event has a row in the tables of names: `VOID_EVENTS`, the grammar of `event_grammar` and its spans, the bytes of `event_tokens`, the meaning of `event_meaning`, the switches of `parse_grammar`, and the numbers for C. [CONTRIBUTING](../CONTRIBUTING.md#recipes) names their files.
 
 Not listed, since it holds all of them: what a block prints is defined in [`BlockPieces.antt`](../crates/definition_page/specs/BlockPieces.antt), what a part of a text prints in [`InlinePieces.antt`](../crates/definition_page/specs/InlinePieces.antt), and both are read to a page in [`Read.antt`](../crates/definition_page/specs/Read.antt).
 
