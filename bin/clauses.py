@@ -1,7 +1,7 @@
 #!/usr/bin/env python3
 """Compares the contracts of public functions with those of an earlier revision: prints what was lost, and what is new.
 
-usage: docs/clauses.py REVISION
+usage: bin/clauses.py REVISION
 
 A contract is the head of a `pub fn` with its `requires` and `ensures`, word for word, and the type whose `impl` it stands in. Crates
 and files don't count, so a function may move. Tests don't count. The exit status is 1 if a contract was lost.

@@ -1,8 +1,8 @@
 #!/usr/bin/env python3
 """Writes the parts of docs/EVENTS.md that are made from the code: the grammar, and the example.
 
-usage: docs/events.py            writes them
-       docs/events.py --check    fails where the page has others
+usage: bin/events.py            writes them
+       bin/events.py --check    fails where the page has others
 
 The grammar is read from crates/event_grammar/src, the example's list from the stored run of crates/tests_events. Both ways
 fail where a name has no row and isn't void, or a row names what is no event; where the header for C, the specification of
@@ -51,7 +51,7 @@ def text_of(path):
 
 
 def fail(why):
-    sys.exit(f"docs/events.py: {why}")
+    sys.exit(f"bin/events.py: {why}")
 
 
 def sources():
@@ -309,7 +309,7 @@ def main(words):
     check_numbers()
     check_runs()
     if words and text_of(PAGE) != wanted:
-        fail("docs/EVENTS.md is not what docs/events.py writes: run it")
+        fail("docs/EVENTS.md is not what bin/events.py writes: run it")
     if not words:
         with open(PAGE, "w", encoding="utf-8") as file:
             file.write(wanted)

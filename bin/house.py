@@ -1,7 +1,7 @@
 #!/usr/bin/env python3
 """Prints what a construct costs in this repository: how many files name it, by group, and how large specifications and proofs are.
 
-usage: docs/house.py            the figures, one a line
+usage: bin/house.py            the figures, one a line
 
 Files are those of git that end in `.rt` or `.antt`, in `crates/`. Counts by group use the first word of the crate's name.
 

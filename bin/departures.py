@@ -1,7 +1,7 @@
 #!/usr/bin/env python3
 """Runs the inputs of docs/DEPARTURES.md through two programs, and writes what they print beside them.
 
-usage: docs/departures.py [--check] MARKDOWN [CMARK [CMARK_GFM]]     MARKDOWN is the program of this repository
+usage: bin/departures.py [--check] MARKDOWN [CMARK [CMARK_GFM]]     MARKDOWN is the program of this repository
 
 A row is `| INPUT | HERE | CMARK |`; the marks for line endings, tabs, bars and characters that don't show are those of the page.
 In a table whose head names `--dangerous` the programs print HTML as it stands; in one whose head names `--gfm` the other

@@ -1,7 +1,7 @@
 #!/usr/bin/env python3
 """Lists the public names of the Rust crate that this port has, and where each is.
 
-usage: docs/surface.py [FACE..]
+usage: bin/surface.py [FACE..]
 
 A name is listed with the crate that exports it (its face), its module there, and the file that has it. The names of states are those of
 `Inline` and `Block` in engine_states, written as the functions of their modules; the others are in NAMES below. A name that its face

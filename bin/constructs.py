@@ -2,8 +2,8 @@
 """Writes docs/CONSTRUCTS.md: for each construct its grammar and where it is defined, read, printed, proved and tested; and for each section of the
 standards the files of the definition that say at their heads that they are about it.
 
-usage: docs/constructs.py            writes the page
-       docs/constructs.py --check    fails where the page is not what would be written
+usage: bin/constructs.py            writes the page
+       bin/constructs.py --check    fails where the page is not what would be written
 
 A file belongs to the construct whose switch in `Constructs` it is named after: `code_text.rt`, `proofs/code_text`,
 `CodeText.antt`, `CodeTextLemmas.antt`; SHARED names the constructs of the others. The prefix of its crate is its room.
@@ -351,7 +351,7 @@ Each name of an event has a row in the tables of names: `VOID_EVENTS`, the gramm
 
 Not listed, since it holds all of them: what a block prints is defined in [`BlockPieces.antt`](../crates/definition_page/specs/BlockPieces.antt), what a part of a text prints in [`InlinePieces.antt`](../crates/definition_page/specs/InlinePieces.antt), and both are read to a page in [`Read.antt`](../crates/definition_page/specs/Read.antt).
 
-`docs/constructs.py` writes this page, and fails where a construct lacks a file that it needs.
+`bin/constructs.py` writes this page, and fails where a construct lacks a file that it needs.
 """
 
 
@@ -428,7 +428,7 @@ def main(words):
         with open(PAGE, "w", encoding="utf-8") as file:
             file.write(text)
     elif not os.path.isfile(PAGE) or text_of(PAGE) != text:
-        gaps.append("docs/CONSTRUCTS.md is not what docs/constructs.py writes: run it")
+        gaps.append("docs/CONSTRUCTS.md is not what bin/constructs.py writes: run it")
     if gaps:
         sys.exit("\n".join(gaps))
     return 0

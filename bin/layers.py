@@ -1,7 +1,7 @@
 #!/usr/bin/env python3
 """Checks the layers of crates.txt, and prints what breaks them.
 
-usage: docs/layers.py --check
+usage: bin/layers.py --check
 
 The first word of a crate's name is its layer. A crate may depend on crates of its own layer and of those below, in the order of LAYERS.
 Each crate that it lists must be named by its sources, and stand above it in crates.txt.

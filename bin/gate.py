@@ -1,11 +1,11 @@
 #!/usr/bin/env python3
 """Runs the gate and takes the time of each crate; writes bench/gate.tsv, and what GATE.md and CONTRIBUTING.md say of it.
 
-usage: docs/gate.py run LOG [--anew]   runs `rt ci [--anew]` at the top of the repository; LOG gets what it says, and times at the end
-       docs/gate.py write [LOG]        writes bench/gate.tsv from LOG, which may be the output of `rt ci` alone, and keeps the rows of
+usage: bin/gate.py run LOG [--anew]   runs `rt ci [--anew]` at the top of the repository; LOG gets what it says, and times at the end
+       bin/gate.py write [LOG]        writes bench/gate.tsv from LOG, which may be the output of `rt ci` alone, and keeps the rows of
                                        crates that LOG doesn't name; then the sums in docs/GATE.md and the costs in CONTRIBUTING.md
-       docs/gate.py change CRATE..     prints what a change of each of these crates costs, with all above it
-       docs/gate.py check              fails if a sum or a cost is another than bench/gate.tsv gives, if the gate exceeds its budget,
+       bin/gate.py change CRATE..     prints what a change of each of these crates costs, with all above it
+       bin/gate.py check              fails if a sum or a cost is another than bench/gate.tsv gives, if the gate exceeds its budget,
                                        or if a path in backticks of CONTRIBUTING.md doesn't exist
 
 `rt ci` tells no times. So `run` looks at its jobs four times a second: a job is a process that it starts, with all that
@@ -438,8 +438,8 @@ def check():
     faults = over_budget(crates) + list(lost_paths())
     with open(TABLE, encoding="utf-8") as file:
         if [tuple(line.rstrip("\n").split("\t")) for line in file] != [HEAD, *(it.row(name) for name, it in crates.items())]:
-            faults.append("bench/gate.tsv lacks a crate or has one too many: run docs/gate.py write")
-    faults += [f"{os.path.relpath(path, TOP)} isn't what bench/gate.tsv gives: run docs/gate.py write" for path, wanted, text in pages(crates) if wanted != text]
+            faults.append("bench/gate.tsv lacks a crate or has one too many: run bin/gate.py write")
+    faults += [f"{os.path.relpath(path, TOP)} isn't what bench/gate.tsv gives: run bin/gate.py write" for path, wanted, text in pages(crates) if wanted != text]
     print("".join(f"{it}\n" for it in faults), end="", file=sys.stderr)
     return 1 if faults else 0
 
