@@ -6,7 +6,7 @@ use Rattle.std.specs.Cmp.Lexicographic.{bytes_decides}
 use Rattle.markdown_options.specs.declared.configuration.Options.{Options}
 use Rattle.markdown_definition.specs.Html.{html}
 use Rattle.markdown_tables.specs.Builtin.{builtin_tables}
-use Rattle.format_pages.specs.Calls.{calls, with_calls}
+use Rattle.format_pages.specs.Calls.{with_calls}
 use Rattle.format_pages.specs.Constructs.{by_every}
 use Rattle.format_pages.specs.Front.{front_size}
 use Rattle.format_pages.specs.Known.{HasCalled}

@@ -5,7 +5,7 @@ use Rattle.definition_text.specs.Columns.{Code, code_byte}
 use Rattle.definition_text.specs.Content.{content_codes}
 use Rattle.definition_text.specs.Lines.{kind_before_text, without_mark}
 use Rattle.definition_inline.specs.Definition.{Definition}
-use Rattle.definition_block.specs.Blocks.{Block, Blocks, FencedCode, Leaf, LeafBlock}
+use Rattle.definition_block.specs.Blocks.{Block, FencedCode, Leaf, LeafBlock}
 use Rattle.definition_block.specs.Tree.{blocks}
 use Rattle.block_rows.specs.Rows.{BlockRow, EnterFootnote, Single, row_definitions, rows_of}
 use Rattle.format_pages.specs.Constructs.{every_construct}

@@ -1,4 +1,4 @@
-use Rattle.std.proofs.Common.{◌≡◌, ◌++◌, List, ℕ, ap, ap₂, ◌∙◌, append_assoc, take, drop}
+use Rattle.std.proofs.Common.{◌≡◌, ◌++◌, ap, ap₂, ◌∙◌, append_assoc, take, drop}
 use Rattle.std.proofs.lemmas.List.{take_rest}
 use Rattle.format_pages.specs.Front.{body, front}
 use Rattle.format_pages.proofs.Fronts.{from_start}

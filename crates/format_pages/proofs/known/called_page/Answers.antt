@@ -1,4 +1,4 @@
-use Rattle.std.proofs.Common.{◌≡◌, List, ℕ, Option, ap, ◌∙◌, subst}
+use Rattle.std.proofs.Common.{◌≡◌, List, ℕ, ap, ◌∙◌, subst}
 use Rattle.std.specs.Prelude.{IfSome, string_bytes}
 use Rattle.markdown_definition.specs.Html.{html}
 use Rattle.markdown_tables.specs.Builtin.{builtin_tables}

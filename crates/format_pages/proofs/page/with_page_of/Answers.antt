@@ -1,4 +1,3 @@
-use Rattle.std.proofs.Common.{sym}
 use Rattle.format_pages.proofs.Whole.{same_page, same_text, same_whole}
 use Rattle.format_pages.proofs.page.with_page_of.Goals as goal
 
