@@ -7,7 +7,7 @@ use crate::node::Node;
 use crate::prefix::Prefix;
 use crate::tree::Tree;
 use engine_events::event::{Event, Name};
-use format_edits::Edits;
+use format_edits::{Edits, Window};
 use std::alloc::{AllocError, Global};
 
 /// A text with the tree of its events.
@@ -19,14 +19,18 @@ pub struct Document<'a> {
     tree: Tree,
     /// Where the lines start.
     lines: Vec<usize>,
+    /// The parts that stay as they are.
+    closed: Vec<Window>,
 }
 
 impl<'a> Document<'a> {
-    /// The tree of the events of a text.
+    /// The tree of the events of a text. `closed` are the parts of the text that no edit may change, in
+    /// their order and apart.
     pub fn new(
         alloc: Global,
         bytes: &'a [u8],
         events: Vec<Event>,
+        closed: Vec<Window>,
     ) -> Result<Document<'a>, AllocError> {
         let tree = Tree::of(alloc, events)?;
         let lines = line_starts(alloc, bytes)?;
@@ -35,7 +39,13 @@ impl<'a> Document<'a> {
             ending: first_ending(bytes),
             tree,
             lines,
+            closed,
         })
+    }
+
+    /// The parts of the text that no edit may change, in their order and apart.
+    pub fn closed(&self) -> &[Window] {
+        &self.closed
     }
 
     /// All bytes.

@@ -20,6 +20,16 @@ impl Edit {
     fn fits(&self, start: usize, end: usize) -> bool {
         start <= self.start && self.start <= self.end && self.end <= end
     }
+
+    /// Whether the edit changes something in one of these windows, which are in order and apart. Bytes that
+    /// it puts where a window starts or ends are outside.
+    fn is_in_any(&self, windows: &[Window]) -> bool {
+        let first = windows.partition_point(|window| window.end <= self.start);
+        match windows.get(first) {
+            Some(window) => window.start < self.end,
+            None => false,
+        }
+    }
 }
 
 /// Edits of a text, in groups. The edits of a group only make sense together, such as those of the
@@ -131,19 +141,24 @@ impl Edits {
         self.write(new);
     }
 
-    /// Removes edits that change nothing and groups without edits, and sorts the others by place. Groups
-    /// are numbered by the places of their first edits.
+    /// Removes edits that change nothing, groups without edits, and groups with an edit in a closed part of
+    /// the text. Sorts the others by place. Groups are numbered by the places of their first edits.
     ///
     /// `blocks` are the places where the blocks of the text start, in order. A window of a group begins
-    /// and ends at such places. Fails if memory ran out while edits were added, or runs out now.
+    /// and ends at such places. `closed` are the parts of the text that stay as they are, in order and
+    /// apart. Fails if memory ran out while edits were added, or runs out now.
     pub fn finish(
         &mut self,
         alloc: Global,
         text: &[u8],
         blocks: &[usize],
+        closed: &[Window],
     ) -> Result<(), AllocError> {
         if self.is_out_of_memory {
             return Err(AllocError);
+        }
+        if !closed.is_empty() {
+            self.edits = self.outside(alloc, closed)?;
         }
         self.edits = self.changes(alloc, text)?;
         self.edits.sort_by_key(|edit| (edit.start, edit.end))?;
@@ -151,6 +166,25 @@ impl Edits {
         self.find_windows(alloc, blocks, text.len())?;
         self.begins = true;
         Ok(())
+    }
+
+    /// The edits of those groups that have no edit in a closed part.
+    fn outside(&self, alloc: Global, closed: &[Window]) -> Result<Vec<Edit>, AllocError> {
+        let mut is_open = vec![in alloc; true; self.groups]?;
+        for edit in &self.edits {
+            if edit.is_in_any(closed) {
+                if let Some(of_group) = is_open.get_mut(edit.group) {
+                    *of_group = false;
+                }
+            }
+        }
+        let mut edits = Vec::new(alloc);
+        for edit in &self.edits {
+            if is_kept(&is_open, edit.group) {
+                edits.push(*edit)?;
+            }
+        }
+        Ok(edits)
     }
 
     /// The edits that change something.

@@ -1,35 +1,44 @@
 //! Passes over the rules.
 use format_edits::Edits;
 use format_rules::{Document, RULES, Style, all_edits};
-use format_search::{Reader, Search};
+use format_search::{ReadText, Reader, Search};
 use std::alloc::{AllocError, Global};
 
 /// The most passes over the rules. A pass may keep edits that the one before had to leave out.
 const PASSES_MAX: usize = 5;
 
-/// A text after the rules, in passes over them until one changes nothing.
+/// The edits that all rules make of a text at once. There are none if the text can't be read.
+pub fn first_edits<R: Reader>(
+    alloc: Global,
+    reader: &R,
+    text: &str,
+    style: &Style,
+) -> Result<Edits, AllocError> {
+    let formatter = Formatter {
+        alloc,
+        reader,
+        style,
+    };
+    formatter.edits(text)
+}
+
+/// A text after the rules, in passes over them until one changes nothing. `edits` are those that all rules
+/// make of it at once.
 ///
-/// Edits are made only if the reader finds the page of the text unchanged. A text that can't be read
-/// stays as it is. If the rules have no edits, no page is made.
+/// Edits are made only if the reader finds the document the same.
 pub fn formatted<R: Reader>(
     alloc: Global,
     reader: &R,
     text: &str,
     style: &Style,
+    edits: Edits,
 ) -> Result<String, AllocError> {
     let formatter = Formatter {
         alloc,
         reader,
         style,
     };
-    let edits = formatter.edits(text)?;
-    if edits.is_empty() {
-        return String::from_str(alloc, text);
-    }
-    match reader.page(text)? {
-        Some(page) => formatter.after_passes(text, &page, edits),
-        None => String::from_str(alloc, text),
-    }
+    formatter.after_passes(text, edits)
 }
 
 /// What texts are formatted by.
@@ -51,25 +60,25 @@ impl<'a, R: Reader> Formatter<'a, R> {
 
     /// A text with its events, or none if it can't be read.
     fn document<'t>(&self, text: &'t str) -> Result<Option<Document<'t>>, AllocError> {
-        match self.reader.events(text)? {
-            Some(events) => {
-                let document = Document::new(self.alloc, text.as_bytes(), events)?;
+        match self.reader.read(text)? {
+            Some(ReadText { events, closed }) => {
+                let document = Document::new(self.alloc, text.as_bytes(), events, closed)?;
                 Ok(Some(document))
             }
             None => Ok(None),
         }
     }
 
-    /// A text after passes over the rules until one changes nothing. `page` is its page, and `edits` are
-    /// those that all rules make of it at once.
-    fn after_passes(&self, text: &str, page: &str, edits: Edits) -> Result<String, AllocError> {
+    /// A text after passes over the rules until one changes nothing. `edits` are those that all rules make of
+    /// it at once.
+    fn after_passes(&self, text: &str, edits: Edits) -> Result<String, AllocError> {
         let mut value = String::from_str(self.alloc, text)?;
         let mut edits = edits;
         for _ in 0..PASSES_MAX {
             if edits.is_empty() {
                 break;
             }
-            match self.after_pass(&value, page, edits)? {
+            match self.after_pass(&value, edits)? {
                 Some(next) => {
                     edits = self.edits(&next)?;
                     value = next;
@@ -80,37 +89,27 @@ impl<'a, R: Reader> Formatter<'a, R> {
         Ok(value)
     }
 
-    /// A text after all edits at once, or, if they change the page, after the rules one after the other.
+    /// A text after all edits at once, or, if they change the document, after the rules one after the other.
     /// Returns none if nothing changes.
-    fn after_pass(
-        &self,
-        text: &str,
-        page: &str,
-        edits: Edits,
-    ) -> Result<Option<String>, AllocError> {
-        let at_once = self.after_all(text, page, &edits)?;
+    fn after_pass(&self, text: &str, edits: Edits) -> Result<Option<String>, AllocError> {
+        let at_once = self.after_all(text, &edits)?;
         if at_once.is_some() {
             return Ok(at_once);
         }
-        self.after_rules(text, page)
+        self.after_rules(text)
     }
 
-    /// A text after all edits at once, or none if they change the page.
-    fn after_all(
-        &self,
-        text: &str,
-        page: &str,
-        edits: &Edits,
-    ) -> Result<Option<String>, AllocError> {
-        self.search(text, page, edits).with_all()
+    /// A text after all edits at once, or none if they change the document.
+    fn after_all(&self, text: &str, edits: &Edits) -> Result<Option<String>, AllocError> {
+        self.search(text, edits).with_all()
     }
 
     /// A text after the rules one after the other. Returns none if nothing changes.
-    fn after_rules(&self, text: &str, page: &str) -> Result<Option<String>, AllocError> {
+    fn after_rules(&self, text: &str) -> Result<Option<String>, AllocError> {
         let mut value = String::from_str(self.alloc, text)?;
         let mut rule = 0;
         for _ in 0..RULES.len() {
-            if let Some(next) = self.after_rule(&value, page, &mut rule)? {
+            if let Some(next) = self.after_rule(&value, &mut rule)? {
                 value = next;
             }
         }
@@ -120,12 +119,7 @@ impl<'a, R: Reader> Formatter<'a, R> {
 
     /// A text after the first rule from a number on that has edits, or none if no edit is made. The
     /// number is then that of the rule after it.
-    fn after_rule(
-        &self,
-        text: &str,
-        page: &str,
-        rule: &mut usize,
-    ) -> Result<Option<String>, AllocError> {
+    fn after_rule(&self, text: &str, rule: &mut usize) -> Result<Option<String>, AllocError> {
         if *rule >= RULES.len() {
             return Ok(None);
         }
@@ -133,7 +127,7 @@ impl<'a, R: Reader> Formatter<'a, R> {
         if edits.is_empty() {
             return Ok(None);
         }
-        self.search(text, page, &edits).edited()
+        self.search(text, &edits).edited()
     }
 
     /// The edits of the first rule from a number on that has some.
@@ -156,13 +150,12 @@ impl<'a, R: Reader> Formatter<'a, R> {
         Ok(Edits::new(self.alloc))
     }
 
-    /// The search among edits of a text with this page.
-    fn search<'s>(&'s self, text: &'s str, page: &'s str, edits: &'s Edits) -> Search<'s, R> {
+    /// The search among edits of a text.
+    fn search<'s>(&'s self, text: &'s str, edits: &'s Edits) -> Search<'s, R> {
         Search {
             alloc: self.alloc,
             reader: self.reader,
             text,
-            page,
             edits,
         }
     }

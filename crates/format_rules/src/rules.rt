@@ -213,6 +213,6 @@ pub fn all_edits(
 /// Edits of a document, finished.
 fn finished(alloc: Global, document: &Document<'_>, mut edits: Edits) -> Result<Edits, AllocError> {
     let blocks = document.blocks(alloc)?;
-    edits.finish(alloc, document.bytes(), &blocks)?;
+    edits.finish(alloc, document.bytes(), &blocks, document.closed())?;
     Ok(edits)
 }

@@ -1,8 +1,8 @@
-//! The search for those edits of a text that keep its page.
+//! The search for those edits of a text that keep the document the same.
 #![tactic(auto)]
 
 mod reader;
 mod search;
 
-pub use reader::Reader;
+pub use reader::{ReadText, Reader};
 pub use search::Search;

@@ -1,32 +1,25 @@
-//! How texts are read.
+//! How texts are read and compared.
 use engine_events::Event;
+use format_edits::Window;
 use std::alloc::AllocError;
 
-/// How texts are read.
+/// A text as it was read.
+#[derive(Drop)]
+pub struct ReadText {
+    /// The events of the text.
+    pub events: Vec<Event>,
+    /// The parts of the text that no edit may change: in their order, and apart.
+    pub closed: Vec<Window>,
+}
+
+/// How texts are read and compared.
 pub trait Reader {
-    /// The events of a text, or none if it can't be read.
-    fn events(&self, text: &str) -> Result<Option<Vec<Event>>, AllocError>;
+    /// A text as it is read, or none if it can't be read.
+    fn read(&self, text: &str) -> Result<Option<ReadText>, AllocError>;
 
-    /// The page of a text, or none if it can't be read.
-    fn page(&self, text: &str) -> Result<Option<String>, AllocError>;
-}
+    /// Whether a text is the same document as the one that is edited.
+    fn is_same(&self, text: &str) -> Result<bool, AllocError>;
 
-/// Whether a text has a page.
-pub(crate) fn has_page<R: Reader>(reader: &R, text: &str, page: &str) -> Result<bool, AllocError> {
-    match reader.page(text)? {
-        Some(found) => Ok(found.as_str() == page),
-        None => Ok(false),
-    }
-}
-
-/// Whether two texts have the same page.
-pub(crate) fn have_same_page<R: Reader>(
-    reader: &R,
-    one: &str,
-    other: &str,
-) -> Result<bool, AllocError> {
-    match reader.page(one)? {
-        Some(page) => has_page(reader, other, &page),
-        None => Ok(false),
-    }
+    /// Whether two parts of texts have the same pages.
+    fn have_same_pages(&self, one: &str, other: &str) -> Result<bool, AllocError>;
 }

@@ -1,10 +1,10 @@
-//! Which edits of a text keep its page.
+//! Which edits of a text keep the document the same.
 //!
-//! All are tried at once. If the page changes, halves of the groups are tried, and so on, each with the
-//! blocks that it is in alone: so the search costs little more than a page of each block. Blocks depend
-//! on one another, so the page of the text is made at the end. If it changed, halves are tried once
-//! more, with the whole text.
-use crate::reader::{Reader, has_page, have_same_page};
+//! All are tried at once. If the document changes, halves of the groups are tried, and so on, each with the
+//! blocks that it is in alone: so the search costs little more than the pages of each block. Blocks depend
+//! on one another, so the whole text is compared at the end. If it changed, halves are tried once more,
+//! with the whole text.
+use crate::reader::Reader;
 use format_edits::{Edits, Window};
 use std::alloc::{AllocError, Global};
 
@@ -15,17 +15,15 @@ const SIZES_MAX: usize = 64;
 /// What a page of few bytes costs beside them, in bytes.
 const PAGE_COST: usize = 64;
 
-/// Edits of a text, of which some keep its page.
+/// Edits of a text, of which some keep the document the same.
 #[derive(Drop)]
 pub struct Search<'a, R> {
     /// The allocator.
     pub alloc: Global,
-    /// What makes the pages.
+    /// What compares texts.
     pub reader: &'a R,
     /// The text.
     pub text: &'a str,
-    /// The page of the text.
-    pub page: &'a str,
     /// The edits of the text, finished.
     pub edits: &'a Edits,
 }
@@ -37,7 +35,7 @@ struct Range {
     past: usize,
 }
 
-/// What is read to find out if edits keep the page.
+/// What is read to find out if edits keep the document the same.
 #[derive(Clone, Copy)]
 enum Scope {
     /// The blocks that they are in.
@@ -47,7 +45,7 @@ enum Scope {
 }
 
 impl<'a, R: Reader> Search<'a, R> {
-    /// The text after those edits that keep its page, or none if no edit does.
+    /// The text after those edits that keep the document the same, or none if no edit does.
     pub fn edited(&self) -> Result<Option<String>, AllocError> {
         let all = self.with_all()?;
         if all.is_some() || self.edits.groups() < 2 {
@@ -60,29 +58,29 @@ impl<'a, R: Reader> Search<'a, R> {
         self.with_kept(Scope::Text)
     }
 
-    /// The text after all edits, if its page stays.
+    /// The text after all edits, if it is the same document.
     pub fn with_all(&self) -> Result<Option<String>, AllocError> {
         let kept = vec![in self.alloc; true; self.edits.groups()]?;
         self.with(&kept)
     }
 
-    /// The text after the edits that a search keeps, if its page stays.
+    /// The text after the edits that a search keeps, if it is the same document.
     fn with_kept(&self, scope: Scope) -> Result<Option<String>, AllocError> {
         let mut kept = vec![in self.alloc; false; self.edits.groups()]?;
         self.search(scope, &mut kept)?;
         self.with(&kept)
     }
 
-    /// The text after the groups of edits that are kept, if its page stays.
+    /// The text after the groups of edits that are kept, if it is the same document.
     fn with(&self, kept: &[bool]) -> Result<Option<String>, AllocError> {
         let Some(next) = self.edits.apply(self.alloc, self.text, self.whole(), kept)? else {
             return Ok(None);
         };
-        let keeps = has_page(self.reader, &next, self.page)?;
+        let keeps = self.reader.is_same(&next)?;
         Ok(keeps.then_some(next))
     }
 
-    /// Keeps groups of edits that keep the page of what is read.
+    /// Keeps groups of edits that change nothing that is compared of what is read.
     fn search(&self, scope: Scope, kept: &mut [bool]) -> Result<(), AllocError> {
         let mut ranges = halves(self.alloc, kept.len())?;
         let mut size = self.text.len().saturating_mul(SIZES_MAX);
@@ -102,36 +100,37 @@ impl<'a, R: Reader> Search<'a, R> {
         Ok(())
     }
 
-    /// Keeps the groups of a range if the page of a window stays. Returns whether it does.
+    /// Keeps the groups of a range if a window stays the same. Returns whether it does.
     fn keep(&self, range: Range, window: Window, kept: &mut [bool]) -> Result<bool, AllocError> {
         set_range(kept, range, true);
-        let keeps = self.keeps_page(window, kept)?;
+        let keeps = self.keeps(window, kept)?;
         if !keeps {
             set_range(kept, range, false);
         }
         Ok(keeps)
     }
 
-    /// Whether the page of a window stays with the groups that are kept.
-    fn keeps_page(&self, window: Window, kept: &[bool]) -> Result<bool, AllocError> {
+    /// Whether a window stays the same with the groups that are kept.
+    fn keeps(&self, window: Window, kept: &[bool]) -> Result<bool, AllocError> {
         match self.edits.apply(self.alloc, self.text, window, kept)? {
-            Some(new) => self.has_page_of(window, &new),
+            Some(new) => self.is_same_in(window, &new),
             None => Ok(false),
         }
     }
 
-    /// Whether a text has the page of a window.
-    fn has_page_of(&self, window: Window, new: &str) -> Result<bool, AllocError> {
+    /// Whether a text may come in place of a window: the whole text is compared as a document, blocks by
+    /// their pages.
+    fn is_same_in(&self, window: Window, new: &str) -> Result<bool, AllocError> {
         if window.size() == self.text.len() {
-            return has_page(self.reader, new, self.page);
+            return self.reader.is_same(new);
         }
         match self.text.get(window.start..window.end) {
-            Some(old) => have_same_page(self.reader, old, new),
+            Some(old) => self.reader.have_same_pages(old, new),
             None => Ok(false),
         }
     }
 
-    /// What is read to find out if the groups of a range keep the page.
+    /// What is read to find out if the groups of a range may be kept.
     fn window(&self, scope: Scope, range: Range) -> Window {
         match scope {
             Scope::Blocks => self.edits.window(range.first, range.past),

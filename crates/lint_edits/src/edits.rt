@@ -1,14 +1,16 @@
 //! What would mend the findings of a rule.
 use crate::blocks::block_starts;
 use crate::lines::{after_blank_lines, ending_before, line_start, quote_prefix};
-use format_edits::Edits;
+use format_edits::{Edits, Window};
 use lint_document::{Document, Finding, Rule, Span};
 use std::alloc::{AllocError, Global};
 
-/// The edits that would mend the findings of a rule, a group for each.
+/// The edits that would mend the findings of a rule, a group for each. There are none in the closed parts of
+/// the document.
 pub(crate) fn edits_of(
     alloc: Global,
     document: &Document<'_>,
+    closed: &[Window],
     findings: &[Finding],
     rule: Rule,
 ) -> Result<Edits, AllocError> {
@@ -19,17 +21,22 @@ pub(crate) fn edits_of(
             mend(document, finding, &mut edits);
         }
     }
-    finished(alloc, document, edits)
+    finished(alloc, document, closed, edits)
 }
 
 /// Edits of a document, finished.
-fn finished(alloc: Global, document: &Document<'_>, mut edits: Edits) -> Result<Edits, AllocError> {
+fn finished(
+    alloc: Global,
+    document: &Document<'_>,
+    closed: &[Window],
+    mut edits: Edits,
+) -> Result<Edits, AllocError> {
     let blocks = if edits.is_empty() {
         Vec::new(alloc)
     } else {
         block_starts(alloc, document)?
     };
-    edits.finish(alloc, document.bytes, &blocks)?;
+    edits.finish(alloc, document.bytes, &blocks, closed)?;
     Ok(edits)
 }
 

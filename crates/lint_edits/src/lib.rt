@@ -1,4 +1,4 @@
-//! Edits that mend what the rules of the linter find, and the text after those edits that keep its page.
+//! Edits that mend what the rules of the linter find, and the text after those edits that keep the document the same.
 #![tactic(auto)]
 
 mod blocks;
@@ -8,4 +8,4 @@ mod lines;
 mod mend;
 
 pub use finder::Finder;
-pub use mend::mended;
+pub use mend::{FirstEdits, first_edits, mended};

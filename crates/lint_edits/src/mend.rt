@@ -1,7 +1,7 @@
 //! A text, mended rule by rule.
 use crate::edits::edits_of;
 use crate::finder::Finder;
-use format_edits::Edits;
+use format_edits::{Edits, Window};
 use format_search::{Reader, Search};
 use lint_document::{Document, Rule, RuleSet};
 use std::alloc::{AllocError, Global};
@@ -18,28 +18,58 @@ const MENDED: [Rule; 8] = [
     Rule::FinalNewline,
 ];
 
-/// A text after edits that mend what these rules find and keep the page of the text, as the reader prints it.
-/// `finder` has the rules. A text that can't be read stays as it is.
+/// The first edits of a text, and the rule that makes the next ones.
+#[derive(Drop)]
+pub struct FirstEdits {
+    edits: Edits,
+    /// The number of the rule after the one that makes the edits.
+    next: usize,
+}
+
+impl FirstEdits {
+    /// Whether no rule has an edit.
+    pub fn is_empty(&self) -> bool {
+        self.edits.is_empty()
+    }
+}
+
+/// The edits of a text by the first of these rules that has some. There are none if the text can't be read.
+/// `finder` has the rules.
+pub fn first_edits<R: Reader, F: Finder>(
+    alloc: Global,
+    reader: &R,
+    finder: &F,
+    text: &str,
+    rules: &RuleSet,
+) -> Result<FirstEdits, AllocError> {
+    let mender = Mender {
+        alloc,
+        reader,
+        finder,
+        rules: rules_to_mend(rules),
+    };
+    let mut next = 0;
+    let edits = mender.next_edits(text, &mut next)?;
+    Ok(FirstEdits { edits, next })
+}
+
+/// A text after edits that mend what these rules find, as far as the reader finds the document the same.
+/// `first` has the first edits of the text. `finder` has the rules.
 pub fn mended<R: Reader, F: Finder>(
     alloc: Global,
     reader: &R,
     finder: &F,
     text: &str,
     rules: &RuleSet,
+    first: FirstEdits,
 ) -> Result<String, AllocError> {
-    match reader.page(text)? {
-        Some(page) => {
-            let mender = Mender {
-                alloc,
-                reader,
-                finder,
-                page: &page,
-                rules: rules_to_mend(rules),
-            };
-            mender.after_rules(text)
-        }
-        None => String::from_str(alloc, text),
-    }
+    let mender = Mender {
+        alloc,
+        reader,
+        finder,
+        rules: rules_to_mend(rules),
+    };
+    mender.after_rules(text, first)
 }
 
 /// Those of these rules whose findings can be mended.
@@ -59,66 +89,71 @@ struct Mender<'a, R, F> {
     alloc: Global,
     reader: &'a R,
     finder: &'a F,
-    /// The page that must stay.
-    page: &'a str,
     /// The rules whose findings are mended.
     rules: RuleSet,
 }
 
 impl<'a, R: Reader, F: Finder> Mender<'a, R, F> {
     /// A text after the rules one after the other.
-    fn after_rules(&self, text: &str) -> Result<String, AllocError> {
+    fn after_rules(&self, text: &str, first: FirstEdits) -> Result<String, AllocError> {
         let mut value = String::from_str(self.alloc, text)?;
-        let mut rule = 0;
+        let FirstEdits {
+            mut edits,
+            next: mut rule,
+        } = first;
         for _ in 0..MENDED.len() {
-            if let Some(next) = self.after_rule(&value, &mut rule)? {
+            if edits.is_empty() {
+                break;
+            }
+            if let Some(next) = self.after_edits(&value, &edits)? {
                 value = next;
             }
+            edits = self.next_edits(&value, &mut rule)?;
         }
         Ok(value)
     }
 
-    /// A text after the first rule from a number on that has edits, or none if no edit is made. The
-    /// number is then that of the rule after it.
-    fn after_rule(&self, text: &str, rule: &mut usize) -> Result<Option<String>, AllocError> {
-        if *rule >= MENDED.len() {
-            return Ok(None);
-        }
-        let edits = self.first_edits(text, rule)?;
-        if edits.is_empty() {
-            return Ok(None);
-        }
+    /// A text after those of its edits that keep the document the same, or none if no edit does.
+    fn after_edits(&self, text: &str, edits: &Edits) -> Result<Option<String>, AllocError> {
         let search = Search {
             alloc: self.alloc,
             reader: self.reader,
             text,
-            page: self.page,
-            edits: &edits,
+            edits,
         };
         search.edited()
     }
 
-    /// The edits of the first rule from a number on that has some.
-    fn first_edits(&self, text: &str, rule: &mut usize) -> Result<Edits, AllocError> {
-        match self.reader.events(text)? {
-            Some(events) => {
+    /// The edits of a text by the first rule from a number on that has some. The number is then that of the
+    /// rule after it.
+    fn next_edits(&self, text: &str, rule: &mut usize) -> Result<Edits, AllocError> {
+        if *rule >= MENDED.len() {
+            return Ok(Edits::new(self.alloc));
+        }
+        match self.reader.read(text)? {
+            Some(read) => {
                 let document = Document {
                     bytes: text.as_bytes(),
-                    events: &events,
+                    events: &read.events,
                     gfm: false,
                 };
-                self.edits_in(&document, rule)
+                self.edits_in(&document, &read.closed, rule)
             }
             None => Ok(Edits::new(self.alloc)),
         }
     }
 
     /// The edits of a document by the first rule from a number on that has some.
-    fn edits_in(&self, document: &Document<'_>, rule: &mut usize) -> Result<Edits, AllocError> {
+    fn edits_in(
+        &self,
+        document: &Document<'_>,
+        closed: &[Window],
+        rule: &mut usize,
+    ) -> Result<Edits, AllocError> {
         let findings = self.finder.findings(document, &self.rules)?;
         for mended in MENDED.iter().skip(*rule) {
             *rule = rule.saturating_add(1);
-            let edits = edits_of(self.alloc, document, &findings, *mended)?;
+            let edits = edits_of(self.alloc, document, closed, &findings, *mended)?;
             if !edits.is_empty() {
                 return Ok(edits);
             }

@@ -4,16 +4,19 @@ ghost use Rattle.markdown_options.specs.Mdx.{HasNoMdx};
 ghost use Rattle.markdown_options.specs.Messages.{IsOutOfMemory};
 ghost use Rattle.markdown_definition.specs.Html.{html};
 ghost use Rattle.markdown_tables.specs.Builtin.{builtin_tables};
+ghost use Rattle.format_pages.specs.SameDocument.{IsSameDocument};
 
-use format_pages::{ByOptions, with_page_of};
+use format_pages::{ByOptions, Known, with_page_of};
 use lint_document::RuleSet;
-use lint_edits::{Finder, mended};
+use lint_edits::{Finder, first_edits, mended};
 use markdown::SIZE_MAX;
 use markdown_options::{Message, Options};
 use std::alloc::Global;
 
-/// Mends what these rules find in a text, as far as that can be done. The page of the result is the page of
-/// the text, with the same options. `finder` has the rules.
+/// Mends what these rules find in a text, as far as that can be done. `finder` has the rules. The result is
+/// the same document: its page is the page of the text, with the same options, with every construct on, and by
+/// CommonMark; frontmatter, footnotes, definitions and the infos of fences are the same, too. Nothing is mended
+/// in what the options don't have on.
 ///
 /// The text must have at most `SIZE_MAX` bytes. No construct of MDX may be on, which `Options::has_mdx` tests.
 /// If the page leaves out or escapes raw HTML or URLs, changes of these can't be seen on it:
@@ -30,9 +33,25 @@ pub fn fix<F: Finder>(
     requires without_mdx { HasNoMdx options.now }
     ensures page { IfOk result (λ fixed.
         html builtin_tables (string_bytes fixed) options.now ≡ html builtin_tables value.now options.now) }
+    ensures document { IfOk result (λ fixed. IsSameDocument (string_bytes fixed) value.now options.now) }
     ensures size { IfOk result (λ fixed. length (string_bytes fixed) ≤ SIZE_MAX) }
     ensures memory { IfErr result IsOutOfMemory }
 {
-    let fixed = mended(alloc, &ByOptions { alloc, options }, finder, value, rules)?;
-    with_page_of(alloc, fixed, value, options)
+    let reader = ByOptions {
+        alloc,
+        options,
+        known: None,
+    };
+    let first = first_edits(alloc, &reader, finder, value, rules)?;
+    if first.is_empty() {
+        return Ok(String::from_str(alloc, value)?);
+    }
+    let known = Known::of(alloc, value, options)?;
+    let reader = ByOptions {
+        alloc,
+        options,
+        known: Some(&known),
+    };
+    let fixed = mended(alloc, &reader, finder, value, rules, first)?;
+    with_page_of(alloc, fixed, value, &known, options)
 }

@@ -1,4 +1,4 @@
-//! Mends what the rules of the linter find in a text, where its page stays the same.
+//! Mends what the rules of the linter find in a text, where the document stays the same.
 #![tactic(auto)]
 
 mod entry;

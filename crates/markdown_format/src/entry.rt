@@ -4,15 +4,18 @@ ghost use Rattle.markdown_options.specs.Mdx.{HasNoMdx};
 ghost use Rattle.markdown_options.specs.Messages.{IsOutOfMemory};
 ghost use Rattle.markdown_definition.specs.Html.{html};
 ghost use Rattle.markdown_tables.specs.Builtin.{builtin_tables};
+ghost use Rattle.format_pages.specs.SameDocument.{IsSameDocument};
 
-use format_pages::{ByOptions, with_page_of};
-use format_passes::formatted;
+use format_pages::{ByOptions, Known, with_page_of};
+use format_passes::{first_edits, formatted};
 use format_rules::Style;
 use markdown::SIZE_MAX;
 use markdown_options::{Message, Options};
 use std::alloc::Global;
 
-/// Formats a text. The page of the result is the page of the text, with the same options.
+/// Formats a text. The result is the same document: its page is the page of the text, with the same options,
+/// with every construct on, and by CommonMark; frontmatter, footnotes, definitions and the infos of fences are
+/// the same, too. What the options don't have on isn't formatted.
 ///
 /// The text must have at most `SIZE_MAX` bytes. No construct of MDX may be on, which
 /// `Options::has_mdx` tests. If the page leaves out or escapes raw HTML or URLs, changes of these can't be
@@ -28,9 +31,25 @@ pub fn format(
     requires without_mdx { HasNoMdx options.now }
     ensures page { IfOk result (λ formatted.
         html builtin_tables (string_bytes formatted) options.now ≡ html builtin_tables value.now options.now) }
+    ensures document { IfOk result (λ formatted. IsSameDocument (string_bytes formatted) value.now options.now) }
     ensures size { IfOk result (λ formatted. length (string_bytes formatted) ≤ SIZE_MAX) }
     ensures memory { IfErr result IsOutOfMemory }
 {
-    let found = formatted(alloc, &ByOptions { alloc, options }, value, style)?;
-    with_page_of(alloc, found, value, options)
+    let reader = ByOptions {
+        alloc,
+        options,
+        known: None,
+    };
+    let edits = first_edits(alloc, &reader, value, style)?;
+    if edits.is_empty() {
+        return Ok(String::from_str(alloc, value)?);
+    }
+    let known = Known::of(alloc, value, options)?;
+    let reader = ByOptions {
+        alloc,
+        options,
+        known: Some(&known),
+    };
+    let found = formatted(alloc, &reader, value, style, edits)?;
+    with_page_of(alloc, found, value, &known, options)
 }

@@ -1,4 +1,4 @@
-//! A formatter of Markdown that keeps the page of a text.
+//! A formatter of Markdown that keeps a document the same.
 #![tactic(auto)]
 
 mod entry;

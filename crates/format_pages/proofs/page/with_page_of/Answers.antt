@@ -1,13 +1,22 @@
-use Rattle.std.proofs.Common.{◌∙◌, ap, sym, List, ℕ}
-use Rattle.markdown_definition.specs.Html.{html}
-use Rattle.markdown_tables.specs.Builtin.{builtin_tables}
+use Rattle.format_pages.proofs.Whole.{same_page, same_text, same_whole}
 use Rattle.format_pages.proofs.page.with_page_of.Goals as goal
+
+pub returns-then-eq-clause-page : goal.returns-then-eq-clause-page
+returns-then-eq-clause-page c = same_page _ _ _ c.in_ok-from_str.ensures.ok
+
+pub returns-then-eq-clause-document : goal.returns-then-eq-clause-document
+returns-then-eq-clause-document c = same_text _ _ _ c.in_ok-from_str.ensures.ok
 
 pub returns-then-branch-clause-page : goal.returns-then-branch-clause-page
 returns-then-branch-clause-page c =
-    ap (λ (text : List ℕ). html builtin_tables text c.args.options.now) (sym c.deref.ensures)
-    ∙ c.in_ok-has_page_of.ensures.page c.if-branch.true
+    (same_whole _ _ _ _ _ c.deref.ensures c.requires.text (c.in_ok-is_same.ensures.document c.requires.known c.if-branch.true)).page
 
-pub returns-in_ok-from_str-clause-page : goal.returns-in_ok-from_str-clause-page
-returns-in_ok-from_str-clause-page c =
-    ap (λ (text : List ℕ). html builtin_tables text c.args.options.now) c.in_ok-from_str.ensures.ok
+pub returns-then-branch-clause-document : goal.returns-then-branch-clause-document
+returns-then-branch-clause-document c =
+    (same_whole _ _ _ _ _ c.deref.ensures c.requires.text (c.in_ok-is_same.ensures.document c.requires.known c.if-branch.true)).document
+
+pub returns-clause-page : goal.returns-clause-page
+returns-clause-page c = same_page _ _ _ c.in_ok-from_str-2.ensures.ok
+
+pub returns-clause-document : goal.returns-clause-document
+returns-clause-document c = same_text _ _ _ c.in_ok-from_str-2.ensures.ok

@@ -1,0 +1,4 @@
+mod Same
+mod Rows
+mod Fronts
+pub mod Whole

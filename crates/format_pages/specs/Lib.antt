@@ -1,0 +1,6 @@
+pub mod Constructs
+pub mod Front
+pub mod Calls
+pub mod Hidden
+pub mod SameDocument
+pub mod Known
