@@ -1,6 +1,7 @@
 //! The rules of the formatter: what they change in a text, found in its events.
 #![tactic(auto)]
 
+mod ignored;
 mod rule_set;
 mod rules;
 mod style;

@@ -1,4 +1,5 @@
 //! The rules, and their order.
+use crate::ignored::kept;
 use crate::rule_set::RuleSet;
 use crate::style::Style;
 use format_blocks::{
@@ -213,6 +214,7 @@ pub fn all_edits(
 /// Edits of a document, finished.
 fn finished(alloc: Global, document: &Document<'_>, mut edits: Edits) -> Result<Edits, AllocError> {
     let blocks = document.blocks(alloc)?;
-    edits.finish(alloc, document.bytes(), &blocks, document.closed())?;
+    let kept = kept(alloc, document)?;
+    edits.finish(alloc, document.bytes(), &blocks, &kept)?;
     Ok(edits)
 }

@@ -37,6 +37,10 @@ Rules:
   bullet-marker, marker-space, list-indent, list-number, attention, hard-break,
   gfm-table, definition.
 
+<!-- markdown-fmt-ignore --> keeps the next block as it is. From
+<!-- markdown-fmt-disable --> on, up to <!-- markdown-fmt-enable -->, all blocks
+stay as they are.
+
 Exit status:
   0  all files are formatted
   1  with --check or --diff: files would change
