@@ -11,7 +11,7 @@ use text_lines::{next_line, without_mark};
 /// text is formatted by; `events` are those of every construct. `footnotes` are the labels of its footnote
 /// definitions, as they match.
 ///
-/// Closed are:
+/// Extent are:
 ///
 /// - frontmatter, also if `...` ends it;
 /// - a table, math, a footnote, strikethrough and marked text, if its construct isn't on;
@@ -48,9 +48,9 @@ pub(crate) fn closed(
     Ok(closing.windows)
 }
 
-/// How a node is closed to edits.
+/// How far a node is closed to edits.
 #[derive(Clone, Copy, PartialEq, Eq)]
-enum Closed {
+enum Extent {
     /// It isn't.
     No,
     /// Its bytes are.
@@ -59,10 +59,10 @@ enum Closed {
     Reaching,
 }
 
-impl Closed {
+impl Extent {
     /// The bytes, if so.
-    fn if_so(is_closed: bool) -> Closed {
-        if is_closed { Closed::Bytes } else { Closed::No }
+    fn if_so(is_closed: bool) -> Extent {
+        if is_closed { Extent::Bytes } else { Extent::No }
     }
 }
 
@@ -81,8 +81,8 @@ struct Closing<'a> {
     columns: usize,
     /// The number of cells of the row so far.
     cells: usize,
-    /// How each node that is open is closed to edits.
-    enters: Vec<Closed>,
+    /// How far each node that is open is closed to edits.
+    enters: Vec<Extent>,
     /// How many of them are.
     depth: usize,
     /// Where the outermost of these starts.
@@ -107,7 +107,7 @@ impl Closing<'_> {
     fn enter(&mut self, name: Name, index: usize) -> Result<(), AllocError> {
         let closed = self.closes(name);
         self.enters.push(closed)?;
-        if closed != Closed::No {
+        if closed != Extent::No {
             if self.depth == 0 {
                 self.start = index;
                 self.reach = index;
@@ -120,9 +120,9 @@ impl Closing<'_> {
     /// Exits the innermost node.
     fn exit(&mut self, index: usize) -> Result<(), AllocError> {
         let end = match self.enters.pop() {
-            None | Some(Closed::No) => return Ok(()),
-            Some(Closed::Bytes) => index,
-            Some(Closed::Reaching) => after_next_ink(self.bytes, index),
+            None | Some(Extent::No) => return Ok(()),
+            Some(Extent::Bytes) => index,
+            Some(Extent::Reaching) => after_next_ink(self.bytes, index),
         };
         self.reach = self.reach.max(end);
         self.depth = self.depth.saturating_sub(1);
@@ -149,49 +149,49 @@ impl Closing<'_> {
     }
 
     /// How a node that starts is closed to edits. Counts footnotes and cells.
-    fn closes(&mut self, name: Name) -> Closed {
+    fn closes(&mut self, name: Name) -> Extent {
         match name {
-            Name::Frontmatter => Closed::Bytes,
-            Name::MathFlow => Closed::if_so(!self.on.math_flow),
-            Name::MathText => Closed::if_so(!self.on.math_text),
-            Name::GfmStrikethrough => Closed::if_so(!self.on.gfm_strikethrough),
-            Name::Mark => Closed::if_so(!self.on.mark),
+            Name::Frontmatter => Extent::Bytes,
+            Name::MathFlow => Extent::if_so(!self.on.math_flow),
+            Name::MathText => Extent::if_so(!self.on.math_text),
+            Name::GfmStrikethrough => Extent::if_so(!self.on.gfm_strikethrough),
+            Name::Mark => Extent::if_so(!self.on.mark),
             Name::GfmFootnoteDefinition => self.closes_footnote(),
             Name::GfmTable => {
                 self.columns = usize::MAX;
-                Closed::if_so(!self.on.gfm_table)
+                Extent::if_so(!self.on.gfm_table)
             }
             Name::GfmTableDelimiterRow => {
                 self.columns = 0;
-                Closed::No
+                Extent::No
             }
             Name::GfmTableDelimiterCell => {
                 self.columns = self.columns.saturating_add(1);
-                Closed::No
+                Extent::No
             }
             Name::GfmTableRow => {
                 self.cells = 0;
-                Closed::No
+                Extent::No
             }
             Name::GfmTableCell => {
                 self.cells = self.cells.saturating_add(1);
-                Closed::if_so(self.cells > self.columns)
+                Extent::if_so(self.cells > self.columns)
             }
-            _ => Closed::No,
+            _ => Extent::No,
         }
     }
 
     /// How a footnote definition that starts is closed to edits.
-    fn closes_footnote(&mut self) -> Closed {
+    fn closes_footnote(&mut self) -> Extent {
         let is_repeated = match self.is_repeated.get(self.footnotes) {
             Some(is_repeated) => *is_repeated,
             None => true,
         };
         self.footnotes = self.footnotes.saturating_add(1);
         if is_repeated {
-            Closed::Reaching
+            Extent::Reaching
         } else {
-            Closed::if_so(!self.on.gfm_footnote_definition)
+            Extent::if_so(!self.on.gfm_footnote_definition)
         }
     }
 }
