@@ -58,11 +58,9 @@ called_of known found wanted called lent added text options is of same page equa
     ∙ subst (λ o. IfSome o (λ it. string_bytes it ≡ html builtin_tables (with_calls lent text) (by_every options))) of page
     ∙ ap (λ cs. html builtin_tables (with_calls cs text) (by_every options)) same)
 
--- equal texts are the same document as equal ones
-pub same_whole : (one text other value : List ℕ) (options : Options) → one ≡ text → other ≡ value → IsSameWhole one other options
-    → IsSameWhole text value options
-same_whole one text other value options is also whole =
-    subst (λ xs. IsSameWhole xs value options) is (subst (λ xs. IsSameWhole one xs options) also whole)
+-- equal texts are the same document as another
+pub same_whole : (one text other : List ℕ) (options : Options) → one ≡ text → IsSameWhole one other options → IsSameWhole text other options
+same_whole one text other options is whole = subst (λ xs. IsSameWhole xs other options) is whole
 
 -- a page that was found equal to a known one
 pub page_equal : {A : Type 0} (page wanted : String A) (wants : List ℕ) (found : Bool) → found ≡ string_eq page wanted → found ≡ true

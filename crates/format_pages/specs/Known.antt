@@ -4,6 +4,7 @@ use Rattle.markdown_options.specs.declared.configuration.Options.{Options}
 use Rattle.markdown_definition.specs.Html.{html}
 use Rattle.markdown_tables.specs.Builtin.{builtin_tables}
 use Rattle.format_pages.specs.Constructs.{by_every, by_plain}
+use Rattle.format_pages.specs.Front as before
 use Rattle.format_pages.specs.Hidden.{HasHidden, footnotes, text_rows}
 use Rattle.format_pages.specs.Calls.{calls, with_calls}
 use Rattle.format_pages.specs.declared.known.Known.{Known}
@@ -19,12 +20,12 @@ pub record HasPages (known : Known) (text : List ℕ) (options : Options) : Type
   pub every : html builtin_tables text (by_every options) ≡ string_bytes known.every
   pub plain : html builtin_tables text (by_plain options) ≡ string_bytes known.plain
 
--- the pages of its text, and what these may not show
-pub record IsKnown (known : Known) (options : Options) : Type 0 where
-  pub page : string_bytes known.page ≡ html builtin_tables known.text.now options
-  pub every : string_bytes known.every ≡ html builtin_tables known.text.now (by_every options)
-  pub plain : string_bytes known.plain ≡ html builtin_tables known.text.now (by_plain options)
-  pub hidden : HasHidden known.hidden (text_rows known.text.now)
-  pub calls : string_bytes known.calls ≡ calls (footnotes known.text.now)
-  pub called :
-      IfSome known.called (λ it. string_bytes it ≡ html builtin_tables (with_calls (string_bytes known.calls) known.text.now) (by_every options))
+-- what is known of a text: its frontmatter, its pages, and what these may not show
+pub record IsKnown (known : Known) (text : List ℕ) (options : Options) : Type 0 where
+  pub front : known.front.items ≡ before.front text
+  pub page : string_bytes known.page ≡ html builtin_tables text options
+  pub every : string_bytes known.every ≡ html builtin_tables text (by_every options)
+  pub plain : string_bytes known.plain ≡ html builtin_tables text (by_plain options)
+  pub hidden : HasHidden known.hidden (text_rows text)
+  pub calls : string_bytes known.calls ≡ calls (footnotes text)
+  pub called : IfSome known.called (λ it. string_bytes it ≡ html builtin_tables (with_calls (string_bytes known.calls) text) (by_every options))

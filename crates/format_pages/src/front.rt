@@ -17,11 +17,20 @@ pub(crate) fn front_size(text: &str) -> usize
     text.len().saturating_sub(body.len())
 }
 
-/// Whether two texts have the same byte order mark and the same frontmatter, byte for byte.
-pub(crate) fn have_same_front(one: &str, other: &str) -> bool
-    ensures { result ≡ true → spec.front one.now ≡ spec.front other.now }
+/// Whether these bytes are the byte order mark and the frontmatter of a text.
+pub(crate) fn has_front(text: &str, bytes: &[u8]) -> bool
+    ensures { result ≡ true → spec.front text.now ≡ bytes.now }
 {
-    front(one) == front(other)
+    front(text) == bytes
+}
+
+/// A copy of the byte order mark and the frontmatter of a text.
+pub(crate) fn copy_of_front(alloc: Global, text: &str) -> Result<Vec<u8>, AllocError>
+    ensures { IfOk result (λ copy. copy.items ≡ spec.front text.now) }
+{
+    let mut copy = Vec::new(alloc);
+    copy.extend_from_slice(front(text))?;
+    Ok(copy)
 }
 
 /// The bytes of a byte order mark and frontmatter.

@@ -1,5 +1,5 @@
 //! What is known of a text that others are compared with.
-ghost use Rattle.std.specs.Prelude.{◌≡◌, ◌≤◌, true, IfOk, IfErr, IfSome, length, string_bytes};
+ghost use Rattle.std.specs.Prelude.{◌≡◌, ◌≤◌, ℕ, List, true, IfOk, IfErr, IfSome, length, string_bytes};
 ghost use Rattle.markdown_options.specs.Mdx.{HasNoMdx};
 ghost use Rattle.markdown_options.specs.Messages.{IsOutOfMemory};
 ghost use Rattle.markdown_definition.specs.Html.{html};
@@ -12,7 +12,7 @@ ghost use Rattle.format_pages.specs.Known.{HasCalled, HasPages, IsKnown};
 
 use crate::calls::calls;
 use crate::constructs::{by_every, by_plain};
-use crate::front::{have_same_front, with_calls};
+use crate::front::{copy_of_front, has_front, with_calls};
 use crate::hidden::Hidden;
 use markdown::{SIZE_MAX, fits, to_html_with_options};
 use markdown_options::{Message, Options};
@@ -20,8 +20,9 @@ use std::alloc::{AllocError, Global};
 
 /// What is known of a text that others are compared with: its pages, and what these may not show.
 #[derive(Drop)]
-pub struct Known<'t> {
-    pub(crate) text: &'t str,
+pub struct Known {
+    /// The byte order mark and the frontmatter.
+    pub(crate) front: Vec<u8>,
     /// The page by the options.
     pub(crate) page: String,
     /// The page with every construct.
@@ -91,15 +92,15 @@ fn called_page(
     }
 }
 
-impl<'t> Known<'t> {
+impl Known {
     /// What is known of a text. The only error is `out of memory`.
-    pub fn of(alloc: Global, text: &'t str, options: &Options) -> Result<Known<'t>, Message>
+    pub fn of(alloc: Global, text: &str, options: &Options) -> Result<Known, Message>
         requires size { length text.now ≤ SIZE_MAX }
         requires without_mdx { HasNoMdx options.now }
-        ensures known { IfOk result (λ known. IsKnown known options.now) }
-        ensures text { IfOk result (λ known. known.text.now ≡ text.entry.now) }
+        ensures known { IfOk result (λ known. IsKnown known text.now options.now) }
         ensures memory { IfErr result IsOutOfMemory }
     {
+        let front = copy_of_front(alloc, text)?;
         let hidden = Hidden::of(alloc, text)?;
         let calls = calls(alloc, &hidden.footnotes)?;
         let called = called_page(alloc, &calls, text, options)?;
@@ -107,7 +108,7 @@ impl<'t> Known<'t> {
         let every = every_page(alloc, text, options)?;
         let plain = plain_page(alloc, text, options)?;
         Ok(Known {
-            text,
+            front,
             page,
             every,
             plain,
@@ -121,14 +122,14 @@ impl<'t> Known<'t> {
     /// `out of memory`.
     pub fn is_same(&self, alloc: Global, text: &str, options: &Options) -> Result<bool, Message>
         requires without_mdx { HasNoMdx options.now }
-        ensures document { IsKnown self.now options.now → IfOk result (λ same. same ≡ true →
-            IsSameWhole text.now self.now.text.now options.now) }
+        ensures document { (other : List ℕ) → IsKnown self.now other options.now → IfOk result (λ same. same ≡ true →
+            IsSameWhole text.now other options.now) }
         ensures memory { IfErr result IsOutOfMemory }
     {
         if !fits(text) {
             return Ok(false);
         }
-        if !have_same_front(text, self.text) {
+        if !has_front(text, &self.front) {
             return Ok(false);
         }
         if !self.has_pages(alloc, text, options)? {

@@ -12,4 +12,4 @@ mod reader;
 
 pub use known::Known;
 pub use page::with_page_of;
-pub use reader::ByOptions;
+pub use reader::{ByOptions, read_by};

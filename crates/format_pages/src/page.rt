@@ -20,11 +20,10 @@ pub fn with_page_of(
     alloc: Global,
     text: String,
     other: &str,
-    known: &Known<'_>,
+    known: &Known,
     options: &Options,
 ) -> Result<String, Message>
-    requires known { IsKnown known.now options.now }
-    requires text { known.now.text.now ≡ other.now }
+    requires known { IsKnown known.now other.now options.now }
     requires size { length other.now ≤ SIZE_MAX }
     requires without_mdx { HasNoMdx options.now }
     ensures page { IfOk result (λ kept.

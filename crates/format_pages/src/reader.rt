@@ -10,44 +10,49 @@ use parse_events::parse;
 use std::alloc::{AllocError, Global};
 
 /// Reads and compares texts by options, with the built-in tables.
-///
-/// Texts are read with every construct, whatever the options: so math, footnotes and metadata are seen as
-/// what they are. The constructs that the options don't have are closed to edits.
 #[derive(Drop)]
-pub struct ByOptions<'o, 't> {
+pub struct ByOptions<'o> {
     /// The allocator.
     pub alloc: Global,
     /// The options. With a construct of MDX no text can be read.
     pub options: &'o Options,
-    /// What is known of the text that is edited. Without it no text is the same.
-    pub known: Option<&'o Known<'t>>,
+    /// What is known of the text that is edited.
+    pub known: &'o Known,
 }
 
-impl<'o, 't> Reader for ByOptions<'o, 't> {
+/// Reads a text with every construct, whatever the options: so math, footnotes and metadata are seen as what
+/// they are. The constructs that the options don't have are closed to edits. Returns none if the text can't be
+/// read: it is too large, or a construct of MDX is on.
+pub fn read_by(
+    alloc: Global,
+    text: &str,
+    options: &Options,
+) -> Result<Option<ReadText>, AllocError> {
+    if text.len() > parse_events::SIZE_MAX || options.has_mdx() {
+        return Ok(None);
+    }
+    let every = by_every(options);
+    let Ok((events, state)) = parse(alloc, text, &every.parse, &Builtin) else {
+        return Err(AllocError);
+    };
+    let footnotes = state.gfm_footnote_definitions;
+    let closed = closed(alloc, text, &events, &footnotes, &options.parse.constructs)?;
+    Ok(Some(ReadText { events, closed }))
+}
+
+impl<'o> Reader for ByOptions<'o> {
     fn read(&self, text: &str) -> Result<Option<ReadText>, AllocError> {
-        if text.len() > parse_events::SIZE_MAX || self.options.has_mdx() {
-            return Ok(None);
-        }
-        let every = by_every(self.options);
-        let Ok((events, state)) = parse(self.alloc, text, &every.parse, &Builtin) else {
-            return Err(AllocError);
-        };
-        let footnotes = state.gfm_footnote_definitions;
-        let on = &self.options.parse.constructs;
-        let closed = closed(self.alloc, text, &events, &footnotes, on)?;
-        Ok(Some(ReadText { events, closed }))
+        read_by(self.alloc, text, self.options)
     }
 
     fn is_same(&self, text: &str) -> Result<bool, AllocError> {
-        let Some(known) = self.known else {
-            return Ok(false);
-        };
         if self.options.has_mdx() {
             return Ok(false);
         }
-        known
-            .is_same(self.alloc, text, self.options)
-            .map_err(|_| AllocError)
+        match self.known.is_same(self.alloc, text, self.options) {
+            Ok(same) => Ok(same),
+            Err(_) => Err(AllocError),
+        }
     }
 
     fn have_same_pages(&self, one: &str, other: &str) -> Result<bool, AllocError> {
@@ -59,18 +64,18 @@ impl<'o, 't> Reader for ByOptions<'o, 't> {
     }
 }
 
-impl<'o, 't> ByOptions<'o, 't> {
+impl<'o> ByOptions<'o> {
     /// Whether two texts have the same page by options.
     fn have_same_page(&self, one: &str, other: &str, by: &Options) -> Result<bool, AllocError> {
         if !fits(one) || !fits(other) || by.has_mdx() {
             return Ok(false);
         }
-        let (Ok(page), Ok(wanted)) = (
+        match (
             to_html_with_options(self.alloc, one, by),
             to_html_with_options(self.alloc, other, by),
-        ) else {
-            return Err(AllocError);
-        };
-        Ok(page == wanted)
+        ) {
+            (Ok(page), Ok(wanted)) => Ok(page == wanted),
+            _ => Err(AllocError),
+        }
     }
 }

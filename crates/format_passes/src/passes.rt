@@ -7,19 +7,32 @@ use std::alloc::{AllocError, Global};
 /// The most passes over the rules. A pass may keep edits that the one before had to leave out.
 const PASSES_MAX: usize = 5;
 
-/// The edits that all rules make of a text at once. There are none if the text can't be read.
-pub fn first_edits<R: Reader>(
+/// The edits that all rules make at once of a text that was read. There are none if it can't be read.
+pub fn first_edits(
     alloc: Global,
-    reader: &R,
     text: &str,
+    read: Option<ReadText>,
     style: &Style,
 ) -> Result<Edits, AllocError> {
-    let formatter = Formatter {
-        alloc,
-        reader,
-        style,
-    };
-    formatter.edits(text)
+    match document_of(alloc, text, read)? {
+        Some(document) => all_edits(alloc, &document, style),
+        None => Ok(Edits::new(alloc)),
+    }
+}
+
+/// A text with its events, or none if it can't be read.
+fn document_of(
+    alloc: Global,
+    text: &str,
+    read: Option<ReadText>,
+) -> Result<Option<Document<'_>>, AllocError> {
+    match read {
+        Some(ReadText { events, closed }) => {
+            let document = Document::new(alloc, text.as_bytes(), events, closed)?;
+            Ok(Some(document))
+        }
+        None => Ok(None),
+    }
 }
 
 /// A text after the rules, in passes over them until one changes nothing. `edits` are those that all rules
@@ -52,21 +65,12 @@ struct Formatter<'a, R> {
 impl<'a, R: Reader> Formatter<'a, R> {
     /// The edits that all rules make of a text at once. There are none if the text can't be read.
     fn edits(&self, text: &str) -> Result<Edits, AllocError> {
-        match self.document(text)? {
-            Some(document) => all_edits(self.alloc, &document, self.style),
-            None => Ok(Edits::new(self.alloc)),
-        }
+        first_edits(self.alloc, text, self.reader.read(text)?, self.style)
     }
 
     /// A text with its events, or none if it can't be read.
     fn document<'t>(&self, text: &'t str) -> Result<Option<Document<'t>>, AllocError> {
-        match self.reader.read(text)? {
-            Some(ReadText { events, closed }) => {
-                let document = Document::new(self.alloc, text.as_bytes(), events, closed)?;
-                Ok(Some(document))
-            }
-            None => Ok(None),
-        }
+        document_of(self.alloc, text, self.reader.read(text)?)
     }
 
     /// A text after passes over the rules until one changes nothing. `edits` are those that all rules make of

@@ -1,8 +1,8 @@
 //! A text, mended rule by rule.
 use crate::edits::edits_of;
 use crate::finder::Finder;
-use format_edits::{Edits, Window};
-use format_search::{Reader, Search};
+use format_edits::Edits;
+use format_search::{ReadText, Reader, Search};
 use lint_document::{Document, Rule, RuleSet};
 use std::alloc::{AllocError, Global};
 
@@ -33,24 +33,47 @@ impl FirstEdits {
     }
 }
 
-/// The edits of a text by the first of these rules that has some. There are none if the text can't be read.
-/// `finder` has the rules.
-pub fn first_edits<R: Reader, F: Finder>(
+/// The edits of a text that was read, by the first of these rules that has some. There are none if the text
+/// can't be read. `finder` has the rules.
+pub fn first_edits<F: Finder>(
     alloc: Global,
-    reader: &R,
     finder: &F,
     text: &str,
+    read: Option<ReadText>,
     rules: &RuleSet,
 ) -> Result<FirstEdits, AllocError> {
-    let mender = Mender {
-        alloc,
-        reader,
-        finder,
-        rules: rules_to_mend(rules),
-    };
     let mut next = 0;
-    let edits = mender.next_edits(text, &mut next)?;
+    let edits = edits_by(alloc, finder, text, read, &rules_to_mend(rules), &mut next)?;
     Ok(FirstEdits { edits, next })
+}
+
+/// The edits of a text that was read, by the first of these rules from a number on that has some. The number
+/// is then that of the rule after it.
+fn edits_by<F: Finder>(
+    alloc: Global,
+    finder: &F,
+    text: &str,
+    read: Option<ReadText>,
+    rules: &RuleSet,
+    rule: &mut usize,
+) -> Result<Edits, AllocError> {
+    let Some(ReadText { events, closed }) = read else {
+        return Ok(Edits::new(alloc));
+    };
+    let document = Document {
+        bytes: text.as_bytes(),
+        events: &events,
+        gfm: false,
+    };
+    let findings = finder.findings(&document, rules)?;
+    for mended in MENDED.iter().skip(*rule) {
+        *rule = rule.saturating_add(1);
+        let edits = edits_of(alloc, &document, &closed, &findings, *mended)?;
+        if !edits.is_empty() {
+            return Ok(edits);
+        }
+    }
+    Ok(Edits::new(alloc))
 }
 
 /// A text after edits that mend what these rules find, as far as the reader finds the document the same.
@@ -130,34 +153,7 @@ impl<'a, R: Reader, F: Finder> Mender<'a, R, F> {
         if *rule >= MENDED.len() {
             return Ok(Edits::new(self.alloc));
         }
-        match self.reader.read(text)? {
-            Some(read) => {
-                let document = Document {
-                    bytes: text.as_bytes(),
-                    events: &read.events,
-                    gfm: false,
-                };
-                self.edits_in(&document, &read.closed, rule)
-            }
-            None => Ok(Edits::new(self.alloc)),
-        }
-    }
-
-    /// The edits of a document by the first rule from a number on that has some.
-    fn edits_in(
-        &self,
-        document: &Document<'_>,
-        closed: &[Window],
-        rule: &mut usize,
-    ) -> Result<Edits, AllocError> {
-        let findings = self.finder.findings(document, &self.rules)?;
-        for mended in MENDED.iter().skip(*rule) {
-            *rule = rule.saturating_add(1);
-            let edits = edits_of(self.alloc, document, closed, &findings, *mended)?;
-            if !edits.is_empty() {
-                return Ok(edits);
-            }
-        }
-        Ok(Edits::new(self.alloc))
+        let read = self.reader.read(text)?;
+        edits_by(self.alloc, self.finder, text, read, &self.rules, rule)
     }
 }

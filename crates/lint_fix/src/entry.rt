@@ -6,7 +6,7 @@ ghost use Rattle.markdown_definition.specs.Html.{html};
 ghost use Rattle.markdown_tables.specs.Builtin.{builtin_tables};
 ghost use Rattle.format_pages.specs.SameDocument.{IsSameDocument};
 
-use format_pages::{ByOptions, Known, with_page_of};
+use format_pages::{ByOptions, Known, read_by, with_page_of};
 use lint_document::RuleSet;
 use lint_edits::{Finder, first_edits, mended};
 use markdown::SIZE_MAX;
@@ -37,12 +37,8 @@ pub fn fix<F: Finder>(
     ensures size { IfOk result (λ fixed. length (string_bytes fixed) ≤ SIZE_MAX) }
     ensures memory { IfErr result IsOutOfMemory }
 {
-    let reader = ByOptions {
-        alloc,
-        options,
-        known: None,
-    };
-    let first = first_edits(alloc, &reader, finder, value, rules)?;
+    let read = read_by(alloc, value, options)?;
+    let first = first_edits(alloc, finder, value, read, rules)?;
     if first.is_empty() {
         return Ok(String::from_str(alloc, value)?);
     }
@@ -50,7 +46,7 @@ pub fn fix<F: Finder>(
     let reader = ByOptions {
         alloc,
         options,
-        known: Some(&known),
+        known: &known,
     };
     let fixed = mended(alloc, &reader, finder, value, rules, first)?;
     with_page_of(alloc, fixed, value, &known, options)

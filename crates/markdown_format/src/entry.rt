@@ -6,7 +6,7 @@ ghost use Rattle.markdown_definition.specs.Html.{html};
 ghost use Rattle.markdown_tables.specs.Builtin.{builtin_tables};
 ghost use Rattle.format_pages.specs.SameDocument.{IsSameDocument};
 
-use format_pages::{ByOptions, Known, with_page_of};
+use format_pages::{ByOptions, Known, read_by, with_page_of};
 use format_passes::{first_edits, formatted};
 use format_rules::Style;
 use markdown::SIZE_MAX;
@@ -35,12 +35,8 @@ pub fn format(
     ensures size { IfOk result (λ formatted. length (string_bytes formatted) ≤ SIZE_MAX) }
     ensures memory { IfErr result IsOutOfMemory }
 {
-    let reader = ByOptions {
-        alloc,
-        options,
-        known: None,
-    };
-    let edits = first_edits(alloc, &reader, value, style)?;
+    let read = read_by(alloc, value, options)?;
+    let edits = first_edits(alloc, value, read, style)?;
     if edits.is_empty() {
         return Ok(String::from_str(alloc, value)?);
     }
@@ -48,7 +44,7 @@ pub fn format(
     let reader = ByOptions {
         alloc,
         options,
-        known: Some(&known),
+        known: &known,
     };
     let found = formatted(alloc, &reader, value, style, edits)?;
     with_page_of(alloc, found, value, &known, options)

@@ -9,11 +9,13 @@ returns-then-eq-clause-document c = same_text _ _ _ c.in_ok-from_str.ensures.ok
 
 pub returns-then-branch-clause-page : goal.returns-then-branch-clause-page
 returns-then-branch-clause-page c =
-    (same_whole _ _ _ _ _ c.deref.ensures c.requires.text (c.in_ok-is_same.ensures.document c.requires.known c.if-branch.true)).page
+    (same_whole _ _ c.args.other.now c.args.options.now c.deref.ensures
+    (c.in_ok-is_same.ensures.document c.args.other.now c.requires.known c.if-branch.true)).page
 
 pub returns-then-branch-clause-document : goal.returns-then-branch-clause-document
 returns-then-branch-clause-document c =
-    (same_whole _ _ _ _ _ c.deref.ensures c.requires.text (c.in_ok-is_same.ensures.document c.requires.known c.if-branch.true)).document
+    (same_whole _ _ c.args.other.now c.args.options.now c.deref.ensures
+    (c.in_ok-is_same.ensures.document c.args.other.now c.requires.known c.if-branch.true)).document
 
 pub returns-clause-page : goal.returns-clause-page
 returns-clause-page c = same_page _ _ _ c.in_ok-from_str-2.ensures.ok

@@ -6,7 +6,7 @@ use Rattle.format_pages.proofs.Whole.{called_same}
 use Rattle.format_pages.proofs.known.Known.is_same.Goals as goal
 
 pub returns-clause-document : goal.returns-clause-document
-returns-clause-document c = λ known same.
+returns-clause-document c = λ other known same.
     let known_here = c.args.self.now in
     let pages = c.in_ok-has_pages.ensures.pages c.if-not-branch.false in
     let hidden = c.in_ok-has_hidden.ensures in
@@ -17,10 +17,10 @@ returns-clause-document c = λ known same.
           record {
             every = every;
             plain = pages.plain ∙ known.plain;
-            front = c.have_same_front.ensures c.if-not-have_same_front.false;
+            front = c.has_front.ensures c.if-not-has_front.false ∙ c.deref.ensures.value ∙ known.front;
             footnotes = sym (hidden.footnotes c.if-not-branch-2.false) ∙ known.hidden.footnotes;
             called =
-                called_same known_here.called (string_bytes known_here.calls) (calls (footnotes known_here.text.now)) c.args.text.now known_here.text.now
+                called_same known_here.called (string_bytes known_here.calls) (calls (footnotes other)) c.args.text.now other
                 c.args.options.now known.calls every known.called (c.in_ok-same.ensures.called same);
             defined = sym (hidden.definitions c.if-not-branch-2.false) ∙ known.hidden.definitions;
             infos = sym (hidden.infos c.if-not-branch-2.false) ∙ known.hidden.infos;

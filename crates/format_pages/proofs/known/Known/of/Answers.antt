@@ -10,6 +10,7 @@ pub returns-clause-known : goal.returns-clause-known
 returns-clause-known c =
     let hidden = c.in_ok-hidden.ensures in
     record {
+      front = c.in_ok-front.ensures;
       page = c.in_ok-page.ensures.page;
       every = c.in_ok-every.ensures.page;
       plain = c.in_ok-plain.ensures.page;
