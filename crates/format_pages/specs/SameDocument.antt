@@ -1,5 +1,5 @@
 -- When two texts are the same document.
-use Rattle.std.specs.Prelude.{◌≡◌, ◌≤◌, ◌*◌, ◌-◌, ◌^◌, ℕ, List, length}
+use Rattle.std.specs.Prelude.{◌≡◌, ℕ, List}
 use Rattle.markdown_options.specs.declared.configuration.Options.{Options}
 use Rattle.markdown_definition.specs.Html.{html}
 use Rattle.markdown_tables.specs.Builtin.{builtin_tables}
@@ -27,8 +27,7 @@ pub record IsSameDocument (one other : List ℕ) (options : Options) : Type 0 wh
   -- all infos of fenced code and math are the same, in the same order
   pub infos : hidden.infos one ≡ hidden.infos other
 
--- It has its page by the options, too, and isn't too large.
+-- and it has its page by the options, too
 pub record IsSameWhole (one other : List ℕ) (options : Options) : Type 0 where
   pub page : html builtin_tables one options ≡ html builtin_tables other options
   pub document : IsSameDocument one other options
-  pub size : 8 * length one ≤ 2 ^ 64 - 1

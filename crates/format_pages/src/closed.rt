@@ -27,7 +27,7 @@ pub(crate) fn closed(
 ) -> Result<Vec<Window>, AllocError> {
     let mut closing = Closing {
         bytes: text.as_bytes(),
-        on,
+        on: *on,
         is_repeated: repeated(alloc, footnotes)?,
         footnotes: 0,
         columns: 0,
@@ -72,7 +72,7 @@ struct Closing<'a> {
     /// The text.
     bytes: &'a [u8],
     /// The constructs that the text is formatted by.
-    on: &'a Constructs,
+    on: Constructs,
     /// Whether the label of each footnote definition is defined more than once.
     is_repeated: Vec<bool>,
     /// The number of footnote definitions so far.

@@ -124,6 +124,7 @@ impl Known {
         requires without_mdx { HasNoMdx options.now }
         ensures document { (other : List ℕ) → IsKnown self.now other options.now → IfOk result (λ same. same ≡ true →
             IsSameWhole text.now other options.now) }
+        ensures size { IfOk result (λ same. same ≡ true → length text.now ≤ SIZE_MAX) }
         ensures memory { IfErr result IsOutOfMemory }
     {
         if !fits(text) {

@@ -25,5 +25,7 @@ returns-clause-document c = λ other known same.
             defined = sym (hidden.definitions c.if-not-branch-2.false) ∙ known.hidden.definitions;
             infos = sym (hidden.infos c.if-not-branch-2.false) ∙ known.hidden.infos;
           };
-      size = c.fits.ensures.number.0 c.if-not-fits.false;
     }
+
+pub returns-clause-size : goal.returns-clause-size
+returns-clause-size c = λ same. c.fits.ensures.size.0 c.if-not-fits.false
