@@ -1,6 +1,6 @@
 //! Values and events compared.
-use engine_events::{Event, Kind};
-use markdown_options::Message;
+use markdown_engine::Message;
+use markdown_engine::event::{Event, Kind};
 use std::alloc::{AllocError, Global};
 use std::fmt::Debug;
 use std::process::Abort;

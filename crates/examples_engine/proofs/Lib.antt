@@ -1,0 +1,5 @@
+mod Given
+mod Places
+mod Text
+mod Edits
+mod Chunks

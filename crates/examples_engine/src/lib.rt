@@ -1,0 +1,2 @@
+//! Values of the engine's data, which its specs compute.
+#![tactic(auto)]
