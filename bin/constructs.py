@@ -36,7 +36,6 @@ PREFIXES = {
     "html_": "Printer",
     "laws_": "Laws",
     "examples_": "Tests",
-    "tests_states": "States",
     "tests_": "Tests",
 }
 # Files that have no construct's name, and whose they are: what several constructs share, and further files of one. A path

@@ -2,13 +2,15 @@
 //! with options and a file of texts. For each the program prints how many texts there are, how many have
 //! equal events, and how many have them but for white space at edges and for cuts of data; before it the
 //! texts that differ by more. After `in ranges` it prints how many texts have the same events by the
-//! machines wherever they are cut in two, and the others.
+//! machines wherever they are cut in two, and the others. After `as written` it prints how many texts have
+//! the events by the machines that are written after them, and the others.
 //!
 //! With an argument, `parse` or `machines`, it prints how many events standard input has by that road.
 #![tactic(auto)]
 
 mod compare;
 mod roads;
+mod written;
 
 use compare::{Likeness, compare, is_same_in_ranges};
 use roads::count;
@@ -16,12 +18,13 @@ use std::io::{self, ErrorKind, Read};
 use std::rt::Files;
 use std::{env, fs};
 use tests_options::{OptionSet, add_decoded};
+use written::shown;
 
 /// The line between two texts of a file.
 const BETWEEN: &str = "\n@text\n";
 
-/// What stands in a line after a file whose texts are cut.
-const IN_RANGES: &str = " in ranges";
+/// The line between a text and its events.
+const WRITTEN: &str = "\n@is\n";
 
 /// How many texts are equal.
 #[derive(Clone, Copy)]
@@ -59,14 +62,16 @@ fn main(rt: HostRuntime) -> io::Result<()> {
 
 /// Reads the texts of the file that a line names, and prints the line with what comes of it.
 fn print_file(rt: &(impl AllocGlobal + Files + Print), line: &str) -> io::Result<()> {
-    let (set, name) = line.split_once(' ').ok_or(ErrorKind::InvalidData)?;
+    let (set, rest) = line.split_once(' ').ok_or(ErrorKind::InvalidData)?;
     let set = OptionSet::named(set).ok_or(ErrorKind::InvalidData)?;
-    if let Some(name) = name.strip_suffix(IN_RANGES) {
-        let file = file_of(rt, name)?;
-        return print_in_ranges(rt, line, set, &file);
-    }
+    let (name, way) = rest.split_once(' ').unwrap_or((rest, ""));
     let file = file_of(rt, name)?;
-    print_compared(rt, line, set, &file)
+    match way {
+        "" => print_compared(rt, line, set, &file),
+        "in ranges" => print_in_ranges(rt, line, set, &file),
+        "as written" => print_written(rt, line, set, &file),
+        _ => Err(ErrorKind::InvalidData.into()),
+    }
 }
 
 /// The file of texts with a name.
@@ -128,4 +133,32 @@ fn print_in_ranges(
         }
     }
     println!(rt; "{line}: {texts} texts, {same} the same")
+}
+
+/// Prints the texts whose events aren't those that are written after them, with their events, and how many
+/// have these.
+fn print_written(
+    rt: &(impl AllocGlobal + Print),
+    line: &str,
+    set: OptionSet,
+    file: &str,
+) -> io::Result<()> {
+    let options = set.options(rt.alloc());
+    let mut texts = 0usize;
+    let mut right = 0usize;
+    for row in file.split(BETWEEN).skip(1) {
+        let (text, wanted) = row.split_once(WRITTEN).unwrap_or((row, ""));
+        let events = shown(rt.alloc(), text, &options.parse);
+        let is_right = match &events {
+            Ok(events) => events.trim_end() == wanted,
+            Err(_) => false,
+        };
+        texts = texts.saturating_add(1);
+        if is_right {
+            right = right.saturating_add(1);
+        } else {
+            println!(rt; "{line}: {text:?}: {events:?}")?;
+        }
+    }
+    println!(rt; "{line}: {texts} texts, {right} right")
 }
