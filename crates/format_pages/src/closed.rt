@@ -243,11 +243,7 @@ fn dotted_front_end(text: &str) -> usize {
     if !is_fence(first, "---") {
         return 0;
     }
-    // There are no more lines than bytes.
-    for _ in 0..marked.len() {
-        if rest.is_empty() {
-            break;
-        }
+    while !rest.is_empty() {
         let (line, _, after) = next_line(rest);
         rest = after;
         if is_fence(line, "---") {
