@@ -243,7 +243,11 @@ fn dotted_front_end(text: &str) -> usize {
     if !is_fence(first, "---") {
         return 0;
     }
-    while !rest.is_empty() {
+    // There are no more lines than bytes.
+    for _ in 0..marked.len() {
+        if rest.is_empty() {
+            break;
+        }
         let (line, _, after) = next_line(rest);
         rest = after;
         if is_fence(line, "---") {
