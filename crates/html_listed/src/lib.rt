@@ -1,2 +1,4 @@
-//! Raw HTML that is kept by a list: the page that it makes.
+//! Raw HTML that is kept by a list: the page that it makes, and laws of it.
 #![tactic(auto)]
+
+pub mod laws;

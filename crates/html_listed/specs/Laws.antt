@@ -1,0 +1,55 @@
+-- What is proved of pages whose raw HTML is kept by the list.
+use Rattle.std.specs.Prelude.{◌≡◌, ℕ, Bool, false, not, ◌==◌, ◌&&◌, ◌||◌, nat_lt, List, [], ◌∷◌, IsTrue}
+use Rattle.std.specs.List.{list_all}
+use Rattle.markdown_options.specs.declared.configuration.CompileOptions.{CompileOptions}
+use Rattle.definition_text.specs.Ascii.{ampersand, less_than}
+use Rattle.definition_text.specs.Encode.{encode}
+use Rattle.definition_inline.specs.CharacterReference.{Names}
+use Rattle.definition_inline.specs.HtmlTags.{is_tag_name_byte}
+use Rattle.html_safe_page.specs.SafePage.{Tag, Items, spell}
+use Rattle.html_listed.specs.Listed.{sanitized}
+use Rattle.html_listed.specs.ListedPage.{is_listed_start, is_listed_void, have_tags, IsReadingWith, IsListedReading}
+
+-- ---- readings
+
+-- a name has letters, digits and `-` only, and one at least
+abbrev pub is_name : List ℕ → Bool
+is_name [] = false
+is_name (b ∷ bs) = is_tag_name_byte b && list_all is_tag_name_byte bs
+
+-- a tag and its attributes have such names
+abbrev pub has_names : Tag → Bool
+has_names tag = is_name tag.name && list_all (λ a. is_name a.name) tag.attributes
+
+-- items with such tags have different spellings, if they differ
+abbrev pub OneSpelling : Type 0
+OneSpelling = (a b : Items) → IsTrue (have_tags has_names has_names a) → IsTrue (have_tags has_names has_names b) → spell a ≡ spell b → a ≡ b
+
+-- a listed page has one reading
+abbrev pub OneListedReading : Type 0
+OneListedReading = (page : List ℕ) (a b : Items) → IsListedReading page a → IsListedReading page b → a ≡ b
+
+-- ---- any HTML
+
+-- options that let through no URL of another protocol
+pub record HaveSafeProtocols (options : CompileOptions) : Type 0 where
+  pub no_protocol : options.allow_dangerous_protocol ≡ false
+  pub no_source : options.allow_any_img_src ≡ false
+
+-- a page has a reading with tags of the list alone, and no other as a listed page
+pub record IsSanitized (page : List ℕ) : Type 0 where
+  pub items : Items
+  pub is_reading : IsReadingWith is_listed_start is_listed_void page items
+  pub is_only : (other : Items) → IsListedReading page other → other ≡ items
+
+-- under such options what is kept of any HTML, by any names of references, is such a page
+abbrev pub SanitizedLaw : Type 0
+SanitizedLaw = (names : Names) (options : CompileOptions) (html : List ℕ) → HaveSafeProtocols options → IsSanitized (sanitized names options html)
+
+-- bytes other than `<` and `&`
+abbrev pub are_plain : List ℕ → Bool
+are_plain html = list_all (λ b. nat_lt b 256 && not (b == less_than || b == ampersand)) html
+
+-- HTML without `<` and `&` is printed as text
+abbrev pub PlainTextLaw : Type 0
+PlainTextLaw = (names : Names) (options : CompileOptions) (html : List ℕ) → IsTrue (are_plain html) → sanitized names options html ≡ encode html
