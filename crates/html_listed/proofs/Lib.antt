@@ -5,3 +5,6 @@ pub mod Parts
 pub mod Spellings
 pub mod Sanitized
 pub mod PlainText
+pub mod PageParts
+pub mod Nameless
+pub mod Listed

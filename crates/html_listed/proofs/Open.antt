@@ -7,7 +7,7 @@ use Rattle.definition_page.specs.Tags.{Tag, start_tag, end_tag, void_tag}
 use Rattle.html_safe_page.specs.SafePage as safe
 use Rattle.html_listed.specs.Listing.{is_in, is_part, parents_of, heading_names, deepest}
 use Rattle.html_listed.specs.Raw.{RawPart, Text, Begin, Empty, End, Single}
-use Rattle.html_listed.specs.State.{State, level, state, says, with_open, opened, ended_of, ended, all_ended, count_to, ended_to, begins_with_frame, without_frame}
+use Rattle.html_listed.specs.State.{State, state, says, with_open, opened, ended_of, ended, all_ended, count_to, ended_to, begins_with_frame, without_frame}
 use Rattle.html_listed.specs.State.{with_room}
 use Rattle.html_listed.specs.Listed.{begun, begun_in, begun_heading, begins, raw_part}
 use Rattle.html_listed.specs.ListedPage.{IsPageWith}
@@ -22,6 +22,12 @@ Closes start void [] bytes = IsPageWith start void bytes
 Closes start void (n ∷ ns) bytes =
     (inner : List ℕ) × (rest : List ℕ) × IsPageWith start void inner × (bytes ≡ inner ++ (end_tag n ++ rest)) × Closes start void ns rest
 
+pub says_twice : (s : State) (a b : List ℕ) → says b (says a s) ≡ says (a ++ b) s
+says_twice s a b = ap (λ out. state out s.level s.around) (append_assoc s.out a b)
+
+pub says_nothing : (s : State) → s ≡ says [] s
+says_nothing s = ap (λ out. state out s.level s.around) (sym (append-nil s.out))
+
 -- one state after another: what was printed in between makes of what ends the elements then what ends them before
 pub record Follows (start void : safe.Tag → Bool) (before after : State) : Type 0 where
   pub added : List ℕ
@@ -30,7 +36,7 @@ pub record Follows (start void : safe.Tag → Bool) (before after : State) : Typ
   pub around : after.around ≡ before.around
 
 module _ (start void : safe.Tag → Bool) where
-  page_ahead : (page bytes : List ℕ) (names : List (List ℕ)) → IsPageWith start void page → Closes start void names bytes
+  pub page_ahead : (page bytes : List ℕ) (names : List (List ℕ)) → IsPageWith start void page → Closes start void names bytes
       → Closes start void names (page ++ bytes)
   page_ahead page bytes [] p h = page_append start void page bytes p h
   page_ahead page bytes (n ∷ ns) p h =

@@ -1,5 +1,5 @@
 -- Pages whose tags pass tests: texts, tags, elements, and several in a row.
-use Rattle.std.proofs.Common.{◌≡◌, ℕ, Bool, true, ◌&&◌, List, [], ◌∷◌, ◌++◌, codes, refl, sym, ap, ◌∙◌, append_assoc}
+use Rattle.std.proofs.Common.{◌≡◌, ℕ, Bool, true, ◌&&◌, List, [], ◌∷◌, ◌++◌, codes, refl, sym, ap, ◌∙◌}
 use Rattle.std.proofs.lemmas.Bool.{and_parts, and_from}
 use Rattle.definition_text.specs.Encode.{encode, plain}
 use Rattle.html_safe_page.specs.SafePage.{spell_letter, spell_text, Tag, spell_tag, Items, End, Letter, Void, Element, void_end, spell_before, spell, join}

@@ -15,8 +15,8 @@ use Rattle.definition_inline.specs.Strings.{eol_bytes}
 use Rattle.definition_page.specs.Tags.{Tag}
 use Rattle.html_safe_page.specs.SafePage as safe
 use Rattle.html_listed.specs.Listing.{is_in, is_listed, void_names}
-use Rattle.html_listed.specs.Attributes.{tag_bytes, code_bytes, written, kept}
-use Rattle.html_listed.specs.Raw.{RawPart, Text, Begin, Empty, End, Single, kept_tag, ends_at_once, open_part, name_of, token_part, FoundRaw, found_raw}
+use Rattle.html_listed.specs.Attributes.{tag_bytes, code_bytes, written}
+use Rattle.html_listed.specs.Raw.{Text, Begin, Empty, End, Single, kept_tag, ends_at_once, open_part, name_of, token_part, FoundRaw}
 use Rattle.html_listed.specs.Raw.{token_to, reference_to, token_or_reference, or_code, raw_parts_after, raw_parts}
 use Rattle.html_listed.specs.ListedPage.{is_listed_start, is_listed_void}
 use Rattle.html_listed.specs.Laws.{HaveSafeProtocols}

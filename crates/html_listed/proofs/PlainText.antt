@@ -1,6 +1,6 @@
 -- HTML without `<` and `&` is printed as text.
-use Rattle.std.proofs.Common.{◌≡◌, ℕ, ◌-◌, ◌<◌, Bool, true, false, not, ◌&&◌, ◌||◌, cond, eqb, List, [], ◌∷◌, ◌++◌, Option, None, codes, refl, sym, ap, ◌∙◌}
-use Rattle.std.proofs.Common.{subst, inl, inr, arith, append_assoc, append-nil, drop}
+use Rattle.std.proofs.Common.{◌≡◌, ℕ, ◌-◌, ◌<◌, Bool, true, false, not, ◌&&◌, ◌||◌, cond, eqb, List, [], ◌∷◌, ◌++◌, None, codes, refl, sym, ap, ◌∙◌}
+use Rattle.std.proofs.Common.{subst, arith, append_assoc, append-nil, drop}
 use Rattle.std.specs.Prelude.{nat_lt}
 use Rattle.std.specs.List.{list_all, fold, flat_map}
 use Rattle.std.specs.Option.{option_map, option_and_then}
@@ -15,8 +15,9 @@ use Rattle.definition_inline.specs.Decoded.{known_text, known_at}
 use Rattle.definition_inline.specs.Strings.{eol_bytes}
 use Rattle.html_listed.specs.Raw.{Text, reference_to, token_or_reference, or_code, raw_parts_after}
 use Rattle.html_listed.specs.State.{State, says, nothing_open, all_ended}
-use Rattle.html_listed.specs.Listed.{raw_part, sanitized}
+use Rattle.html_listed.specs.Listed.{raw_part}
 use Rattle.html_listed.specs.Laws.{are_plain, PlainTextLaw}
+use Rattle.html_listed.proofs.Open.{says_twice, says_nothing}
 
 -- ---- codes and bytes
 
@@ -71,12 +72,6 @@ plain_codes (b ∷ bs) h =
 encode_append : (a b : List ℕ) → encode (a ++ b) ≡ encode a ++ encode b
 encode_append [] b = refl
 encode_append (c ∷ cs) b = ap (λ x. encoded_byte c ++ x) (encode_append cs b) ∙ sym (append_assoc (encoded_byte c) (encode cs) (encode b))
-
-says_twice : (s : State) (a b : List ℕ) → says b (says a s) ≡ says (a ++ b) s
-says_twice s a b = ap (λ out. record { out = out; level = s.level; around = s.around }) (append_assoc s.out a b)
-
-says_nothing : (s : State) → s ≡ says [] s
-says_nothing s = ap (λ out. record { out = out; level = s.level; around = s.around }) (sym (append-nil s.out))
 
 module _ (names : Names) (options : CompileOptions) where
   -- a code that begins nothing is a text

@@ -1,16 +1,16 @@
 -- What is kept of any HTML is a page of the list.
-use Rattle.std.proofs.Common.{◌≡◌, ℕ, Bool, true, ◌||◌, List, [], ◌++◌, refl, sym, ap, ◌∙◌, subst, append-nil}
+use Rattle.std.proofs.Common.{ℕ, List, [], sym, ◌∙◌, subst, append-nil}
 use Rattle.std.specs.List.{fold}
 use Rattle.std.proofs.lemmas.Bool.{or_left}
 use Rattle.markdown_options.specs.declared.configuration.CompileOptions.{CompileOptions}
 use Rattle.definition_inline.specs.CharacterReference.{Names}
 use Rattle.html_safe_page.specs.Table.{start_rows, void_rows}
-use Rattle.html_safe_page.specs.SafePage.{Tag, Items, is_tag_of}
+use Rattle.html_safe_page.specs.SafePage.{is_tag_of}
 use Rattle.html_listed.specs.Raw.{raw_parts}
 use Rattle.html_listed.specs.State.{nothing_open, all_ended}
 use Rattle.html_listed.specs.Listed.{raw_part, sanitized}
 use Rattle.html_listed.specs.ListedPage.{is_listed_start, is_listed_void, is_start, is_void, IsPageWith}
-use Rattle.html_listed.specs.Laws.{HaveSafeProtocols, IsSanitized, SanitizedLaw}
+use Rattle.html_listed.specs.Laws.{HaveSafeProtocols, SanitizedLaw}
 use Rattle.html_listed.proofs.Pages.{page_nothing}
 use Rattle.html_listed.proofs.Open.{Closes, both_steps, ends, parts_step, none_open}
 use Rattle.html_listed.proofs.Parts.{parts_good}

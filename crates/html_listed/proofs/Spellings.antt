@@ -2,7 +2,7 @@
 use Rattle.std.proofs.Common.{◌≡◌, ℕ, Bool, true, false, not, ◌&&◌, ◌||◌, cond, eqb, List, [], ◌∷◌, ◌++◌, codes, refl, sym, ap, ◌∙◌, subst, inl, inr}
 use Rattle.std.specs.List.{list_any, list_all}
 use Rattle.std.specs.Str.{bytes_eq}
-use Rattle.std.proofs.lemmas.Bool.{cases_Bool, cond-true, cond-false, cond_both, true≢false, false≢true, and_parts, and_from, or_cases, or_from, eqb-false, ne_eqb}
+use Rattle.std.proofs.lemmas.Bool.{cond-false, cond_both, true≢false, false≢true, and_parts, and_from, or_cases, or_from, eqb-false, ne_eqb}
 use Rattle.std.proofs.lemmas.Bool.{not_from_false}
 use Rattle.std.proofs.lemmas.List.Folds.{list_all-append}
 use Rattle.definition_inline.specs.HtmlTags.{is_tag_name_byte}

@@ -4,7 +4,7 @@ use Rattle.std.proofs.Common.{append_assoc, append-nil, not}
 use Rattle.std.specs.List.{list_all, flat_map}
 use Rattle.std.specs.Option.{IfSome, option_map}
 use Rattle.std.specs.Str.{bytes_eq}
-use Rattle.std.proofs.lemmas.Bool.{cases_Bool, cond-true, cond-false, cond_both, and_parts, and_from, or_left, or_right, or_parts, not-true}
+use Rattle.std.proofs.lemmas.Bool.{cases_Bool, cond-false, cond_both, and_parts, and_from, or_left, or_right, or_parts, not-true}
 use Rattle.markdown_options.specs.declared.configuration.CompileOptions.{CompileOptions}
 use Rattle.definition_text.specs.Encode.{encode, plain}
 use Rattle.definition_page.specs.Urls.{percent, sanitize, permits, href_protocols, src_protocols}
@@ -20,7 +20,7 @@ use Rattle.html_safe_page.proofs.Closing.{encode_spelled}
 use Rattle.html_safe_page.proofs.Values.{value_spelled}
 use Rattle.html_listed.specs.Listing.{is_listed, is_in, void_names, listed_attributes}
 use Rattle.html_listed.specs.Attributes.{Written, first_of, if_written, url_bytes, url_attributes, kept}
-use Rattle.html_listed.specs.ListedPage.{url_names, attribute_names, are_some_of, is_listed_value, is_listed_tag, is_listed_start, is_listed_void}
+use Rattle.html_listed.specs.ListedPage.{attribute_names, are_some_of, is_listed_value, is_listed_tag, is_listed_start, is_listed_void}
 use Rattle.html_listed.specs.Laws.{HaveSafeProtocols}
 
 -- ---- attributes

@@ -7,8 +7,9 @@ use Rattle.definition_text.specs.Encode.{encode}
 use Rattle.definition_inline.specs.CharacterReference.{Names}
 use Rattle.definition_inline.specs.HtmlTags.{is_tag_name_byte}
 use Rattle.html_safe_page.specs.SafePage.{Tag, Items, spell}
-use Rattle.html_listed.specs.Listed.{sanitized}
+use Rattle.html_listed.specs.Listed.{listed, sanitized}
 use Rattle.html_listed.specs.ListedPage.{is_listed_start, is_listed_void, have_tags, IsReadingWith, IsListedReading}
+use Rattle.html_listed.specs.MarkedPage.{IsMarkedPage}
 
 -- ---- readings
 
@@ -29,12 +30,27 @@ OneSpelling = (a b : Items) → IsTrue (have_tags has_names has_names a) → IsT
 abbrev pub OneListedReading : Type 0
 OneListedReading = (page : List ℕ) (a b : Items) → IsListedReading page a → IsListedReading page b → a ≡ b
 
--- ---- any HTML
+-- a page has a reading as a listed page, and no other
+pub record HasOneListedReading (page : List ℕ) : Type 0 where
+  pub items : Items
+  pub is_reading : IsListedReading page items
+  pub is_only : (other : Items) → IsListedReading page other → other ≡ items
+
+-- ---- options
 
 -- options that let through no URL of another protocol
 pub record HaveSafeProtocols (options : CompileOptions) : Type 0 where
   pub no_protocol : options.allow_dangerous_protocol ≡ false
   pub no_source : options.allow_any_img_src ≡ false
+
+-- ---- pages with raw HTML
+
+-- under such options a safe page with raw HTML as text in elements without a name becomes a listed page, by any names of references
+abbrev pub ListedLaw : Type 0
+ListedLaw = (names : Names) (options : CompileOptions) (page : List ℕ) → HaveSafeProtocols options → IsMarkedPage page
+    → HasOneListedReading (listed names options page)
+
+-- ---- any HTML
 
 -- a page has a reading with tags of the list alone, and no other as a listed page
 pub record IsSanitized (page : List ℕ) : Type 0 where
