@@ -2,6 +2,7 @@ pub mod Pages
 pub mod Tags
 pub mod Open
 pub mod Parts
+pub mod Standing
 pub mod Spellings
 pub mod Sanitized
 pub mod PlainText

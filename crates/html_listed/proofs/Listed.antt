@@ -3,7 +3,7 @@ use Rattle.std.proofs.Common.{◌≡◌, ℕ, zero, suc, ◌+◌, ◌≤◌, Boo
 use Rattle.std.proofs.Common.{subst, inl, inr, append_assoc, append-nil, arith}
 use Rattle.std.specs.Prelude.{unwrap_or}
 use Rattle.std.specs.List.{list_all, fold}
-use Rattle.std.proofs.lemmas.Bool.{cases_Bool, cond-true, cond-false, false≢true, and_parts, or_left, or_right, not-true}
+use Rattle.std.proofs.lemmas.Bool.{cases_Bool, cond-true, cond-false, false≢true, and_parts, and_from, or_left, or_right, not-true}
 use Rattle.markdown_options.specs.declared.configuration.CompileOptions.{CompileOptions}
 use Rattle.definition_inline.specs.CharacterReference.{Names}
 use Rattle.html_safe_page.specs.Table.{start_rows, void_rows}
@@ -19,40 +19,59 @@ use Rattle.html_listed.specs.Listed.{raw_part, page_part, listed}
 use Rattle.html_listed.specs.ListedPage.{is_listed_start, is_listed_void, is_start, is_void, have_tags, IsPageWith, IsListedPage}
 use Rattle.html_listed.specs.MarkedPage.{is_nameless, are_letters, is_marked, IsMarkedPage}
 use Rattle.html_listed.specs.Laws.{HaveSafeProtocols, HasOneListedReading, ListedLaw}
-use Rattle.html_listed.proofs.Pages.{page_nothing, page_element, page_void}
-use Rattle.html_listed.proofs.Open.{Closes, Follows, page_ahead, no_step, both_steps, says_page, ends, room_step, parts_step, none_open, says_twice, says_nothing}
+use Rattle.html_listed.proofs.Pages.{Rules, pass, IsPageIn, tags_pass, page_element, page_void}
+use Rattle.html_listed.proofs.Open.{AreFit, Follows, page_ahead, no_step, both_steps, says_page, ends, room_step, HasPlaces, parts_step, level_page, says_twice}
+use Rattle.html_listed.proofs.Open.{says_nothing}
 use Rattle.html_listed.proofs.Parts.{parts_good}
 use Rattle.html_listed.proofs.PageParts.{byte_part, tag_part, letter_in_text, tag_in_tag, tag_starts, not_nothing, in_brackets, name_ahead, start_is_own}
 use Rattle.html_listed.proofs.PageParts.{void_is_own, name_in_tag}
 use Rattle.html_listed.proofs.Nameless.{size, IsStop, nameless, is_the_nameless, run_of, run_part, AreLater, run_items}
 use Rattle.html_listed.proofs.Spellings.{one_listed_reading}
 
--- a step of the pass, and a page of its tags
-abbrev Step : State → State → Type 0
-Step s t = Follows is_start is_void s t
-
-abbrev IsPage : List ℕ → Type 0
-IsPage page = IsPageWith is_start is_void page
-
 -- ---- the page's own elements
 
--- what was printed in a level is a page, once its raw elements ended
-level_page : (s t : State) → s.level.names ≡ [] → (f : Step s (all_ended t)) → IsPage f.added
-level_page s t none f =
-    subst IsPage (append-nil f.added)
-    (subst (λ names. Closes is_start is_void names (f.added ++ [])) none
-    (f.closes [] (subst (λ names. Closes is_start is_void names []) (sym (none_open t)) (page_nothing is_start is_void))))
+-- tags of the list or of a safe page, wherever they are
+abbrev listing : Rules
+listing = record { start = is_start; void = is_void; fits = λ names name. true; fits_void = λ names. true }
 
-letter_page : (b : ℕ) → IsPage (spell_letter b)
-letter_page b = (Letter b End, (refl, append-nil (spell_letter b)))
+abbrev Step : State → State → Type 0
+Step s t = Follows listing s t
+
+anywhere : HasPlaces listing
+anywhere = record { part = λ name names above part count deep. refl; other = λ name s fit other deep. refl; void = λ name s fit. refl }
+
+all_fit : (names : List (List ℕ)) → AreFit listing names
+all_fit [] = tt
+all_fit (n ∷ ns) = (refl, all_fit ns)
+
+-- a page is one wherever it is
+pass_anywhere : (names others : List (List ℕ)) (items : Items) → pass listing names items ≡ true → pass listing others items ≡ true
+pass_anywhere names others End h = refl
+pass_anywhere names others (Letter b items) h = pass_anywhere names others items h
+pass_anywhere names others (Void t items) h =
+    let parts = and_parts (is_void t && true) (pass listing names items) h in
+    and_from (is_void t && true) (pass listing others items) parts.0 (pass_anywhere names others items parts.1)
+pass_anywhere names others (Element t inside items) h =
+    let parts = and_parts (is_start t && true) (pass listing (t.name ∷ names) inside && pass listing names items) h in
+    let both = and_parts (pass listing (t.name ∷ names) inside) (pass listing names items) parts.1 in
+    and_from (is_start t && true) (pass listing (t.name ∷ others) inside && pass listing others items) parts.0
+    (and_from (pass listing (t.name ∷ others) inside) (pass listing others items) (pass_anywhere (t.name ∷ names) (t.name ∷ others) inside both.0)
+    (pass_anywhere names others items both.1))
+
+page_anywhere : (names others : List (List ℕ)) (page : List ℕ) → IsPageIn listing names page → IsPageIn listing others page
+page_anywhere names others page p = (p.0, pass_anywhere names others p.0 p.1, p.2)
+
+letter_page : (b : ℕ) (names : List (List ℕ)) → IsPageIn listing names (spell_letter b)
+letter_page b names = (Letter b End, refl, append-nil (spell_letter b))
 
 void_step : (t : Tag) (name : List ℕ) (s : State) → is_tag_of void_rows t ≡ true → Step s (says (in_brackets (spell_tag t void_end)) (with_room name s))
 void_step t name s h =
     let room = with_room name s in
     let bytes = in_brackets (spell_tag t void_end) in
-    both_steps is_start is_void s room (says bytes room) (room_step is_start is_void name s)
-    (says_page is_start is_void room bytes
-    (subst IsPage (ap (λ x. 60 ∷ x) (tag_append t void_end (62 ∷ []))) (page_void is_start is_void t (or_right (is_listed_void t) (is_tag_of void_rows t) h))))
+    both_steps listing s room (says bytes room) (room_step listing name s (all_fit s.level.names))
+    (says_page listing room bytes (all_fit room.level.names)
+    (subst (IsPageIn listing room.level.names) (ap (λ x. 60 ∷ x) (tag_append t void_end (62 ∷ [])))
+    (page_void listing room.level.names t (or_right (is_listed_void t) (is_tag_of void_rows t) h) refl)))
 
 -- an element begins, and ends after what is in it
 abbrev begun_own : Tag → List ℕ → State → State
@@ -68,18 +87,21 @@ own_step t name s within h inner =
     let last = all_ended within in
     let start = in_brackets (spell_tag t []) in
     let end = in_brackets (47 ∷ t.name) in
-    let f = both_steps is_start is_void begun within last inner (ends is_start is_void (length within.level.names) within) in
+    let f = both_steps listing begun within last inner (ends listing (length within.level.names) within (all_fit within.level.names)) in
     let rest = f.added ++ end in
     let closed = state (last.out ++ end) room.level room.around in
-    let page = subst IsPage (ap (λ x. 60 ∷ x) (tag_append t [] (62 ∷ rest) ∙ sym (append_assoc (spell_tag t []) (62 ∷ []) rest)))
-    (page_element is_start is_void t f.added (or_right (is_listed_start t) (is_tag_of start_rows t) h) (level_page begun within refl f)) in
+    let page = subst (IsPageIn listing room.level.names)
+    (ap (λ x. 60 ∷ x) (tag_append t [] (62 ∷ rest) ∙ sym (append_assoc (spell_tag t []) (62 ∷ []) rest)))
+    (page_element listing room.level.names t f.added (or_right (is_listed_start t) (is_tag_of start_rows t) h) refl
+    (page_anywhere [] (t.name ∷ room.level.names) f.added (level_page listing begun within refl f))) in
     let step : Step room closed = record {
       added = start ++ rest;
       printed = ap (λ x. x ++ end) f.printed ∙ append_assoc (room.out ++ start) f.added end ∙ append_assoc room.out start rest;
-      closes = λ bytes k. page_ahead is_start is_void (start ++ rest) bytes room.level.names page k;
+      closes = λ bytes k. page_ahead listing (start ++ rest) bytes room.level.names page k;
+      fit = all_fit room.level.names;
       around = refl;
     } in
-    subst (Step s) (sym (ap (λ levels. says end (left_to levels last)) f.around)) (both_steps is_start is_void s room closed (room_step is_start is_void name s) step)
+    subst (Step s) (sym (ap (λ levels. says end (left_to levels last)) f.around)) (both_steps listing s room closed (room_step listing name s (all_fit s.level.names)) step)
 
 abbrev is_nil : List ℕ → Bool
 is_nil [] = true
@@ -110,18 +132,18 @@ module _ (names : Names) (options : CompileOptions) (safe_protocols : HaveSafePr
   Runs bytes after s = (to : State) × Step s to × (run s bytes ≡ run to after)
 
   go_on : (s t : State) (bytes between after : List ℕ) → Step s t → run s bytes ≡ run t between → Runs between after t → Runs bytes after s
-  go_on s t bytes between after step e r = (r.0, both_steps is_start is_void s t r.0 step r.1, e ∙ r.2)
+  go_on s t bytes between after step e r = (r.0, both_steps listing s t r.0 step r.1, e ∙ r.2)
 
   runs : (most : ℕ) (items : Items) (after : List ℕ) (s : State) → size items ≤ most → is_marked items ≡ true → IsStop after
       → Runs (spell_before items after) after s
-  runs most End after s le m stop = (s, no_step is_start is_void s, refl)
+  runs most End after s le m stop = (s, no_step listing s (all_fit s.level.names), refl)
   runs zero (Letter b items) after s le m stop = absurd (omega arith)
   runs zero (Void t items) after s le m stop = absurd (omega arith)
   runs zero (Element t inside items) after s le m stop = absurd (omega arith)
   runs (suc most) (Letter b items) after s le m stop =
       let x = spell_before items after in
       let next = says (spell_letter b) s in
-      go_on s next (spell_letter b ++ x) x after (says_page is_start is_void s (spell_letter b) (letter_page b))
+      go_on s next (spell_letter b ++ x) x after (says_page listing s (spell_letter b) (all_fit s.level.names) (letter_page b s.level.names))
       (bytes_run (spell_letter b) x s (letter_in_text b)) (runs most items after next (omega arith) m stop)
   runs (suc most) (Void t items) after s le m stop =
       let parts = and_parts (is_tag_of void_rows t) (is_marked items) m in
@@ -147,10 +169,10 @@ module _ (names : Names) (options : CompileOptions) (safe_protocols : HaveSafePr
             let html = unwrap_or (read_text (run_of text).text) [] in
             let raw = raw_parts names options html in
             let next = fold raw_part s raw in
-            let good = parts_good is_start is_void (λ u k. or_left (is_listed_start u) (is_tag_of start_rows u) k)
+            let good = parts_good listing (λ u k. or_left (is_listed_start u) (is_tag_of start_rows u) k)
             (λ u k. or_left (is_listed_void u) (is_tag_of void_rows u) k) names options safe_protocols html in
             subst (λ t. Runs (spell_before (Element t inside items) after) after s) (sym (is_the_nameless t e))
-            (go_on s next (60 ∷ 62 ∷ text) (spell_before later.later after) after (parts_step is_start is_void raw s good)
+            (go_on s next (60 ∷ 62 ∷ text) (spell_before later.later after) after (parts_step listing anywhere raw s (all_fit s.level.names) good)
             (ap (fold (page_part names options) s) (run_part text) ∙ ap (run next) later.spelling)
             (runs most later.later after next (omega arith) later.marked stop))
         | inr e ↦
@@ -177,9 +199,10 @@ module _ (names : Names) (options : CompileOptions) (safe_protocols : HaveSafePr
   listed_page page marked =
       let items = marked.0 in
       let r = runs (size items) items [] nothing_open (omega arith) marked.1 (inl refl) in
-      let f = both_steps is_start is_void nothing_open r.0 (all_ended r.0) r.1 (ends is_start is_void (length r.0.level.names) r.0) in
-      subst IsPage (sym f.printed ∙ sym (ap (λ t. let u = all_ended t in u.out) (ap (run nothing_open) (sym marked.2) ∙ r.2)))
-      (level_page nothing_open r.0 refl f)
+      let f = both_steps listing nothing_open r.0 (all_ended r.0) r.1 (ends listing (length r.0.level.names) r.0 (all_fit r.0.level.names)) in
+      let printed = level_page listing nothing_open r.0 refl f in
+      let same = sym f.printed ∙ sym (ap (λ t. let u = all_ended t in u.out) (ap (run nothing_open) (sym marked.2) ∙ r.2)) in
+      (printed.0, (tags_pass listing [] printed.0 printed.1, printed.2 ∙ same))
 
 pub listed_law : ListedLaw
 listed_law names options page safe_protocols marked =

@@ -10,6 +10,7 @@ use Rattle.html_safe_page.specs.SafePage.{Tag, Items, spell}
 use Rattle.html_listed.specs.Listed.{listed, sanitized}
 use Rattle.html_listed.specs.ListedPage.{is_listed_start, is_listed_void, have_tags, IsReadingWith, IsListedReading}
 use Rattle.html_listed.specs.MarkedPage.{IsMarkedPage}
+use Rattle.html_listed.specs.Standing.{stand}
 
 -- ---- readings
 
@@ -52,10 +53,11 @@ ListedLaw = (names : Names) (options : CompileOptions) (page : List ℕ) → Hav
 
 -- ---- any HTML
 
--- a page has a reading with tags of the list alone, and no other as a listed page
+-- a page has a reading with tags of the list alone, whose elements stand where they may, and no other as a listed page
 pub record IsSanitized (page : List ℕ) : Type 0 where
   pub items : Items
   pub is_reading : IsReadingWith is_listed_start is_listed_void page items
+  pub stands : IsTrue (stand [] items)
   pub is_only : (other : Items) → IsListedReading page other → other ≡ items
 
 -- under such options what is kept of any HTML, by any names of references, is such a page

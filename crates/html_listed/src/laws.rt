@@ -20,8 +20,9 @@ pub fn listed_law()
     ensures { ListedLaw }
 {}
 
-/// What is kept of any HTML is a page with tags of the list alone, and has one reading. The
-/// options permit only safe protocols; the HTML and the names of references may be any.
+/// What is kept of any HTML is a page with tags of the list alone, whose elements stand where they
+/// may, and has one reading. The options permit only safe protocols; the HTML and the names of
+/// references may be any.
 #[tactic(auto, using(crate::proofs::Sanitized::sanitized_law))]
 pub fn sanitized_law()
     ensures { SanitizedLaw }
