@@ -1,5 +1,5 @@
 -- The pass over a page with raw HTML gives a listed page.
-use Rattle.std.proofs.Common.{◌≡◌, ℕ, zero, suc, ◌+◌, ◌≤◌, Bool, true, false, ◌&&◌, ◌||◌, cond, eqb, List, [], ◌∷◌, ◌++◌, codes, length, refl, sym, ap, ◌∙◌}
+use Rattle.std.proofs.Common.{◌≡◌, ℕ, zero, suc, ◌≤◌, Bool, true, false, ◌&&◌, cond, eqb, List, [], ◌∷◌, ◌++◌, length, refl, sym, ap, ◌∙◌}
 use Rattle.std.proofs.Common.{subst, inl, inr, append_assoc, append-nil, arith}
 use Rattle.std.specs.Prelude.{unwrap_or}
 use Rattle.std.specs.List.{list_all, fold}
@@ -7,25 +7,25 @@ use Rattle.std.proofs.lemmas.Bool.{cases_Bool, cond-true, cond-false, false≢tr
 use Rattle.markdown_options.specs.declared.configuration.CompileOptions.{CompileOptions}
 use Rattle.definition_inline.specs.CharacterReference.{Names}
 use Rattle.html_safe_page.specs.Table.{start_rows, void_rows}
-use Rattle.html_safe_page.specs.SafePage.{spell_letter, Tag, spell_tag, void_end, Items, End, Letter, Void, Element, spell_before, spell, is_tag_of}
+use Rattle.html_safe_page.specs.SafePage.{spell_letter, Tag, spell_tag, void_end, Items, End, Letter, Void, Element, spell_before, is_tag_of}
 use Rattle.html_safe_page.specs.Reader.{read_text}
-use Rattle.html_safe_page.proofs.Spelled.{is_word, is_worded_list, is_worded}
+use Rattle.html_safe_page.proofs.Spelled.{is_word, is_worded_list}
 use Rattle.html_safe_page.proofs.Pages.{start_worded, void_worded}
 use Rattle.html_safe_page.proofs.Sound.{tag_append}
 use Rattle.html_listed.specs.Raw.{raw_parts}
-use Rattle.html_listed.specs.State.{State, Level, level, state, nothing_open, says, with_room, entered, left_to, left, all_ended}
+use Rattle.html_listed.specs.State.{State, state, nothing_open, says, with_room, entered, left_to, left, all_ended}
 use Rattle.html_listed.specs.PageParts.{is_in_text, is_in_tag, own_part, page_parts}
 use Rattle.html_listed.specs.Listed.{raw_part, page_part, listed}
-use Rattle.html_listed.specs.ListedPage.{is_listed_start, is_listed_void, is_start, is_void, have_tags, IsPageWith, IsListedPage}
+use Rattle.html_listed.specs.ListedPage.{is_listed_start, is_listed_void, is_start, is_void, IsListedPage}
 use Rattle.html_listed.specs.MarkedPage.{is_nameless, are_letters, is_marked, IsMarkedPage}
-use Rattle.html_listed.specs.Laws.{HaveSafeProtocols, HasOneListedReading, ListedLaw}
+use Rattle.html_listed.specs.Laws.{HaveSafeProtocols, ListedLaw}
 use Rattle.html_listed.proofs.Pages.{Rules, pass, IsPageIn, tags_pass, page_element, page_void}
 use Rattle.html_listed.proofs.Open.{AreFit, Follows, page_ahead, no_step, both_steps, says_page, ends, room_step, HasPlaces, parts_step, level_page, says_twice}
 use Rattle.html_listed.proofs.Open.{says_nothing}
 use Rattle.html_listed.proofs.Parts.{parts_good}
 use Rattle.html_listed.proofs.PageParts.{byte_part, tag_part, letter_in_text, tag_in_tag, tag_starts, not_nothing, in_brackets, name_ahead, start_is_own}
 use Rattle.html_listed.proofs.PageParts.{void_is_own, name_in_tag}
-use Rattle.html_listed.proofs.Nameless.{size, IsStop, nameless, is_the_nameless, run_of, run_part, AreLater, run_items}
+use Rattle.html_listed.proofs.Nameless.{size, IsStop, is_the_nameless, run_of, run_part, AreLater, run_items}
 use Rattle.html_listed.proofs.Spellings.{one_listed_reading}
 
 -- ---- the page's own elements
@@ -101,7 +101,8 @@ own_step t name s within h inner =
       fit = all_fit room.level.names;
       around = refl;
     } in
-    subst (Step s) (sym (ap (λ levels. says end (left_to levels last)) f.around)) (both_steps listing s room closed (room_step listing name s (all_fit s.level.names)) step)
+    subst (Step s) (sym (ap (λ levels. says end (left_to levels last)) f.around))
+    (both_steps listing s room closed (room_step listing name s (all_fit s.level.names)) step)
 
 abbrev is_nil : List ℕ → Bool
 is_nil [] = true

@@ -221,7 +221,8 @@ run_first most inside items after h m stop more =
     let x = spell_before items after in
     let begins = begins_with (codes "<>") (after_all ends_line x) in
     let others = (raw_run most (after_all ends_line x)).rest in
-    subst (AreLater items after) (sym (run_left most (spell_before (Element nameless inside items) after) ∙ ap (left_by most) (element_passed inside items after h)))
+    let bytes = spell_before (Element nameless inside items) after in
+    subst (AreLater items after) (sym (run_left most bytes ∙ ap (left_by most) (element_passed inside items after h)))
     (elim (ahead items after m stop) [
       | inl e ↦ record { later = items; marked = m; smaller = omega arith; spelling = cond-false begins others x e }
       | inr r ↦

@@ -1,5 +1,6 @@
 -- What is printed, with the raw elements that it leaves open.
-use Rattle.std.proofs.Common.{◌≡◌, ℕ, zero, suc, true, false, cond, List, [], ◌∷◌, ◌++◌, codes, length, drop, refl, sym, ap, ◌∙◌, subst, append_assoc, append-nil}
+use Rattle.std.proofs.Common.{◌≡◌, ℕ, zero, suc, true, false, cond, List, [], ◌∷◌, ◌++◌, codes, length, drop, refl, sym, ap, ◌∙◌, subst, append_assoc}
+use Rattle.std.proofs.Common.{append-nil}
 use Rattle.std.specs.Prelude.{nat_le}
 use Rattle.std.specs.List.{fold}
 use Rattle.std.proofs.lemmas.Bool.{cond_both}
@@ -164,7 +165,8 @@ module _ (r : Rules) (places : HasPlaces r) where
       let ending = ends r above s fit in
       both_steps r s (ended above s) (begun next t (ended above s)) ending
       (begun_step next t (ended above s) ending.fit go i
-      (subst (λ left. nat_le deepest (length left) ≡ false → r.fits left t.name ≡ true) (sym (names_ended above names s)) (places.part t.name names above part k)))
+      (subst (λ left. nat_le deepest (length left) ≡ false → r.fits left t.name ≡ true) (sym (names_ended above names s))
+      (places.part t.name names above part k)))
 
   begins_step : (next : State → State) (t : Tag) (s : State) → AreFit r s.level.names → IsNext next → IsTagWith r.start t → Follows r s (begins next t s)
   begins_step next t s fit go i =

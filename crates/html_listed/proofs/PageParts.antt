@@ -1,20 +1,21 @@
 -- The parts that the bytes and tags of a page are.
-use Rattle.std.proofs.Common.{◌≡◌, ℕ, zero, suc, ◌+◌, ◌-◌, ◌<◌, ◌≤◌, Bool, true, false, not, ◌&&◌, ◌||◌, cond, eqb, List, [], ◌∷◌, ◌++◌, codes, length}
-use Rattle.std.proofs.Common.{take, drop, refl, sym, ap, ◌∙◌, subst, inl, inr, ◌⊎◌, append_assoc, append-nil, arith}
-use Rattle.std.specs.List.{list_all, fold, prefix_len, take_while}
+use Rattle.std.proofs.Common.{◌≡◌, ℕ, zero, suc, ◌+◌, ◌-◌, Bool, true, false, not, ◌&&◌, cond, eqb, List, [], ◌∷◌, ◌++◌, codes, length}
+use Rattle.std.proofs.Common.{take, drop, refl, sym, ap, ◌∙◌, subst, inl, inr, append_assoc, append-nil, arith}
+use Rattle.std.specs.List.{list_all, prefix_len, take_while}
 use Rattle.std.specs.Str.{bytes_eq}
-use Rattle.std.proofs.lemmas.Bool.{cases_Bool, cond-true, cond-false, cond_both, false≢true, true≢false, and_parts, and_from, and_left, not-true, eqb-true, eqb-false}
+use Rattle.std.proofs.lemmas.Bool.{cases_Bool, cond-true, cond-false, false≢true, true≢false, and_parts, and_from, and_left, not-true}
+use Rattle.std.proofs.lemmas.Bool.{eqb-false}
 use Rattle.std.proofs.lemmas.Bool.{ne_eqb}
-use Rattle.std.proofs.lemmas.List.{length-append, take-append-drop}
+use Rattle.std.proofs.lemmas.List.{length-append}
 use Rattle.std.proofs.lemmas.List.Folds.{list_all-append}
 use Rattle.definition_text.specs.Bytes.{is_letter_or_digit, begins_with, after_all}
 use Rattle.definition_inline.specs.GfmAutolinkLiteral.{ends_with}
-use Rattle.html_safe_page.specs.SafePage.{kind, spell_kind, spell_letter, spell_text, Attribute, Tag, attribute_start, spell_attributes, spell_tag, void_end}
+use Rattle.html_safe_page.specs.SafePage.{spell_kind, spell_letter, spell_text, Attribute, Tag, attribute_start, spell_attributes, spell_tag, void_end}
 use Rattle.html_safe_page.proofs.Text.{by_kind, plain_other, spell_text-append}
 use Rattle.html_safe_page.proofs.Spelled.{is_word_byte, is_word, word_bytes, starts_word, is_worded_list, is_worded, bytes_same, same_bytes}
 use Rattle.html_safe_page.proofs.Sound.{tag_append}
 use Rattle.html_listed.specs.PageParts.{Own, OwnVoid, OwnEnd, Byte, FoundPart, found_part, is_in_text, raw_run, raw_found}
-use Rattle.html_listed.specs.PageParts.{own_part, own_found, is_in_tag, found_at, page_parts_after, page_parts}
+use Rattle.html_listed.specs.PageParts.{own_part, own_found, is_in_tag, page_parts_after, page_parts}
 
 -- ---- runs of bytes
 
@@ -172,7 +173,8 @@ well_quoted (a ∷ others) =
     let rest = 34 ∷ spell_attributes others [] in
     let front = 34 ∷ (attribute_start a.name ++ spell_text a.value []) in
     subst (λ x. ends_well x ≡ true)
-    (ap (λ x. 34 ∷ x) (append_assoc (attribute_start a.name) (spell_text a.value []) rest ∙ ap (λ x. attribute_start a.name ++ x) (spell_text-append a.value rest)))
+    (ap (λ x. 34 ∷ x)
+    (append_assoc (attribute_start a.name) (spell_text a.value []) rest ∙ ap (λ x. attribute_start a.name ++ x) (spell_text-append a.value rest)))
     (well_after front 34 (spell_attributes others []) (well_quoted others))
 
 well_tag : (name : List ℕ) (attributes : List Attribute) → is_word name ≡ true → ends_well (name ++ spell_attributes attributes []) ≡ true

@@ -56,7 +56,8 @@ tags_pass r names (Element tag inside items) h =
     let parts = and_parts (r.start tag && r.fits names tag.name) (pass r (tag.name ∷ names) inside && pass r names items) h in
     let both = and_parts (pass r (tag.name ∷ names) inside) (pass r names items) parts.1 in
     and_from (r.start tag) (have_tags r.start r.void inside && have_tags r.start r.void items) (and_parts (r.start tag) (r.fits names tag.name) parts.0).0
-    (and_from (have_tags r.start r.void inside) (have_tags r.start r.void items) (tags_pass r (tag.name ∷ names) inside both.0) (tags_pass r names items both.1))
+    (and_from (have_tags r.start r.void inside) (have_tags r.start r.void items) (tags_pass r (tag.name ∷ names) inside both.0)
+    (tags_pass r names items both.1))
 
 -- ---- pages
 
@@ -102,7 +103,8 @@ module _ (r : Rules) where
       let end = 60 ∷ 47 ∷ (tag.name ++ codes ">") in
       let within = pass r (tag.name ∷ names) page.0 in (
         Element tag page.0 End,
-        and_from (r.start tag && r.fits names tag.name) (within && true) (and_from (r.start tag) (r.fits names tag.name) h k) (and_from within true page.1 refl),
+        and_from (r.start tag && r.fits names tag.name) (within && true) (and_from (r.start tag) (r.fits names tag.name) h k)
+            (and_from within true page.1 refl),
         ap (λ x. 60 ∷ spell_tag tag (62 ∷ x)) (spelled_append page.0 [] end ∙ ap (λ x. x ++ end) page.2),
       )
 

@@ -28,7 +28,8 @@ use Rattle.html_listed.proofs.Open.{IsGood, AreGood}
 weaker_tag : (one other : safe.Tag → Bool) (t : Tag) → ((u : safe.Tag) → one u ≡ true → other u ≡ true) → IsTagWith one t → IsTagWith other t
 weaker_tag one other t more h = record { spelled = h.spelled; named = h.named; spelling = h.spelling; passes = more h.spelled h.passes }
 
-module _ (r : Rules) (starts : (u : safe.Tag) → is_listed_start u ≡ true → r.start u ≡ true) (voids : (u : safe.Tag) → is_listed_void u ≡ true → r.void u ≡ true)
+module _ (r : Rules) (starts : (u : safe.Tag) → is_listed_start u ≡ true → r.start u ≡ true)
+    (voids : (u : safe.Tag) → is_listed_void u ≡ true → r.void u ≡ true)
     (names : Names) (options : CompileOptions) (safe_protocols : HaveSafeProtocols options) where
   open_good : (name : List ℕ) (html : List Code) → is_listed name ≡ true → IsGood r (open_part names options name html)
   open_good name html h =

@@ -1,6 +1,6 @@
 -- HTML without `<` and `&` is printed as text.
 use Rattle.std.proofs.Common.{◌≡◌, ℕ, ◌-◌, ◌<◌, Bool, true, false, not, ◌&&◌, ◌||◌, cond, eqb, List, [], ◌∷◌, ◌++◌, None, codes, refl, sym, ap, ◌∙◌}
-use Rattle.std.proofs.Common.{subst, arith, append_assoc, append-nil, drop}
+use Rattle.std.proofs.Common.{subst, arith, append_assoc, drop}
 use Rattle.std.specs.Prelude.{nat_lt}
 use Rattle.std.specs.List.{list_all, fold, flat_map}
 use Rattle.std.specs.Option.{option_map, option_and_then}

@@ -180,7 +180,8 @@ name_byte_is_word b h =
     by_kind (λ b. is_tag_name_byte b ≡ true → is_word_byte b ≡ true)
     (λ e. absurd (false≢true e)) (λ e. absurd (false≢true e)) (λ e. absurd (false≢true e)) (λ e. absurd (false≢true e))
     (λ b k h. and_from (is_plain (kind b)) _ (ap is_plain k)
-    (not_from_false _ (or_from _ (eqb b 0) (or_from _ (eqb b 47) (or_from (eqb b 32) (eqb b 61) (no 32 refl b h) (no 61 refl b h)) (no 47 refl b h)) (no 0 refl b h))))
+    (not_from_false _
+    (or_from _ (eqb b 0) (or_from _ (eqb b 47) (or_from (eqb b 32) (eqb b 61) (no 32 refl b h) (no 61 refl b h)) (no 47 refl b h)) (no 0 refl b h))))
     b h
 
 bytes_are_word : (bytes : List ℕ) → list_all is_tag_name_byte bytes ≡ true → list_all is_word_byte bytes ≡ true

@@ -1,16 +1,18 @@
 -- In what is made of any HTML elements stand where they may.
-use Rattle.std.proofs.Common.{◌≡◌, ℕ, suc, ◌+◌, ◌<◌, ◌≤◌, Bool, true, false, not, ◌&&◌, ◌||◌, cond, List, [], ◌∷◌, ◌++◌, codes, length, drop, refl, sym, ap, ◌∙◌, subst}
+use Rattle.std.proofs.Common.{◌≡◌, ℕ, suc, ◌+◌, ◌<◌, ◌≤◌, Bool, true, false, not, ◌&&◌, ◌||◌, cond, List, [], ◌∷◌, ◌++◌, codes, length, drop, refl, sym}
+use Rattle.std.proofs.Common.{ap, ◌∙◌, subst}
 use Rattle.std.proofs.Common.{inl, inr, ◌⊎◌, arith}
 use Rattle.std.specs.Prelude.{nat_lt, nat_le}
 use Rattle.std.specs.List.{list_any, list_all, prefix_len}
 use Rattle.std.specs.Str.{bytes_eq}
-use Rattle.std.proofs.lemmas.Bool.{cases_Bool, cond-true, cond-false, cond_both, false≢true, true≢false, and_parts, and_from, and_left, or_cases, or_from, not-true}
+use Rattle.std.proofs.lemmas.Bool.{cases_Bool, cond-true, cond-false, cond_both, false≢true, true≢false, and_parts, and_from, and_left, or_cases, or_from}
+use Rattle.std.proofs.lemmas.Bool.{not-true}
 use Rattle.std.proofs.lemmas.Bool.{leb-false, lt-ltb, le-ltb}
 use Rattle.std.proofs.lemmas.List.{length-append}
 use Rattle.html_safe_page.specs.SafePage.{Items, End, Letter, Void, Element}
 use Rattle.html_safe_page.proofs.Spelled.{same_bytes}
 use Rattle.html_listed.specs.Listing.{is_in, is_part, parents_of, part_rows, heading_names, frame_names, deepest}
-use Rattle.html_listed.specs.State.{State, says, ended_of, ended_to, count_to, begins_with_frame, without_frame, with_room}
+use Rattle.html_listed.specs.State.{State, ended_to, count_to, begins_with_frame, without_frame, with_room}
 use Rattle.html_listed.specs.ListedPage.{is_listed_start, is_listed_void}
 use Rattle.html_listed.specs.Standing.{is_right_in, may_stand, may_begin, stand}
 use Rattle.html_listed.proofs.Pages.{Rules, pass}
