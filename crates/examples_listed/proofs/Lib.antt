@@ -1,0 +1,7 @@
+mod Computing
+mod Tags
+mod Attributes
+mod Urls
+mod Texts
+mod Standing
+mod Pages
