@@ -8,4 +8,7 @@ pub mod Sanitized
 pub mod PlainText
 pub mod PageParts
 pub mod Nameless
+pub mod Pass
 pub mod Listed
+pub mod Unmarked
+pub mod OneElement

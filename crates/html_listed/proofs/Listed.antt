@@ -25,6 +25,7 @@ use Rattle.html_listed.proofs.Open.{says_nothing}
 use Rattle.html_listed.proofs.Parts.{parts_good}
 use Rattle.html_listed.proofs.PageParts.{byte_part, tag_part, letter_in_text, tag_in_tag, tag_starts, not_nothing, in_brackets, name_ahead, start_is_own}
 use Rattle.html_listed.proofs.PageParts.{void_is_own, name_in_tag}
+use Rattle.html_listed.proofs.Pass.{run, bytes_run, tag_run}
 use Rattle.html_listed.proofs.Nameless.{size, IsStop, is_the_nameless, run_of, run_part, AreLater, run_items}
 use Rattle.html_listed.proofs.Spellings.{one_listed_reading}
 
@@ -109,30 +110,14 @@ is_nil [] = true
 is_nil (b ∷ bs) = false
 
 module _ (names : Names) (options : CompileOptions) (safe_protocols : HaveSafeProtocols options) where
-  -- ---- the pass over bytes
-
-  abbrev run : State → List ℕ → State
-  run s bytes = fold (page_part names options) s (page_parts bytes)
-
-  bytes_run : (m rest : List ℕ) (s : State) → list_all is_in_text m ≡ true → run s (m ++ rest) ≡ run (says m s) rest
-  bytes_run [] rest s h = ap (λ s. run s rest) (says_nothing s)
-  bytes_run (b ∷ bs) rest s h =
-      let parts = and_parts (is_in_text b) (list_all is_in_text bs) h in
-      ap (fold (page_part names options) s) (byte_part b (bs ++ rest) (not-true (eqb b 60) parts.0))
-      ∙ bytes_run bs rest (says (b ∷ []) s) parts.1
-      ∙ ap (λ s. run s rest) (says_twice s (b ∷ []) bs)
-
-  tag_run : (inside after : List ℕ) (s : State) → list_all is_in_tag inside ≡ true → (inside ≡ [] → ⊥)
-      → run s (60 ∷ (inside ++ (62 ∷ after))) ≡ run (page_part names options s (own_part inside)) after
-  tag_run inside after s h k = ap (fold (page_part names options) s) (tag_part inside after h k)
-
   -- ---- the pass over items
 
   -- the pass over bytes is one step, and then the pass over the rest
   abbrev Runs : List ℕ → List ℕ → State → Type 0
-  Runs bytes after s = (to : State) × Step s to × (run s bytes ≡ run to after)
+  Runs bytes after s = (to : State) × Step s to × (run names options s bytes ≡ run names options to after)
 
-  go_on : (s t : State) (bytes between after : List ℕ) → Step s t → run s bytes ≡ run t between → Runs between after t → Runs bytes after s
+  go_on : (s t : State) (bytes between after : List ℕ) → Step s t → run names options s bytes ≡ run names options t between → Runs between after t
+      → Runs bytes after s
   go_on s t bytes between after step e r = (r.0, both_steps listing s t r.0 step r.1, e ∙ r.2)
 
   runs : (most : ℕ) (items : Items) (after : List ℕ) (s : State) → size items ≤ most → is_marked items ≡ true → IsStop after
@@ -145,7 +130,7 @@ module _ (names : Names) (options : CompileOptions) (safe_protocols : HaveSafePr
       let x = spell_before items after in
       let next = says (spell_letter b) s in
       go_on s next (spell_letter b ++ x) x after (says_page listing s (spell_letter b) (all_fit s.level.names) (letter_page b s.level.names))
-      (bytes_run (spell_letter b) x s (letter_in_text b)) (runs most items after next (omega arith) m stop)
+      (bytes_run names options (spell_letter b) x s (letter_in_text b)) (runs most items after next (omega arith) m stop)
   runs (suc most) (Void t items) after s le m stop =
       let parts = and_parts (is_tag_of void_rows t) (is_marked items) m in
       let worded = void_worded t parts.0 in
@@ -154,9 +139,9 @@ module _ (names : Names) (options : CompileOptions) (safe_protocols : HaveSafePr
       let name = name_ahead inside in
       let next = says (in_brackets inside) (with_room name s) in
       go_on s next (spell_before (Void t items) after) x after (void_step t name s parts.0)
-      (ap (λ y. run s (60 ∷ y)) (tag_append t void_end (62 ∷ x))
-      ∙ tag_run inside x s (tag_in_tag t void_end worded refl) (not_nothing inside (tag_starts t void_end worded))
-      ∙ ap (λ p. run (page_part names options s p) x) (void_is_own t worded))
+      (ap (λ y. run names options s (60 ∷ y)) (tag_append t void_end (62 ∷ x))
+      ∙ tag_run names options inside x s (tag_in_tag t void_end worded refl) (not_nothing inside (tag_starts t void_end worded))
+      ∙ ap (λ p. run names options (page_part names options s p) x) (void_is_own t worded))
       (runs most items after next (omega arith) parts.1 stop)
   runs (suc most) (Element t inside items) after s le m stop =
       let own = is_tag_of start_rows t && is_marked inside in
@@ -174,7 +159,7 @@ module _ (names : Names) (options : CompileOptions) (safe_protocols : HaveSafePr
             (λ u k. or_left (is_listed_void u) (is_tag_of void_rows u) k) names options safe_protocols html in
             subst (λ t. Runs (spell_before (Element t inside items) after) after s) (sym (is_the_nameless t e))
             (go_on s next (60 ∷ 62 ∷ text) (spell_before later.later after) after (parts_step listing anywhere raw s (all_fit s.level.names) good)
-            (ap (fold (page_part names options) s) (run_part text) ∙ ap (run next) later.spelling)
+            (ap (fold (page_part names options) s) (run_part text) ∙ ap (run names options next) later.spelling)
             (runs most later.later after next (omega arith) later.marked stop))
         | inr e ↦
             let named = and_parts (is_tag_of start_rows t) (is_marked inside) (sym (cond-false (is_nameless t) (are_letters inside) own e) ∙ parts.0) in
@@ -188,11 +173,11 @@ module _ (names : Names) (options : CompileOptions) (safe_protocols : HaveSafePr
             let within = runs most inside end first (omega arith) named.1 (inr (t.name ++ (62 ∷ x), refl)) in
             let closed = ended_own t within.0 in
             go_on s closed (spell_before (Element t inside items) after) x after (own_step t name s within.0 named.0 within.1)
-            (ap (λ y. run s (60 ∷ y)) (tag_append t [] (62 ∷ text))
-            ∙ tag_run bytes text s (tag_in_tag t [] worded refl) (not_nothing bytes (tag_starts t [] worded))
-            ∙ ap (λ p. run (page_part names options s p) text) (start_is_own t worded)
+            (ap (λ y. run names options s (60 ∷ y)) (tag_append t [] (62 ∷ text))
+            ∙ tag_run names options bytes text s (tag_in_tag t [] worded refl) (not_nothing bytes (tag_starts t [] worded))
+            ∙ ap (λ p. run names options (page_part names options s p) text) (start_is_own t worded)
             ∙ within.2
-            ∙ tag_run (47 ∷ t.name) x within.0 (name_in_tag t.name word) (λ k. false≢true (ap is_nil k)))
+            ∙ tag_run names options (47 ∷ t.name) x within.0 (name_in_tag t.name word) (λ k. false≢true (ap is_nil k)))
             (runs most items after closed (omega arith) parts.1 stop)
       ]
 
@@ -202,7 +187,7 @@ module _ (names : Names) (options : CompileOptions) (safe_protocols : HaveSafePr
       let r = runs (size items) items [] nothing_open (omega arith) marked.1 (inl refl) in
       let f = both_steps listing nothing_open r.0 (all_ended r.0) r.1 (ends listing (length r.0.level.names) r.0 (all_fit r.0.level.names)) in
       let printed = level_page listing nothing_open r.0 refl f in
-      let same = sym f.printed ∙ sym (ap (λ t. let u = all_ended t in u.out) (ap (run nothing_open) (sym marked.2) ∙ r.2)) in
+      let same = sym f.printed ∙ sym (ap (λ t. let u = all_ended t in u.out) (ap (run names options nothing_open) (sym marked.2) ∙ r.2)) in
       (printed.0, (tags_pass listing [] printed.0 printed.1, printed.2 ∙ same))
 
 pub listed_law : ListedLaw

@@ -37,7 +37,7 @@ drop_run : (m rest : List ℕ) → drop (length m) (m ++ rest) ≡ rest
 drop_run [] rest = refl
 drop_run (b ∷ bs) rest = drop_run bs rest
 
-taken : (test : ℕ → Bool) (m : List ℕ) (b : ℕ) (bs : List ℕ) → list_all test m ≡ true → test b ≡ false → take_while test (m ++ b ∷ bs) ≡ m
+pub taken : (test : ℕ → Bool) (m : List ℕ) (b : ℕ) (bs : List ℕ) → list_all test m ≡ true → test b ≡ false → take_while test (m ++ b ∷ bs) ≡ m
 taken test m b bs h k = ap (λ n. take n (m ++ b ∷ bs)) (run_size test m b bs h k) ∙ take_run m (b ∷ bs)
 
 pub passed : (test : ℕ → Bool) (m : List ℕ) (b : ℕ) (bs : List ℕ) → list_all test m ≡ true → test b ≡ false → after_all test (m ++ b ∷ bs) ≡ b ∷ bs

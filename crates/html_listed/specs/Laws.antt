@@ -1,12 +1,12 @@
 -- What is proved of pages whose raw HTML is kept by the list.
-use Rattle.std.specs.Prelude.{◌≡◌, ℕ, Bool, false, not, ◌==◌, ◌&&◌, ◌||◌, nat_lt, List, [], ◌∷◌, IsTrue}
+use Rattle.std.specs.Prelude.{◌≡◌, ℕ, Bool, false, not, ◌==◌, ◌&&◌, ◌||◌, nat_lt, List, [], ◌∷◌, ◌++◌, codes, IsTrue}
 use Rattle.std.specs.List.{list_all}
 use Rattle.markdown_options.specs.declared.configuration.CompileOptions.{CompileOptions}
 use Rattle.definition_text.specs.Ascii.{ampersand, less_than}
-use Rattle.definition_text.specs.Encode.{encode}
+use Rattle.definition_text.specs.Encode.{encode, plain}
 use Rattle.definition_inline.specs.CharacterReference.{Names}
 use Rattle.definition_inline.specs.HtmlTags.{is_tag_name_byte}
-use Rattle.html_safe_page.specs.SafePage.{Tag, Items, spell}
+use Rattle.html_safe_page.specs.SafePage.{Tag, Items, spell, IsSafePage}
 use Rattle.html_listed.specs.Listed.{listed, sanitized}
 use Rattle.html_listed.specs.ListedPage.{is_listed_start, is_listed_void, have_tags, IsReadingWith, IsListedReading}
 use Rattle.html_listed.specs.MarkedPage.{IsMarkedPage}
@@ -51,7 +51,16 @@ abbrev pub ListedLaw : Type 0
 ListedLaw = (names : Names) (options : CompileOptions) (page : List ℕ) → HaveSafeProtocols options → IsMarkedPage page
     → HasOneListedReading (listed names options page)
 
+-- a safe page without raw HTML stays as it is
+abbrev pub UnmarkedLaw : Type 0
+UnmarkedLaw = (names : Names) (options : CompileOptions) (page : List ℕ) → IsSafePage page → listed names options page ≡ page
+
 -- ---- any HTML
+
+-- HTML as text in one element without a name becomes what is kept of the HTML, with U+FFFD in place of NUL
+abbrev pub OneElementLaw : Type 0
+OneElementLaw = (names : Names) (options : CompileOptions) (html : List ℕ)
+    → listed names options (codes "<>" ++ encode html ++ codes "</>") ≡ sanitized names options (plain html)
 
 -- a page has a reading with tags of the list alone, whose elements stand where they may, and no other as a listed page
 pub record IsSanitized (page : List ℕ) : Type 0 where

@@ -1,5 +1,5 @@
 //! Laws of pages whose raw HTML is kept by the list.
-ghost use Rattle.html_listed.specs.Laws.{ListedLaw, OneListedReading, OneSpelling, PlainTextLaw, SanitizedLaw};
+ghost use Rattle.html_listed.specs.Laws.{ListedLaw, OneElementLaw, OneListedReading, OneSpelling, PlainTextLaw, SanitizedLaw, UnmarkedLaw};
 
 /// Items whose names are made of letters, digits and `-` have one spelling each.
 #[tactic(auto, using(crate::proofs::Spellings::one_spelling))]
@@ -18,6 +18,19 @@ pub fn one_listed_reading_law()
 #[tactic(auto, using(crate::proofs::Listed::listed_law))]
 pub fn listed_law()
     ensures { ListedLaw }
+{}
+
+/// A safe page without raw HTML stays as it is.
+#[tactic(auto, using(crate::proofs::Unmarked::unmarked_law))]
+pub fn unmarked_law()
+    ensures { UnmarkedLaw }
+{}
+
+/// HTML as text in one element without a name becomes what is kept of the HTML. NUL counts as
+/// U+FFFD.
+#[tactic(auto, using(crate::proofs::OneElement::one_element_law))]
+pub fn one_element_law()
+    ensures { OneElementLaw }
 {}
 
 /// What is kept of any HTML is a page with tags of the list alone, whose elements stand where they
