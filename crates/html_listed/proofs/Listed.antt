@@ -1,9 +1,9 @@
 -- The pass over a page with raw HTML gives a listed page.
-use Rattle.std.proofs.Common.{◌≡◌, ℕ, zero, suc, ◌≤◌, Bool, true, false, ◌&&◌, cond, eqb, List, [], ◌∷◌, ◌++◌, length, refl, sym, ap, ◌∙◌}
+use Rattle.std.proofs.Common.{◌≡◌, ℕ, zero, suc, ◌≤◌, Bool, true, false, ◌&&◌, cond, List, [], ◌∷◌, ◌++◌, length, refl, sym, ap, ◌∙◌}
 use Rattle.std.proofs.Common.{subst, inl, inr, append_assoc, append-nil, arith}
 use Rattle.std.specs.Prelude.{unwrap_or}
-use Rattle.std.specs.List.{list_all, fold}
-use Rattle.std.proofs.lemmas.Bool.{cases_Bool, cond-true, cond-false, false≢true, and_parts, and_from, or_left, or_right, not-true}
+use Rattle.std.specs.List.{fold}
+use Rattle.std.proofs.lemmas.Bool.{cases_Bool, cond-true, cond-false, false≢true, and_parts, and_from, or_left, or_right}
 use Rattle.markdown_options.specs.declared.configuration.CompileOptions.{CompileOptions}
 use Rattle.definition_inline.specs.CharacterReference.{Names}
 use Rattle.html_safe_page.specs.Table.{start_rows, void_rows}
@@ -14,16 +14,14 @@ use Rattle.html_safe_page.proofs.Pages.{start_worded, void_worded}
 use Rattle.html_safe_page.proofs.Sound.{tag_append}
 use Rattle.html_listed.specs.Raw.{raw_parts}
 use Rattle.html_listed.specs.State.{State, state, nothing_open, says, with_room, entered, left_to, left, all_ended}
-use Rattle.html_listed.specs.PageParts.{is_in_text, is_in_tag, own_part, page_parts}
 use Rattle.html_listed.specs.Listed.{raw_part, page_part, listed}
 use Rattle.html_listed.specs.ListedPage.{is_listed_start, is_listed_void, is_start, is_void, IsListedPage}
 use Rattle.html_listed.specs.MarkedPage.{is_nameless, are_letters, is_marked, IsMarkedPage}
 use Rattle.html_listed.specs.Laws.{HaveSafeProtocols, ListedLaw}
 use Rattle.html_listed.proofs.Pages.{Rules, pass, IsPageIn, tags_pass, page_element, page_void}
-use Rattle.html_listed.proofs.Open.{AreFit, Follows, page_ahead, no_step, both_steps, says_page, ends, room_step, HasPlaces, parts_step, level_page, says_twice}
-use Rattle.html_listed.proofs.Open.{says_nothing}
+use Rattle.html_listed.proofs.Open.{AreFit, Follows, page_ahead, no_step, both_steps, says_page, ends, room_step, HasPlaces, parts_step, level_page}
 use Rattle.html_listed.proofs.Parts.{parts_good}
-use Rattle.html_listed.proofs.PageParts.{byte_part, tag_part, letter_in_text, tag_in_tag, tag_starts, not_nothing, in_brackets, name_ahead, start_is_own}
+use Rattle.html_listed.proofs.PageParts.{letter_in_text, tag_in_tag, tag_starts, not_nothing, in_brackets, name_ahead, start_is_own}
 use Rattle.html_listed.proofs.PageParts.{void_is_own, name_in_tag}
 use Rattle.html_listed.proofs.Pass.{run, bytes_run, tag_run}
 use Rattle.html_listed.proofs.Nameless.{size, IsStop, is_the_nameless, run_of, run_part, AreLater, run_items}

@@ -4,7 +4,7 @@ use Rattle.std.proofs.lemmas.Bool.{cond_both, false≢true, and_parts}
 use Rattle.markdown_options.specs.declared.configuration.CompileOptions.{CompileOptions}
 use Rattle.definition_inline.specs.CharacterReference.{Names}
 use Rattle.html_safe_page.specs.Table.{start_rows, void_rows}
-use Rattle.html_safe_page.specs.SafePage.{spell_letter, Tag, spell_tag, Items, End, Letter, Void, Element, void_end, spell_before, spell, is_tag_of, is_safe}
+use Rattle.html_safe_page.specs.SafePage.{spell_letter, spell_tag, Items, End, Letter, Void, Element, void_end, spell_before, spell, is_tag_of, is_safe}
 use Rattle.html_safe_page.proofs.Spelled.{is_word, is_worded_list}
 use Rattle.html_safe_page.proofs.Pages.{start_worded, void_worded}
 use Rattle.html_safe_page.proofs.Sound.{tag_append}
@@ -13,7 +13,7 @@ use Rattle.html_listed.specs.Listing.{is_in, heading_names}
 use Rattle.html_listed.specs.State.{State, Level, level, state, nothing_open, says, ended_to, with_room, entered, all_ended}
 use Rattle.html_listed.specs.Listed.{page_part}
 use Rattle.html_listed.specs.Laws.{UnmarkedLaw}
-use Rattle.html_listed.proofs.Open.{says_twice, says_nothing}
+use Rattle.html_listed.proofs.Open.{says_nothing}
 use Rattle.html_listed.proofs.PageParts.{letter_in_text, tag_in_tag, tag_starts, not_nothing, in_brackets, name_ahead, start_is_own, void_is_own, name_in_tag}
 use Rattle.html_listed.proofs.Pass.{run, bytes_run, tag_run}
 
