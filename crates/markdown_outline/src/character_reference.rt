@@ -1,0 +1,32 @@
+//! Characters by their number (CommonMark 2.5).
+use html_escape::push_raw;
+use inline_references::character_of;
+use std::alloc::{AllocError, Allocator};
+
+/// Appends the character whose number these digits spell, with U+FFFD in place of one that a text
+/// may not have (CommonMark 2.5).
+pub(crate) fn push_number<A: Allocator>(
+    out: &mut String<A>,
+    radix: u32,
+    digits: &str,
+) -> Result<(), AllocError> {
+    let mut bytes = [0; 4];
+    let text = character_of(number_of(radix, digits.as_bytes())).encode_utf8(&mut bytes);
+    push_raw(out, text, false)
+}
+
+/// The number that digits spell, or the greatest one that fits.
+fn number_of(radix: u32, digits: &[u8]) -> u32 {
+    let mut number: u32 = 0;
+    for digit in digits {
+        number = number
+            .saturating_mul(radix)
+            .saturating_add(digit_value(*digit));
+    }
+    number
+}
+
+/// The value of a digit or a letter, and 36 for any other byte.
+fn digit_value(byte: u8) -> u32 {
+    char::from(byte).to_digit(36).unwrap_or(36)
+}
