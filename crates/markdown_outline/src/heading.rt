@@ -1,4 +1,8 @@
 //! Headings, with their places, texts and slugs.
+ghost use Rattle.std.specs.Prelude.{◌≡◌, length};
+ghost use Rattle.compile_written.specs.Strings.{valid};
+ghost use Rattle.markdown_outline.specs.Listed.{IsWithin, part};
+
 use engine_events::place::Point;
 use std::alloc::Allocator;
 
@@ -36,22 +40,32 @@ pub struct Outline<A: Allocator> {
 }
 
 impl<A: Allocator> Outline<A> {
+    ghost use Rattle.std.specs.Prelude.{◌≡◌, length, string_bytes};
+    ghost use Rattle.compile_written.specs.Strings.{valid};
+    ghost use Rattle.markdown_outline.specs.Listed.{IsWithin, part};
+
     /// Returns what a heading of the outline says on the page, without tags, images, hard line breaks,
     /// boxes of tasks and calls of footnotes. Its line endings are those of the page. For a heading of
     /// another outline it is any text.
-    pub fn text(&self, heading: &Heading) -> &str {
+    pub fn text(&self, heading: &Heading) -> &str
+        ensures { IsWithin (length (string_bytes self.now.texts)) heading.now.text → result.now ≡ valid (part (string_bytes self.now.texts) heading.now.text) }
+    {
         text_of(part(self.texts.as_bytes(), heading.text))
     }
 
     /// Returns the slug of a heading of the outline, as GitHub makes the ids of headings. It may be
     /// empty. For a heading of another outline it is any text.
-    pub fn slug(&self, heading: &Heading) -> &str {
+    pub fn slug(&self, heading: &Heading) -> &str
+        ensures { IsWithin (length (string_bytes self.now.texts)) heading.now.slug → result.now ≡ valid (part (string_bytes self.now.texts) heading.now.slug) }
+    {
         text_of(part(self.texts.as_bytes(), heading.slug))
     }
 }
 
 /// A part of some bytes, or none if there is no such part.
-fn part(bytes: &[u8], range: Range) -> &[u8] {
+fn part(bytes: &[u8], range: Range) -> &[u8]
+    ensures { IsWithin (length bytes.now) range → result.now ≡ part bytes.now range }
+{
     if range.start <= range.end && range.end <= bytes.len() {
         &bytes[range.start..range.end]
     } else {
@@ -60,7 +74,9 @@ fn part(bytes: &[u8], range: Range) -> &[u8] {
 }
 
 /// Bytes as a text, or no text if they aren't UTF-8.
-fn text_of(bytes: &[u8]) -> &str {
+fn text_of(bytes: &[u8]) -> &str
+    ensures { result.now ≡ valid bytes.now }
+{
     match std::str::from_utf8(bytes) {
         Ok(text) => text,
         Err(_) => "",
