@@ -1,1 +1,3 @@
 mod Differ
+mod Lowered
+pub mod Numbers
