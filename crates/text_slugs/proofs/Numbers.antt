@@ -1,6 +1,6 @@
 -- Of more numbers of a slug than there are slugs, one is free.
-use Rattle.std.proofs.Common.{◌≡◌, ◌<◌, ◌≤◌, ◌+◌, ◌^◌, ℕ, zero, suc, Bool, true, false, not, List, [], ◌∷◌, ◌++◌, length, map, get_or, Option, Some, None, inl, inr, refl, sym, ap, subst, ◌∙◌, arith}
-use Rattle.std.proofs.lemmas.Bool.{cases_Bool, cases_lt, cases_order, cond-true, cond-false, false_from_ne_true, true≢false, not_from_true, not_from_false}
+use Rattle.std.proofs.Common.{◌≡◌, ◌<◌, ◌≤◌, ◌+◌, ◌^◌, ℕ, zero, suc, true, false, not, List, ◌∷◌, ◌++◌, length, map, get_or, Some, ◌⊎◌, inl, inr, refl, sym, ap, subst, ◌∙◌, unwrap_or, add-one, arith}
+use Rattle.std.proofs.lemmas.Bool.{cases_Bool, cases_lt, cond-true, cond-false, false_from_ne_true, not_from_true, not_from_false}
 use Rattle.std.proofs.lemmas.Fmt.{decimal_injective}
 use Rattle.std.proofs.lemmas.List.{append_cancel_left, length-append}
 use Rattle.std.proofs.lemmas.List.FromFn.{get_or-map-range_with_len, length-map-range_with_len}
@@ -62,11 +62,11 @@ pub numbers_fit : (taken : List (List ℕ)) (slug : List ℕ) (count : ℕ) → 
 numbers_fit taken slug count small all =
     let size : length (first_numbered count slug) ≡ count = length-map-range_with_len (numbered slug) 0 count in
     subst (λ n. n ≤ length taken) size (length-le_from_is_member nat_list_eq_equiv (first_numbered count slug) taken
-      (numbers_distinct slug count small)
-      (λ q found.
-        let it = numbered_among slug q 0 count found in
-        let below : it.0 < count = let within = it.1 in omega arith in
-        subst (λ s. is_taken taken s ≡ true) (sym it.2) (all it.0 below)))
+    (numbers_distinct slug count small)
+    (λ q found.
+    let it = numbered_among slug q 0 count found in
+    let below : it.0 < count = let within = it.1 in omega arith in
+    subst (λ s. is_taken taken s ≡ true) (sym it.2) (all it.0 below)))
 
 -- the first that is free of the slugs from one number on
 free_among : (taken : List (List ℕ)) (slug : List ℕ) (a count n : ℕ) → a ≤ n → n < a + count
@@ -84,23 +84,17 @@ free_among taken slug a (suc count) n from to before free = elim (cases_lt a n) 
 ]
 
 -- the number with which a slug is free, where it is taken with all before
-pub first_free_is : (taken : List (List ℕ)) (slug : List ℕ) (n : ℕ) → length taken < 2 ^ 64
+pub first_free_is : (taken : List (List ℕ)) (slug : List ℕ) (n : ℕ) → n ≤ length taken
     → AreTaken taken slug n → is_taken taken (numbered slug n) ≡ false → numbered slug n ≡ first_free taken slug
-first_free_is taken slug n small before free =
-    let within : n < 0 + suc (length taken) = elim (cases_lt n (suc (length taken))) [
-      | inl is ↦ omega arith
-      | inr past ↦
-          let full = numbers_fit taken slug (suc (length taken)) (omega arith) (λ k below. before k (omega arith)) in
-          absurd (omega arith)
-    ] in
-    sym (ap (λ found. unwrap_or found slug) (free_among taken slug 0 (suc (length taken)) n (omega arith) within before free))
+first_free_is taken slug n fits before free =
+    sym (ap (λ found. unwrap_or found slug) (free_among taken slug 0 (suc (length taken)) n (omega arith) (omega arith) before free))
 
 -- a number with which a slug is free, of so many, or it is taken with each
 free_or_taken : (taken : List (List ℕ)) (slug : List ℕ) (count : ℕ)
-    → ((n : ℕ) × AreTaken taken slug n × (is_taken taken (numbered slug n) ≡ false)) ⊎ AreTaken taken slug count
+    → ((n : ℕ) × (n < count) × AreTaken taken slug n × (is_taken taken (numbered slug n) ≡ false)) ⊎ AreTaken taken slug count
 free_or_taken taken slug zero = inr (λ n below. absurd (omega arith))
 free_or_taken taken slug (suc count) = elim (free_or_taken taken slug count) [
-  | inl found ↦ inl found
+  | inl found ↦ inl (found.0, (let within = found.1 in omega arith), found.2, found.3)
   | inr all ↦ elim (cases_Bool (is_taken taken (numbered slug count))) [
     | inl last ↦ inr (λ n below. elim (cases_lt n count) [
       | inl before ↦ all n before
@@ -108,25 +102,40 @@ free_or_taken taken slug (suc count) = elim (free_or_taken taken slug count) [
           let same : count ≡ n = omega arith in
           subst (λ k. is_taken taken (numbered slug k) ≡ true) same last
     ])
-    | inr free ↦ inl (count, all, free)
+    | inr free ↦ inl (count, omega arith, all, free)
   ]
 ]
 
 -- the slug that a further text gets is that of none before it
 pub first_free_new : (taken : List (List ℕ)) (slug : List ℕ) → length taken < 2 ^ 64 → is_taken taken (first_free taken slug) ≡ false
 first_free_new taken slug small = elim (free_or_taken taken slug (suc (length taken))) [
-  | inl found ↦ subst (λ s. is_taken taken s ≡ false) (first_free_is taken slug found.0 small found.1 found.2) found.2
+  | inl found ↦
+      let fits : found.0 ≤ length taken = let within = found.1 in omega arith in
+      subst (λ s. is_taken taken s ≡ false) (first_free_is taken slug found.0 fits found.2 found.3) found.3
   | inr all ↦
       let full = numbers_fit taken slug (suc (length taken)) (omega arith) all in
       absurd (omega arith)
 ]
 
 -- one that isn't taken, where those with each number before are
-pub free_of : (taken : List (List ℕ)) (slug : List ℕ) (n : ℕ) (free : List ℕ) → length taken < 2 ^ 64
+pub free_of : (taken : List (List ℕ)) (slug : List ℕ) (n : ℕ) (free : List ℕ) → n ≤ length taken
     → free ≡ numbered slug n → AreTaken taken slug n → is_taken taken free ≡ false → IsFree taken slug n free
-free_of taken slug n free small named before new = record {
+free_of taken slug n free fits named before new = record {
   named = named;
-  first = named ∙ first_free_is taken slug n small before (subst (λ s. is_taken taken s ≡ false) named new);
+  first = named ∙ first_free_is taken slug n fits before (subst (λ s. is_taken taken s ≡ false) named new);
   before = before;
   new = new;
 }
+
+-- one number more
+pub taken_more : (taken : List (List ℕ)) (slug : List ℕ) (count : ℕ) → AreTaken taken slug count → is_taken taken (numbered slug count) ≡ true
+    → AreTaken taken slug (count + 1)
+taken_more taken slug count all last n below = elim (cases_lt n count) [
+  | inl before ↦ all n before
+  | inr at_end ↦
+      let same : count ≡ n = omega arith in
+      subst (λ k. is_taken taken (numbered slug k) ≡ true) same last
+]
+
+pub numbered_next : (slug : List ℕ) (n : ℕ) → numbered slug (n + 1) ≡ slug ++ hyphen ∷ decimal (n + 1)
+numbered_next slug n = ap (numbered slug) (add-one n) ∙ ap (λ k. slug ++ hyphen ∷ decimal k) (sym (add-one n))

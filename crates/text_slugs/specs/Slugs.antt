@@ -1,5 +1,5 @@
 -- Slugs that differ from one another (in no standard; as GitHub makes the ids of headings).
-use Rattle.std.specs.Prelude.{◌≡◌, ◌<◌, ◌≤◌, ℕ, zero, suc, Bool, true, false, not, List, [], ◌∷◌, ◌++◌, length, map, Some, is_some, unwrap_or}
+use Rattle.std.specs.Prelude.{◌≡◌, ◌<◌, ◌+◌, ℕ, zero, suc, Bool, true, false, not, List, [], ◌∷◌, ◌++◌, length, map, Some, is_some, unwrap_or}
 use Rattle.std.specs.BTreeMap.{btree_map_len, get_by_text}
 use Rattle.std.specs.Fmt.{decimal}
 use Rattle.std.specs.List.{find, fold, list_any, range_with_len}
@@ -47,5 +47,5 @@ pub record IsFree (taken : List (List ℕ)) (slug : List ℕ) (number : ℕ) (fr
 -- the slugs that are taken: beside each is a number, and the slug is taken with each number up to that one
 pub record HasSlugs {A : Type 0} (slugs : Slugs A) (taken : List (List ℕ)) : Type 0 where
   pub keys : (slug : List ℕ) → is_some (get_by_text slugs.numbers slug) ≡ is_taken taken slug
-  pub numbers : (slug : List ℕ) (last : ℕ) → get_by_text slugs.numbers slug ≡ Some last → AreTaken taken slug (suc last)
+  pub numbers : (slug : List ℕ) (last : ℕ) → get_by_text slugs.numbers slug ≡ Some last → AreTaken taken slug (last + 1)
   pub count : btree_map_len slugs.numbers ≡ length taken

@@ -1,9 +1,9 @@
-use Rattle.std.proofs.Common.{◌≡◌, ◌++◌, string_bytes, encode_utf8_all, sym, ap, subst, ◌∙◌, append_assoc}
+use Rattle.std.proofs.Common.{◌++◌, string_bytes, encode_utf8_all, sym, ap, ◌∙◌, append_assoc}
 use Rattle.std.proofs.lemmas.List.{append-nil}
 use Rattle.std.specs.Char.Iter.{case_mapping_chars}
 use Rattle.std.specs.List.{flat_map}
 use Rattle.text_slugs.specs.Slug.{slug_char}
-use Rattle.text_slugs.proofs.Lowered.{ArePacked, packed_first, packed_next, small_step, small_end}
+use Rattle.text_slugs.proofs.Lowered.{packed_first, packed_next, small_step, small_end}
 use Rattle.text_slugs.proofs.slug.push_lowered.Goals as goal
 
 pub loop-small-init : goal.loop-small-init
