@@ -1,5 +1,5 @@
 -- Slugs that differ from one another (in no standard; as GitHub makes the ids of headings).
-use Rattle.std.specs.Prelude.{◌≡◌, ◌≤◌, ℕ, zero, suc, Bool, true, not, List, [], ◌∷◌, ◌++◌, length, map, Some, is_some, unwrap_or}
+use Rattle.std.specs.Prelude.{◌≡◌, ◌<◌, ◌+◌, ℕ, zero, suc, Bool, true, false, not, List, [], ◌∷◌, ◌++◌, length, map, Some, is_some, unwrap_or}
 use Rattle.std.specs.BTreeMap.{btree_map_len, get_by_text}
 use Rattle.std.specs.Fmt.{decimal}
 use Rattle.std.specs.List.{find, fold, list_any, range_with_len}
@@ -33,8 +33,19 @@ with_slug taken text = taken ++ first_free taken (slug_of text) ∷ []
 abbrev pub slugs_of : List (List ℕ) → List (List ℕ)
 slugs_of texts = fold with_slug [] texts
 
--- the slugs that are taken: beside each is a number, and all of its slugs up to that number are taken, too
+-- a slug is taken with each number below this one
+abbrev pub AreTaken : List (List ℕ) → List ℕ → ℕ → Type 0
+AreTaken taken slug count = (n : ℕ) → n < count → is_taken taken (numbered slug n) ≡ true
+
+-- the number with which a slug is free, and the slug with it
+pub record IsFree (taken : List (List ℕ)) (slug : List ℕ) (number : ℕ) (free : List ℕ) : Type 0 where
+  pub named : free ≡ numbered slug number
+  pub first : free ≡ first_free taken slug
+  pub before : AreTaken taken slug number
+  pub new : is_taken taken free ≡ false
+
+-- the slugs that are taken: beside each is a number, and the slug is taken with each number up to that one
 pub record HasSlugs {A : Type 0} (slugs : Slugs A) (taken : List (List ℕ)) : Type 0 where
   pub keys : (slug : List ℕ) → is_some (get_by_text slugs.numbers slug) ≡ is_taken taken slug
-  pub numbers : (slug : List ℕ) (last n : ℕ) → get_by_text slugs.numbers slug ≡ Some last → n ≤ last → is_taken taken (numbered slug n) ≡ true
+  pub numbers : (slug : List ℕ) (last : ℕ) → get_by_text slugs.numbers slug ≡ Some last → AreTaken taken slug (last + 1)
   pub count : btree_map_len slugs.numbers ≡ length taken

@@ -1,5 +1,5 @@
 //! Slugs that differ from one another (in no standard; as GitHub makes them).
-ghost use Rattle.std.specs.Prelude.{◌≡◌, ◌++◌, ℕ, List, [], IfOk, OnErr, OnOk, string_bytes};
+ghost use Rattle.std.specs.Prelude.{◌≡◌, ◌+◌, ◌++◌, ◌∷◌, ℕ, List, [], false, IfOk, OnOk, string_bytes};
 ghost use Rattle.text_slugs.specs.Slug.{slug_of};
 ghost use Rattle.text_slugs.specs.Slugs.{first_free, is_taken, with_slug};
 
@@ -16,7 +16,7 @@ pub struct Slugs<A: Allocator + Clone> {
 }
 
 impl<A: Allocator + Clone> Slugs<A> {
-    ghost use Rattle.text_slugs.specs.Slugs.{HasSlugs};
+    ghost use Rattle.text_slugs.specs.Slugs.{AreTaken, HasSlugs, IsFree};
 
     /// Returns no slugs.
     pub fn new(alloc: A) -> Result<Slugs<A>, AllocError>
@@ -45,20 +45,31 @@ impl<A: Allocator + Clone> Slugs<A> {
         let mut slug = String::new(self.alloc.clone()?);
         push_slug(&mut slug, text)?;
         let Some(last) = self.numbers.get(slug.as_str()).copied() else {
-            out.push_str(slug.as_str())?;
-            self.numbers.insert(slug, 0)?;
-            return Ok(());
+            return self.take(out, slug);
         };
         let (number, free) = self.next_free(slug.as_str(), last)?;
+        self.take(out, free)?;
+        self.numbers.insert(slug, number)?;
+        Ok(())
+    }
+
+    /// Appends a slug that is free to `out`, and takes it.
+    fn take(&mut self, out: &mut String<A>, free: String<A>) -> Result<(), AllocError>
+        ensures appended { OnOk result (string_bytes out.new ≡ string_bytes out.old ++ string_bytes free) }
+        ensures taken { (taken : List (List ℕ)) → HasSlugs self.old taken → is_taken taken (string_bytes free) ≡ false →
+            OnOk result (HasSlugs self.new (taken ++ string_bytes free ∷ [])) }
+    {
         out.push_str(free.as_str())?;
         self.numbers.insert(free, 0)?;
-        self.numbers.insert(slug, number)?;
         Ok(())
     }
 
     /// The first number after the last one with which this slug is free, and the slug with it. Of as many
     /// numbers as there are slugs, one is free.
-    fn next_free(&self, slug: &str, last: usize) -> Result<(usize, String<A>), AllocError> {
+    fn next_free(&self, slug: &str, last: usize) -> Result<(usize, String<A>), AllocError>
+        ensures { (taken : List (List ℕ)) → HasSlugs self.now taken → AreTaken taken slug.now (last + 1) →
+            IfOk result (λ found. IsFree taken slug.now found.0 (string_bytes found.1)) }
+    {
         for before in last..self.numbers.len() {
             let number = before + 1;
             let free = format!(in self.alloc.clone()?; "{slug}-{number}")?;
