@@ -105,7 +105,7 @@ module _ (names : Names) (bytes : List ℕ) (events : List Event) where
       }
 
   module _ {A : Type 0} (slugs : Slugs A) (texts : List ℕ) (headings : List Heading) (i : ℕ) (d : Event) (before : i < length events)
-    (h : HasFront slugs texts headings i) where
+      (h : HasFront slugs texts headings i) where
     abbrev left : List Event
     left = drop (i + 1) events
 

@@ -25,10 +25,7 @@ pub(crate) fn push_code<A: Allocator>(
 }
 
 /// Appends the text of a code span that has no line endings.
-pub(crate) fn push_unpadded<A: Allocator>(
-    out: &mut String<A>,
-    text: &str,
-) -> Result<(), AllocError>
+pub(crate) fn push_unpadded<A: Allocator>(out: &mut String<A>, text: &str) -> Result<(), AllocError>
     ensures { OnOk result (string_bytes out.new ≡ string_bytes out.old ++ plain (without_padding text.now)) }
 {
     push_raw(out, without_padding(text), false)

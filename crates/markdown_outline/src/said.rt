@@ -134,10 +134,7 @@ fn push_part<A: Allocator>(
 }
 
 /// Appends what a construct says, as events spell it.
-fn push_spelled<A: Allocator>(
-    out: &mut String<A>,
-    leaf: SpelledLeaf<'_>,
-) -> Result<(), AllocError>
+fn push_spelled<A: Allocator>(out: &mut String<A>, leaf: SpelledLeaf<'_>) -> Result<(), AllocError>
     ensures { OnOk result (string_bytes out.new ≡ string_bytes out.old ++ leaf_says (spelled_view leaf.entry)) }
 {
     match leaf {

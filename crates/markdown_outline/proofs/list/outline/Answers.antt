@@ -32,25 +32,25 @@ loop-index-preserved g c =
     let rest = rest_is events i in
     elim c.if-begins_heading.branch [
       | then-begins_heading+in_ok-heading+in_ok-push w ↦ (
-          subst (λ reader. AreCounted bytes reader.columns) (sym w.reader-is) w.read.ensures.counted,
-          λ m.
-              let h = c.loop-index.invariant.1 m in
-              let is = sym c.begins_heading.ensures ∙ w.if-begins_heading.true in
-              let begun = front_begun names bytes events old.slugs (string_bytes old.texts) headings i _ before h _ rest is in
-              let labels = c.in_ok-definitions.ensures in
-              let more = front_more names bytes events old.slugs (string_bytes old.texts) headings i _ before h _ rest w.read.new.self.slugs
-              (string_bytes w.read.new.self.texts) w.push.new.self.items _ is (w.in_ok-heading.ensures.slugs h.taken refl labels begun h.has_slugs)
-              (w.in_ok-heading.ensures.listed h.taken refl labels begun h.has_slugs) w.in_ok-push.ensures.items in
-              subst (λ reader. HasFront names bytes events reader.slugs (string_bytes reader.texts) c.if-begins_heading.headings.items (i + 1)) (sym w.reader-is)
-              (subst (λ all. HasFront names bytes events w.read.new.self.slugs (string_bytes w.read.new.self.texts) all.items (i + 1)) (sym w.headings-is) more),
-        )
+        subst (λ reader. AreCounted bytes reader.columns) (sym w.reader-is) w.read.ensures.counted,
+        λ m.
+            let h = c.loop-index.invariant.1 m in
+            let is = sym c.begins_heading.ensures ∙ w.if-begins_heading.true in
+            let begun = front_begun names bytes events old.slugs (string_bytes old.texts) headings i _ before h _ rest is in
+            let labels = c.in_ok-definitions.ensures in
+            let more = front_more names bytes events old.slugs (string_bytes old.texts) headings i _ before h _ rest w.read.new.self.slugs
+            (string_bytes w.read.new.self.texts) w.push.new.self.items _ is (w.in_ok-heading.ensures.slugs h.taken refl labels begun h.has_slugs)
+            (w.in_ok-heading.ensures.listed h.taken refl labels begun h.has_slugs) w.in_ok-push.ensures.items in
+            subst (λ reader. HasFront names bytes events reader.slugs (string_bytes reader.texts) c.if-begins_heading.headings.items (i + 1)) (sym w.reader-is)
+            (subst (λ all. HasFront names bytes events w.read.new.self.slugs (string_bytes w.read.new.self.texts) all.items (i + 1)) (sym w.headings-is) more),
+      )
       | else-begins_heading w ↦ (
-          subst (λ reader. AreCounted bytes reader.columns) (sym w.reader-is) c.loop-index.invariant.0,
-          λ m.
-              let h = c.loop-index.invariant.1 m in
-              let same = front_same names bytes events old.slugs (string_bytes old.texts) headings i _ before h
-              (sym c.begins_heading.ensures ∙ w.if-begins_heading.false) in
-              subst (λ reader. HasFront names bytes events reader.slugs (string_bytes reader.texts) c.if-begins_heading.headings.items (i + 1)) (sym w.reader-is)
-              (subst (λ all. HasFront names bytes events old.slugs (string_bytes old.texts) all.items (i + 1)) (sym w.headings-is) same),
-        )
+        subst (λ reader. AreCounted bytes reader.columns) (sym w.reader-is) c.loop-index.invariant.0,
+        λ m.
+            let h = c.loop-index.invariant.1 m in
+            let same = front_same names bytes events old.slugs (string_bytes old.texts) headings i _ before h
+            (sym c.begins_heading.ensures ∙ w.if-begins_heading.false) in
+            subst (λ reader. HasFront names bytes events reader.slugs (string_bytes reader.texts) c.if-begins_heading.headings.items (i + 1)) (sym w.reader-is)
+            (subst (λ all. HasFront names bytes events old.slugs (string_bytes old.texts) all.items (i + 1)) (sym w.headings-is) same),
+      )
     ]
