@@ -4,7 +4,7 @@ _markdown_events() {
     compopt -o filenames
     mapfile -t COMPREPLY < <(
         case $word in
-            -*) compgen -W '--gfm --frontmatter --math --mark --all --help --version' -- "$word" ;;
+            -*) compgen -W '--gfm --frontmatter --math --mark --all --outline --help --version' -- "$word" ;;
             *) compgen -f -- "$word" ;;
         esac
     )

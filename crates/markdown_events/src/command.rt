@@ -4,6 +4,7 @@ use markdown_input::{Fault, Flags, STANDARD_INPUT, is_flag};
 /// What `--help` prints.
 const HELP: &str = "\
 Prints the events of Markdown, one a line: what is entered or left, and where.
+With --outline it prints the headings instead.
 
 Usage: markdown-events [OPTIONS] [FILE]
 
@@ -15,15 +16,17 @@ Options:
       --math         Read $a$, and blocks between lines of $$
       --mark         Read ==text== as marked text
       --all          All four
+      --outline      Print the headings: LINE: ## TEXT (#SLUG)
   -h, --help         Print help
   -V, --version      Print version
       --             What follows is the name of a file
 
 A line is: enter or exit, the name, LINE:COLUMN(OFFSET), and at a tab how many of
-its columns are before this place, otherwise 0.
+its columns are before this place, otherwise 0. A slug is the id that GitHub gives
+a heading.
 
 Exit status:
-  0  all events were written
+  0  all events or headings were written
   1  they were not; standard error has the reason
   2  the command line is wrong
 ";
@@ -38,6 +41,8 @@ pub(crate) struct Command<'w> {
     pub(crate) answer: Option<&'static str>,
     /// Which constructs are on beside those of CommonMark.
     pub(crate) flags: Flags,
+    /// Whether headings are printed in place of events.
+    pub(crate) prints_outline: bool,
     /// The name of the file to read, if there is one.
     file: Option<&'w str>,
     /// Whether all further words are names of files.
@@ -51,6 +56,7 @@ impl<'w> Command<'w> {
         let mut command = Command {
             answer: None,
             flags: Flags::default(),
+            prints_outline: false,
             file: None,
             names_only: false,
         };
@@ -68,6 +74,10 @@ impl<'w> Command<'w> {
         match word {
             "-h" | "--help" => Ok(self.with_answer(HELP)),
             "-V" | "--version" => Ok(self.with_answer(VERSION)),
+            "--outline" => Ok(Command {
+                prints_outline: true,
+                ..self
+            }),
             "--" => Ok(Command {
                 names_only: true,
                 ..self

@@ -1,4 +1,5 @@
-//! Prints the events of a text, one a line: `enter NAME line:column(index) vs`, or the same with `exit`.
+//! Prints the events of a text, one a line: `enter NAME line:column(index) vs`, or the same with `exit`; or its
+//! headings: `LINE: ## TEXT (#SLUG)`.
 #![tactic(auto)]
 
 mod command;
@@ -6,10 +7,12 @@ mod lines;
 
 use command::Command;
 use engine_events::Event;
-use lines::write_events;
+use lines::{write_events, write_headings};
 use markdown_input::{Fault, text, words};
+use markdown_outline::{Outline, outline};
 use markdown_tables::Builtin;
 use parse_events::{SIZE_MAX, parse};
+use std::alloc::Global;
 use std::io::{self, BufWriter};
 use std::process::ExitCode;
 
@@ -31,7 +34,7 @@ fn status(fault: Fault) -> u8 {
     }
 }
 
-/// Runs the command line. A file whose events can't be printed is named.
+/// Runs the command line. A file whose events or headings can't be printed is named.
 fn run(rt: &HostRuntime) -> Result<ExitCode, Fault> {
     let words = words(rt)?;
     let command = Command::read(&words)?;
@@ -54,7 +57,7 @@ fn print_answer(rt: &HostRuntime, answer: &str) -> io::Result<ExitCode> {
     Ok(ExitCode::SUCCESS)
 }
 
-/// Prints the events of a file.
+/// Prints the events of a file, or its headings.
 fn print_file(rt: &HostRuntime, command: Command<'_>) -> Result<(), Fault> {
     let text = text(rt, command.name())?;
     if text.len() > SIZE_MAX {
@@ -64,7 +67,17 @@ fn print_file(rt: &HostRuntime, command: Command<'_>) -> Result<(), Fault> {
     let Ok((events, _)) = parse(rt.alloc(), &text, &options, &Builtin) else {
         return Err(Fault::Memory);
     };
+    if command.prints_outline {
+        let found = outline(rt.alloc(), &events, text.as_bytes(), &Builtin)?;
+        return print_headings(rt, &found).map_err(|error| Fault::writing(&error));
+    }
     print_events(rt, &events).map_err(|error| Fault::writing(&error))
+}
+
+/// Prints headings to standard output.
+fn print_headings(rt: &HostRuntime, found: &Outline<Global>) -> io::Result<()> {
+    let mut writer = BufWriter::new(rt.alloc(), rt.stdout())?;
+    write_headings(&mut writer, found)
 }
 
 /// Prints events to standard output.
