@@ -28,6 +28,7 @@ lists_events() { "$1" < "$events/stdin" | cmp - "$events/stdout"; }
 stops() { [ "$("$1" 3 < "$events/stdin" | wc -l)" = 3 ] && { status=0; "$1" 0 < "$events/stdin" || status=$?; [ "$status" = 3 ]; }; }
 # Whether a command that gets the path of a text prints its table of contents.
 lists_contents() { "$@" page.md > "$scratch/contents.out" < page.md && cmp "$scratch/contents.out" contents.md; }
+lists_outline() { "$@" < "$here/contents/page.md" | cmp - "$here/contents/outline.txt"; }
 lists_links() { "$@" < "$here/links/page.md" | cmp - "$here/links/links.txt"; }
 # Whether a command that gets the path of a text prints its links that lead to no file.
 finds_missing() ( cd "$here/links" && "$@" page.md | cmp - missing.txt )
@@ -71,7 +72,7 @@ library=${1:-$scratch}
 check "C" compile -o "$scratch/convert" "$here/c/convert.c"
 tries "C" "$scratch/convert"
 check "C: the version" tells_version
-if works nm --version; then check "the functions of the library" exports "markdown_check_page markdown_convert markdown_convert_by_numbers markdown_convert_with markdown_decode markdown_list_events markdown_list_events_with markdown_list_links_with markdown_normalize_label markdown_version "; fi
+if works nm --version; then check "the functions of the library" exports "markdown_check_page markdown_convert markdown_convert_by_numbers markdown_convert_with markdown_decode markdown_list_events markdown_list_events_with markdown_list_links_with markdown_list_outline_with markdown_normalize_label markdown_version "; fi
 if works objdump --version; then check "the name of the library" names_itself libmarkdown-proved.so.0.1; fi
 check "C: events" compile -o "$scratch/events" "$here/c/events.c"
 check "C: events" lists_events "$scratch/events"
@@ -81,6 +82,8 @@ cd "$here/contents"
 check "C: contents" lists_contents "$scratch/contents"
 check "C: links" compile -o "$scratch/links" "$here/c/links.c"
 check "C: links" lists_links "$scratch/links"
+check "C: headings" compile -o "$scratch/outline" "$here/c/outline.c"
+check "C: headings" lists_outline "$scratch/outline"
 check "C: comments" compile -o "$scratch/comments" "$here/c/comments.c"
 check "C: comments" writes_comments "$scratch/comments"
 check "C: safe pages" compile -o "$scratch/safe_page" "$here/c/safe_page.c"
@@ -91,6 +94,7 @@ if works valgrind true; then
     check "C: memory" converts valgrind -q --error-exitcode=9 --leak-check=full "$scratch/convert"
     check "C: memory of events" lists_contents valgrind -q --error-exitcode=9 --leak-check=full "$scratch/contents"
     check "C: memory of links" lists_links valgrind -q --error-exitcode=9 --leak-check=full "$scratch/links"
+    check "C: memory of headings" lists_outline valgrind -q --error-exitcode=9 --leak-check=full "$scratch/outline"
     check "C: memory of comments" writes_comments valgrind -q --error-exitcode=9 --leak-check=full "$scratch/comments"
     check "C: memory of refusals" valgrind -q --error-exitcode=9 --leak-check=full "$scratch/refusals"
 fi
@@ -106,6 +110,8 @@ if works rustc --version; then
     check "Rust: events" lists_events "$scratch/rust_events"
     check "Rust: links" rustc --edition 2021 -O -L "$library/lib" -o "$scratch/rust_links" "$here/rust/list_links.rs"
     check "Rust: links" lists_links "$scratch/rust_links"
+    check "Rust: headings" rustc --edition 2021 -O -L "$library/lib" -o "$scratch/rust_outline" "$here/rust/list_outline.rs"
+    check "Rust: headings" lists_outline "$scratch/rust_outline"
     check "Rust: a prefix" prefixes "$scratch/rust"
     check "Rust: safe pages" tells_pages "$scratch/rust" --safe-page
 fi
@@ -114,6 +120,7 @@ if works python3 -c 'import ctypes'; then
     export PYTHONPATH PYTHONDONTWRITEBYTECODE
     tries "Python" python3 "$here/python/convert.py" "$library/lib/libmarkdown-proved.so"
     check "Python: links" finds_missing python3 "$here/python/links.py" "$library/lib/libmarkdown-proved.so"
+    check "Python: headings" lists_outline python3 "$here/python/outline.py" "$library/lib/libmarkdown-proved.so" "$here/contents/page.md"
     check "Python: recipes" follows_recipes python3 "$here/python/recipes.py" "$library/lib/libmarkdown-proved.so"
     check "Python: contents" lists_contents python3 "$here/python/contents.py" "$library/lib/libmarkdown-proved.so"
 fi

@@ -1,5 +1,5 @@
-/* Markdown to HTML, and to its events: the functions of libmarkdown-proved, for C and C++. docs/LIBRARY.md says how to build and
- * link it.
+/* Markdown to HTML, to its events, its links and its headings: the functions of libmarkdown-proved, for C and C++. docs/LIBRARY.md
+ * says how to build and link it.
  *
  * Input and HTML are UTF-8. Lengths are in bytes; no terminating NUL is read or written. No function aborts or keeps state
  * between calls, so threads may call them at the same time. The functions of the library free all memory that they take from
@@ -177,7 +177,7 @@ typedef struct markdown_options {
 
 /* The status that a call returns. */
 enum {
-    /* The HTML is in the buffer, or the events or links are in the array. */
+    /* The HTML is in the buffer, or the events, links or headings are in the array. */
     MARKDOWN_OK = 0,
     /* The buffer or the array is too small. *length or *count is what is needed. */
     MARKDOWN_ROOM = 1,
@@ -189,7 +189,7 @@ enum {
     MARKDOWN_SIZE = 4,
     /* Out of memory. */
     MARKDOWN_MEMORY = 5,
-    /* The callback of markdown_events or markdown_links returned another number than 0. */
+    /* The callback of markdown_events, markdown_links or markdown_outline returned another number than 0. */
     MARKDOWN_STOPPED = 6
 };
 
@@ -483,6 +483,107 @@ static inline uint32_t markdown_links(const unsigned char *text, size_t text_len
 {
     markdown_options options = markdown_options_of(flags);
     return markdown_links_with(text, text_length, &options, callback, context);
+}
+
+/* A heading, with its text and its slug. */
+typedef struct markdown_heading {
+    /* Where it begins: how many bytes of the input are before, and the line and the column from 1, as in markdown_event. */
+    size_t offset;
+    size_t line;
+    size_t column;
+    /* Where it ends. */
+    size_t end_offset;
+    size_t end_line;
+    size_t end_column;
+    /* The index of its enter among the events of markdown_list_events. */
+    size_t event;
+    /* Where its text begins in the buffer, and how many bytes it has. */
+    size_t text;
+    size_t text_length;
+    /* Where its slug begins in the buffer, and how many bytes it has. */
+    size_t slug;
+    size_t slug_length;
+    /* Its rank, from 1 to 6. */
+    uint8_t rank;
+} markdown_heading;
+
+/* Finds the headings of the text_length bytes at text by options, writes them into the array of room headings and their texts and
+ * slugs into the buffer_room bytes at buffer, and returns a status. Only the constructs and the switches for one tilde and one
+ * dollar make a difference.
+ *
+ * *count becomes the number of headings and *length that of the bytes of all texts and slugs if the status is MARKDOWN_OK or
+ * MARKDOWN_ROOM, otherwise both become 0. MARKDOWN_ROOM means that the array or the buffer is too small. Only with MARKDOWN_OK
+ * are they written, from their starts.
+ *
+ * The buffer has the text of the first heading, its slug, the text of the second, and so on, and nothing else. The headings are in
+ * the order in which they start, those in quotes, items and footnotes too. A text is what the heading says: escapes and character
+ * references are replaced, and images, tags of raw HTML, breaks and footnote calls say nothing. Neither text nor slug is encoded
+ * for HTML.
+ *
+ * A slug is what GitHub's page uses as the id of the heading, and no other heading of the input has it: its text in small letters,
+ * without punctuation, with `-` for each space, and with a number if it is taken. It may be empty. No standard has slugs.
+ *
+ * No pointer may be NULL, even if it points to nothing. What they point to must not overlap, except text and options. To ask
+ * for the numbers alone, pass rooms of 0 with the addresses of any heading and any byte. */
+uint32_t markdown_list_outline_with(const unsigned char *text, size_t text_length, const markdown_options *options,
+                                    markdown_heading *headings, size_t room, size_t *count, unsigned char *buffer,
+                                    size_t buffer_room, size_t *length);
+
+/* Finds headings by flags in place of options, otherwise as markdown_list_outline_with does. */
+static inline uint32_t markdown_list_outline(const unsigned char *text, size_t text_length, uint32_t flags,
+                                             markdown_heading *headings, size_t room, size_t *count, unsigned char *buffer,
+                                             size_t buffer_room, size_t *length)
+{
+    markdown_options options = markdown_options_of(flags);
+    return markdown_list_outline_with(text, text_length, &options, headings, room, count, buffer, buffer_room, length);
+}
+
+/* Finds the headings of the text_length bytes at text, calls back for each of them in order with its text and its slug, and
+ * returns a status, never MARKDOWN_ROOM. Neither is ended by NUL; heading->text_length and heading->slug_length are their lengths.
+ *
+ * If the callback returns another number than 0, it isn't called again, and the status is MARKDOWN_STOPPED. With any other status
+ * than MARKDOWN_OK and MARKDOWN_STOPPED it wasn't called. text may be NULL if text_length is 0. Headings, texts and slugs are in
+ * memory from malloc until the call returns. */
+static inline uint32_t markdown_outline_with(const unsigned char *text, size_t text_length, const markdown_options *options,
+                                             int (*callback)(const markdown_heading *heading, const char *text, const char *slug,
+                                                             void *context),
+                                             void *context)
+{
+    static const unsigned char none[1] = {0};
+    markdown_heading *headings = NULL;
+    unsigned char *buffer = NULL;
+    size_t room = text_length / 64 + 16, count = 0, buffer_room = text_length / 4 + 64, length = 0, i;
+    uint32_t status = MARKDOWN_ROOM;
+    while (status == MARKDOWN_ROOM) {
+        free(headings);
+        free(buffer);
+        headings = room <= SIZE_MAX / sizeof *headings ? (markdown_heading *)malloc(room * sizeof *headings) : NULL;
+        buffer = (unsigned char *)malloc(buffer_room);
+        status = MARKDOWN_MEMORY;
+        if (headings != NULL && buffer != NULL)
+            status = markdown_list_outline_with(text == NULL ? none : text, text_length, options, headings, room, &count, buffer,
+                                                buffer_room, &length);
+        if (count > room)
+            room = count;
+        if (length > buffer_room)
+            buffer_room = length;
+    }
+    for (i = 0; i < count && status == MARKDOWN_OK; i++)
+        if (callback(&headings[i], (const char *)buffer + headings[i].text, (const char *)buffer + headings[i].slug, context) != 0)
+            status = MARKDOWN_STOPPED;
+    free(headings);
+    free(buffer);
+    return status;
+}
+
+/* Finds headings by flags in place of options, otherwise as markdown_outline_with does. */
+static inline uint32_t markdown_outline(const unsigned char *text, size_t text_length, uint32_t flags,
+                                        int (*callback)(const markdown_heading *heading, const char *text, const char *slug,
+                                                        void *context),
+                                        void *context)
+{
+    markdown_options options = markdown_options_of(flags);
+    return markdown_outline_with(text, text_length, &options, callback, context);
 }
 
 /* Writes what the text_length bytes at text stand for as a destination, a title or an info into the room bytes at buffer, and

@@ -153,6 +153,28 @@ export interface Link<Text extends string | Uint8Array = string> {
     readonly text: Text;
 }
 
+/** A heading. */
+export interface Heading {
+    /** From 1 to 6. */
+    readonly rank: number;
+    /** What it says: without tags and images, with escapes and character references replaced. */
+    readonly text: string;
+    /** What GitHub uses as its id. No other heading of the text has it. It may be empty. */
+    readonly slug: string;
+    /** How many bytes of the text in UTF-8 are before. */
+    readonly offset: number;
+    /** The line of its start, from 1. */
+    readonly line: number;
+    /** The column of its start, from 1. */
+    readonly column: number;
+    /** How many bytes of the text in UTF-8 are before its end. */
+    readonly endOffset: number;
+    /** The line of its end, from 1. */
+    readonly endLine: number;
+    /** The column of its end, from 1. */
+    readonly endColumn: number;
+}
+
 /**
  * An instance of the library. It keeps nothing between calls. Texts are strings, or bytes in UTF-8; a lone surrogate in a string is
  * converted to U+FFFD. Options are an object, or a sum of flags. Without options the HTML is safe to show.
@@ -179,6 +201,8 @@ export interface Markdown {
      * where it leads. A link by reference has the destination of its definition.
      */
     links<Text extends string | Uint8Array>(text: Text, options?: ReadOptions | number): Link<Text>[];
+    /** Returns the headings of `text`, in the order in which they start, those in quotes, items and footnotes too. */
+    outline(text: string | Uint8Array, options?: ReadOptions | number): Heading[];
     /**
      * Returns what `text` stands for as a destination, a title or an info: escapes and character references are replaced, and
      * spaces and tabs around line endings are dropped.

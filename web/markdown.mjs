@@ -1,4 +1,4 @@
-// Markdown to HTML, to events and to links: the library as a WebAssembly module, for browsers and Node.
+// Markdown to HTML, to events, links and headings: the library as a WebAssembly module, for browsers and Node.
 //
 //     import { load } from "./markdown.mjs";
 //     const markdown = await load();
@@ -43,7 +43,7 @@ const TEXTS = {
 const NAMES = new Set(["lineEnding", ...[FLAGS, CONSTRUCTS, SWITCHES, TEXTS].flatMap(Object.keys)]);
 const STRINGS = new Set(["lineEnding", ...Object.keys(TEXTS)]);
 // The sizes of structs.
-const OPTIONS_SIZE = 104, EVENT_SIZE = 32, LINK_SIZE = 88;
+const OPTIONS_SIZE = 104, EVENT_SIZE = 32, LINK_SIZE = 88, HEADING_SIZE = 96;
 
 const LINK_KINDS = ["link", "image", "autolink", "literal", "definition"];
 const NO_DEFINITION = 2n ** 64n - 1n;
@@ -174,6 +174,22 @@ class Link {
     }
 }
 
+// A heading, by a view of its struct and the texts and slugs of all.
+class Heading {
+    constructor(texts, view) {
+        const part = at => decoder.decode(texts.subarray(integer(view, at), integer(view, at) + integer(view, at + 8)));
+        this.rank = view.getUint8(88);
+        this.text = part(56);
+        this.slug = part(72);
+        this.offset = integer(view, 0);
+        this.line = integer(view, 8);
+        this.column = integer(view, 16);
+        this.endOffset = integer(view, 24);
+        this.endLine = integer(view, 32);
+        this.endColumn = integer(view, 40);
+    }
+}
+
 // The texts of lists of events, and for each event the index of its exit or enter.
 const sourceOf = new WeakMap(), othersOf = new WeakMap();
 
@@ -194,6 +210,10 @@ function others(list) {
     }
     return found;
 }
+
+// Views of the structs of this size in an array.
+const viewsOf = (array, size) =>
+    Array.from({ length: array.length / size }, (_, place) => new DataView(array.buffer, array.byteOffset + place * size, size));
 
 const integer = (view, at) => Number(view.getBigUint64(at, true));
 
@@ -323,8 +343,7 @@ class Markdown {
         const size = source.bytes.length;
         const arrays = [{ size: LINK_SIZE, room: (size >> 6) + 16 }, { size: 1, room: (size >> 1) + 64 }];
         const [array, destinations] = this.#call("markdown_list_links_with", source.bytes, read(options), arrays);
-        const views = [];
-        for (let at = 0; at < array.length; at += LINK_SIZE) views.push(new DataView(array.buffer, at));
+        const views = viewsOf(array, LINK_SIZE);
         const list = views.map(view => new Link(source, view));
         const isReference = view => view.getBigUint64(72, true) !== NO_DEFINITION;
         views.forEach((view, index) => {
@@ -337,6 +356,14 @@ class Markdown {
             if (isReference(view)) list[index].destination = list[index].definition.destination;
         });
         return list;
+    }
+
+    outline(text, options) {
+        const source = new Source(text);
+        const size = source.bytes.length;
+        const arrays = [{ size: HEADING_SIZE, room: (size >> 6) + 16 }, { size: 1, room: (size >> 2) + 64 }];
+        const [array, texts] = this.#call("markdown_list_outline_with", source.bytes, read(options), arrays);
+        return viewsOf(array, HEADING_SIZE).map(view => new Heading(texts, view));
     }
 
     decode(text) {

@@ -71,12 +71,15 @@ static int check_measuring(void)
     unsigned char none[1] = {'?'};
     markdown_event event;
     markdown_link link;
+    markdown_heading heading;
     size_t length = 7, count = 0;
     CHECK(markdown_convert(TEXT, sizeof TEXT - 1, 0, none, 0, &length) == MARKDOWN_ROOM && length == LENGTH && none[0] == '?');
     CHECK(markdown_convert(TEXT, 0, 0, none, 0, &length) == MARKDOWN_OK && length == 0);
     CHECK(markdown_list_events(TEXT, sizeof TEXT - 1, 0, &event, 0, &count) == MARKDOWN_ROOM && count > 10);
     CHECK(markdown_list_links(TEXT, sizeof TEXT - 1, 0, &link, 0, &count, none, 0, &length) == MARKDOWN_ROOM);
     CHECK(count == 3 && length == 3 && none[0] == '?');
+    CHECK(markdown_list_outline(TEXT, sizeof TEXT - 1, 0, &heading, 0, &count, none, 0, &length) == MARKDOWN_ROOM);
+    CHECK(count == 1 && length == 9 && none[0] == '?');
     return 0;
 }
 
@@ -219,11 +222,44 @@ static int check_links(void)
     return 0;
 }
 
+static int count_headings(const markdown_heading *heading, const char *text, const char *slug, void *context)
+{
+    size_t *count = context;
+    if (heading->text_length != 2 || memcmp(text, "a!", 2) != 0 || heading->slug_length != 1 + 2 * *count || memcmp(slug, "a-1", heading->slug_length) != 0)
+        return 1;
+    return ++*count == 2;
+}
+
+static int check_outline(void)
+{
+    static const unsigned char HEADINGS[] = "# a!\n\na!\n---";
+    static markdown_heading headings[2];
+    size_t count = 0, length = 7;
+    uint32_t status = MARKDOWN_MEMORY;
+    CHECK(markdown_list_outline(HEADINGS, sizeof HEADINGS - 1, 0, headings, 2, &count, buffer, 8, &length) == MARKDOWN_OK);
+    CHECK(count == 2 && length == 8 && headings[0].rank == 1 && headings[1].rank == 2 && headings[1].offset == 6 && headings[1].end_line == 4);
+    CHECK(markdown_list_outline(HEADINGS, sizeof HEADINGS - 1, 0, headings, 1, &count, buffer, 8, &length) == MARKDOWN_ROOM && count == 2);
+    CHECK(markdown_list_outline(HEADINGS, sizeof HEADINGS - 1, 0, headings, 2, &count, buffer, 7, &length) == MARKDOWN_ROOM && length == 8);
+    CHECK(markdown_list_outline(HEADINGS, 2, 2048, headings, 2, &count, buffer, 8, &length) == MARKDOWN_FLAGS && count == 0 && length == 0);
+    CHECK(markdown_list_outline((const unsigned char *)"\xff", 1, 0, headings, 2, &count, buffer, 8, &length) == MARKDOWN_UTF8 && count == 0);
+    count = 0;
+    CHECK(markdown_outline(NULL, 0, 0, count_headings, &count) == MARKDOWN_OK && count == 0);
+    CHECK(markdown_outline(HEADINGS, sizeof HEADINGS - 1, 0, count_headings, &count) == MARKDOWN_STOPPED && count == 2);
+    for (long granted = 0; status == MARKDOWN_MEMORY; granted++) {
+        left = granted;
+        count = 0;
+        status = markdown_outline(HEADINGS, sizeof HEADINGS - 1, 0, count_headings, &count);
+        left = -1;
+        CHECK(status == MARKDOWN_MEMORY ? count == 0 : status == MARKDOWN_STOPPED && count == 2);
+    }
+    return 0;
+}
+
 /* Whether a sum of flags gives the same page by flags and by the options of these. */
 static int check_options(void)
 {
     static unsigned char other[sizeof buffer];
-    CHECK(sizeof(markdown_options) == 104 && sizeof(markdown_event) == 32 && sizeof(markdown_link) == 88);
+    CHECK(sizeof(markdown_options) == 104 && sizeof(markdown_event) == 32 && sizeof(markdown_link) == 88 && sizeof(markdown_heading) == 96);
     for (uint32_t flags = 0; flags < 2048; flags++) {
         markdown_options options = markdown_options_of(flags);
         size_t length = 7, other_length = 8;
@@ -303,5 +339,5 @@ static int check_safe_pages(void)
 int main(void)
 {
     return check_room() || check_measuring() || check_refusals() || check_memory() || check_growing() || check_events() || check_callback() || check_links()
-        || check_options() || check_options_refused() || check_options_memory() || check_safe_pages();
+        || check_outline() || check_options() || check_options_refused() || check_options_memory() || check_safe_pages();
 }

@@ -27,20 +27,11 @@ def plain_text(page):
     return unescape(re.sub("<[^>]*>", "", page))
 
 
-def with_heading_ids(page, prefix=""):
-    """Gives each heading an id of its text, as GitHub does. The author chooses them, so give a prefix to a stranger's."""
-    used = set()
-
-    def start(found):
-        slug = re.sub(r"[^\w\- ]", "", plain_text(found[2]).lower()).replace(" ", "-")
-        name, count = slug, 0
-        while name in used:
-            count += 1
-            name = f"{slug}-{count}"
-        used.add(name)
-        return f'<{found[1]} id="{escape(prefix + name)}">{found[2]}</{found[1]}>'
-
-    return re.sub(r"(?s)<(h[1-6])>(.*?)</\1>", start, page)
+def with_heading_ids(page, headings, prefix=""):
+    """Gives each heading the slug of its text as an id, as GitHub does; of a text without headings in footnotes. The author chooses
+    slugs, so give a prefix to a stranger's."""
+    slugs = (heading.slug for heading in headings)
+    return re.sub("<(h[1-6])>", lambda found: f'<{found[1]} id="{escape(prefix)}{next(slugs)}">', page)
 
 
 def contents(page):
@@ -97,7 +88,7 @@ def main():
     with open(sys.argv[2], encoding="utf-8") as file:
         text = file.read()
     page = library.to_html(text, gfm=True, frontmatter=True, prefix="note-")
-    headed = with_heading_ids(page)
+    headed = with_heading_ids(page, library.outline(text, gfm=True, frontmatter=True))
     linked, smiling, labelled = with_links(page, to_html_files), with_text(page, with_emoji), with_own_label(page, "note-")
     colored = with_colors(page, lambda language, code: f"<pre><mark>{escape(language)}</mark>{escape(code)}</pre>")
     sys.stdout.reconfigure(encoding="utf-8")

@@ -9,6 +9,9 @@ OK, ROOM, UTF8, FLAGS, MEMORY = 0, 1, 2, 3, 5
 LINK = struct.Struct("=QQQQQQQQQQB7x")
 KINDS = ("link", "image", "autolink", "literal", "definition")
 NO_DEFINITION = (1 << 64) - 1
+# A heading: offset, line and column of its start and of its end, its event, where its text begins and its size, the same of its
+# slug, its rank, and what fills it up.
+HEADING = struct.Struct("=QQQQQQQQQQQB7x")
 # An event: offset, line, column, name, whether it is an exit, columns of a tab, and what fills it up.
 EVENT = struct.Struct("=QQQHBBI")
 
@@ -75,6 +78,27 @@ class Library:
             start, end = f"{it[1]}:{it[2]}@{it[0]}", f"{it[4]}:{it[5]}@{it[3]}"
             leads = buffer[it[7] : it[7] + it[8]].decode()
             lines.append(f"{KINDS[it[10]]} {start} {end} {leads}" + (f" #{it[9]}" if it[9] != NO_DEFINITION else ""))
+        return "\n".join(lines)
+
+    def outline_in(self, data, options, room, bytes_room):
+        """What `links_in` returns, of headings, with their texts and slugs."""
+        array, buffer = ctypes.create_string_buffer(room * HEADING.size + 1), ctypes.create_string_buffer(bytes_room + 1)
+        count, size = ctypes.c_size_t(), ctypes.c_size_t()
+        into = array, ctypes.c_size_t(room), ctypes.byref(count), buffer, ctypes.c_size_t(bytes_room), ctypes.byref(size)
+        status = self.calls.markdown_list_outline_with(data, ctypes.c_size_t(len(data)), ctypes.byref(options), *into)
+        return status, count.value, size.value, array.raw, buffer.raw
+
+    def outline(self, text, options):
+        """The headings of a text, a line each: start and end as line:column@offset, rank as a number of `#`, text and slug."""
+        data, lines = text.encode(), []
+        _, room, bytes_room, _, _ = self.outline_in(data, options, 0, 0)
+        status, count, _, array, buffer = self.outline_in(data, options, room, bytes_room)
+        if status != OK or count != room:
+            raise ValueError(f"markdown_list_outline_with: status {status}")
+        for it in HEADING.iter_unpack(array[: count * HEADING.size]):
+            start, end = f"{it[1]}:{it[2]}@{it[0]}", f"{it[4]}:{it[5]}@{it[3]}"
+            title, slug = (buffer[at : at + size].decode() for at, size in (it[7:9], it[9:11]))
+            lines.append(f"{start} {end} {'#' * it[11]} {title} (#{slug})")
         return "\n".join(lines)
 
     def made(self, name, text):

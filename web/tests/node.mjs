@@ -107,6 +107,14 @@ same("links of bytes", markdown.links(new TextEncoder().encode("é [a](b)")).map
 same("no links", markdown.links(""), []);
 check("many links", markdown.links("[a](b)".repeat(20000)).length === 20000);
 same("a long destination", markdown.links(`[a](b${"&ngE;".repeat(10000)})`).map(link => link.destination.length), [20001]);
+const headed = markdown.outline("# É *b* &amp; [c](d)\n> e\n> f\n> ---\n# é b  c\n");
+same("headings", headed.map(({ rank, text, slug, line, column, endLine, endColumn }) => [rank, text, slug, line, column, endLine, endColumn]), [
+    [1, "É b & c", "é-b--c", 1, 1, 1, 22], [2, "e\nf", "ef", 2, 3, 4, 6], [1, "é b  c", "é-b--c-1", 5, 1, 5, 10],
+]);
+same("offsets of headings", headed.map(({ offset, endOffset }) => [offset, endOffset]), [[0, 21], [24, 35], [36, 45]]);
+same("headings of bytes", markdown.outline(new TextEncoder().encode("# é")).map(heading => heading.text), ["é"]);
+same("no headings", markdown.outline("a"), []);
+same("many headings", markdown.outline("# a\n".repeat(20000)).at(-1).slug, "a-19999");
 same("decoded", markdown.decode("a&amp;\\*&copy;"), "a&*©");
 same("a label", markdown.normalizeLabel(" Á\n b "), "á b");
 check("many events", markdown.events("*a* ".repeat(20000)).length > 200000);

@@ -1,5 +1,6 @@
 mod Listed
 mod ListedLinks
+mod ListedOutline
 mod Pages
 mod Statuses
 mod Written

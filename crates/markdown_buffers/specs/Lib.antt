@@ -1,8 +1,10 @@
 pub mod EventNumbers
 pub mod Events
 pub mod FlatEvents
+pub mod FlatHeadings
 pub mod FlatLinks
 pub mod Links
+pub mod Outline
 pub mod Pages
 pub mod Statuses
 pub mod Texts

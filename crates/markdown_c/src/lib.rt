@@ -1,4 +1,4 @@
-//! Converts Markdown to HTML, lists its events and its links, and tests pages, called from C.
+//! Converts Markdown to HTML, lists its events, links and headings, and tests pages, called from C.
 #![tactic(auto)]
 
 mod convert;
@@ -6,6 +6,7 @@ mod convert_by_numbers;
 mod convert_with;
 mod events;
 mod links;
+mod outline;
 mod safe_page;
 mod texts;
 mod version;

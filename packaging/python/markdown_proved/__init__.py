@@ -1,6 +1,6 @@
-"""Markdown to HTML, to events and to links, by a proved converter.
+"""Markdown to HTML, to events, links and headings, by a proved converter.
 
-    >>> from markdown_proved import events, is_safe_page, links, to_html
+    >>> from markdown_proved import events, is_safe_page, links, outline, to_html
     >>> to_html("# Hello, *world*")
     '<h1>Hello, <em>world</em></h1>'
     >>> to_html("~~a~~ www.example.com", gfm=True)
@@ -13,6 +13,8 @@
     ['*b*']
     >>> links("[a], ![b](<c d.png>)\\n\\n[a]: /e")
     [<link '/e' 1:1>, <image 'c d.png' 1:6>, <definition '/e' 3:1>]
+    >>> [(it.rank, it.text, it.slug, it.line) for it in outline("# One *two*\\n\\n## One two")]
+    [(1, 'One two', 'one-two', 1), (2, 'One two', 'one-two-1', 3)]
 
 Without options the input is CommonMark 0.31.2 and the HTML is safe to show: HTML in the input is escaped, and URLs with a protocol
 that isn't allowed become empty.
@@ -29,7 +31,7 @@ import functools
 import os
 from typing import TYPE_CHECKING, Any, Final, Iterator, List, Union, overload
 
-from ._library import Event, Flags, Library, Link
+from ._library import Event, Flags, Heading, Library, Link
 from ._library import __version__ as __version__
 
 if TYPE_CHECKING:
@@ -38,8 +40,8 @@ if TYPE_CHECKING:
     from ._library import Options, ReadOptions
 
 __all__ = [
-    "to_html", "is_safe_page", "events", "links", "decode", "normalize_label", "load", "Event", "Link", "Flags", "Library",
-    "DANGEROUS", "PLAIN", "STRIKETHROUGH", "MATH", "FRONTMATTER", "TASK_LIST_ITEMS", "TABLES", "AUTOLINK_LITERALS", "FOOTNOTES",
+    "to_html", "is_safe_page", "events", "links", "outline", "decode", "normalize_label", "load", "Event", "Link",
+    "Heading", "Flags", "Library", "DANGEROUS", "PLAIN", "STRIKETHROUGH", "MATH", "FRONTMATTER", "TASK_LIST_ITEMS", "TABLES", "AUTOLINK_LITERALS", "FOOTNOTES",
     "TAGFILTER", "MARK", "GFM",
 ]
 
@@ -127,6 +129,14 @@ def links(text: Union[str, _Bytes], flags: int = 0, **options: Unpack[ReadOption
     Raises the errors of ``to_html``.
     """
     return _own().links(text, flags, **options)
+
+
+def outline(text: Union[str, _Bytes], flags: int = 0, **options: Unpack[ReadOptions]) -> List[Heading]:
+    """Return the headings of ``text``, in the order in which they start, those in quotes, items and footnotes too.
+
+    Raises the errors of ``to_html``.
+    """
+    return _own().outline(text, flags, **options)
 
 
 @overload

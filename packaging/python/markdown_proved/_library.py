@@ -156,15 +156,40 @@ class Link(Generic[AnyStr]):
         return f"<{self.kind} {self.destination!r} {self.line}:{self.column}>"
 
 
+class Heading:
+    """A heading."""
+
+    __slots__ = ("rank", "text", "slug", "offset", "line", "column", "end_offset", "end_line", "end_column")
+    rank: int  # from 1 to 6
+    text: str  # what it says: without tags and images, with escapes and character references replaced
+    slug: str  # what GitHub uses as its id; no other heading of the text has it; may be empty
+    offset: int  # where it begins, as in ``Event``
+    line: int
+    column: int
+    end_offset: int  # where it ends
+    end_line: int
+    end_column: int
+
+    def __init__(self, texts: bytes, fields: Tuple[int, ...]) -> None:
+        self.offset, self.line, self.column, self.end_offset, self.end_line, self.end_column = fields[:6]
+        text, text_size, slug, slug_size, self.rank = fields[7:]
+        self.text = texts[text:text + text_size].decode()
+        self.slug = texts[slug:slug + slug_size].decode()
+
+    def __repr__(self) -> str:
+        return f"<heading {self.rank} {self.text!r} {self.line}:{self.column}>"
+
+
 _OK, _ROOM, _UTF8, _FLAGS, _SIZE, _MEMORY = range(6)
 _FAULTS: Final = {_UTF8: "input is not UTF-8", _FLAGS: "wrong flags", _SIZE: "input is too large"}
 
 _KINDS: Final = ("link", "image", "autolink", "literal", "definition")
 _NO_DEFINITION: Final = 2**64 - 1
 
-# A struct markdown_event, a struct markdown_link, and a byte.
+# A struct markdown_event, a struct markdown_link, a struct markdown_heading, and a byte.
 _EVENT: Final = struct.Struct("=QQQHBB4x")
 _LINK: Final = struct.Struct("=10QB7x")
+_HEADING: Final = struct.Struct("=11QB7x")
 _BYTE: Final = struct.Struct("=B")
 
 # (That of GitHub comes first, so that the others may turn off what it turns on.)
@@ -383,6 +408,7 @@ class Library:
     _convert_with: Any
     _list_events_with: Any
     _list_links_with: Any
+    _list_outline_with: Any
     _decode: Any
     _normalize_label: Any
     _check_page: Any
@@ -412,6 +438,7 @@ class Library:
             ("convert_with", [*text, options, *out]),
             ("list_events_with", [*text, options, *out]),
             ("list_links_with", [*text, options, *out, *out]),
+            ("list_outline_with", [*text, options, *out, *out]),
             ("decode", [*text, *out]),
             ("normalize_label", [*text, *out]),
             ("check_page", [*text, ctypes.POINTER(number)]),
@@ -445,6 +472,13 @@ class Library:
         array, destinations = _Array(_LINK, len(given.data) // 64 + 16), _Array(_BYTE, len(given.data) // 2 + 64)
         self._call(self._list_links_with, given.data, _options_of("links", flags, options, _PRINTING), array, destinations)
         return _links_of(given, array.data(), destinations.data())
+
+    def outline(self, text: _Text, flags: int = 0, **options: Any) -> List[Heading]:
+        given = _Given("text", text)
+        array, texts = _Array(_HEADING, len(given.data) // 64 + 16), _Array(_BYTE, len(given.data) // 4 + 64)
+        self._call(self._list_outline_with, given.data, _options_of("outline", flags, options, _PRINTING), array, texts)
+        data = texts.data()
+        return [Heading(data, fields) for fields in _HEADING.iter_unpack(array.data())]
 
     def decode(self, text: _Text) -> Any:
         return self._changed(self._decode, _Given("text", text))

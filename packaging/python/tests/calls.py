@@ -7,7 +7,7 @@ import sys
 from typing import Any, Callable, Type
 
 import markdown_proved
-from markdown_proved import GFM, MATH, Flags, decode, events, is_safe_page, links, normalize_label, to_html
+from markdown_proved import GFM, MATH, Flags, decode, events, is_safe_page, links, normalize_label, outline, to_html
 
 passed = failed = 0
 
@@ -43,7 +43,7 @@ check("dangerous", to_html("a <b>", dangerous=True), "<p>a <b></p>")
 check("plain", to_html("*a*", plain=True), "<p>*a*</p>")
 check("the sum of GitHub", int(Flags.GFM), 996)
 
-CALLS = ((to_html, "to_html"), (events, "events"), (links, "links"))
+CALLS = ((to_html, "to_html"), (events, "events"), (links, "links"), (outline, "outline"))
 for call, name in CALLS:
     check(f"{name}: a wrong type", fault(call, 3), (TypeError, "text must be str, bytes, bytearray or memoryview, not int"))
     check(f"{name}: a wrong keyword", fault(call, "", gmf=True), (TypeError, f"{name}() got an unexpected keyword argument 'gmf'"))
@@ -101,6 +101,16 @@ check("no links", links("a"), [])
 check("many links", len(links("[a](b)" * 20000)), 20000)
 check("long destinations", [len(it.destination) for it in links("[a](b" + "&ngE;" * 10000 + ")")], [1 + 10000 * len("\u226b\u0338")])
 check("an option of the page alone", fault(links, "", prefix="a"), (TypeError, "links() got an unexpected keyword argument 'prefix'"))
+headed = outline("# É *b* &amp; [c](d)\n> e\n> f\n> ---\n# é b  c\n")
+check("headings", [(it.rank, it.text, it.slug, it.line, it.column, it.end_line, it.end_column) for it in headed], [
+    (1, "É b & c", "é-b--c", 1, 1, 1, 22), (2, "e\nf", "ef", 2, 3, 4, 6), (1, "é b  c", "é-b--c-1", 5, 1, 5, 10),
+])
+check("offsets of headings", [(it.offset, it.end_offset) for it in headed], [(0, 21), (24, 35), (36, 45)])
+check("headings of bytes", [it.text for it in outline("# é".encode())], ["é"])
+check("a heading, shown", repr(headed[2]), "<heading 1 'é b  c' 5:1>")
+check("no headings", outline("a"), [])
+check("many headings", [it.slug for it in outline("# a\n" * 20000)][-1], "a-19999")
+check("an option of the page alone", fault(outline, "", prefix="a"), (TypeError, "outline() got an unexpected keyword argument 'prefix'"))
 check("many events", sum(event.enters for event in events("*a* " * 20000)) > 100000, True)
 check("the version", markdown_proved.__version__.count("."), 2)
 check("a library that isn't there", fault(markdown_proved.load, "no.so")[0], ImportError)
