@@ -31,7 +31,7 @@ LAYERS = (
     "event_",
     "compile_ parse_",
     "markdown_by_events",
-    "markdown_html markdown_block markdown_links",
+    "markdown_html markdown_block markdown_links markdown_outline",
     "markdown_input lint_ format_",
     "markdown_format",
     "markdown_events markdown_lint markdown_fmt markdown_safe markdown_c_options markdown_buffers",

@@ -1,0 +1,4 @@
+pub mod Begun
+pub mod ListedHeadings
+pub mod SaidRows
+pub mod StoredParts

@@ -1,0 +1,4 @@
+mod Differ
+mod Lowered
+pub mod Numbers
+mod Taken
