@@ -1,18 +1,18 @@
 //! The fragments of a text: those of its headings, and those that tags of raw HTML give.
 use crate::decoded::{Decoder, text_of};
 use crate::html_id::id_at;
-use crate::slug::Slugs;
 use engine_events::event::{Kind, Name};
 use lint_document::document::{Depth, Step};
 use lint_document::heading::HeadingText;
 use lint_document::{Document, Heading, Headings};
 use std::alloc::{AllocError, Global};
 use std::collections::BTreeSet;
+use text_slugs::Slugs;
 
 /// The fragments of a text.
 #[derive(Drop)]
 pub struct Fragments {
-    headings: Slugs,
+    headings: Slugs<Global>,
     tags: BTreeSet<String>,
     alloc: Global,
 }
@@ -21,7 +21,7 @@ impl Fragments {
     /// The fragments of a text. Fails if memory runs out.
     pub fn of(alloc: Global, document: &Document<'_>) -> Result<Fragments, AllocError> {
         let mut fragments = Fragments {
-            headings: Slugs::new(alloc),
+            headings: Slugs::new(alloc)?,
             tags: BTreeSet::new(alloc),
             alloc,
         };
@@ -56,7 +56,8 @@ impl Fragments {
         if let Some(text) = heading.text {
             push_said(document, text, &mut said)?;
         }
-        self.headings.add(said.as_str())
+        let mut slug = String::new(self.alloc);
+        self.headings.add(&mut slug, said.as_str())
     }
 
     /// Adds the values of the attributes `id` and `name` in a line of raw HTML.

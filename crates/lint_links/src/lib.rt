@@ -11,7 +11,6 @@ mod missing_fragment;
 mod no_alt_text;
 mod reversed_link;
 mod rules;
-mod slug;
 mod target;
 
 pub use fragments::Fragments;
