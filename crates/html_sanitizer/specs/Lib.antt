@@ -1,0 +1,4 @@
+pub mod Listing
+pub mod Page
+pub mod Attributes
+pub mod Sanitized
