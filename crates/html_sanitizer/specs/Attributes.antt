@@ -1,7 +1,7 @@
 -- The attributes of a tag, cut from it from left to right. A tag is a list of codes, in which CR LF may be one code or two.
-use Rattle.std.specs.Prelude.{ℕ, zero, suc, Bool, false, if◌then◌else◌, ◌==◌, ◌&&◌, nat_lt, List, [], ◌∷◌, Option, None, Some, codes, map, take, drop, length}
+use Rattle.std.specs.Prelude.{ℕ, zero, suc, Bool, false, if◌then◌else◌, ◌==◌, ◌&&◌, List, [], ◌∷◌, Option, None, Some, codes, map, take, drop, length}
 use Rattle.std.proofs.Common.{Bor}
-use Rattle.std.specs.List.{prefix_len, take_while}
+use Rattle.std.specs.List.{flat_map, prefix_len, take_while}
 use Rattle.std.specs.Option.{option_map}
 use Rattle.std.specs.Str.{bytes_eq}
 use Rattle.definition_text.specs.Ascii.{double_quote, single_quote}
@@ -11,7 +11,8 @@ use Rattle.definition_text.specs.Content.{Part, part}
 use Rattle.definition_inline.specs.CharacterReference.{Names}
 use Rattle.definition_inline.specs.HtmlTags.{is_attribute_byte, is_tag_space, is_unquoted, begins_with_attribute}
 use Rattle.definition_inline.specs.HtmlText.{html_byte}
-use Rattle.html_listed.specs.Attributes.{Written, decoded}
+use Rattle.definition_page.specs.Tags as tags
+use Rattle.html_listed.specs.Attributes.{Written, decoded, first_of, if_written}
 use Rattle.html_sanitizer.specs.declared.attributes.Written as code
 
 -- ---- one attribute
@@ -76,10 +77,14 @@ abbrev pub split_attribute : List Code → Option SplitAttribute
 split_attribute html =
     let after = after_all is_attribute_byte html in named (take_while is_attribute_byte html) after (after_space after)
 
+abbrev pub begins_with_space : List Code → Bool
+begins_with_space [] = false
+begins_with_space (c ∷ cs) = is_space_code c
+
 -- what follows white space, if an attribute begins there
 abbrev pub attribute_start : List Code → Option (List Code)
 attribute_start html =
-    let start = after_space html in if nat_lt (length start) (length html) && begins_with_attribute start then Some start else None
+    let start = after_space html in if begins_with_space html && begins_with_attribute start then Some start else None
 
 -- ---- all attributes
 
@@ -134,3 +139,7 @@ split_of (Some p) = Some (split (attribute_of p.0) p.1.now)
 abbrev pub first_value : List ℕ → List Attribute → Option (List ℕ)
 first_value name [] = None
 first_value name (a ∷ others) = if bytes_eq name (lower a.name) then Some a.value else first_value name others
+
+-- the attributes with these names, in this order
+abbrev pub named_attributes : List (List ℕ) → List Written → List tags.Attribute
+named_attributes names ws = flat_map (λ a. if_written a (first_of a ws)) names

@@ -3,14 +3,15 @@ ghost use Rattle.std.specs.Prelude.{◌≡◌, ◌++◌, ◌<◌, ℕ, List, IfO
 ghost use Rattle.std.specs.List.{flat_map, prefix_len};
 ghost use Rattle.std.specs.Option.{option_copied};
 ghost use Rattle.definition_text.specs.Encode.{encode};
-ghost use Rattle.definition_inline.specs.HtmlTags.{begins_attribute, is_attribute_byte};
+ghost use Rattle.definition_inline.specs.HtmlTags.{begins_attribute, begins_with_attribute, is_attribute_byte};
 ghost use Rattle.definition_page.specs.Tags.{attribute, attribute_bytes};
-ghost use Rattle.html_listed.specs.Attributes.{decoded, kept, url_attributes};
-ghost use Rattle.html_sanitizer.specs.Attributes.{is_space_code, is_unquoted_code, after_space, split_value, split_attribute, attribute_start, cut, rest_after};
-ghost use Rattle.html_sanitizer.specs.Attributes.{read_attribute, attributes_of, part_of, split_of, first_value};
+ghost use Rattle.html_listed.specs.Attributes.{code_bytes, decoded, first_of, if_written, kept, url_attributes, url_bytes};
+ghost use Rattle.html_sanitizer.specs.Attributes.{is_space_code, is_unquoted_code, after_space, split_value, split_attribute, begins_with_space, attribute_start, cut, rest_after};
+ghost use Rattle.html_sanitizer.specs.Attributes.{read_attribute, named_attributes, attributes_of, part_of, split_of, first_value};
+ghost use Rattle.html_sanitizer.specs.Listing.{texts_of};
 
 use crate::listing::{LISTED_ATTRIBUTES, is_lower};
-use crate::urls::{push_image_url, push_link_url, push_url_bytes};
+use crate::urls::{Buffers, clean_url, push_image_url, push_link_url};
 use html_escape::push_encoded;
 use inline_references::push_decoded;
 use markdown_options::{CompileOptions, Tables};
@@ -21,15 +22,6 @@ use std::alloc::{AllocError, Allocator};
 pub(crate) struct Written<'a> {
     name: &'a str,
     value: &'a str,
-}
-
-/// Buffers.
-#[derive(Drop)]
-pub(crate) struct Buffers<A: Allocator> {
-    /// A text without references.
-    pub(crate) text: String<A>,
-    /// A URL.
-    pub(crate) url: String<A>,
 }
 
 // ---- as written
@@ -117,9 +109,28 @@ fn attribute_start(text: &str) -> Option<&str>
     ensures { option_copied result ≡ attribute_start text.now }
 {
     let start = after_space(text);
-    match start.as_bytes().first() {
-        Some(byte) if start.len() < text.len() && begins_attribute(*byte) => Some(start),
-        _ => None,
+    if begins_with_space(text.as_bytes()) && begins_with_attribute(start.as_bytes()) {
+        Some(start)
+    } else {
+        None
+    }
+}
+
+fn begins_with_space(bytes: &[u8]) -> bool
+    ensures { result ≡ begins_with_space bytes.now }
+{
+    match bytes.first() {
+        Some(byte) => is_tag_space(*byte),
+        None => false,
+    }
+}
+
+fn begins_with_attribute(bytes: &[u8]) -> bool
+    ensures { result ≡ begins_with_attribute bytes.now }
+{
+    match bytes.first() {
+        Some(byte) => begins_attribute(*byte),
+        None => false,
     }
 }
 
@@ -165,6 +176,23 @@ fn push_start<A: Allocator>(out: &mut String<A>, name: &str) -> Result<(), Alloc
     out.push_str("=\"")
 }
 
+/// Appends an attribute without a URL, if it is written.
+fn push_if_written<A: Allocator, T: Tables>(
+    out: &mut String<A>,
+    text: &mut String<A>,
+    tables: &T,
+    name: &str,
+    written: &[Written<'_>],
+) -> Result<(), AllocError>
+    ensures { let attributes = map (read_attribute (T.reference_of tables.now)) (attributes_of written.now) in
+        OnOk result (string_bytes out.new ≡ string_bytes out.old ++ flat_map attribute_bytes (if_written name.now (first_of name.now attributes))) }
+{
+    match first_of(name, written) {
+        Some(value) => push_attribute(out, text, tables, name, value),
+        None => Ok(()),
+    }
+}
+
 /// Appends an attribute without a URL.
 fn push_attribute<A: Allocator, T: Tables>(
     out: &mut String<A>,
@@ -178,41 +206,72 @@ fn push_attribute<A: Allocator, T: Tables>(
 {
     text.clear();
     push_decoded(text, value, tables)?;
+    push_text_attribute(out, name, text.as_str())
+}
+
+/// Appends an attribute whose value is a text.
+fn push_text_attribute<A: Allocator>(
+    out: &mut String<A>,
+    name: &str,
+    text: &str,
+) -> Result<(), AllocError>
+    ensures { OnOk result (string_bytes out.new ≡ string_bytes out.old ++ attribute_bytes (attribute name.now (code_bytes text.now))) }
+{
     push_start(out, name)?;
-    push_encoded(out, text.as_str())?;
+    push_encoded(out, text)?;
     out.push_str("\"")
 }
 
-/// Appends the attribute with a URL that an element of this name may have, if it is written.
-fn push_url_attribute<A: Allocator, T: Tables>(
+/// Reads a URL: a value without references, tabs and line endings.
+fn read_url<A: Allocator, T: Tables>(
+    buffers: &mut Buffers<A>,
+    tables: &T,
+    value: &str,
+) -> Result<(), AllocError>
+    ensures { OnOk result (string_bytes buffers.new.url ≡ url_bytes (decoded (T.reference_of tables.now) value.now)) }
+{
+    buffers.text.clear();
+    push_decoded(&mut buffers.text, value, tables)?;
+    clean_url(&mut buffers.url, &mut buffers.other, buffers.text.as_str())
+}
+
+/// Appends the `href` of a link, if it is written.
+fn push_href<A: Allocator, T: Tables>(
     out: &mut String<A>,
     buffers: &mut Buffers<A>,
     options: &CompileOptions,
     tables: &T,
-    name: &str,
     written: &[Written<'_>],
 ) -> Result<(), AllocError>
     ensures { let attributes = map (read_attribute (T.reference_of tables.now)) (attributes_of written.now) in
-        OnOk result (string_bytes out.new ≡ string_bytes out.old ++ flat_map attribute_bytes (url_attributes options.now name.now attributes)) }
+        OnOk result (string_bytes out.new ≡ string_bytes out.old ++ flat_map attribute_bytes (url_attributes options.now (codes "a") attributes)) }
 {
-    let is_link = name == "a";
-    if !is_link && name != "img" {
-        return Ok(());
-    }
-    let attribute = if is_link { "href" } else { "src" };
-    let Some(value) = first_of(attribute, written) else {
+    let Some(value) = first_of("href", written) else {
         return Ok(());
     };
-    buffers.text.clear();
-    push_decoded(&mut buffers.text, value, tables)?;
-    buffers.url.clear();
-    push_url_bytes(&mut buffers.url, buffers.text.as_str())?;
-    push_start(out, attribute)?;
-    if is_link {
-        push_link_url(out, options, buffers.url.as_str())?;
-    } else {
-        push_image_url(out, options, buffers.url.as_str())?;
-    }
+    read_url(buffers, tables, value)?;
+    push_start(out, "href")?;
+    push_link_url(out, options, buffers.url.as_str())?;
+    out.push_str("\"")
+}
+
+/// Appends the `src` of an image, if it is written.
+fn push_src<A: Allocator, T: Tables>(
+    out: &mut String<A>,
+    buffers: &mut Buffers<A>,
+    options: &CompileOptions,
+    tables: &T,
+    written: &[Written<'_>],
+) -> Result<(), AllocError>
+    ensures { let attributes = map (read_attribute (T.reference_of tables.now)) (attributes_of written.now) in
+        OnOk result (string_bytes out.new ≡ string_bytes out.old ++ flat_map attribute_bytes (url_attributes options.now (codes "img") attributes)) }
+{
+    let Some(value) = first_of("src", written) else {
+        return Ok(());
+    };
+    read_url(buffers, tables, value)?;
+    push_start(out, "src")?;
+    push_image_url(out, options, buffers.url.as_str())?;
     out.push_str("\"")
 }
 
@@ -229,10 +288,41 @@ pub(crate) fn push_attributes<A: Allocator, T: Tables>(
         OnOk result (string_bytes out.new ≡ string_bytes out.old ++ flat_map attribute_bytes (kept options.now name.now attributes)) }
 {
     push_url_attribute(out, buffers, options, tables, name, written)?;
-    for attribute in LISTED_ATTRIBUTES {
-        if let Some(value) = first_of(attribute, written) {
-            push_attribute(out, &mut buffers.text, tables, attribute, value)?;
-        }
+    push_listed(out, &mut buffers.text, tables, &LISTED_ATTRIBUTES, written)
+}
+
+/// Appends the attribute with a URL that an element of this name may have, if it is written.
+fn push_url_attribute<A: Allocator, T: Tables>(
+    out: &mut String<A>,
+    buffers: &mut Buffers<A>,
+    options: &CompileOptions,
+    tables: &T,
+    name: &str,
+    written: &[Written<'_>],
+) -> Result<(), AllocError>
+    ensures { let attributes = map (read_attribute (T.reference_of tables.now)) (attributes_of written.now) in
+        OnOk result (string_bytes out.new ≡ string_bytes out.old ++ flat_map attribute_bytes (url_attributes options.now name.now attributes)) }
+{
+    match name {
+        "a" => push_href(out, buffers, options, tables, written),
+        "img" => push_src(out, buffers, options, tables, written),
+        _ => Ok(()),
+    }
+}
+
+/// Appends the attributes without a URL that have one of these names, in this order.
+fn push_listed<A: Allocator, T: Tables>(
+    out: &mut String<A>,
+    text: &mut String<A>,
+    tables: &T,
+    names: &[&str],
+    written: &[Written<'_>],
+) -> Result<(), AllocError>
+    ensures { let attributes = map (read_attribute (T.reference_of tables.now)) (attributes_of written.now) in
+        OnOk result (string_bytes out.new ≡ string_bytes out.old ++ flat_map attribute_bytes (named_attributes (texts_of names.now) attributes)) }
+{
+    for name in names {
+        push_if_written(out, text, tables, name, written)?;
     }
     Ok(())
 }

@@ -1,12 +1,12 @@
 //! Which elements and attributes are kept. Names are in lower case.
-ghost use Rattle.std.specs.Prelude.{◌≡◌};
+ghost use Rattle.std.specs.Prelude.{◌≡◌, map};
 ghost use Rattle.std.specs.Char.{is_ascii_uppercase};
 ghost use Rattle.std.specs.List.{list_any};
 ghost use Rattle.std.specs.Option.{option_copied};
 ghost use Rattle.std.specs.Str.{bytes_eq};
 ghost use Rattle.definition_text.specs.Bytes.{lower};
-ghost use Rattle.html_listed.specs.Listing.{is_in, parents_of};
-ghost use Rattle.html_sanitizer.specs.Listing.{texts_of, found_name, listed_name};
+ghost use Rattle.html_listed.specs.Listing.{is_in, parents_by, parents_of};
+ghost use Rattle.html_sanitizer.specs.Listing.{texts_of, found_name, listed_name, row_of};
 
 /// Elements that may stand anywhere.
 const FREE_NAMES: [&str; 39] = [
@@ -24,6 +24,39 @@ pub(crate) const VOID_NAMES: [&str; 5] = ["br", "hr", "img", "source", "wbr"];
 /// Elements that stand only right in some others.
 const PART_NAMES: [&str; 12] = [
     "li", "dt", "dd", "rt", "rp", "caption", "thead", "tbody", "tfoot", "tr", "td", "th",
+];
+
+/// Parts of elements, and the elements that they stand right in.
+struct PartRow {
+    names: &'static [&'static str],
+    parents: &'static [&'static str],
+}
+
+const PART_ROWS: [PartRow; 6] = [
+    PartRow {
+        names: &["li"],
+        parents: &["ul", "ol"],
+    },
+    PartRow {
+        names: &["dt", "dd"],
+        parents: &["dl"],
+    },
+    PartRow {
+        names: &["rt", "rp"],
+        parents: &["ruby"],
+    },
+    PartRow {
+        names: &["caption", "thead", "tbody", "tfoot"],
+        parents: &["table"],
+    },
+    PartRow {
+        names: &["tr"],
+        parents: &["table", "thead", "tbody", "tfoot"],
+    },
+    PartRow {
+        names: &["td", "th"],
+        parents: &["tr"],
+    },
 ];
 
 /// Elements that hold nothing but their parts and text.
@@ -89,13 +122,17 @@ pub(crate) fn listed_name(written: &str) -> Option<&'static str>
 pub(crate) fn parents_of(name: &str) -> &'static [&'static str]
     ensures { texts_of result.now ≡ parents_of name.now }
 {
-    match name {
-        "li" => &["ul", "ol"],
-        "dt" | "dd" => &["dl"],
-        "rt" | "rp" => &["ruby"],
-        "caption" | "thead" | "tbody" | "tfoot" => &["table"],
-        "tr" => &["table", "thead", "tbody", "tfoot"],
-        "td" | "th" => &["tr"],
-        _ => &[],
+    parents_by(&PART_ROWS, name)
+}
+
+/// The elements that a part stands right in, by these rows.
+fn parents_by(rows: &'static [PartRow], name: &str) -> &'static [&'static str]
+    ensures { texts_of result.now ≡ parents_by (map row_of rows.now) name.now }
+{
+    for row in rows {
+        if is_in(row.names, name) {
+            return row.parents;
+        }
     }
+    &[]
 }

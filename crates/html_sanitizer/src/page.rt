@@ -1,13 +1,15 @@
 //! The page that is printed, and the raw elements that are open in it.
-ghost use Rattle.std.specs.Prelude.{◌≡◌, ℕ, ◌++◌, ◌∷◌, [], IfOk, OnOk, codes, if◌then◌else◌, string_bytes};
+ghost use Rattle.std.specs.Prelude.{◌≡◌, ℕ, ◌++◌, ◌∷◌, ◌<◌, [], IfOk, OnOk, if◌then◌else◌, length, nat_lt, slice_index_or, string_bytes};
+ghost use Rattle.definition_text.specs.Encode.{encode};
 ghost use Rattle.definition_page.specs.Tags.{Tag, end_tag};
-ghost use Rattle.html_listed.specs.State.{State, nothing_open, with_open, opened, ended, ended_to, all_ended, count_to, begins_with_frame, with_room};
+ghost use Rattle.html_listed.specs.State.{State, nothing_open, says, with_open, opened, ended, ended_to, all_ended, count_to, begins_with_frame, without_frame, with_room};
 ghost use Rattle.html_listed.specs.Listed.{begins};
 ghost use Rattle.html_safe_page.specs.Views.{open_names};
 ghost use Rattle.html_sanitizer.specs.Listing.{texts_of};
 ghost use Rattle.html_sanitizer.specs.Page.{page_state};
 
 use crate::listing::{DEEPEST, FRAME_NAMES, HEADING_NAMES, is_in, parents_of};
+use html_escape::push_encoded;
 use std::alloc::{AllocError, Allocator};
 
 /// A page up to a place.
@@ -32,6 +34,13 @@ impl<A: Allocator + Clone> Page<A> {
 }
 
 impl<A: Allocator> Page<A> {
+    /// Prints a text.
+    pub(crate) fn push_text(&mut self, text: &str) -> Result<(), AllocError>
+        ensures { OnOk result (page_state self.new ≡ says (encode text.now) (page_state self.old)) }
+    {
+        push_encoded(&mut self.out, text)
+    }
+
     /// An element of this name is open from here on.
     pub(crate) fn open(&mut self, name: &'static str) -> Result<(), AllocError>
         ensures { OnOk result (page_state self.new ≡ with_open (name.now ∷ open_names self.old.names.items) (page_state self.old)) }
@@ -44,30 +53,22 @@ impl<A: Allocator> Page<A> {
     pub(crate) fn end(&mut self, count: usize) -> Result<(), AllocError>
         ensures { OnOk result (page_state self.new ≡ ended count (page_state self.old)) }
     {
-        for _ in 0..count {
+        let mut left = count;
+        while left > 0 {
             let Some(name) = self.names.pop() else {
                 return Ok(());
             };
             push_end_tag(&mut self.out, name)?;
+            left -= 1;
         }
         Ok(())
-    }
-
-    /// How many elements are open up to the last one of these names, with it; 0 if none is.
-    fn count_to(&self, wanted: &[&str]) -> usize
-        ensures { result ≡ count_to (texts_of wanted.now) (open_names self.now.names.items) }
-    {
-        match self.names.iter().rev().position(|name| is_in(wanted, name)) {
-            Some(above) => above + 1,
-            None => 0,
-        }
     }
 
     /// Ends the last element of these names, with those in it.
     pub(crate) fn end_to(&mut self, wanted: &[&str]) -> Result<(), AllocError>
         ensures { OnOk result (page_state self.new ≡ ended_to (texts_of wanted.now) (page_state self.old)) }
     {
-        let count = self.count_to(wanted);
+        let count = count_to(self.names.as_slice(), wanted);
         self.end(count)
     }
 
@@ -83,8 +84,8 @@ impl<A: Allocator> Page<A> {
     fn is_in_frame(&self) -> bool
         ensures { result ≡ begins_with_frame (open_names self.now.names.items) }
     {
-        match self.names.last() {
-            Some(name) => is_in(&FRAME_NAMES, name),
+        match self.names.as_slice().split_last() {
+            Some((name, _)) => is_in(&FRAME_NAMES, name),
             None => false,
         }
     }
@@ -93,13 +94,23 @@ impl<A: Allocator> Page<A> {
     pub(crate) fn make_room(&mut self, name: &str) -> Result<(), AllocError>
         ensures { OnOk result (page_state self.new ≡ with_room name.now (page_state self.old)) }
     {
-        if self.is_in_frame() {
-            self.end_to(&["table"])?;
-        }
+        self.end_frame()?;
         if is_in(&HEADING_NAMES, name) {
-            self.end_to(&HEADING_NAMES)?;
+            self.end_to(&HEADING_NAMES)
+        } else {
+            Ok(())
         }
-        Ok(())
+    }
+
+    /// Ends a table that would hold something else than its parts.
+    fn end_frame(&mut self) -> Result<(), AllocError>
+        ensures { OnOk result (page_state self.new ≡ without_frame (page_state self.old)) }
+    {
+        if self.is_in_frame() {
+            self.end_to(&["table"])
+        } else {
+            Ok(())
+        }
     }
 
     /// Ends what is open above the place of an element of this name. Returns whether there is one.
@@ -110,15 +121,41 @@ impl<A: Allocator> Page<A> {
         let parents = parents_of(name);
         if parents.is_empty() {
             self.make_room(name)?;
-        } else {
-            let count = self.count_to(parents);
-            if count == 0 {
-                return Ok(false);
-            }
-            self.end(count - 1)?;
+            return Ok(self.has_room());
         }
-        Ok(self.names.len() < DEEPEST)
+        let count = count_to(self.names.as_slice(), parents);
+        if count == 0 {
+            return Ok(false);
+        }
+        self.end(count - 1)?;
+        Ok(self.has_room())
     }
+
+    /// Whether one more element may be open.
+    fn has_room(&self) -> bool
+        ensures { result ≡ nat_lt (length (open_names self.now.names.items)) 50 }
+    {
+        self.names.len() < DEEPEST
+    }
+}
+
+/// How many elements are open up to the last one of these names, with it; 0 if none is.
+fn count_to(names: &[&str], wanted: &[&str]) -> usize
+    ensures { result ≡ count_to (texts_of wanted.now) (open_names names.now) }
+{
+    for above in 0..names.len() {
+        if is_in(wanted, name_at(names, names.len() - 1 - above)) {
+            return above + 1;
+        }
+    }
+    0
+}
+
+fn name_at<'a>(names: &[&'a str], place: usize) -> &'a str
+    requires { place < length names.now }
+    ensures { result.now ≡ slice_index_or (texts_of names.now) place [] }
+{
+    names[place]
 }
 
 /// Appends an end tag.

@@ -1,10 +1,10 @@
 //! Parts of raw HTML: tags, and what else begins with `<` or `&` (CommonMark 2.5 and 6.6).
-ghost use Rattle.std.specs.Prelude.{◌≡◌, ◌++◌, ◌∷◌, ◌≤◌, ℕ, List, IfOk, OnOk, codes, length, map, string_bytes, true};
+ghost use Rattle.std.specs.Prelude.{◌≡◌, ◌++◌, ◌∷◌, ◌<◌, ◌≤◌, ℕ, List, IfOk, OnOk, codes, drop, length, map, slice_index, string_bytes, true};
 ghost use Rattle.std.specs.List.{prefix_len};
 ghost use Rattle.definition_text.specs.Ascii.{ampersand};
-ghost use Rattle.definition_text.specs.Bytes.{after_all, begins_with};
+ghost use Rattle.definition_text.specs.Bytes.{after_all, begins_with, without_slash};
 ghost use Rattle.definition_inline.specs.Decoded.{known_at};
-ghost use Rattle.definition_inline.specs.HtmlTags.{is_tag_name_byte};
+ghost use Rattle.definition_inline.specs.HtmlTags.{is_tag_name_byte, tag_name};
 ghost use Rattle.definition_page.specs.Tags.{tag, tag_bytes};
 ghost use Rattle.html_listed.specs.Attributes.{kept};
 ghost use Rattle.html_listed.specs.Listed.{raw_part};
@@ -13,9 +13,10 @@ ghost use Rattle.html_sanitizer.specs.Attributes.{attributes_of, read_attribute}
 ghost use Rattle.html_sanitizer.specs.Page.{page_state};
 ghost use Rattle.html_sanitizer.specs.Sanitized.{reference_part};
 
-use crate::attributes::{Buffers, Written, after_space, push_attributes, read_attributes};
+use crate::attributes::{Written, after_space, push_attributes, read_attributes};
 use crate::listing::{VOID_NAMES, is_in, listed_name};
 use crate::page::Page;
+use crate::urls::Buffers;
 use html_escape::push_encoded;
 use inline_references::{character_reference, push_value};
 use markdown_options::{CompileOptions, Tables};
@@ -50,25 +51,50 @@ pub(crate) fn push_html<'a, A: Allocator, T: Tables>(
     tables: &T,
     html: &'a str,
 ) -> Result<(), AllocError>
-    requires { begins_with (codes "<") html.now ≡ true }
-    ensures { OnOk result (page_state page.new ≡ raw_part (page_state page.old) (token_part (T.reference_of tables.now) options.now html.now)) }
+    ensures printed { begins_with (codes "<") html.now ≡ true
+        → OnOk result (page_state page.new ≡ raw_part (page_state page.old) (token_part (T.reference_of tables.now) options.now html.now)) }
+    ensures bytes { (k : ℕ) → slice_index html.now k < 256 }
 {
-    if html.starts_with("<!--") {
+    let bytes = html.as_bytes();
+    if bytes.starts_with(b"<!--") {
         return Ok(());
     }
-    let Some(inside) = html.strip_prefix('<') else {
-        return push_encoded(&mut page.out, html);
+    let inside = after_sign(html);
+    let Some(name) = listed_name(split_name(without_slash(inside)).0) else {
+        return page.push_text(html);
     };
-    let closed = inside.strip_prefix('/');
-    let tag = closed.unwrap_or(inside);
-    let (name, after) = tag.split_at(name_size(tag.as_bytes()));
-    let Some(name) = listed_name(name) else {
-        return push_encoded(&mut page.out, html);
-    };
-    if closed.is_some() {
+    if bytes.starts_with(b"</") {
         return page.end_to(&[name]);
     }
-    push_open_tag(page, scratch, options, tables, name, after)
+    push_open_tag(page, scratch, options, tables, name, split_name(inside).1)
+}
+
+/// What follows the `<` at the start of a text.
+fn after_sign(text: &str) -> &str
+    ensures { begins_with (codes "<") text.now ≡ true → result.now ≡ drop 1 text.now }
+{
+    match text.strip_prefix('<') {
+        Some(inside) => inside,
+        None => text,
+    }
+}
+
+/// A text without a `/` at the front.
+fn without_slash(text: &str) -> &str
+    ensures { result.now ≡ without_slash text.now }
+{
+    match text.strip_prefix('/') {
+        Some(rest) => rest,
+        None => text,
+    }
+}
+
+/// The name of a tag, and what follows it.
+fn split_name(text: &str) -> (&str, &str)
+    ensures name { result.0.now ≡ tag_name text.now }
+    ensures rest { result.1.now ≡ after_all is_tag_name_byte text.now }
+{
+    text.split_at(name_size(text.as_bytes()))
 }
 
 /// Prints an open tag of this name, by what follows its name.
@@ -88,7 +114,8 @@ fn push_open_tag<'a, A: Allocator, T: Tables>(
     if is_in(&VOID_NAMES, name) {
         page.make_room(name)?;
         push_tag(&mut page.out, scratch, options, tables, name)?;
-        return page.out.push_str(" />");
+        page.out.push_str(" />")?;
+        return Ok(());
     }
     if !page.find_place(name)? {
         return Ok(());
@@ -96,10 +123,11 @@ fn push_open_tag<'a, A: Allocator, T: Tables>(
     push_tag(&mut page.out, scratch, options, tables, name)?;
     page.out.push_str(">")?;
     page.open(name)?;
-    if after_space(rest).starts_with('/') {
-        page.end(1)?;
+    if after_space(rest).as_bytes().starts_with(b"/") {
+        page.end(1)
+    } else {
+        Ok(())
     }
-    Ok(())
 }
 
 /// Appends a tag with the attributes that were read, before what ends it.

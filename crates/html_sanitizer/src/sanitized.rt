@@ -1,19 +1,22 @@
 //! Any HTML to a page of the list.
-ghost use Rattle.std.specs.Prelude.{◌≡◌, ◌++◌, ◌<◌, IfOk, OnOk, length, string_bytes};
+ghost use Rattle.std.specs.Prelude.{◌≡◌, ◌++◌, ◌∷◌, IfOk, OnOk, codes, string_bytes, true};
+ghost use Rattle.std.specs.List.{position_or_len};
+ghost use Rattle.definition_text.specs.Ascii.{less_than};
+ghost use Rattle.definition_text.specs.Bytes.{begins_with};
 ghost use Rattle.definition_text.specs.Encode.{encode};
 ghost use Rattle.html_listed.specs.Listed.{sanitized};
 ghost use Rattle.html_listed.specs.Laws.{HaveSafeProtocols, IsSanitized};
 ghost use Rattle.inline_links.specs.Codes.{IsRest, IsShorterRest};
 ghost use Rattle.markdown_options.specs.Defaults.{default_constructs};
 ghost use Rattle.html_sanitizer.specs.Page.{page_state};
-ghost use Rattle.html_sanitizer.specs.Sanitized.{page_after, after_marks, before_marks, IsMarked};
+ghost use Rattle.html_sanitizer.specs.Sanitized.{page_after, after_marks, before_marks, is_mark, IsMarked};
 
-use crate::attributes::Buffers;
 use crate::page::Page;
 use crate::raw::{Scratch, push_html, push_reference};
+use crate::urls::Buffers;
 use html_escape::push_encoded;
 use inline_constructs::searches::Searches;
-use inline_leaves::{Leaf, LeafPart};
+use inline_leaves::LeafPart;
 use markdown_options::{CompileOptions, Constructs, Tables};
 use std::alloc::{AllocError, Allocator};
 use text_search::{BytePair, next_of};
@@ -41,6 +44,7 @@ pub fn sanitized_html<A: Allocator + Clone, T: Tables>(
         buffers: Buffers {
             text: String::new(alloc.clone()?),
             url: String::new(alloc.clone()?),
+            other: String::new(alloc.clone()?),
         },
     };
     let mut searches = Searches::new(alloc, html);
@@ -58,9 +62,16 @@ fn push_text<'a, A: Allocator>(out: &mut String<A>, text: &'a str) -> Result<&'a
     ensures printed { OnOk result (string_bytes out.new ≡ string_bytes out.old ++ encode (before_marks text.now)) }
     ensures rest { IfOk result (λ rest. rest.now ≡ after_marks text.now) }
 {
-    let (before, rest) = text.split_at(next_of(text.as_bytes(), MARKS));
+    let (before, rest) = text.split_at(text_size(text.as_bytes()));
     push_encoded(out, before)?;
     Ok(rest)
+}
+
+/// How many bytes are before the first `<` or `&`.
+fn text_size(bytes: &[u8]) -> usize
+    ensures { result ≡ position_or_len is_mark bytes.now }
+{
+    next_of(bytes, MARKS)
 }
 
 /// Prints what begins with `<` or `&`. Returns what follows.
@@ -82,15 +93,29 @@ fn push_part<'a, A: Allocator + Clone, T: Tables>(
     ensures shorter { IfOk result (λ after. IsShorterRest rest.now after.now) }
 {
     if let Some(after) = rest.strip_prefix('&') {
-        return push_reference(&mut page.out, &mut scratch.buffers.text, tables, after);
+        let next = push_reference(&mut page.out, &mut scratch.buffers.text, tables, after)?;
+        return Ok(next);
     }
-    if let Some(Leaf { part: LeafPart::Html(html), after }) = searches.html_text_at(on, rest) {
-        push_html(page, scratch, options, tables, html)?;
-        return Ok(after);
-    }
-    let Some(after) = rest.strip_prefix('<') else {
+    let Some(found) = searches.html_text_at(on, rest) else {
+        let next = push_sign(&mut page.out, rest)?;
+        return Ok(next);
+    };
+    let LeafPart::Html(html) = found.part else {
         return Ok("");
     };
-    page.out.push_str("&lt;")?;
+    push_html(page, scratch, options, tables, html)?;
+    Ok(found.after)
+}
+
+/// Appends the `<` that a text begins with. Returns what follows.
+fn push_sign<'a, A: Allocator>(out: &mut String<A>, text: &'a str) -> Result<&'a str, AllocError>
+    requires { begins_with (codes "<") text.now ≡ true }
+    ensures printed { OnOk result (string_bytes out.new ≡ string_bytes out.old ++ codes "&lt;") }
+    ensures rest { IfOk result (λ rest. text.now ≡ less_than ∷ rest.now) }
+{
+    let Some(after) = text.strip_prefix('<') else {
+        return Ok("");
+    };
+    out.push_str("&lt;")?;
     Ok(after)
 }
