@@ -1,13 +1,13 @@
 -- A page up to a place, and what ends in it.
-use Rattle.std.proofs.Common.{◌≡◌, ℕ, zero, suc, ◌+◌, ◌-◌, ◌<◌, ◌≤◌, Bool, true, false, not, ◌||◌, cond, eqb, List, [], ◌∷◌, ◌++◌, codes, length, take, drop, refl, sym, ap, ◌∙◌}
-use Rattle.std.proofs.Common.{Bor, arith, inl, inr, get_or, map}
+use Rattle.std.proofs.Common.{◌≡◌, ℕ, zero, suc, ◌+◌, ◌-◌, ◌<◌, ◌≤◌, Bool, true, false, not, ◌||◌, cond, eqb, List, [], ◌∷◌, ◌++◌, length, take, refl, sym, ap, ◌∙◌}
+use Rattle.std.proofs.Common.{Bor, arith, inl, inr, get_or}
 use Rattle.std.specs.Prelude.{nat_lt, nat_le}
 use Rattle.std.specs.List.{list_all, list_any, prefix_len}
 use Rattle.std.proofs.lemmas.Bool.{cases_Bool, cond-true, cond-false, lt-ltb, le-ltb, leb-true, leb-false, and_parts, ne_eqb}
 use Rattle.std.proofs.lemmas.List.{take_all}
-use Rattle.definition_page.specs.Tags.{Tag, end_tag, start_tag}
+use Rattle.definition_page.specs.Tags.{Tag, end_tag}
 use Rattle.html_listed.specs.Listing.{is_in, is_part, PartRow, part_rows, parents_by, parents_of, heading_names, frame_names}
-use Rattle.html_listed.specs.State.{State, state, level, says, with_open, opened, ended_of, ended, count_to, ended_to, begins_with_frame, without_frame, with_room}
+use Rattle.html_listed.specs.State.{State, state, level, says, with_open, opened, ended_of, ended, count_to, begins_with_frame, with_room}
 use Rattle.html_listed.specs.Listed.{begun, begun_in, begun_heading, begins}
 use Rattle.html_safe_page.specs.Views.{onto, open_names}
 use Rattle.html_safe_page.proofs.Follow.{open_push}

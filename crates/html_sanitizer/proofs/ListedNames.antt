@@ -1,12 +1,12 @@
 -- Names of the list, found in tables.
-use Rattle.std.proofs.Common.{◌≡◌, ℕ, Bool, true, false, ◌||◌, cond, List, [], ◌∷◌, ◌++◌, Option, None, Some, codes, refl, sym, ap, ◌∙◌, zero, suc, ◌<◌, Bor, length, drop, get_or, arith}
+use Rattle.std.proofs.Common.{◌≡◌, ℕ, Bool, true, false, ◌||◌, cond, List, [], ◌∷◌, ◌++◌, None, Some, codes, refl, sym, ap, ◌∙◌, zero, suc, ◌<◌, Bor, length, drop, get_or, arith}
 use Rattle.std.proofs.lemmas.Bool.{cond-true}
 use Rattle.std.proofs.lemmas.Slice.Eq.{bytes_eq-Decides}
 use Rattle.std.specs.List.{list_any, flat_map}
 use Rattle.std.specs.Option.{option_or}
 use Rattle.std.specs.Str.{bytes_eq}
 use Rattle.definition_text.specs.Bytes.{lower}
-use Rattle.html_listed.specs.Listing.{is_in, is_listed, is_part, free_names, heading_names, void_names, PartRow, part_rows}
+use Rattle.html_listed.specs.Listing.{is_in, free_names, heading_names, void_names, PartRow, part_rows}
 use Rattle.html_sanitizer.specs.Listing.{texts_of, found_name, listed_name}
 
 or_step : (a b c d : Bool) → b ≡ (c || d) → (a || b) ≡ ((a || c) || d)

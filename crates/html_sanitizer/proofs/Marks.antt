@@ -1,14 +1,12 @@
 -- HTML from left to right: text, and what begins with `<` or `&`.
-use Rattle.std.proofs.Common.{◌≡◌, ℕ, zero, suc, ◌+◌, ◌-◌, ◌<◌, ◌≤◌, Bool, true, false, not, ◌&&◌, ◌||◌, cond, eqb, List, [], ◌∷◌, ◌++◌, Option, None, Some, codes, length, take, drop}
+use Rattle.std.proofs.Common.{◌≡◌, ℕ, zero, suc, ◌+◌, ◌-◌, ◌<◌, Bool, true, false, not, ◌||◌, cond, eqb, List, [], ◌∷◌, ◌++◌, Option, None, Some, codes, length, take, drop}
 use Rattle.std.proofs.Common.{refl, sym, ap, ◌∙◌, arith, inl, inr, get_or, append_assoc}
 use Rattle.std.specs.List.{fold, list_all, prefix_len, position_or_len}
 use Rattle.std.specs.Option.{option_map, option_and_then}
-use Rattle.std.proofs.lemmas.Bool.{cases_Bool, cond-true, cond-false, eqb-true, eqb-false, ne_eqb, and_parts, and_from, and_left, or_parts, not-true, true≢false, false≢true}
-use Rattle.std.proofs.lemmas.List.{append-nil, take-append-drop, length-append, length-drop, drop_at}
-use Rattle.std.proofs.lemmas.List.Sums.{prefix_len-le-length}
+use Rattle.std.proofs.lemmas.Bool.{cases_Bool, cond-true, cond-false, eqb-false, ne_eqb, and_parts, and_from, and_left, or_parts, not-true, false≢true}
+use Rattle.std.proofs.lemmas.List.{length-append, drop_at}
 use Rattle.std.proofs.lemmas.Option.{none-some, same_Some}
 use Rattle.markdown_options.specs.declared.configuration.CompileOptions.{CompileOptions}
-use Rattle.markdown_options.specs.declared.configuration.Constructs.{Constructs}
 use Rattle.markdown_options.specs.Defaults.{default_constructs}
 use Rattle.definition_text.specs.Bytes.{begins_with}
 use Rattle.definition_text.specs.Columns.{Code}
@@ -16,17 +14,14 @@ use Rattle.definition_text.specs.Content.{Part, part, content_codes}
 use Rattle.definition_text.specs.Encode.{encoded_byte, encode}
 use Rattle.definition_inline.specs.CharacterReference.{Names, reference_after}
 use Rattle.definition_inline.specs.Decoded.{known_text, known_at}
-use Rattle.definition_inline.specs.HtmlText.{html_byte, html_end, html_leaf, html_text_at}
+use Rattle.definition_inline.specs.HtmlText.{html_end, html_leaf, html_text_at}
 use Rattle.definition_inline.specs.Inline as inline
 use Rattle.definition_inline.specs.Strings.{eol_bytes}
-use Rattle.inline_leaves.specs.Leaves.{found_leaf, size_before, parts_of, IsAfter}
-use Rattle.inline_leaves.specs.declared.leaf.Leaf.{Leaf}
-use Rattle.inline_leaves.specs.declared.leaf.LeafPart.TheVariants.{Html}
-use Rattle.inline_leaves.proofs.Codes.{plain_code}
+use Rattle.inline_leaves.specs.Leaves.{size_before, IsAfter}
 use Rattle.inline_links.specs.Codes.{IsCut}
 use Rattle.inline_links.proofs.Cuts.{cut_after}
 use Rattle.inline_links.proofs.Runs.{one_more}
-use Rattle.inline_references.proofs.Decoding.{HasReference, known_has}
+use Rattle.inline_references.proofs.Decoding.{known_has}
 use Rattle.html_listed.specs.Attributes.{tag_bytes, code_bytes}
 use Rattle.html_listed.specs.Raw.{RawPart, Text, token_part, found_raw, token_to, reference_to, token_or_reference, or_code, raw_parts_after}
 use Rattle.html_listed.specs.State.{State, says, all_ended}

@@ -1,33 +1,32 @@
 -- Raw HTML in codes and in bytes: the same is printed of both.
-use Rattle.std.proofs.Common.{◌≡◌, ℕ, zero, suc, ◌+◌, ◌-◌, ◌<◌, ◌≤◌, Bool, true, false, not, ◌&&◌, ◌||◌, cond, eqb, List, [], ◌∷◌, ◌++◌, Option, None, Some, codes, length, take, drop}
+use Rattle.std.proofs.Common.{◌≡◌, ℕ, zero, suc, ◌+◌, ◌<◌, ◌≤◌, Bool, true, false, not, ◌&&◌, cond, eqb, List, [], ◌∷◌, ◌++◌, Option, None, Some, codes, length, drop}
 use Rattle.std.proofs.Common.{map, refl, sym, ap, ◌∙◌, subst, arith, inl, inr, append_assoc}
-use Rattle.std.specs.Prelude.{unwrap_or, IsTrue}
+use Rattle.std.specs.Prelude.{unwrap_or}
 use Rattle.std.specs.Char.{is_ascii_digit, is_ascii_hexdigit, is_ascii_alphanumeric}
-use Rattle.std.specs.List.{flat_map, list_all, prefix_len, take_while}
+use Rattle.std.specs.List.{list_all, prefix_len}
 use Rattle.std.specs.Option.{option_map}
-use Rattle.std.proofs.lemmas.Bool.{cases_Bool, cond-true, cond-false, eqb-true, eqb-false, ne_eqb, and_parts, not-true, true≢false, false≢true}
+use Rattle.std.proofs.lemmas.Bool.{cases_Bool, cond-true, cond-false, eqb-true, eqb-false, ne_eqb, and_parts, not-true, false≢true}
 use Rattle.std.proofs.lemmas.List.{length-append, length-map, length-drop}
 use Rattle.std.proofs.lemmas.Option.{none-some}
-use Rattle.std.proofs.Math.Seq.{drop-append_seam}
 use Rattle.markdown_options.specs.declared.configuration.CompileOptions.{CompileOptions}
 use Rattle.definition_text.specs.Bytes.{begins_with, after_all, without_slash, lower}
 use Rattle.definition_text.specs.Columns.{Code}
 use Rattle.definition_text.specs.Content.{Part, part, content_codes}
 use Rattle.definition_text.specs.Encode.{encode}
-use Rattle.definition_inline.specs.CharacterReference.{Names, CharacterName, reference_text}
+use Rattle.definition_inline.specs.CharacterReference.{Names, CharacterName}
 use Rattle.definition_inline.specs.Decoded.{known_at, decode, decoded_after, replace_reference}
 use Rattle.definition_inline.specs.HtmlTags.{is_tag_name_byte, tag_name, tag_space, attributes}
 use Rattle.definition_inline.specs.HtmlText.{html_byte}
 use Rattle.definition_inline.specs.Strings.{eol_bytes}
 use Rattle.definition_page.specs.Tags.{tag}
 use Rattle.inline_references.specs.Grammar.{IsWritten, name, digits, lower_x, upper_x}
-use Rattle.inline_references.proofs.Decoding.{known_written, HasReference, known_has, decoded_known}
+use Rattle.inline_references.proofs.Decoding.{known_written, known_has, decoded_known}
 use Rattle.inline_leaves.proofs.Codes.{plain_code}
 use Rattle.html_listed.specs.Listing.{is_in, is_listed, void_names}
-use Rattle.html_listed.specs.Attributes.{tag_bytes, code_bytes, decoded, written, kept}
-use Rattle.html_listed.specs.Raw.{RawPart, Text, Begin, Empty, End, Single, kept_tag, after_attributes, ends_at_once, open_part, name_of, token_part}
-use Rattle.html_sanitizer.specs.Attributes.{after_space, Attribute, attribute, read_attribute, cut, rest_after}
-use Rattle.html_sanitizer.proofs.Codes.{own_bytes, by_code, IsEven, after_cons, after_bytes, while_same, is_ink, begins_bytes, drop_bytes, space_bytes, attribute_bytes}
+use Rattle.html_listed.specs.Attributes.{tag_bytes, code_bytes, written, kept}
+use Rattle.html_listed.specs.Raw.{Text, Begin, Empty, End, Single, kept_tag, ends_at_once, open_part, name_of, token_part}
+use Rattle.html_sanitizer.specs.Attributes.{after_space, Attribute, read_attribute, cut, rest_after}
+use Rattle.html_sanitizer.proofs.Codes.{own_bytes, by_code, IsEven, after_bytes, while_same, is_ink, begins_bytes, drop_bytes, space_bytes, attribute_bytes}
 use Rattle.html_sanitizer.proofs.Codes.{cut_bytes, rest_bytes}
 use Rattle.html_sanitizer.proofs.Cutting.{IsOwn, after_own, space_html, is_html, written_cut, rest_cut, cut_enough, rest_enough}
 
@@ -141,6 +140,7 @@ module _ (names : Names) where
           let front = front_back has.front cs q.rest (written_ink has.front has.name has.written) has.is in
           let there = known_written names has.front front.rest q.text has.name has.written has.text in
           absurd (none-some _ (sym none ∙ ap (known_at names) front.whole ∙ there))
+
       by_codes : (o : Option Part) → known_at names cs ≡ o → known_at names (code_bytes cs) ≡ option_map (λ (p : Part). part p.text (code_bytes p.rest)) o
       by_codes None e = nothing (known_at names (code_bytes cs)) refl e
       by_codes (Some p) e =
@@ -156,6 +156,7 @@ module _ (names : Names) where
       none : (o : Option Part) → option_map (λ (p : Part). part p.text (code_bytes p.rest)) o ≡ None → o ≡ None
       none None h = refl
       none (Some p) h = absurd (none-some _ (sym h))
+
       by_bytes : (o : Option Part) → known_at names bs ≡ o → known_at names (content_codes bs) ≡ option_map (λ (p : Part). part p.text (content_codes p.rest)) o
       by_bytes (Some p) e =
           let has = known_has names bs p e in

@@ -1,8 +1,8 @@
 -- URLs, and texts in which a byte is printed as something else.
-use Rattle.std.proofs.Common.{◌≡◌, ℕ, zero, suc, ◌+◌, ◌<◌, Bool, true, false, not, ◌||◌, cond, eqb, List, [], ◌∷◌, ◌++◌, length, take, drop, refl, sym, ap, ◌∙◌}
+use Rattle.std.proofs.Common.{◌≡◌, ℕ, suc, ◌+◌, ◌<◌, Bool, true, false, not, ◌||◌, cond, eqb, List, [], ◌∷◌, ◌++◌, length, take, drop, refl, sym, ap, ◌∙◌}
 use Rattle.std.proofs.Common.{arith, inl, inr, append_assoc}
-use Rattle.std.specs.List.{filter, flat_map, position_or_len, before_first, after_first}
-use Rattle.std.proofs.lemmas.Bool.{cases_Bool, cond-true, cond-false, eqb-true, eqb-false, ne_eqb, or_from}
+use Rattle.std.specs.List.{filter, position_or_len, before_first, after_first}
+use Rattle.std.proofs.lemmas.Bool.{cases_Bool, cond-true, cond-false, eqb-true, or_from}
 use Rattle.inline_links.proofs.Runs.{one_more}
 use Rattle.definition_text.specs.Encode.{encode, plain_byte, plain}
 use Rattle.definition_page.specs.Urls.{percent, sanitize, permits, sanitized_with}

@@ -50,7 +50,15 @@ pub fn sanitized_html<A: Allocator + Clone, T: Tables>(
     let mut searches = Searches::new(alloc, html);
     let mut rest = push_text(&mut page.out, html)?;
     while !rest.is_empty() {
-        let after = push_part(&mut page, &mut scratch, &mut searches, &on, options, tables, rest)?;
+        let after = push_part(
+            &mut page,
+            &mut scratch,
+            &mut searches,
+            &on,
+            options,
+            tables,
+            rest,
+        )?;
         rest = push_text(&mut page.out, after)?;
     }
     page.end_all()?;

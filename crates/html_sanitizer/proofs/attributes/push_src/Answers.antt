@@ -1,11 +1,11 @@
-use Rattle.std.proofs.Common.{◌≡◌, ◌++◌, ◌∷◌, [], ℕ, List, codes, string_bytes, sym, ap, ◌∙◌, arith, refl}
+use Rattle.std.proofs.Common.{◌≡◌, ◌++◌, ◌∷◌, [], codes, string_bytes, sym, ap, ◌∙◌, arith, refl}
 use Rattle.std.specs.Prelude.{map}
 use Rattle.std.specs.List.{flat_map}
 use Rattle.std.proofs.lemmas.Grind.{common_steps}
 use Rattle.std.proofs.lemmas.List.{append-nil}
 use Rattle.definition_page.specs.InlinePieces.{image_url}
 use Rattle.definition_text.specs.Encode.{encode}
-use Rattle.definition_page.specs.Tags.{attribute, attribute_bytes}
+use Rattle.definition_page.specs.Tags.{attribute_bytes}
 use Rattle.html_listed.specs.Attributes.{decoded, url_attributes, url_bytes}
 use Rattle.html_sanitizer.specs.Attributes.{attributes_of, read_attribute}
 use Rattle.html_sanitizer.proofs.Printing.{attribute_printed, if_none, if_found, src_some, src_none}
