@@ -12,7 +12,8 @@ use Rattle.definition_text.specs.Content.{Part, part}
 use Rattle.definition_inline.specs.HtmlTags.{is_attribute_byte, begins_with_attribute}
 use Rattle.html_listed.specs.Attributes.{code_bytes}
 use Rattle.html_sanitizer.specs.Attributes.{is_space_code, after_space, is_unquoted_code, ahead, quoted, unquoted, split_value, Attribute, attribute}
-use Rattle.html_sanitizer.specs.Attributes.{SplitAttribute, split, with_value, named, split_attribute, begins_with_space, attribute_start, cut_then, cut_from, cut}
+use Rattle.html_sanitizer.specs.Attributes.{SplitAttribute, split, with_value, named, split_attribute, begins_with_space, attribute_start, cut_then, cut_from}
+use Rattle.html_sanitizer.specs.Attributes.{cut}
 use Rattle.html_sanitizer.specs.Attributes.{rest_then, rest_from, rest_after}
 
 -- ---- one code
@@ -205,8 +206,10 @@ value_bytes (c ∷ cs) =
     (ap (λ x. unquoted (prefix_len is_unquoted_code x) x) (sym own) ∙ unquoted_bytes (c ∷ cs)))
   where
     by_case : (s t : Bool) → quoted 34 (code_bytes cs) ≡ option_map part_bytes (quoted 34 cs) → quoted 39 (code_bytes cs) ≡ option_map part_bytes (quoted 39 cs)
-        → unquoted (prefix_len is_unquoted_code (c ∷ code_bytes cs)) (c ∷ code_bytes cs) ≡ option_map part_bytes (unquoted (prefix_len is_unquoted_code (c ∷ cs)) (c ∷ cs))
-        → cond s (quoted 34 (code_bytes cs)) (cond t (quoted 39 (code_bytes cs)) (unquoted (prefix_len is_unquoted_code (c ∷ code_bytes cs)) (c ∷ code_bytes cs)))
+        → unquoted (prefix_len is_unquoted_code (c ∷ code_bytes cs)) (c ∷ code_bytes cs)
+        ≡ option_map part_bytes (unquoted (prefix_len is_unquoted_code (c ∷ cs)) (c ∷ cs))
+        → cond s (quoted 34 (code_bytes cs)) (cond t (quoted 39 (code_bytes cs))
+        (unquoted (prefix_len is_unquoted_code (c ∷ code_bytes cs)) (c ∷ code_bytes cs)))
         ≡ option_map part_bytes (cond s (quoted 34 cs) (cond t (quoted 39 cs) (unquoted (prefix_len is_unquoted_code (c ∷ cs)) (c ∷ cs))))
     by_case true t e f g = e
     by_case false true e f g = f

@@ -84,7 +84,8 @@ leaf_token on rest found t is read html =
 
 -- ---- what is printed
 
-pub sign_printed : (names : Names) (options : CompileOptions) (on : Constructs) (out after rest next : List ℕ) (open_here : List (List ℕ)) → on ≡ default_constructs
+pub sign_printed : (names : Names) (options : CompileOptions) (on : Constructs) (out after rest next : List ℕ) (open_here : List (List ℕ)) → on
+    ≡ default_constructs
     → found_leaf rest None ≡ html_text_at on (content_codes rest) → rest ≡ 60 ∷ next → after ≡ out ++ codes "&lt;"
     → page_after names options (page_of after open_here) next ≡ page_after names options (page_of out open_here) rest
 sign_printed names options on out after rest next open_here is read first printed =

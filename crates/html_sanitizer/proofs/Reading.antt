@@ -1,5 +1,6 @@
 -- Attributes as the code reads them.
-use Rattle.std.proofs.Common.{◌≡◌, ℕ, suc, ◌+◌, ◌-◌, ◌<◌, ◌≤◌, Bool, true, false, not, ◌&&◌, cond, eqb, List, [], ◌∷◌, ◌++◌, Option, None, Some, codes, length, take, drop}
+use Rattle.std.proofs.Common.{◌≡◌, ℕ, suc, ◌+◌, ◌-◌, ◌<◌, ◌≤◌, Bool, true, false, not, ◌&&◌, cond, eqb, List, [], ◌∷◌, ◌++◌, Option, None, Some, codes}
+use Rattle.std.proofs.Common.{length, take, drop}
 use Rattle.std.proofs.Common.{Bor, ◌⊎◌, map, refl, sym, ap, ◌∙◌, subst, arith, inl, inr, get_or, append_assoc}
 use Rattle.std.specs.List.{position_or_len, before_first, after_first, prefix_len, take_while}
 use Rattle.std.specs.Option.{MatchOption, option_map}

@@ -1,5 +1,6 @@
 -- What follows in HTML, and loops over it.
-use Rattle.std.proofs.Common.{◌≡◌, ℕ, suc, ◌+◌, ◌-◌, ◌<◌, ◌≤◌, true, false, not, ◌&&◌, ◌||◌, cond, eqb, List, [], ◌∷◌, ◌++◌, Option, None, Some, codes, length, drop}
+use Rattle.std.proofs.Common.{◌≡◌, ℕ, suc, ◌+◌, ◌-◌, ◌<◌, ◌≤◌, true, false, not, ◌&&◌, ◌||◌, cond, eqb, List, [], ◌∷◌, ◌++◌, Option, None, Some, codes}
+use Rattle.std.proofs.Common.{length, drop}
 use Rattle.std.proofs.Common.{refl, sym, ap, ◌∙◌, subst, arith, inl, inr, get_or}
 use Rattle.std.specs.List.{position_or_len}
 use Rattle.std.specs.Str.{IsCharBoundary, IsUtf8}
@@ -96,7 +97,8 @@ pub after_passed : (html after : List ℕ) → IsAfter html after → IsShorterR
 after_passed html after later = record { shorter = later.shorter; place = later.place }
 
 -- a reference, or `&`, is passed
-pub reference_passed : (names : Names) (after rest : List ℕ) → (let found = reference_part after (known_at names (38 ∷ after)) in found.rest) ≡ rest → IsShorterRest (38 ∷ after) rest
+pub reference_passed : (names : Names) (after rest : List ℕ) → (let found = reference_part after (known_at names (38 ∷ after)) in found.rest) ≡ rest
+    → IsShorterRest (38 ∷ after) rest
 reference_passed names after rest is = by_case (known_at names (38 ∷ after)) refl is
   where
     by_case : (o : Option Part) → known_at names (38 ∷ after) ≡ o → (let found = reference_part after o in found.rest) ≡ rest → IsShorterRest (38 ∷ after) rest

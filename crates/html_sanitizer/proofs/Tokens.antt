@@ -1,5 +1,6 @@
 -- Raw HTML in codes and in bytes: the same is printed of both.
-use Rattle.std.proofs.Common.{◌≡◌, ℕ, zero, suc, ◌+◌, ◌<◌, ◌≤◌, Bool, true, false, not, ◌&&◌, cond, eqb, List, [], ◌∷◌, ◌++◌, Option, None, Some, codes, length, drop}
+use Rattle.std.proofs.Common.{◌≡◌, ℕ, zero, suc, ◌+◌, ◌<◌, ◌≤◌, Bool, true, false, not, ◌&&◌, cond, eqb, List, [], ◌∷◌, ◌++◌, Option, None, Some, codes}
+use Rattle.std.proofs.Common.{length, drop}
 use Rattle.std.proofs.Common.{map, refl, sym, ap, ◌∙◌, subst, arith, inl, inr, append_assoc}
 use Rattle.std.specs.Prelude.{unwrap_or}
 use Rattle.std.specs.Char.{is_ascii_digit, is_ascii_hexdigit, is_ascii_alphanumeric}
@@ -150,7 +151,8 @@ module _ (names : Names) where
           ∙ known_written names has.front (code_bytes p.rest) p.text has.name has.written has.text
 
   -- the same of bytes, with what follows in codes
-  pub known_codes : (bs : List ℕ) → AreBytes bs → known_at names (content_codes bs) ≡ option_map (λ (p : Part). part p.text (content_codes p.rest)) (known_at names bs)
+  pub known_codes : (bs : List ℕ) → AreBytes bs → known_at names (content_codes bs)
+      ≡ option_map (λ (p : Part). part p.text (content_codes p.rest)) (known_at names bs)
   known_codes bs are = by_bytes (known_at names bs) refl
     where
       none : (o : Option Part) → option_map (λ (p : Part). part p.text (code_bytes p.rest)) o ≡ None → o ≡ None
@@ -217,14 +219,16 @@ module _ (names : Names) where
   decoded_bytes zero (c ∷ cs) le = absurd (omega arith)
   decoded_bytes (suc n) (c ∷ cs) le = by_case (decoded_bytes n) (known_at names (c ∷ cs)) refl
     where
-      by_case : IsDecoded n → (o : Option Part) → known_at names (c ∷ cs) ≡ o → code_bytes (decode names (code_bytes (c ∷ cs))) ≡ code_bytes (decode names (c ∷ cs))
+      by_case : IsDecoded n → (o : Option Part) → known_at names (c ∷ cs) ≡ o → code_bytes (decode names (code_bytes (c ∷ cs)))
+          ≡ code_bytes (decode names (c ∷ cs))
       by_case ih (Some p) e = decoded_reference n c cs p ih le e
       by_case ih None e = decoded_code n c cs ih (omega arith) e
 
   read_same : (items : List Attribute) → map (read_attribute names) (map attribute_bytes items) ≡ map (read_attribute names) items
   read_same [] = refl
   read_same (a ∷ items) =
-      ap (λ v. record { name = lower a.name; value = v } ∷ map (read_attribute names) (map attribute_bytes items)) (decoded_bytes (length a.value) a.value (omega arith))
+      ap (λ v. record { name = lower a.name; value = v } ∷ map (read_attribute names) (map attribute_bytes items))
+      (decoded_bytes (length a.value) a.value (omega arith))
       ∙ ap (λ ws. read_attribute names a ∷ ws) (read_same items)
 
 -- ---- tags
@@ -310,16 +314,19 @@ pub token_bytes : (names : Names) (options : CompileOptions) (html : List Code) 
 token_bytes names options html h =
     let inside = drop_bytes 60 html refl h in
     let same_name : name_of (code_bytes html) ≡ name_of html =
-    ap lower (ap (λ x. tag_name (without_slash x)) inside ∙ ap tag_name (slash_bytes (drop 1 html)) ∙ while_same is_tag_name_byte refl refl (without_slash (drop 1 html))) in
+    ap lower (ap (λ x. tag_name (without_slash x)) inside ∙ ap tag_name (slash_bytes (drop 1 html))
+    ∙ while_same is_tag_name_byte refl refl (without_slash (drop 1 html))) in
     let n = name_of html in
     ap (λ t. cond t (Text []) (cond (is_listed (name_of (code_bytes html)))
-    (cond (begins_with (codes "</") (code_bytes html)) (End (name_of (code_bytes html))) (open_part names options (name_of (code_bytes html)) (drop 1 (code_bytes html))))
+    (cond (begins_with (codes "</") (code_bytes html)) (End (name_of (code_bytes html)))
+    (open_part names options (name_of (code_bytes html)) (drop 1 (code_bytes html))))
     (Text (encode (code_bytes (code_bytes html)))))) (begins_bytes (codes "<!--") html refl)
     ∙ ap (λ m. cond (begins_with (codes "<!--") html) (Text []) (cond (is_listed m)
     (cond (begins_with (codes "</") (code_bytes html)) (End m) (open_part names options m (drop 1 (code_bytes html))))
     (Text (encode (code_bytes (code_bytes html)))))) same_name
     ∙ ap (λ t. cond (begins_with (codes "<!--") html) (Text []) (cond (is_listed n)
-    (cond t (End n) (open_part names options n (drop 1 (code_bytes html)))) (Text (encode (code_bytes (code_bytes html)))))) (begins_bytes (codes "</") html refl)
+    (cond t (End n) (open_part names options n (drop 1 (code_bytes html)))) (Text (encode (code_bytes (code_bytes html))))))
+    (begins_bytes (codes "</") html refl)
     ∙ ap (λ p. cond (begins_with (codes "<!--") html) (Text []) (cond (is_listed n)
     (cond (begins_with (codes "</") html) (End n) p) (Text (encode (code_bytes (code_bytes html))))))
     (ap (open_part names options n) inside ∙ open_bytes names options n (drop 1 html))

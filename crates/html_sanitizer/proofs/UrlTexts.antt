@@ -52,7 +52,8 @@ replaced_none c other (b ∷ bs) h = elim (cases_Bool (eqb b c)) [
 replaced_append : (c : ℕ) (other a b : List ℕ) → replaced c other (a ++ b) ≡ replaced c other a ++ replaced c other b
 replaced_append c other [] b = refl
 replaced_append c other (x ∷ xs) b =
-    ap (λ y. replaced_byte c other x ++ y) (replaced_append c other xs b) ∙ sym (append_assoc (replaced_byte c other x) (replaced c other xs) (replaced c other b))
+    ap (λ y. replaced_byte c other x ++ y) (replaced_append c other xs b)
+    ∙ sym (append_assoc (replaced_byte c other x) (replaced c other xs) (replaced c other b))
 
 -- ---- a URL as a browser reads it
 
