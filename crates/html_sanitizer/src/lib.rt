@@ -1,0 +1,12 @@
+//! Any HTML to a page that has only the elements and attributes of a list (`html_listed`). It knows
+//! nothing of Markdown.
+#![tactic(auto)]
+
+mod attributes;
+mod listing;
+mod page;
+mod raw;
+mod sanitized;
+mod urls;
+
+pub use sanitized::sanitized_html;
