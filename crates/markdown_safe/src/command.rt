@@ -13,12 +13,14 @@ Usage: markdown-safe [OPTIONS] [FILE..]
 It reads the files, or standard input, whose name is -. Columns are in bytes.
 
 Options:
+      --clean    Print what is kept of the HTML of the files: the elements and
+                 attributes of a fixed list; other tags are printed as text
   -h, --help     Print help
   -V, --version  Print version
       --         What follows are names of files
 
 Exit status:
-  0  all pages are safe
+  0  all pages are safe, or what is kept of all was written
   1  a page isn't safe
   2  the command line is wrong, or a file can't be read or isn't UTF-8
 ";
@@ -31,8 +33,10 @@ const VERSION: &str = "markdown-safe 0.1.0\n";
 pub(crate) struct Command<'w> {
     /// What to print, in place of a check: the help or the version.
     pub(crate) answer: Option<&'static str>,
-    /// The names of the files to check. There is at least one.
+    /// The names of the files. There is at least one.
     pub(crate) files: Vec<&'w str>,
+    /// Whether the files are sanitized in place of a check.
+    pub(crate) cleans: bool,
     /// Whether all further words are names of files.
     names_only: bool,
 }
@@ -44,6 +48,7 @@ impl<'w> Command<'w> {
         let mut command = Command {
             answer: None,
             files: Vec::new(alloc),
+            cleans: false,
             names_only: false,
         };
         for word in words {
@@ -61,6 +66,7 @@ impl<'w> Command<'w> {
             _ if self.names_only => self.files.push(word)?,
             "-h" | "--help" => self.set_answer(HELP),
             "-V" | "--version" => self.set_answer(VERSION),
+            "--clean" => self.cleans = true,
             "--" => self.names_only = true,
             _ if is_flag(word) => return Err(Fault::Words),
             _ => self.files.push(word)?,

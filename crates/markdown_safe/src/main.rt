@@ -1,11 +1,13 @@
-//! Tells whether pages are safe: one line for each that isn't, `FILE:LINE:COLUMN: WHAT`.
+//! Tells whether pages are safe: one line for each that isn't, `FILE:LINE:COLUMN: WHAT`; or sanitizes HTML.
 #![tactic(auto)]
 
 mod check;
+mod clean;
 mod command;
 mod outcome;
 
 use check::check_files;
+use clean::clean_files;
 use command::Command;
 use markdown_input::{Fault, words};
 use outcome::Outcome;
@@ -26,6 +28,9 @@ fn run(rt: &HostRuntime) -> Result<Outcome, Fault> {
     let command = Command::read(rt.alloc(), &words)?;
     if let Some(answer) = command.answer {
         return print_answer(rt, answer).map_err(|error| Fault::writing(&error));
+    }
+    if command.cleans {
+        return Ok(clean_files(rt, &command.files));
     }
     check_files(rt, &command.files)
 }
