@@ -29,6 +29,8 @@ stops() { [ "$("$1" 3 < "$events/stdin" | wc -l)" = 3 ] && { status=0; "$1" 0 < 
 # Whether a command that gets the path of a text prints its table of contents.
 lists_contents() { "$@" page.md > "$scratch/contents.out" < page.md && cmp "$scratch/contents.out" contents.md; }
 lists_outline() { "$@" < "$here/contents/page.md" | cmp - "$here/contents/outline.txt"; }
+# Whether HTML with a script and an open element is sanitized.
+sanitizes() { [ "$(printf '<p onclick="a()">b <i>c</p><script>d</script>' | "$@")" = '<p>b <i>c</i></p>&lt;script&gt;d&lt;/script&gt;' ]; }
 lists_links() { "$@" < "$here/links/page.md" | cmp - "$here/links/links.txt"; }
 # Whether a command that gets the path of a text prints its links that lead to no file.
 finds_missing() ( cd "$here/links" && "$@" page.md | cmp - missing.txt )
@@ -72,7 +74,7 @@ library=${1:-$scratch}
 check "C" compile -o "$scratch/convert" "$here/c/convert.c"
 tries "C" "$scratch/convert"
 check "C: the version" tells_version
-if works nm --version; then check "the functions of the library" exports "markdown_check_page markdown_convert markdown_convert_by_numbers markdown_convert_with markdown_decode markdown_list_events markdown_list_events_with markdown_list_links_with markdown_list_outline_with markdown_normalize_label markdown_version "; fi
+if works nm --version; then check "the functions of the library" exports "markdown_check_page markdown_convert markdown_convert_by_numbers markdown_convert_with markdown_decode markdown_list_events markdown_list_events_with markdown_list_links_with markdown_list_outline_with markdown_normalize_label markdown_sanitize_with markdown_version "; fi
 if works objdump --version; then check "the name of the library" names_itself libmarkdown-proved.so.0.1; fi
 check "C: events" compile -o "$scratch/events" "$here/c/events.c"
 check "C: events" lists_events "$scratch/events"
@@ -84,6 +86,8 @@ check "C: links" compile -o "$scratch/links" "$here/c/links.c"
 check "C: links" lists_links "$scratch/links"
 check "C: headings" compile -o "$scratch/outline" "$here/c/outline.c"
 check "C: headings" lists_outline "$scratch/outline"
+check "C: sanitized HTML" compile -o "$scratch/sanitize" "$here/c/sanitize.c"
+check "C: sanitized HTML" sanitizes "$scratch/sanitize"
 check "C: comments" compile -o "$scratch/comments" "$here/c/comments.c"
 check "C: comments" writes_comments "$scratch/comments"
 check "C: safe pages" compile -o "$scratch/safe_page" "$here/c/safe_page.c"
@@ -95,6 +99,7 @@ if works valgrind true; then
     check "C: memory of events" lists_contents valgrind -q --error-exitcode=9 --leak-check=full "$scratch/contents"
     check "C: memory of links" lists_links valgrind -q --error-exitcode=9 --leak-check=full "$scratch/links"
     check "C: memory of headings" lists_outline valgrind -q --error-exitcode=9 --leak-check=full "$scratch/outline"
+    check "C: memory of sanitized HTML" sanitizes valgrind -q --error-exitcode=9 --leak-check=full "$scratch/sanitize"
     check "C: memory of comments" writes_comments valgrind -q --error-exitcode=9 --leak-check=full "$scratch/comments"
     check "C: memory of refusals" valgrind -q --error-exitcode=9 --leak-check=full "$scratch/refusals"
 fi
@@ -112,6 +117,7 @@ if works rustc --version; then
     check "Rust: links" lists_links "$scratch/rust_links"
     check "Rust: headings" rustc --edition 2021 -O -L "$library/lib" -o "$scratch/rust_outline" "$here/rust/list_outline.rs"
     check "Rust: headings" lists_outline "$scratch/rust_outline"
+    check "Rust: sanitized HTML" sanitizes "$scratch/rust" --sanitize
     check "Rust: a prefix" prefixes "$scratch/rust"
     check "Rust: safe pages" tells_pages "$scratch/rust" --safe-page
 fi

@@ -1,5 +1,5 @@
-/* Markdown to HTML, to its events, its links and its headings: the functions of libmarkdown-proved, for C and C++. docs/LIBRARY.md
- * says how to build and link it.
+/* Markdown to HTML, to its events, its links and its headings, and HTML to a safe page: the functions of libmarkdown-proved, for C
+ * and C++. docs/LIBRARY.md says how to build and link it.
  *
  * Input and HTML are UTF-8. Lengths are in bytes; no terminating NUL is read or written. No function aborts or keeps state
  * between calls, so threads may call them at the same time. The functions of the library free all memory that they take from
@@ -289,17 +289,14 @@ uint32_t markdown_convert_with(const unsigned char *text, size_t text_length, co
 uint32_t markdown_convert_by_numbers(const unsigned char *text, size_t text_length, uint64_t constructs, uint32_t switches,
                                      uint32_t default_line_ending, unsigned char *buffer, size_t room, size_t *length);
 
-/* Converts the text_length bytes at text into a buffer that it allocates or grows, and returns a status, never MARKDOWN_ROOM.
- *
- * *buffer is NULL or comes from malloc, and has *room bytes. Both are updated if the buffer grows. The caller frees the buffer,
- * whatever the status. text may be NULL if text_length is 0. A buffer that is used for call after call soon stops growing.
- *
- * With another status than MARKDOWN_OK *length is 0, and the buffer has what an earlier call has written, perhaps the HTML of
- * another input. So look at the status before the buffer. HTML doesn't end with NUL. options and its texts must not overlap
- * *buffer. */
-static inline uint32_t markdown_convert_growing_with(const unsigned char *text, size_t text_length,
-                                                     const markdown_options *options, unsigned char **buffer, size_t *room,
-                                                     size_t *length)
+/* A call that writes what it makes of a text by options into a buffer: markdown_convert_with or markdown_sanitize_with. */
+typedef uint32_t (*markdown_writer)(const unsigned char *text, size_t text_length, const markdown_options *options,
+                                    unsigned char *buffer, size_t room, size_t *length);
+
+/* Writes what a call makes of a text into a buffer that it allocates or grows, as markdown_convert_growing_with does. */
+static inline uint32_t markdown_write_growing(markdown_writer call, const unsigned char *text, size_t text_length,
+                                              const markdown_options *options, unsigned char **buffer, size_t *room,
+                                              size_t *length)
 {
     static const unsigned char none[1] = {0};
     size_t wanted = text_length / 4 < SIZE_MAX - text_length - 64 ? text_length + text_length / 4 + 64 : text_length;
@@ -315,10 +312,25 @@ static inline uint32_t markdown_convert_growing_with(const unsigned char *text, 
             *buffer = grown;
             *room = wanted;
         }
-        status = markdown_convert_with(text == NULL ? none : text, text_length, options, *buffer, *room, length);
+        status = call(text == NULL ? none : text, text_length, options, *buffer, *room, length);
         wanted = *length;
     }
     return status;
+}
+
+/* Converts the text_length bytes at text into a buffer that it allocates or grows, and returns a status, never MARKDOWN_ROOM.
+ *
+ * *buffer is NULL or comes from malloc, and has *room bytes. Both are updated if the buffer grows. The caller frees the buffer,
+ * whatever the status. text may be NULL if text_length is 0. A buffer that is used for call after call soon stops growing.
+ *
+ * With another status than MARKDOWN_OK *length is 0, and the buffer has what an earlier call has written, perhaps the HTML of
+ * another input. So look at the status before the buffer. HTML doesn't end with NUL. options and its texts must not overlap
+ * *buffer. */
+static inline uint32_t markdown_convert_growing_with(const unsigned char *text, size_t text_length,
+                                                     const markdown_options *options, unsigned char **buffer, size_t *room,
+                                                     size_t *length)
+{
+    return markdown_write_growing(markdown_convert_with, text, text_length, options, buffer, room, length);
 }
 
 /* Converts by flags in place of options, otherwise as markdown_convert_growing_with does. */
@@ -613,6 +625,36 @@ static inline int markdown_is_safe_page(const unsigned char *page, size_t length
     static const unsigned char none[1] = {0};
     uint32_t is_safe = 0;
     return markdown_check_page(page == NULL ? none : page, length, &is_safe) == MARKDOWN_OK && is_safe == 1;
+}
+
+/* Writes what is kept of the html_length bytes at html, HTML of any origin, into the room bytes at buffer, and returns a status.
+ *
+ * Kept are the elements and attributes of a fixed list: text, links, images, lists, tables and the like. Other tags are printed as
+ * text, comments are dropped, and elements that aren't closed are closed. A URL with a protocol that isn't allowed becomes empty.
+ * Of the options only MARKDOWN_SWITCH_ALLOW_ANY_IMG_SRC and MARKDOWN_SWITCH_ALLOW_DANGEROUS_PROTOCOL make a difference; without
+ * them the page has no script. Put it into a block, such as <div>, not into <p> or <span>.
+ *
+ * *length becomes the length of the page if the status is MARKDOWN_OK or MARKDOWN_ROOM, otherwise 0. Only with MARKDOWN_OK is the
+ * buffer written, from its start to the end of the page. No pointer may be NULL, even if it points to no bytes. What they point
+ * to must not overlap, except html and options. */
+uint32_t markdown_sanitize_with(const unsigned char *html, size_t html_length, const markdown_options *options,
+                                unsigned char *buffer, size_t room, size_t *length);
+
+/* Sanitizes the html_length bytes at html into a buffer that it allocates or grows, and returns a status, never MARKDOWN_ROOM.
+ * Otherwise it is as markdown_convert_growing_with. */
+static inline uint32_t markdown_sanitize_growing_with(const unsigned char *html, size_t html_length,
+                                                      const markdown_options *options, unsigned char **buffer, size_t *room,
+                                                      size_t *length)
+{
+    return markdown_write_growing(markdown_sanitize_with, html, html_length, options, buffer, room, length);
+}
+
+/* Sanitizes without URLs of protocols that aren't allowed, otherwise as markdown_sanitize_growing_with does. */
+static inline uint32_t markdown_sanitize_growing(const unsigned char *html, size_t html_length, unsigned char **buffer,
+                                                 size_t *room, size_t *length)
+{
+    markdown_options options = markdown_options_of(0);
+    return markdown_sanitize_growing_with(html, html_length, &options, buffer, room, length);
 }
 
 /* Returns whether this processor has what the library is compiled for. */

@@ -112,6 +112,14 @@ export interface Options extends ReadOptions {
     lineEnding?: "\n" | "\r" | "\r\n";
 }
 
+/** Which URLs are kept of HTML. By default only those with a permitted protocol or none. */
+export interface SanitizeOptions {
+    /** Keep every protocol of links and images. */
+    dangerousProtocol?: boolean;
+    /** Keep every protocol of images. */
+    anyImageProtocol?: boolean;
+}
+
 /** Something begins or ends at a point of a text. */
 export interface Event<Text extends string | Uint8Array = string> {
     readonly kind: "enter" | "exit";
@@ -203,6 +211,12 @@ export interface Markdown {
     links<Text extends string | Uint8Array>(text: Text, options?: ReadOptions | number): Link<Text>[];
     /** Returns the headings of `text`, in the order in which they start, those in quotes, items and footnotes too. */
     outline(text: string | Uint8Array, options?: ReadOptions | number): Heading[];
+    /**
+     * Returns what is kept of `html`, HTML of any origin, by a fixed list of elements and attributes. Other tags are printed as text,
+     * comments are dropped, and elements that aren't closed are closed. Without options it has no script, and no URL with a
+     * protocol that isn't allowed. Put it into a block, such as `div`, not into `p` or `span`.
+     */
+    sanitize<Text extends string | Uint8Array>(html: Text, options?: SanitizeOptions): Text;
     /**
      * Returns what `text` stands for as a destination, a title or an info: escapes and character references are replaced, and
      * spaces and tabs around line endings are dropped.

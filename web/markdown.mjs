@@ -1,4 +1,4 @@
-// Markdown to HTML, to events, links and headings: the library as a WebAssembly module, for browsers and Node.
+// Markdown to HTML, to events, links and headings, and HTML to a safe page: the library as a WebAssembly module, for browsers and Node.
 //
 //     import { load } from "./markdown.mjs";
 //     const markdown = await load();
@@ -44,6 +44,8 @@ const NAMES = new Set(["lineEnding", ...[FLAGS, CONSTRUCTS, SWITCHES, TEXTS].fla
 const STRINGS = new Set(["lineEnding", ...Object.keys(TEXTS)]);
 // The sizes of structs.
 const OPTIONS_SIZE = 104, EVENT_SIZE = 32, LINK_SIZE = 88, HEADING_SIZE = 96;
+// The options of HTML that is sanitized.
+const SANITIZING = new Set(["anyImageProtocol", "dangerousProtocol"]);
 
 const LINK_KINDS = ["link", "image", "autolink", "literal", "definition"];
 const NO_DEFINITION = 2n ** 64n - 1n;
@@ -366,6 +368,12 @@ class Markdown {
         return viewsOf(array, HEADING_SIZE).map(view => new Heading(texts, view));
     }
 
+    sanitize(html, options) {
+        const given = { ...options }, unknown = Object.keys(given).find(name => !SANITIZING.has(name));
+        if (unknown !== undefined) throw new TypeError(`unknown option ${unknown}`);
+        return this.#changed("markdown_sanitize_with", html, read(given));
+    }
+
     decode(text) {
         return this.#changed("markdown_decode", text);
     }
@@ -374,10 +382,10 @@ class Markdown {
         return this.#changed("markdown_normalize_label", label);
     }
 
-    #changed(name, text) {
+    #changed(name, text, options = null) {
         const source = new Source(text);
         const room = source.bytes.length + (source.bytes.length >> 2) + 64;
-        const [bytes] = this.#call(name, source.bytes, null, [{ size: 1, room }]);
+        const [bytes] = this.#call(name, source.bytes, options, [{ size: 1, room }]);
         return source.isString ? decoder.decode(bytes) : bytes;
     }
 

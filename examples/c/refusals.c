@@ -72,6 +72,7 @@ static int check_measuring(void)
     markdown_event event;
     markdown_link link;
     markdown_heading heading;
+    markdown_options options = markdown_options_of(0);
     size_t length = 7, count = 0;
     CHECK(markdown_convert(TEXT, sizeof TEXT - 1, 0, none, 0, &length) == MARKDOWN_ROOM && length == LENGTH && none[0] == '?');
     CHECK(markdown_convert(TEXT, 0, 0, none, 0, &length) == MARKDOWN_OK && length == 0);
@@ -80,6 +81,7 @@ static int check_measuring(void)
     CHECK(count == 3 && length == 3 && none[0] == '?');
     CHECK(markdown_list_outline(TEXT, sizeof TEXT - 1, 0, &heading, 0, &count, none, 0, &length) == MARKDOWN_ROOM);
     CHECK(count == 1 && length == 9 && none[0] == '?');
+    CHECK(markdown_sanitize_with(TEXT, sizeof TEXT - 1, &options, none, 0, &length) == MARKDOWN_ROOM && length > 40 && none[0] == '?');
     return 0;
 }
 
@@ -255,6 +257,31 @@ static int check_outline(void)
     return 0;
 }
 
+static int check_sanitized(void)
+{
+    static const unsigned char HTML[] = "<p onclick=a>\"<script>";
+    static const char KEPT[] = "<p>&quot;&lt;script&gt;</p>";
+    size_t length = 7, room = 0;
+    unsigned char *page = NULL;
+    uint32_t status = MARKDOWN_MEMORY;
+    markdown_options options = markdown_options_of(2048);
+    CHECK(markdown_sanitize_with(HTML, sizeof HTML - 1, &options, buffer, sizeof buffer, &length) == MARKDOWN_FLAGS && length == 0);
+    options = markdown_options_of(0);
+    CHECK(markdown_sanitize_with((const unsigned char *)"\xff", 1, &options, buffer, sizeof buffer, &length) == MARKDOWN_UTF8 && length == 0);
+    CHECK(markdown_sanitize_with(HTML, sizeof HTML - 1, &options, buffer, sizeof buffer, &length) == MARKDOWN_OK);
+    CHECK(length == sizeof KEPT - 1 && memcmp(buffer, KEPT, length) == 0);
+    CHECK(markdown_sanitize_growing(NULL, 0, &page, &room, &length) == MARKDOWN_OK && length == 0);
+    for (long granted = 0; status == MARKDOWN_MEMORY; granted++) {
+        left = granted;
+        status = markdown_sanitize_growing(HTML, sizeof HTML - 1, &page, &room, &length);
+        left = -1;
+        CHECK(status == MARKDOWN_MEMORY ? length == 0 : status == MARKDOWN_OK && length == sizeof KEPT - 1);
+    }
+    CHECK(memcmp(page, KEPT, length) == 0);
+    free(page);
+    return 0;
+}
+
 /* Whether a sum of flags gives the same page by flags and by the options of these. */
 static int check_options(void)
 {
@@ -339,5 +366,5 @@ static int check_safe_pages(void)
 int main(void)
 {
     return check_room() || check_measuring() || check_refusals() || check_memory() || check_growing() || check_events() || check_callback() || check_links()
-        || check_outline() || check_options() || check_options_refused() || check_options_memory() || check_safe_pages();
+        || check_outline() || check_sanitized() || check_options() || check_options_refused() || check_options_memory() || check_safe_pages();
 }

@@ -63,6 +63,15 @@ pub(crate) mod calls {
             length: *mut usize,
         ) -> u32;
 
+        pub fn markdown_sanitize_with(
+            html: *const u8,
+            html_length: usize,
+            options: *const Options,
+            buffer: *mut u8,
+            room: usize,
+            length: *mut usize,
+        ) -> u32;
+
         pub fn markdown_decode(
             text: *const u8,
             text_length: usize,
@@ -405,6 +414,21 @@ pub fn to_html_with_options(text: &str, options: &Options) -> Result<String, Fau
         unsafe {
             calls::markdown_convert_with(text.as_ptr(), text.len(), &options, buffer, room, length)
         }
+    })
+}
+
+/// What is kept of any HTML, by a fixed list of elements and attributes: without scripts, and without URLs of protocols that aren't
+/// allowed. Other tags are text. It belongs into a block, such as `<div>`, not into `<p>` or `<span>`.
+pub fn sanitize(html: &str) -> Result<String, Fault> {
+    sanitize_with_options(html, &Flags::default().into())
+}
+
+/// What is kept of any HTML. Of the options only `AllowAnyImgSrc` and `AllowDangerousProtocol` make a difference.
+pub fn sanitize_with_options(html: &str, options: &Options) -> Result<String, Fault> {
+    let options = options.for_c();
+    // SAFETY: as above.
+    filled(html, |buffer, room, length| unsafe {
+        calls::markdown_sanitize_with(html.as_ptr(), html.len(), &options, buffer, room, length)
     })
 }
 

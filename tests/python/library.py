@@ -101,6 +101,10 @@ class Library:
             lines.append(f"{start} {end} {'#' * it[11]} {title} (#{slug})")
         return "\n".join(lines)
 
+    def sanitized(self, html, options):
+        data, self.buffer = self.filled("markdown_sanitize_with", html.encode(), options, self.buffer, 1)
+        return data.decode()
+
     def made(self, name, text):
         """What `markdown_decode` or `markdown_normalize_label` makes of a text."""
         data, self.buffer = self.filled(name, text.encode(), None, self.buffer, 1)

@@ -92,6 +92,7 @@ OPTIONS = {
     "BlocksAndFilteredHtml": flat(BLOCKS, (RAW, FILTER)),
     "CommonMark": flat(CORE),
     "Standard": flat(CORE, (RAW, PROTOCOLS)),
+    "AnyImages": flat(CORE, ("allow_any_img_src",)),
     "CommonMarkAndTables": flat(CORE | of("gfm_table")),
     "CommonMarkAndFrontmatter": flat(CORE | of("frontmatter")),
     "Mark": flat(CORE | of("mark")),

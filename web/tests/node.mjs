@@ -115,6 +115,15 @@ same("offsets of headings", headed.map(({ offset, endOffset }) => [offset, endOf
 same("headings of bytes", markdown.outline(new TextEncoder().encode("# é")).map(heading => heading.text), ["é"]);
 same("no headings", markdown.outline("a"), []);
 same("many headings", markdown.outline("# a\n".repeat(20000)).at(-1).slug, "a-19999");
+same("sanitized", markdown.sanitize("<b onclick=a>é</b><script>"), "<b>é</b>&lt;script&gt;");
+same("sanitized bytes", [...markdown.sanitize(new TextEncoder().encode("<i>a"))], [...new TextEncoder().encode("<i>a</i>")]);
+same("no script", markdown.sanitize("<a href=javascript:a>b</a><img src=c onerror=d>"), '<a href="">b</a><img src="c" />');
+same("other protocols", markdown.sanitize("<a href=b:c></a><img src=d:e>", { dangerousProtocol: true }), '<a href="b:c"></a><img src="d:e" />');
+same("other protocols of images", markdown.sanitize("<a href=b:c></a><img src=d:e>", { anyImageProtocol: true }), '<a href=""></a><img src="d:e" />');
+same("an option of Markdown", fault(() => markdown.sanitize("", { gfm: true })), "unknown option gfm");
+same("a page far longer than its HTML", markdown.sanitize('"'.repeat(1000)).length, 6000);
+const kept = readFileSync(new URL("tests/rows/sanitized.rows", top), "utf8").split("\n@table ")[1].split("\n@row").slice(1).map(fieldsOf);
+kept.forEach(([html, page]) => same(`sanitized ${html}`, markdown.sanitize(html), page));
 same("decoded", markdown.decode("a&amp;\\*&copy;"), "a&*©");
 same("a label", markdown.normalizeLabel(" Á\n b "), "á b");
 check("many events", markdown.events("*a* ".repeat(20000)).length > 200000);

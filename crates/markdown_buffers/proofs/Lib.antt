@@ -2,6 +2,7 @@ mod Listed
 mod ListedLinks
 mod ListedOutline
 mod Pages
+mod Sanitized
 mod Statuses
 mod Written
 mod WrittenTexts

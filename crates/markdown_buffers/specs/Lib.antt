@@ -6,5 +6,6 @@ pub mod FlatLinks
 pub mod Links
 pub mod Outline
 pub mod Pages
+pub mod Sanitized
 pub mod Statuses
 pub mod Texts

@@ -1,5 +1,5 @@
-//! Markdown to HTML, to its events, its links and its headings, written into buffers of the caller's. Each call
-//! returns a status.
+//! Markdown to HTML, to its events, its links and its headings, and any HTML to a page, written into buffers of
+//! the caller's. Each call returns a status.
 #![tactic(auto)]
 
 pub mod convert;
@@ -10,5 +10,6 @@ pub mod flat_link;
 pub mod links;
 pub mod outline;
 pub mod safe_page;
+pub mod sanitize;
 pub mod status;
 pub mod texts;

@@ -1,4 +1,4 @@
-//! Converts Markdown to HTML, lists its events, links and headings, and tests pages, called from C.
+//! Converts Markdown to HTML, lists its events, links and headings, sanitizes HTML, and tests pages, called from C.
 #![tactic(auto)]
 
 mod convert;
@@ -8,5 +8,6 @@ mod events;
 mod links;
 mod outline;
 mod safe_page;
+mod sanitize;
 mod texts;
 mod version;

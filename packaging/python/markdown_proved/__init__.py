@@ -1,6 +1,6 @@
-"""Markdown to HTML, to events, links and headings, by a proved converter.
+"""Markdown to HTML, to events, links and headings, and HTML to a safe page, by a proved converter.
 
-    >>> from markdown_proved import events, is_safe_page, links, outline, to_html
+    >>> from markdown_proved import events, is_safe_page, links, outline, sanitize, to_html
     >>> to_html("# Hello, *world*")
     '<h1>Hello, <em>world</em></h1>'
     >>> to_html("~~a~~ www.example.com", gfm=True)
@@ -15,6 +15,8 @@
     [<link '/e' 1:1>, <image 'c d.png' 1:6>, <definition '/e' 3:1>]
     >>> [(it.rank, it.text, it.slug, it.line) for it in outline("# One *two*\\n\\n## One two")]
     [(1, 'One two', 'one-two', 1), (2, 'One two', 'one-two-1', 3)]
+    >>> sanitize("<p onclick=alert()>a <b>c</p><script>d</script>")
+    '<p>a <b>c</b></p>&lt;script&gt;d&lt;/script&gt;'
 
 Without options the input is CommonMark 0.31.2 and the HTML is safe to show: HTML in the input is escaped, and URLs with a protocol
 that isn't allowed become empty.
@@ -37,10 +39,10 @@ from ._library import __version__ as __version__
 if TYPE_CHECKING:
     from typing_extensions import Unpack
 
-    from ._library import Options, ReadOptions
+    from ._library import Options, ReadOptions, SanitizeOptions
 
 __all__ = [
-    "to_html", "is_safe_page", "events", "links", "outline", "decode", "normalize_label", "load", "Event", "Link",
+    "to_html", "is_safe_page", "sanitize", "events", "links", "outline", "decode", "normalize_label", "load", "Event", "Link",
     "Heading", "Flags", "Library", "DANGEROUS", "PLAIN", "STRIKETHROUGH", "MATH", "FRONTMATTER", "TASK_LIST_ITEMS", "TABLES", "AUTOLINK_LITERALS", "FOOTNOTES",
     "TAGFILTER", "MARK", "GFM",
 ]
@@ -137,6 +139,24 @@ def outline(text: Union[str, _Bytes], flags: int = 0, **options: Unpack[ReadOpti
     Raises the errors of ``to_html``.
     """
     return _own().outline(text, flags, **options)
+
+
+@overload
+def sanitize(html: str, **options: Unpack[SanitizeOptions]) -> str: ...
+
+
+@overload
+def sanitize(html: _Bytes, **options: Unpack[SanitizeOptions]) -> bytes: ...
+
+
+def sanitize(html: Union[str, _Bytes], **options: Unpack[SanitizeOptions]) -> Any:
+    """Return what is kept of ``html``, HTML of any origin, by a fixed list of elements and attributes. Other tags are printed as
+    text, comments are dropped, and elements that aren't closed are closed. Without options it has no script, and no URL with a
+    protocol that isn't allowed. Put it into a block, such as ``<div>``, not into ``<p>`` or ``<span>``.
+
+    Raises ValueError for input that isn't UTF-8 or is too large, and MemoryError.
+    """
+    return _own().sanitize(html, **options)
 
 
 @overload

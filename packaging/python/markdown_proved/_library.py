@@ -93,6 +93,13 @@ class Options(ReadOptions, total=False):
     line_ending: str  # what ends a line of the HTML if the input has no line ending: ``\n``, ``\r`` or ``\r\n``
 
 
+class SanitizeOptions(TypedDict, total=False):
+    """Which URLs are kept of HTML. By default only those with a permitted protocol or none."""
+
+    dangerous_protocol: bool  # keep every protocol of links and images
+    any_image_protocol: bool  # keep every protocol of images
+
+
 class Event(Generic[AnyStr]):
     """Something begins or ends at a point of a text."""
 
@@ -258,6 +265,10 @@ _PRINTING: Final = frozenset({
     "dangerous", "dangerous_html", "dangerous_protocol", "any_image_protocol", "tagfilter", "checkable_tasks", "line_ending",
     *_DEFAULT_TEXTS,
 })
+# Keywords that sanitized HTML doesn't depend on.
+_NOT_SANITIZING: Final = frozenset({
+    *_FLAG_NAMES, *_CONSTRUCT_NUMBERS, *_SWITCH_NUMBERS, *_PRINTING,
+}) - frozenset(SanitizeOptions.__annotations__)
 
 
 def _wrong_type(name: str, wanted: str, value: object) -> TypeError:
@@ -409,6 +420,7 @@ class Library:
     _list_events_with: Any
     _list_links_with: Any
     _list_outline_with: Any
+    _sanitize_with: Any
     _decode: Any
     _normalize_label: Any
     _check_page: Any
@@ -439,6 +451,7 @@ class Library:
             ("list_events_with", [*text, options, *out]),
             ("list_links_with", [*text, options, *out, *out]),
             ("list_outline_with", [*text, options, *out, *out]),
+            ("sanitize_with", [*text, options, *out]),
             ("decode", [*text, *out]),
             ("normalize_label", [*text, *out]),
             ("check_page", [*text, ctypes.POINTER(number)]),
@@ -480,15 +493,18 @@ class Library:
         data = texts.data()
         return [Heading(data, fields) for fields in _HEADING.iter_unpack(array.data())]
 
+    def sanitize(self, html: _Text, **options: Any) -> Any:
+        return self._changed(self._sanitize_with, _Given("html", html), _options_of("sanitize", 0, options, _NOT_SANITIZING))
+
     def decode(self, text: _Text) -> Any:
         return self._changed(self._decode, _Given("text", text))
 
     def normalize_label(self, label: _Text) -> Any:
         return self._changed(self._normalize_label, _Given("label", label))
 
-    def _changed(self, call: Any, given: _Given) -> Any:
+    def _changed(self, call: Any, given: _Given, options: Optional[_Options] = None) -> Any:
         room = _Array(_BYTE, len(given.data) + len(given.data) // 4 + 64)
-        self._call(call, given.data, None, room)
+        self._call(call, given.data, options, room)
         return given.returned(room.data())
 
     @staticmethod

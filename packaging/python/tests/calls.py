@@ -7,7 +7,7 @@ import sys
 from typing import Any, Callable, Type
 
 import markdown_proved
-from markdown_proved import GFM, MATH, Flags, decode, events, is_safe_page, links, normalize_label, outline, to_html
+from markdown_proved import GFM, MATH, Flags, decode, events, is_safe_page, links, normalize_label, outline, sanitize, to_html
 
 passed = failed = 0
 
@@ -111,6 +111,14 @@ check("a heading, shown", repr(headed[2]), "<heading 1 'é b  c' 5:1>")
 check("no headings", outline("a"), [])
 check("many headings", [it.slug for it in outline("# a\n" * 20000)][-1], "a-19999")
 check("an option of the page alone", fault(outline, "", prefix="a"), (TypeError, "outline() got an unexpected keyword argument 'prefix'"))
+check("sanitized", [sanitize("<b onclick=a>c"), sanitize(b"<i>\xc3\xa9</i><script>")], ["<b>c</b>", "<i>é</i>&lt;script&gt;".encode()])
+check("no script", sanitize("<a href=javascript:a>b</a><img src=c onerror=d>"), '<a href="">b</a><img src="c" />')
+check("other protocols", sanitize("<a href=b:c></a><img src=d:e>", dangerous_protocol=True), '<a href="b:c"></a><img src="d:e" />')
+check("other protocols of images", sanitize("<a href=b:c></a><img src=d:e>", any_image_protocol=True), '<a href=""></a><img src="d:e" />')
+check("HTML of a wrong type", fault(sanitize, 3), (TypeError, "html must be str, bytes, bytearray or memoryview, not int"))
+check("HTML that isn't UTF-8", fault(sanitize, b"\xff"), (ValueError, "input is not UTF-8"))
+check("an option of Markdown", fault(sanitize, "", gfm=True), (TypeError, "sanitize() got an unexpected keyword argument 'gfm'"))
+check("a page far longer than its HTML", sanitize('"' * 1000), "&quot;" * 1000)
 check("many events", sum(event.enters for event in events("*a* " * 20000)) > 100000, True)
 check("the version", markdown_proved.__version__.count("."), 2)
 check("a library that isn't there", fault(markdown_proved.load, "no.so")[0], ImportError)
