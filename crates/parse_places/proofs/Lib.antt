@@ -1,0 +1,3 @@
+pub mod Points
+pub mod Events
+pub mod Nested
