@@ -1,7 +1,9 @@
 -- An attempt at a blank line reads one where nothing but spaces and tabs is left of the line, and nothing else.
-use Rattle.std.proofs.Common.{◌≡◌, ◌∙◌, ℕ, ◌^◌, ◌<◌, ◌≤◌, Bool, true, false, ◌==◌, ◌&&◌, List, [], ◌∷◌, ◌++◌, length, Option, Some, None, inl, inr, refl, sym, ap}
+use Rattle.std.proofs.Common.{◌≡◌, ◌∙◌, ℕ, ◌^◌, ◌<◌, ◌≤◌, Bool, true, false, ◌==◌, List, [], ◌∷◌, length, Some, None, inl, inr, refl}
+use Rattle.std.proofs.Common.{ap}
 use Rattle.std.proofs.Common.{subst, arith}
-use Rattle.state_verdicts.proofs.BlockPrelude.{AtHand, byte, cases_Bool, Config, Context, Flows, has, InLine, is_space_or_tab, is_white, line_of, list_all, Name}
+use Rattle.state_verdicts.proofs.BlockPrelude.{AtHand, byte, cases_Bool, Config, Context, Flows, has, InLine, is_space_or_tab, is_white, line_of, list_all}
+use Rattle.state_verdicts.proofs.BlockPrelude.{Name}
 use Rattle.state_verdicts.proofs.BlockPrelude.{no_limit, nothing, part, plain, Point, run, Sees, SkipsOnce, tab, Text, text_byte, tries}
 use Rattle.engine_states.specs.declared.state.Block.TheVariants as state_block
 use Rattle.engine_states.specs.declared.state.Inline.TheVariants as state_inline
@@ -69,8 +71,10 @@ module _ {T : Type 0} (here : InLine T) (once : SkipsOnce here.text) (few : leng
   Goes is codes = SpacedIf (flows_bodies x) text (wants_end x) is c c start c.events c.tokenize_state p codes
 
   goes : (codes : List ℕ) → Sees text p codes → weight (line_of codes) ≤ no_limit → Goes (blank (flows_bodies x) text (wants_end x) codes) codes
-  goes [] (nothing e) room = at_once (flows_bodies x) text (wants_end x) (flows_white x) once c c c start c.events c.tokenize_state.size_c c.tokenize_state p at_p
-      (record { events = refl; kept = refl; map = refl; resolvers = refl }) refl [] (nothing e) refl (start_black x c (ap (has is_space_or_tab) (end_at at_p e)))
+  goes [] (nothing e) room = at_once (flows_bodies x) text (wants_end x) (flows_white x) once c c c start c.events c.tokenize_state.size_c c.tokenize_state p
+      at_p
+      (record { events = refl; kept = refl; map = refl; resolvers = refl }) refl [] (nothing e) refl
+      (start_black x c (ap (has is_space_or_tab) (end_at at_p e)))
   goes (code ∷ cs) (byte apart e s) room = elim (cases_Bool (is_white code)) [
     | inl is ↦ over_white (flows_bodies x) text (wants_end x) (flows_white x) once c c c start c.events c.tokenize_state.size_c c.tokenize_state p at_p
         (record { events = refl; kept = refl; map = refl; resolvers = refl }) refl whole code cs (byte apart e s) is room

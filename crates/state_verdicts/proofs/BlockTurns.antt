@@ -1,6 +1,6 @@
 -- Reading by the states of flow, turn by turn.
 pub use Rattle.state_verdicts.proofs.MachineTurns.{byte_at, end_at, fed, fed_again, still_at}
-use Rattle.std.proofs.Common.{◌≡◌, Bool, true, false}
+use Rattle.std.proofs.Common.{◌≡◌, true, false}
 use Rattle.state_verdicts.proofs.BlockPrelude.{Config, Context, feed, Flows, GoesOn, Name, plain, run, State, Text, tries}
 use Rattle.engine_states.specs.declared.state.State.TheVariants as states
 use Rattle.state_flow.specs.Flows.{flows_bodies}

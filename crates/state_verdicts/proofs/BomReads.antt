@@ -2,7 +2,8 @@
 use Rattle.std.proofs.Common.{◌≡◌, ◌∙◌, ℕ, Bool, true, false, ◌==◌, ◌&&◌, if◌then◌else◌, List, [], ◌∷◌, ◌++◌, drop, Some, None, inl, inr, refl, sym, ap, subst}
 use Rattle.std.proofs.Common.{append_assoc}
 use Rattle.std.proofs.lemmas.Bool.{and_right}
-use Rattle.state_verdicts.proofs.BlockPrelude.{as_byte, AtHand, byte, cases_Bool, Config, Context, eqb-true, Event, event, feed, is_feed, Name, nothing, past_byte, plain}
+use Rattle.state_verdicts.proofs.BlockPrelude.{as_byte, AtHand, byte, cases_Bool, Config, Context, eqb-true, Event, event, feed, is_feed, Name, nothing}
+use Rattle.state_verdicts.proofs.BlockPrelude.{past_byte, plain}
 use Rattle.state_verdicts.proofs.BlockPrelude.{Point, run, Sees, State, tab, Text, text_byte, with_enter, with_exit}
 use Rattle.definition_text.specs.Lines.{has_mark}
 use Rattle.engine_events.specs.declared.event.Kind.TheVariants.{Enter, Exit}
@@ -19,7 +20,7 @@ use Rattle.state_verdicts.specs.DocumentVerdicts.{GoesOn, InDocument, at_hand}
 use Rattle.state_verdicts.proofs.MachineTurns.{and_on, byte_at, does, does_next, end_at, ends_well, fails, fed}
 use Rattle.state_verdicts.proofs.Markers.{swap}
 use Rattle.state_verdicts.proofs.Seen.{seen_sort}
-use Rattle.state_verdicts.proofs.Standing.{Here, enters, exits}
+use Rattle.state_verdicts.proofs.Standing.{Here, exits}
 
 abbrev start : Name
 start = Block state_block.BomStart

@@ -3,7 +3,8 @@ use Rattle.std.proofs.Common.{◌≡◌, ◌∙◌, ℕ, suc, ◌+◌, ◌^◌, 
 use Rattle.std.proofs.Common.{◌++◌, drop, length, Option, Some, None, inl, inr, refl, sym, ap, subst, arith, append_assoc}
 use Rattle.std.proofs.lemmas.List.Sums.{prefix_len-le-length}
 use Rattle.state_verdicts.proofs.BlockPrelude.{after_line, as_byte, AtHand, byte, cases_Bool, cases_lt, Config, Context, eq-eqb, eqb-true, event, Event, feed}
-use Rattle.state_verdicts.proofs.BlockPrelude.{EventName, Flows, GoesOn, has, InLine, is_eol, is_feed, is_space_or_tab, is_white, KeptState, le-leb, le-ltb, line_of}
+use Rattle.state_verdicts.proofs.BlockPrelude.{EventName, Flows, GoesOn, has, InLine, is_eol, is_feed, is_space_or_tab, is_white, KeptState, le-leb, le-ltb}
+use Rattle.state_verdicts.proofs.BlockPrelude.{line_of}
 use Rattle.state_verdicts.proofs.BlockPrelude.{list_all, lt-leb, lt-ltb, more, Name, no_limit, nothing, or_cases, part, past_byte, plain, Point, run, Sees}
 use Rattle.state_verdicts.proofs.BlockPrelude.{SkipsOnce, State, tab, Text, text_byte, tries, with_enter, with_exit}
 use Rattle.definition_text.specs.Runs.{after_run, is_run, run as run_length}
@@ -21,7 +22,7 @@ use Rattle.state_verdicts.proofs.BlockTurns.{and_on, byte_at, does, does_next, e
 use Rattle.state_verdicts.proofs.LineCodes.{after_more, line_more, line_none, prefix_more, prefix_none, rest_more, weight, weight_four}
 use Rattle.state_verdicts.proofs.Markers.{Marker, flip, flop, marker_of, no_feed_at, white_apart}
 use Rattle.state_verdicts.proofs.RunLines.{Held, Outcome, ReadsRun, over_run}
-use Rattle.state_verdicts.proofs.Standing.{Here, exits}
+use Rattle.state_verdicts.proofs.Standing.{exits}
 use Rattle.state_verdicts.proofs.WhiteLines.{WantsEnd, and_true}
 use Rattle.state_verdicts.proofs.WhiteReads.{flows_white, spaced}
 

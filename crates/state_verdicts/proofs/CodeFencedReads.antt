@@ -4,7 +4,8 @@ use Rattle.std.proofs.Common.{◌∷◌, ◌++◌}
 use Rattle.std.proofs.Common.{drop, length, length-drop, Option, Some, None, inl, inr, refl, sym, ap, subst, arith, append_assoc, append-nil}
 use Rattle.state_verdicts.proofs.BlockPrelude.{after_line, and_right, as_byte, AtHand, bare, byte, cases_Bool, Config, Context, eq-eqb, eqb-true}
 use Rattle.state_verdicts.proofs.BlockPrelude.{event, Event}
-use Rattle.state_verdicts.proofs.BlockPrelude.{feed, Flows, GoesOn, indent, InLine, is_eol, is_feed, is_space_or_tab, is_white, KeptState, line_of, LineEnds, list_all, lt-ltb}
+use Rattle.state_verdicts.proofs.BlockPrelude.{feed, Flows, GoesOn, indent, InLine, is_eol, is_feed, is_space_or_tab, is_white, KeptState, line_of, LineEnds}
+use Rattle.state_verdicts.proofs.BlockPrelude.{list_all, lt-ltb}
 use Rattle.state_verdicts.proofs.BlockPrelude.{more}
 use Rattle.state_verdicts.proofs.BlockPrelude.{no_limit, nothing, or_cases, part, plain, Point, run, Sees, SkipsOnce, State, tab, Text, text_byte, tries}
 use Rattle.definition_block.specs.CodeFenced.{Fence, fence_by, fence_of}
@@ -388,7 +389,8 @@ module _ {T : Type 0} (here : InLine T) (once : SkipsOnce here.text) (few : leng
 
     at_black : (long : Bool) (b : ℕ) → leb 3 size ≡ long → last.current ≡ Some b → (b == m) ≡ false → is_space_or_tab b ≡ false
         → indent over.rest ≡ 0 → Ended long
-    at_black true b h k other black none_there = passes_told none_there (steps.sequence_other x b last false k (ap (λ (i : ℕ). b == i) marker_last ∙ other) dollar_last
+    at_black true b h k other black none_there = passes_told none_there (steps.sequence_other x b last false k (ap (λ (i : ℕ). b == i) marker_last ∙ other)
+        dollar_last
         (size_last ∙ ap not h) black)
     at_black false b h k other black none_there = few_bytes (steps.sequence_other x b last true k (ap (λ (i : ℕ). b == i) marker_last ∙ other) dollar_last
         (size_last ∙ ap not h) black)

@@ -1,9 +1,11 @@
 -- An attempt at indented code goes on after four columns where there are as many, and fails elsewhere.
-use Rattle.std.proofs.Common.{◌≡◌, ◌∙◌, ℕ, ◌+◌, ◌-◌, ◌<◌, ◌≤◌, min, Bool, true, false, not, ◌==◌, ◌&&◌, leb, nat_lt, List, [], ◌∷◌, ◌++◌, drop, Some, None, inl, inr}
+use Rattle.std.proofs.Common.{◌≡◌, ◌∙◌, ℕ, ◌-◌, ◌<◌, min, Bool, true, false, not, ◌==◌, ◌&&◌, leb, List, [], ◌∷◌, ◌++◌, drop, Some, None}
+use Rattle.std.proofs.Common.{inl, inr}
 use Rattle.std.proofs.Common.{refl, sym, ap, subst, arith, append_assoc}
 use Rattle.std.proofs.lemmas.Bool.{ne_eqb}
-use Rattle.state_verdicts.proofs.BlockPrelude.{as_byte, AtHand, cases_Bool, cases_lt, Config, Context, event, Event, feed, Flows, GoesOn, has, indent, InLine}
-use Rattle.state_verdicts.proofs.BlockPrelude.{is_eol, is_space_or_tab, is_white, KeptState, le-leb, line_of, list_all, lt-leb, lt-ltb, Name, part, plain, Point}
+use Rattle.state_verdicts.proofs.BlockPrelude.{AtHand, cases_Bool, cases_lt, Config, Context, event, Event, feed, Flows, GoesOn, has, indent, InLine}
+use Rattle.state_verdicts.proofs.BlockPrelude.{is_eol, is_space_or_tab, is_white, KeptState, le-leb, line_of, list_all, lt-leb, lt-ltb, Name, part, plain}
+use Rattle.state_verdicts.proofs.BlockPrelude.{Point}
 use Rattle.state_verdicts.proofs.BlockPrelude.{run, SkipsOnce, State, Text, text_byte, tries, with_enter}
 use Rattle.engine_events.specs.declared.event.Kind.TheVariants.{Enter, Exit}
 use Rattle.engine_events.specs.declared.event.Name.TheVariants as names
@@ -20,7 +22,7 @@ use Rattle.state_verdicts.proofs.BlockTurns.{and_on, byte_at, does, fails, fed, 
 use Rattle.state_verdicts.proofs.ColumnReads.{Taken, TakenIf, attempted}
 use Rattle.state_verdicts.proofs.LineCodes.{line_more, line_none, prefix_more, prefix_none, rest_more, rest_none}
 use Rattle.state_verdicts.proofs.Seen.{seen_feed, seen_white, white_inner}
-use Rattle.state_verdicts.proofs.Standing.{Here, fed_here}
+use Rattle.state_verdicts.proofs.Standing.{fed_here}
 use Rattle.state_verdicts.proofs.WhiteReads.{flows_white, spaced}
 
 abbrev start : Name

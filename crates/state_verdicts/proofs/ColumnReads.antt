@@ -1,11 +1,11 @@
 -- An attempt at spaces and tabs goes over at most so many columns.
-use Rattle.std.proofs.Common.{◌≡◌, ◌∙◌, ℕ, zero, suc, ◌+◌, ◌-◌, ◌<◌, ◌≤◌, min, Bool, true, false, not, ◌==◌, ◌&&◌, nat_lt, if◌then◌else◌, List, [], ◌∷◌, ◌++◌, drop, append_assoc}
+use Rattle.std.proofs.Common.{◌≡◌, ◌∙◌, ℕ, zero, suc, ◌+◌, ◌-◌, ◌<◌, min, Bool, true, false, not, ◌==◌, ◌&&◌, nat_lt, if◌then◌else◌, List, [], ◌∷◌, ◌++◌}
+use Rattle.std.proofs.Common.{drop, append_assoc}
 use Rattle.std.proofs.Common.{Some, None, inl, inr, refl, replicate, sym, ap, subst, arith}
-use Rattle.state_verdicts.proofs.BlockPrelude.{and_right, as_byte, AtHand, byte, cases_Bool, cases_lt, Config, Context, event, Event, feed, Flows, indent}
+use Rattle.state_verdicts.proofs.BlockPrelude.{and_right, as_byte, AtHand, byte, cases_Bool, cases_lt, Config, event, Event, feed, Flows, indent}
 use Rattle.state_verdicts.proofs.BlockPrelude.{InLine, is_feed, is_space_or_tab, is_white, KeptState, le-ltb, less, lt-ltb, Name, nothing, plain, Point, run}
-use Rattle.state_verdicts.proofs.BlockPrelude.{Sees, tab, Text, text_byte, with_exit}
+use Rattle.state_verdicts.proofs.BlockPrelude.{tab, Text, text_byte, with_exit}
 use Rattle.definition_text.specs.Columns.{bytes_of}
-use Rattle.definition_text.specs.Indents.{outdent}
 use Rattle.engine_events.specs.declared.event.Kind.TheVariants.{Enter, Exit}
 use Rattle.engine_events.specs.declared.event.Name.TheVariants as names
 use Rattle.engine_programs.specs.Bodies.{Body}
@@ -197,9 +197,11 @@ module _ {W : Type 0} (bodies : Name → Body W) (spaces : ReadsWhite bodies) (t
       | inl some ↦ elim (cases_Bool (is_white code)) [
         | inl is ↦
             let size = prefix_more is_white code cs is in
-            subst (λ (b : Bool). TakenIf b es c p w (code ∷ cs)) (sym (lt-ltb 0 (takes w (code ∷ cs)) (omega (arith, some, size)))) (begins code cs q e s some is)
+            subst (λ (b : Bool). TakenIf b es c p w (code ∷ cs)) (sym (lt-ltb 0 (takes w (code ∷ cs)) (omega (arith, some, size))))
+            (begins code cs q e s some is)
         | inr is ↦ none_if (code ∷ cs) (let size = prefix_none is_white code cs is in omega (arith, size)) (start_fails bodies spaces (text_byte code) c
-            (byte_at at e) (ap (λ (b : Bool). nat_lt 0 c.tokenize_state.size_c && b) (seen_white code ∙ is) ∙ and_right (nat_lt 0 c.tokenize_state.size_c) false refl))
+            (byte_at at e) (ap (λ (b : Bool). nat_lt 0 c.tokenize_state.size_c && b) (seen_white code ∙ is) ∙ and_right (nat_lt 0 c.tokenize_state.size_c)
+            false refl))
       ]
       | inr none ↦ none_if (code ∷ cs) (omega (arith, none)) (start_fails bodies spaces (text_byte code) c (byte_at at e)
           (ap (λ (b : Bool). b && is_space_or_tab (text_byte code)) (room w false c here.kept (le-ltb 0 w none))))

@@ -1,8 +1,10 @@
 -- The info after an opening fence is read as one word.
 use Rattle.std.proofs.Common.{◌≡◌, ◌∙◌, ℕ, ◌+◌, ◌≤◌, Bool, true, false, not, ◌==◌, ◌&&◌, ◌||◌, List, [], ◌∷◌, ◌++◌, Some, None, inl, inr, refl, sym, ap, subst}
 use Rattle.std.proofs.Common.{arith, append_assoc, append-nil}
-use Rattle.state_verdicts.proofs.BlockPrelude.{after_line, and_parts, as_byte, AtHand, bare, byte, byte_of, cases_Bool, Config, Context, eqb-true, event, Event, EventName}
-use Rattle.state_verdicts.proofs.BlockPrelude.{feed, Flows, GoesOn, has, indent, is_eol, is_feed, is_space_or_tab, is_white, KeptState, line_of, LineEnds, no_limit}
+use Rattle.state_verdicts.proofs.BlockPrelude.{after_line, and_parts, as_byte, AtHand, bare, byte, byte_of, cases_Bool, Config, Context, event}
+use Rattle.state_verdicts.proofs.BlockPrelude.{Event, EventName}
+use Rattle.state_verdicts.proofs.BlockPrelude.{feed, Flows, GoesOn, has, indent, is_eol, is_feed, is_space_or_tab, is_white, KeptState, line_of, LineEnds}
+use Rattle.state_verdicts.proofs.BlockPrelude.{no_limit}
 use Rattle.state_verdicts.proofs.BlockPrelude.{nothing, past_byte, Point, retry, Sees, SkipsOnce, tab, Text, text_byte}
 use Rattle.engine_events.specs.declared.event.Content.TheVariants as contents
 use Rattle.engine_events.specs.declared.event.Kind.TheVariants.{Enter, Exit}
@@ -186,7 +188,8 @@ module _ {T : Type 0} (x : Context T) (text : Text) (once : SkipsOnce text) (c0 
     first = feed text (past_byte (steps.info_begun c))
 
     abbrev begun : List Event
-    begun = (es ++ event Enter names.CodeFencedFenceInfo (text.start p) None ∷ []) ++ event Enter names.Data (text.start p) (Some (chunk_of contents.String)) ∷ []
+    begun = (es ++ event Enter names.CodeFencedFenceInfo (text.start p) None ∷ []) ++ event Enter names.Data (text.start p) (Some (chunk_of contents.String))
+        ∷ []
 
     named_first : c.tokenize_state.token_4 ≡ names.CodeFencedFenceInfo
     named_first = ap (λ (t : KeptState). t.token_4) h.here.kept ∙ info_name
@@ -197,7 +200,8 @@ module _ {T : Type 0} (x : Context T) (text : Text) (once : SkipsOnce text) (c0 
       at = fed text (past_byte (steps.info_begun c)) q (h.at.next (as_byte (text_byte code) q) e);
       here = record {
         events =
-            ap (λ (n : EventName). (c.events ++ event Enter n c.point None ∷ []) ++ event Enter names.Data c.point (Some (chunk_of contents.String)) ∷ []) named_first
+            ap (λ (n : EventName). (c.events ++ event Enter n c.point None ∷ []) ++ event Enter names.Data c.point (Some (chunk_of contents.String)) ∷ [])
+            named_first
             ∙ (ap (λ (r : Point). (c.events ++ event Enter names.CodeFencedFenceInfo r None ∷ [])
             ++ event Enter names.Data r (Some (chunk_of contents.String)) ∷ []) h.at.point
             ∙ ap (λ (l : List Event). (l ++ event Enter names.CodeFencedFenceInfo (text.start p) None ∷ [])
@@ -230,7 +234,8 @@ module _ {T : Type 0} (x : Context T) (text : Text) (once : SkipsOnce text) (c0 
           columns = w.standing.columns;
           at = still_at refl refl refl w.standing.at;
           here = record {
-            events = g.events ∙ (ap (λ (n : EventName). (begun ++ event Exit names.Data (text.start w.end) None ∷ []) ++ event Exit n (text.start w.end) None ∷ [])
+            events = g.events ∙ (ap (λ (n : EventName). (begun ++ event Exit names.Data (text.start w.end) None ∷ []) ++ event Exit n (text.start w.end) None
+                ∷ [])
                 (ap (λ (t : KeptState). t.token_4) w.standing.here.kept ∙ info_name)
                 ∙ four es (event Enter names.CodeFencedFenceInfo (text.start p) None) (event Enter names.Data (text.start p) (Some (chunk_of contents.String)))
                 (event Exit names.Data (text.start w.end) None) (event Exit names.CodeFencedFenceInfo (text.start w.end) None));

@@ -177,7 +177,8 @@ module _ {T : Type 0} (x : Context T) (text : Text) (once : SkipsOnce text) (c0 
         resolvers = h.here.resolvers;
       } in
       let indented = white_within (code ∷ cs) in
-      let a = attempted (flows_bodies x) (flows_white x) text c0 k (es ++ h.further) no_limit (steps.readied d) p (still_at refl refl refl h.at) ready whole code cs sees is
+      let a = attempted (flows_bodies x) (flows_white x) text c0 k (es ++ h.further) no_limit (steps.readied d) p (still_at refl refl refl h.at) ready whole
+      code cs sees is
       (omega (arith, indented, room)) in
       let held : Held (feed text a.config) a.end = record {
         columns = a.columns;

@@ -1,5 +1,5 @@
 -- An attempt at the closing line of frontmatter reads one where the line is one, and nothing else.
-use Rattle.std.proofs.Common.{◌≡◌, ◌∙◌, ℕ, suc, ◌+◌, ◌^◌, ◌<◌, ◌≤◌, min, Bool, true, false, ◌==◌, ◌&&◌, ◌||◌, if◌then◌else◌, List, [], ◌∷◌, ◌++◌, drop, length}
+use Rattle.std.proofs.Common.{◌≡◌, ◌∙◌, ℕ, ◌+◌, ◌^◌, ◌<◌, ◌≤◌, min, Bool, true, false, ◌==◌, ◌&&◌, if◌then◌else◌, List, [], ◌∷◌, ◌++◌, drop, length}
 use Rattle.std.proofs.Common.{Option, Some, None, inl, inr, refl, sym, ap, subst, arith, append_assoc}
 use Rattle.state_verdicts.proofs.BlockPrelude.{after_line, and_parts, as_byte, AtHand, byte, cases_Bool, Config, Context, eq-eqb, eqb-true, event, Event, feed}
 use Rattle.state_verdicts.proofs.BlockPrelude.{has, is_eol, is_feed, is_space_or_tab, is_white, KeptState, line_of, list_all, more, Name, no_limit, nothing}
@@ -25,7 +25,7 @@ use Rattle.state_verdicts.proofs.LineCodes.{after_more, line_more, line_none, pr
 use Rattle.state_verdicts.proofs.MachineTurns.{and_on, byte_at, does, does_next, end_at, ends_well, fails, fed, still_at}
 use Rattle.state_verdicts.proofs.Markers.{Marker, marker_of, no_feed_at, white_apart}
 use Rattle.state_verdicts.proofs.RunLines.{Held, Outcome, ReadsRun, over_run}
-use Rattle.state_verdicts.proofs.Standing.{Here, exits}
+use Rattle.state_verdicts.proofs.Standing.{exits}
 use Rattle.state_verdicts.proofs.WhiteLines.{WantsEnd, and_true}
 use Rattle.state_verdicts.proofs.WhiteReads.{spaced}
 

@@ -1,5 +1,6 @@
 -- An attempt at frontmatter goes on after its opening line where there is one, and fails elsewhere.
-use Rattle.std.proofs.Common.{◌≡◌, ◌∙◌, ℕ, suc, ◌+◌, ◌^◌, ◌<◌, ◌≤◌, min, Bool, true, false, not, ◌==◌, ◌&&◌, ◌||◌, if◌then◌else◌, List, [], ◌∷◌, ◌++◌, drop, length}
+use Rattle.std.proofs.Common.{◌≡◌, ◌∙◌, ℕ, ◌+◌, ◌^◌, ◌<◌, ◌≤◌, min, Bool, true, false, ◌==◌, ◌&&◌, if◌then◌else◌, List, [], ◌∷◌, ◌++◌, drop}
+use Rattle.std.proofs.Common.{length}
 use Rattle.std.proofs.Common.{Option, Some, None, inl, inr, refl, sym, ap, subst, arith, append_assoc}
 use Rattle.std.proofs.lemmas.Bool.{eqb-false, ne_eqb}
 use Rattle.state_verdicts.proofs.BlockPrelude.{after_line, and_parts, as_byte, AtHand, byte, cases_Bool, Config, Context, eqb-true, event, Event, feed, has}
@@ -18,14 +19,14 @@ use Rattle.markdown_engine.specs.Reading.{at_point}
 use Rattle.state_document.specs.Blocks.{blocks_bodies}
 use Rattle.state_document.specs.Readers.{Calls}
 use Rattle.state_verdicts.specs.DocumentVerdicts.{GoesOn, InDocument, at_hand, line}
-use Rattle.state_verdicts.specs.Frontmatter.{FrontmatterVerdict, OpeningVerdict, fencing, metadata_byte, opening_events}
+use Rattle.state_verdicts.specs.Frontmatter.{FrontmatterVerdict, OpeningVerdict, metadata_byte, opening_events}
 use Rattle.state_verdicts.specs.Lines.{has_ending, is_filled}
 use Rattle.state_verdicts.specs.WhiteSpace.{white_events}
 use Rattle.state_verdicts.proofs.LineCodes.{after_more, line_more, line_none, prefix_more, prefix_none, rest_more, weight, weight_four}
 use Rattle.state_verdicts.proofs.MachineTurns.{and_on, byte_at, does, does_next, end_at, fails, fed, still_at}
 use Rattle.state_verdicts.proofs.Markers.{Marker, marker_of, no_feed_at}
-use Rattle.state_verdicts.proofs.RunLines.{Held, Outcome, ReadsRun, fits, over_run}
-use Rattle.state_verdicts.proofs.Standing.{Here, exits}
+use Rattle.state_verdicts.proofs.RunLines.{Held, Outcome, ReadsRun, over_run}
+use Rattle.state_verdicts.proofs.Standing.{exits}
 use Rattle.state_verdicts.proofs.WhiteLines.{WantsEnd}
 use Rattle.state_verdicts.proofs.WhiteReads.{ReadsWhite, spaced}
 
@@ -179,7 +180,8 @@ of_plus l = ap (λ (b : Bool). if b then Some 45 else byte_if (is_metadata_fence
     (no_fence 45 (43 ∷ l) (prefix_none (λ b. b == 45) 43 l refl))
 
 of_other : (l : List ℕ) → run_length 45 l ≡ 0 → run_length 43 l ≡ 0 → metadata_byte l ≡ None
-of_other l h k = ap (λ (b : Bool). if b then Some 45 else byte_if (is_metadata_fence 43 l) 43) (no_fence 45 l h) ∙ ap (λ (b : Bool). byte_if b 43) (no_fence 43 l k)
+of_other l h k = ap (λ (b : Bool). if b then Some 45 else byte_if (is_metadata_fence 43 l) 43) (no_fence 45 l h) ∙ ap (λ (b : Bool). byte_if b 43)
+    (no_fence 43 l k)
 
 swapped : (a b e : Bool) (m : ℕ) → byte_if (a && (b && e)) m ≡ (if e then byte_if (a && b) m else None)
 swapped true true true m = refl

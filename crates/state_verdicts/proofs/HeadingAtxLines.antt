@@ -1,9 +1,12 @@
 -- An attempt at an ATX heading reads the parts of the line up to its end where the line is a heading, and fails elsewhere.
-use Rattle.std.proofs.Common.{◌≡◌, ◌∙◌, ℕ, zero, suc, ◌+◌, ◌^◌, ◌<◌, ◌≤◌, Bool, true, false, not, ◌==◌, ◌&&◌, ◌||◌, leb, if◌then◌else◌, List, [], ◌∷◌, ◌++◌, drop, length}
+use Rattle.std.proofs.Common.{◌≡◌, ◌∙◌, ℕ, zero, suc, ◌+◌, ◌^◌, ◌<◌, ◌≤◌, Bool, true, false, not, ◌==◌, ◌&&◌, leb, if◌then◌else◌, List, [], ◌∷◌, ◌++◌}
+use Rattle.std.proofs.Common.{drop, length}
 use Rattle.std.proofs.Common.{Option, Some, None, inl, inr, refl, sym, ap, subst, arith, append_assoc}
 use Rattle.state_verdicts.proofs.BlockPrelude.{after_line, as_byte, AtHand, bare, byte, byte_of, cases_Bool, Config, Context, eqb-true, event, Event, EventName}
-use Rattle.state_verdicts.proofs.BlockPrelude.{feed, Flows, GoesOn, has, indent, InLine, is_eol, is_feed, is_space_or_tab, is_white, KeptState, line_of, LineEnds}
-use Rattle.state_verdicts.proofs.BlockPrelude.{Name, no_limit, nothing, or_from, part, past_byte, plain, Point, prefix_len, run, Sees, SkipsOnce, State, tab, Text}
+use Rattle.state_verdicts.proofs.BlockPrelude.{feed, Flows, GoesOn, has, indent, InLine, is_eol, is_feed, is_space_or_tab, is_white, KeptState, line_of}
+use Rattle.state_verdicts.proofs.BlockPrelude.{LineEnds}
+use Rattle.state_verdicts.proofs.BlockPrelude.{Name, no_limit, nothing, part, past_byte, plain, Point, prefix_len, run, Sees, SkipsOnce, tab}
+use Rattle.state_verdicts.proofs.BlockPrelude.{Text}
 use Rattle.state_verdicts.proofs.BlockPrelude.{text_byte, tries, with_enter, with_exit}
 use Rattle.definition_block.specs.HeadingAtx.{Atx, atx, atx_of, begins_apart, without_closing}
 use Rattle.definition_text.specs.Columns.{trim}
@@ -33,7 +36,7 @@ use Rattle.state_verdicts.proofs.LineCodes.{prefix_more, prefix_none, rest_more,
 use Rattle.state_verdicts.proofs.LineCodes.{weight_line_bare, weight_rest, weight_some, white_within}
 use Rattle.state_verdicts.proofs.Markers.{flip, flop}
 use Rattle.state_verdicts.proofs.Seen.{seen_eol, seen_feed, seen_white}
-use Rattle.state_verdicts.proofs.Standing.{Here, exits, fed_here, past_here}
+use Rattle.state_verdicts.proofs.Standing.{Here, exits, fed_here}
 use Rattle.state_verdicts.proofs.StretchReads.{apart_feed, over_stretch}
 use Rattle.state_verdicts.proofs.Stretches.{some_seen}
 use Rattle.state_verdicts.proofs.WhiteReads.{Whites, attempted, flows_white, none, one, spaced}
@@ -253,7 +256,8 @@ module _ {T : Type 0} (now : InLine T) (once : SkipsOnce now.text) (whole : now.
         let least = weight_rest (λ c. goes_on_with kind (text_byte c)) sort cs in
         let l = ap weight (line_more code cs eol) in
         let some = weight_some code (line_of cs) in
-        after_part kind name link es c (with_exit name o.config) p q f.end b f.count (code ∷ cs) (drop (prefix_len (λ c. goes_on_with kind (text_byte c)) cs) cs)
+        after_part kind name link es c (with_exit name o.config) p q f.end b f.count (code ∷ cs)
+        (drop (prefix_len (λ c. goes_on_with kind (text_byte c)) cs) cs)
         are is e inner f.stretch
         (and_on x text (does_next x text at_break inside c (past_byte (with_enter name link c)) begins) (and_on x text o.goes
         (does x text inside o.config (with_exit name o.config) (states.Retry at_break)

@@ -1,9 +1,11 @@
 -- An attempt at an underline reads one where the line is one and one may stand there, and nothing else.
-use Rattle.std.proofs.Common.{◌≡◌, ◌∙◌, ℕ, suc, ◌+◌, ◌^◌, ◌<◌, ◌≤◌, Bool, true, false, not, ◌==◌, ◌&&◌, ◌||◌, leb, if◌then◌else◌, List, [], ◌∷◌, ◌++◌, drop, length}
+use Rattle.std.proofs.Common.{◌≡◌, ◌∙◌, ℕ, suc, ◌^◌, ◌<◌, ◌≤◌, Bool, true, false, not, ◌==◌, ◌&&◌, ◌||◌, leb, if◌then◌else◌, List, [], ◌∷◌, ◌++◌, drop}
+use Rattle.std.proofs.Common.{length}
 use Rattle.std.proofs.Common.{take, Option, Some, None, inl, inr, refl, sym, ap, subst, arith, append_assoc}
 use Rattle.std.proofs.Math.Seq.{take-append_seam, take-length}
-use Rattle.state_verdicts.proofs.BlockPrelude.{after_line, as_byte, AtHand, byte, cases_Bool, Config, Context, eqb-true, event, Event, feed, Flows, GoesOn, has}
-use Rattle.state_verdicts.proofs.BlockPrelude.{InLine, is_eol, is_feed, is_space_or_tab, is_white, KeptState, le-leb, line_of, list_all, Name, no_limit, nothing}
+use Rattle.state_verdicts.proofs.BlockPrelude.{after_line, as_byte, AtHand, byte, cases_Bool, Config, Context, eqb-true, event, Event, feed, Flows, GoesOn}
+use Rattle.state_verdicts.proofs.BlockPrelude.{InLine, is_eol, is_feed, is_space_or_tab, is_white, KeptState, le-leb, line_of, list_all, Name, no_limit}
+use Rattle.state_verdicts.proofs.BlockPrelude.{nothing}
 use Rattle.state_verdicts.proofs.BlockPrelude.{part, past_byte, plain, Point, run, Sees, SkipsOnce, State, tab, Text, text_byte, tries, with_enter, with_exit}
 use Rattle.definition_block.specs.HeadingSetext.{underline_of}
 use Rattle.definition_text.specs.Runs.{after_run, is_run, run as run_length}
@@ -27,8 +29,8 @@ use Rattle.state_verdicts.specs.WhiteSpace.{white_events}
 use Rattle.state_verdicts.proofs.BlockTurns.{and_on, byte_at, does, does_next, end_at, ends_well, fails, fed, still_at}
 use Rattle.state_verdicts.proofs.LineCodes.{after_more, line_more, line_none, prefix_more, prefix_none, rest_more, weight, weight_four}
 use Rattle.state_verdicts.proofs.Markers.{Marker, marker_of, no_feed_at}
-use Rattle.state_verdicts.proofs.RunLines.{Held, Outcome, ReadsRun, fits, over_run}
-use Rattle.state_verdicts.proofs.Standing.{Here, exits}
+use Rattle.state_verdicts.proofs.RunLines.{Held, Outcome, ReadsRun, over_run}
+use Rattle.state_verdicts.proofs.Standing.{exits}
 use Rattle.state_verdicts.proofs.WhiteLines.{WantsEnd, and_true}
 use Rattle.state_verdicts.proofs.WhiteReads.{flows_white, spaced}
 
@@ -305,7 +307,8 @@ module _ {T : Type 0} (here : InLine T) (once : SkipsOnce here.text) (few : leng
             record {
               events = f.events
                   ∙ (five c0.events (event Enter names.HeadingSetextUnderline (text.start p) None)
-                  (event Enter names.HeadingSetextUnderlineSequence (text.start p) None) (event Exit names.HeadingSetextUnderlineSequence (text.start o.mid) None)
+                  (event Enter names.HeadingSetextUnderlineSequence (text.start p) None) (event Exit names.HeadingSetextUnderlineSequence (text.start o.mid)
+                  None)
                   (white_events (drop (run_length m (line_of cs)) cs) (text.start o.mid) (text.start o.end))
                   (event Exit names.HeadingSetextUnderline (text.start o.end) None)
                   ∙ ap (λ (l : List ℕ). c0.events ++ underline_events l (text.start p) (text.start o.mid) (text.start o.end)) rest_is);
@@ -321,7 +324,8 @@ module _ {T : Type 0} (here : InLine T) (once : SkipsOnce here.text) (few : leng
           )
           by_left false h = (
             o.config,
-            fails x text c0 o.config begins (and_on x text goes_first (and_on x text o.goes (does x text after o.config o.config states.Nok (after_is false h)))),
+            fails x text c0 o.config begins (and_on x text goes_first (and_on x text o.goes
+                (does x text after o.config o.config states.Nok (after_is false h)))),
           )
       by_end false (d, g) = (d, fails x text c0 d begins (and_on x text goes_first g))
 

@@ -1,10 +1,9 @@
 -- The states of the starts of labels read what the definition calls one, and nothing else.
-use Rattle.std.proofs.Common.{◌≡◌, ◌∙◌, ℕ, Bool, true, false, not, ◌==◌, ◌&&◌, if◌then◌else◌, List, [], ◌∷◌, ◌++◌, drop, length, Option, Some, None, codes}
+use Rattle.std.proofs.Common.{◌≡◌, ◌∙◌, ℕ, Bool, true, false, not, ◌==◌, ◌&&◌, if◌then◌else◌, List, [], ◌∷◌, ◌++◌, drop, Option, Some, None, codes}
 use Rattle.std.proofs.Common.{inl, inr, refl, sym, ap, subst, append_assoc}
-use Rattle.state_verdicts.proofs.Prelude.{as_byte, at_byte, byte, cases_Bool, Config, Context, eq-eqb, eqb-true, event, Event, EventName, feed, has, Inlines, is_feed}
-use Rattle.state_verdicts.proofs.Prelude.{KeptState, ne_eqb, Name, nothing, past_byte, plain, Point, run, Sees, tab, Text, text_byte, with_enter, with_exit}
-use Rattle.definition_inline.specs.GfmLabelStartFootnote.{starts_call}
-use Rattle.definition_inline.specs.Scan.{starts_image}
+use Rattle.state_verdicts.proofs.Prelude.{as_byte, at_byte, byte, cases_Bool, Config, Context, eqb-true, event, Event, EventName, feed, has, Inlines}
+use Rattle.state_verdicts.proofs.Prelude.{is_feed}
+use Rattle.state_verdicts.proofs.Prelude.{Name, nothing, past_byte, plain, Point, run, Sees, tab, Text, text_byte, with_enter, with_exit}
 use Rattle.definition_text.specs.Bytes.{begins_with}
 use Rattle.engine_events.specs.declared.event.Kind.TheVariants.{Enter, Exit}
 use Rattle.engine_events.specs.declared.event.Name.TheVariants as names
@@ -106,7 +105,8 @@ module _ {T : Type 0} (texts : List ℕ → Option (List ℕ)) (is_punctuation :
 
   image_after : (c : Config Inlines) (caret footnotes : Bool) → has (λ b. b == 94) c.current ≡ caret
       → x.options.constructs.gfm_label_start_footnote ≡ footnotes
-      → run (machine (Inline state_inline.LabelStartImageAfter)) c ≡ (if caret && footnotes then plain c states.Nok else plain (begun kinds.Image 6 c) states.Ok)
+      → run (machine (Inline state_inline.LabelStartImageAfter)) c ≡ (if caret && footnotes then plain c states.Nok else plain (begun kinds.Image 6 c)
+      states.Ok)
   unfolding bodies
   image_after c true true h k = rw (h, k) refl
   image_after c true false h k = rw (h, k) refl
@@ -172,7 +172,8 @@ module _ {T : Type 0} (texts : List ℕ → Option (List ℕ)) (is_punctuation :
     called = rounded names.LabelMarker (with_enter names.GfmFootnoteCallLabel None (at 91))
 
     abbrev Calls : Bool → Type 0
-    Calls is = StartVerdict (here 91) (attempt (here 91) state_inline.GfmLabelStartFootnoteStart) kinds.GfmFootnote 2 (call_events p q (text.start q)) (λ end. end) is
+    Calls is = StartVerdict (here 91) (attempt (here 91) state_inline.GfmLabelStartFootnoteStart) kinds.GfmFootnote 2 (call_events p q (text.start q))
+        (λ end. end) is
 
     second_at : AtHand text (feed text called) q
     second_at = fed text called q refl
@@ -181,7 +182,8 @@ module _ {T : Type 0} (texts : List ℕ → Option (List ℕ)) (is_punctuation :
         → GoesOnBy machine text (at 91) (states.Retry call_start) (feed text called) (states.Retry call_next)
     call_goes on = does_next machine text call_start call_next (at 91) called (call_does (at 91) true refl on)
 
-    call_fails : x.options.constructs.gfm_label_start_footnote ≡ true → run (machine call_next) (feed text called) ≡ plain (feed text called) states.Nok → Calls false
+    call_fails : x.options.constructs.gfm_label_start_footnote ≡ true → run (machine call_next) (feed text called) ≡ plain (feed text called) states.Nok →
+        Calls false
     call_fails on h = (
       feed text called,
       as_reads (at 91) (feed text called) (states.Retry call_start) false (fails machine text (at 91) (feed text called) (states.Retry call_start)
@@ -245,7 +247,8 @@ module _ {T : Type 0} (texts : List ℕ → Option (List ℕ)) (is_punctuation :
         → GoesOnBy machine text (at 33) (states.Retry image_start) (feed text imaged) (states.Retry image_next)
     image_goes on = does_next machine text image_start image_next (at 33) imaged (image_does (at 33) true refl on)
 
-    image_fails : x.options.constructs.label_start_image ≡ true → run (machine image_next) (feed text imaged) ≡ plain (feed text imaged) states.Nok → Images false
+    image_fails : x.options.constructs.label_start_image ≡ true → run (machine image_next) (feed text imaged) ≡ plain (feed text imaged) states.Nok → Images
+        false
     image_fails on h = (
       feed text imaged,
       as_reads (at 33) (feed text imaged) (states.Retry image_start) false (fails machine text (at 33) (feed text imaged) (states.Retry image_start)

@@ -1,11 +1,12 @@
 -- A run of one byte, and then spaces and tabs up to the end of the line: what two states come to that read these.
-use Rattle.std.proofs.Common.{◌≡◌, ◌∙◌, ℕ, suc, ◌+◌, ◌≤◌, Bool, true, false, ◌==◌, ◌&&◌, ◌||◌, if◌then◌else◌, List, [], ◌∷◌, ◌++◌, drop, Option, Some, None, inl, inr}
-use Rattle.std.proofs.Common.{refl, sym, ap, subst, arith, append_assoc}
+use Rattle.std.proofs.Common.{◌≡◌, ◌∙◌, ℕ, suc, ◌+◌, ◌≤◌, Bool, true, false, ◌==◌, ◌&&◌, ◌||◌, if◌then◌else◌, List, [], ◌∷◌, ◌++◌, drop, Option, Some, None}
+use Rattle.std.proofs.Common.{inl, inr}
+use Rattle.std.proofs.Common.{refl, sym, ap, subst, arith}
 use Rattle.state_verdicts.proofs.BlockPrelude.{as_byte, AtHand, byte, cases_Bool, Config, event, Event, EventName, feed, has, is_eol, is_feed, is_space_or_tab}
 use Rattle.state_verdicts.proofs.BlockPrelude.{is_white, KeptState, line_of, list_all, Name, no_limit, nothing, part, past_byte, plain, Point, run, Sees}
 use Rattle.state_verdicts.proofs.BlockPrelude.{SkipsOnce, tab, Text, text_byte, tries, with_exit}
 use Rattle.definition_text.specs.Runs.{after_run, run as run_length}
-use Rattle.engine_events.specs.declared.event.Kind.TheVariants.{Enter, Exit}
+use Rattle.engine_events.specs.declared.event.Kind.TheVariants.{Exit}
 use Rattle.engine_programs.specs.Bodies.{Body}
 use Rattle.engine_states.specs.declared.state.Inline.TheVariants as state_inline
 use Rattle.engine_states.specs.declared.state.State.TheVariants as states

@@ -1,5 +1,5 @@
 -- A state that goes on at bytes of a sort goes over a stretch of them.
-use Rattle.std.proofs.Common.{◌≡◌, ◌∙◌, ℕ, Bool, true, false, ◌==◌, List, Some, inl, inr, refl, sym, ap}
+use Rattle.std.proofs.Common.{◌≡◌, ◌∙◌, ℕ, Bool, true, false, ◌==◌, List, Some, inl, inr, sym, ap}
 use Rattle.state_verdicts.proofs.BlockPrelude.{as_byte, AtHand, cases_Bool, Config, eqb-true, Event, feed, is_feed, KeptState, Name, past_byte, plain, Point}
 use Rattle.state_verdicts.proofs.BlockPrelude.{run, Text}
 use Rattle.engine_programs.specs.Bodies.{Body}

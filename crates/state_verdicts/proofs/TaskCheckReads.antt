@@ -1,11 +1,13 @@
 -- The states of a check of a task list item read what the definition calls one, and nothing else.
-use Rattle.std.proofs.Common.{◌≡◌, ◌∙◌, ℕ, ◌+◌, ◌*◌, ◌^◌, ◌<◌, ◌≤◌, Bool, true, false, not, ◌==◌, ◌&&◌, ◌||◌, nat_lt, if◌then◌else◌, List, [], ◌∷◌, ◌++◌, drop, length}
+use Rattle.std.proofs.Common.{◌≡◌, ◌∙◌, ℕ, ◌^◌, ◌<◌, Bool, true, false, not, ◌==◌, ◌&&◌, ◌||◌, if◌then◌else◌, List, [], ◌∷◌, ◌++◌}
+use Rattle.std.proofs.Common.{drop, length}
 use Rattle.std.proofs.Common.{Option, Some, None, inl, inr, refl, sym, ap, subst, arith, append_assoc}
-use Rattle.state_verdicts.proofs.Prelude.{as_byte, at_byte, byte, cases_Bool, Config, Context, eqb-true, event, Event, EventName, feed, hand_on, Inlines, is_eol}
-use Rattle.state_verdicts.proofs.Prelude.{is_feed, KeptState, list_all, Name, nothing, or_parts, past_byte, plain, Point, run, Sees, tab, Text, text_byte}
+use Rattle.state_verdicts.proofs.Prelude.{as_byte, at_byte, byte, cases_Bool, Config, Context, eqb-true, event, Event, EventName, feed, hand_on, Inlines}
+use Rattle.state_verdicts.proofs.Prelude.{is_eol}
+use Rattle.state_verdicts.proofs.Prelude.{is_feed, KeptState, list_all, Name, nothing, past_byte, plain, Point, run, Sees, tab, Text, text_byte}
 use Rattle.state_verdicts.proofs.Prelude.{tries, with_enter, with_exit}
 use Rattle.state_verdicts.proofs.BlockPrelude.{bare, indent, is_space_or_tab, is_white, line_of, no_limit}
-use Rattle.definition_inline.specs.GfmTaskListItem.{check_at, check_of, is_apart, is_done}
+use Rattle.definition_inline.specs.GfmTaskListItem.{check_of, is_apart, is_done}
 use Rattle.definition_text.specs.Content.{is_space}
 use Rattle.engine_events.specs.declared.event.Kind.TheVariants.{Enter, Exit}
 use Rattle.engine_events.specs.declared.event.Name.TheVariants as names
@@ -20,11 +22,11 @@ use Rattle.state_verdicts.specs.Beginnings.{beginning}
 use Rattle.state_verdicts.specs.GfmTaskListItem.{ApartFromTabs, CheckVerdict, TaskCheckVerdict, begins_with_tab, check_events, goes_on_after_lines, value_name}
 use Rattle.state_verdicts.specs.Lines.{SkipsOnce}
 use Rattle.state_verdicts.specs.Machines.{AtHand, GoesOnBy, ReadsBy}
-use Rattle.state_verdicts.specs.Verdicts.{Leaves, Reads}
-use Rattle.state_verdicts.proofs.LineCodes.{bare_apart, line_within, none_white, rest_more, rest_none, weight, weight_four, white_within}
+use Rattle.state_verdicts.specs.Verdicts.{Reads}
+use Rattle.state_verdicts.proofs.LineCodes.{bare_apart, line_within, none_white, rest_more, rest_none, weight_four, white_within}
 use Rattle.state_verdicts.proofs.MachineTurns.{and_on, byte_at, checked, does, does_next, end_at, ends_well, fails, fed, fed_again, feeds, tried}
 use Rattle.state_verdicts.proofs.Seen.{seen_feed, seen_sort, seen_white, white_inner}
-use Rattle.state_verdicts.proofs.Standing.{Here, around_here, enters, exits, fed_here}
+use Rattle.state_verdicts.proofs.Standing.{Here, around_here, exits, fed_here}
 use Rattle.state_verdicts.proofs.WhiteReads.{Attempted, ReadsWhite, attempted, spaced}
 
 abbrev start : Name
@@ -269,7 +271,8 @@ module _ {T : Type 0} (texts : List ℕ → Option (List ℕ)) (is_punctuation :
         third_at : AtHand text third r
         third_at = fed text (rounded (value_name done) second) r (second_at.next (as_byte (text_byte mark) r) e)
 
-        third_here : Here text at ((es ++ event Enter (value_name done) (text.start q) None ∷ []) ++ event Exit (value_name done) r None ∷ []) c.tokenize_state third
+        third_here : Here text at ((es ++ event Enter (value_name done) (text.start q) None ∷ []) ++ event Exit (value_name done) r None ∷ [])
+            c.tokenize_state third
         third_here = fed_here text at (round_any (value_name done) second_here second_at.point (second_at.next (as_byte (text_byte mark) r) e))
 
         goes_third : GoesOnBy machine text at (states.Retry start) third (states.Retry close)
@@ -296,7 +299,8 @@ module _ {T : Type 0} (texts : List ℕ → Option (List ℕ)) (is_punctuation :
           last_here =
               let apart : is_feed third.current ≡ false = ap is_feed (byte_at third_at f) in
               let next = third_at.next (as_byte 93 t) f in
-              let g = exits text at names.GfmTaskListItemCheck (around_here text at names.GfmTaskListItemMarker third_here third_at.point next apart) apart next in
+              let g = exits text at names.GfmTaskListItemCheck (around_here text at names.GfmTaskListItemMarker third_here third_at.point next apart) apart
+              next in
               record {
                 events = g.events ∙ eight c.events (event Enter names.GfmTaskListItemCheck p None) (event Enter names.GfmTaskListItemMarker p None)
                     (event Exit names.GfmTaskListItemMarker q None) (event Enter (value_name done) (text.start q) None) (event Exit (value_name done) r None)
@@ -421,7 +425,8 @@ module _ {T : Type 0} (texts : List ℕ → Option (List ℕ)) (is_punctuation :
       at_mark [] h (nothing k) no_tab lines = stops second (and_on machine text goes (does machine text inside second second states.Nok
           (inside_none second (end_at second_at k))))
       at_mark (mark ∷ ds) h (byte {q = r} apart e s) no_tab lines = elim (cases_Bool (is_space mark)) [
-        | inl is ↦ at_close false mark r ds h e (inside_space (text_byte mark) second (byte_at second_at e) (seen_space mark ∙ is)) (done_space mark is) ds refl s
+        | inl is ↦ at_close false mark r ds h e (inside_space (text_byte mark) second (byte_at second_at e) (seen_space mark ∙ is)) (done_space mark is) ds
+            refl s
             (goes_on_rest mark ds lines)
         | inr is ↦ elim (cases_Bool ((mark == 120) || (mark == 88))) [
           | inl letter ↦ at_close true mark r ds h e (inside_letter (text_byte mark) second true (byte_at second_at e) (seen_space mark ∙ is)

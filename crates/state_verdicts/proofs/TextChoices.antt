@@ -75,21 +75,24 @@ call_choice T texts is_punctuation x text c q cs h s =
     of_start text _ _
     (choice texts is_punctuation x text c (Some (as_byte left_bracket q)) state_inline.TextBefore state_inline.TextBeforeLabelStartLink
     (retry state_inline.GfmLabelStartFootnoteStart) h (at_call texts is_punctuation x text c q))
-    (beginning texts is_punctuation x text c left_bracket (text.start c.point) q cs) _ 2 _ _ _ (call_verdict T texts is_punctuation x text c (text.start c.point) q cs s)
+    (beginning texts is_punctuation x text c left_bracket (text.start c.point) q cs) _ 2 _ _ _
+    (call_verdict T texts is_punctuation x text c (text.start c.point) q cs s)
 
 pub link_choice : (T : Type 0) → LinkStartChoice T
 link_choice T texts is_punctuation x text c q cs h s =
     of_start text _ _
     (choice texts is_punctuation x text c (Some (as_byte left_bracket q)) state_inline.TextBeforeLabelStartLink state_inline.TextBeforeData
     (retry state_inline.LabelStartLinkStart) h (at_link texts is_punctuation x text c q))
-    (beginning texts is_punctuation x text c left_bracket (text.start c.point) q cs) _ 1 _ _ _ (link_verdict T texts is_punctuation x text c (text.start c.point) q cs s)
+    (beginning texts is_punctuation x text c left_bracket (text.start c.point) q cs) _ 1 _ _ _
+    (link_verdict T texts is_punctuation x text c (text.start c.point) q cs s)
 
 pub image_choice : (T : Type 0) → ImageStartChoice T
 image_choice T texts is_punctuation x text c q cs h s =
     of_start text _ _
     (choice texts is_punctuation x text c (Some (as_byte exclamation_mark q)) state_inline.TextBefore state_inline.TextBeforeData
     (retry state_inline.LabelStartImageStart) h (at_image texts is_punctuation x text c q))
-    (beginning texts is_punctuation x text c exclamation_mark (text.start c.point) q cs) _ 2 _ _ _ (image_verdict T texts is_punctuation x text c (text.start c.point) q cs s)
+    (beginning texts is_punctuation x text c exclamation_mark (text.start c.point) q cs) _ 2 _ _ _
+    (image_verdict T texts is_punctuation x text c (text.start c.point) q cs s)
 
 pub escape_choice : (T : Type 0) → EscapeChoice T
 escape_choice T texts is_punctuation x text c q cs h s =

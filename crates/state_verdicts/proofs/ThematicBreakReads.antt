@@ -4,7 +4,7 @@ use Rattle.std.proofs.Common.{◌∷◌, ◌++◌, length, Some, None, inl, inr,
 use Rattle.state_verdicts.proofs.BlockPrelude.{after_line, and_left, as_byte, AtHand, bare, byte, byte_of, cases_Bool, Config, Context, eq-eqb, eqb-true}
 use Rattle.state_verdicts.proofs.BlockPrelude.{event}
 use Rattle.state_verdicts.proofs.BlockPrelude.{Event, feed, Flows, GoesOn, has, indent, InLine, is_eol, is_feed, is_space_or_tab, is_white, KeptState, line_of}
-use Rattle.state_verdicts.proofs.BlockPrelude.{LineEnds, more, no_limit, nothing, or_cases, or_from, part, plain, Point, run, Sees, SkipsOnce, State, tab}
+use Rattle.state_verdicts.proofs.BlockPrelude.{LineEnds, more, no_limit, nothing, or_from, part, plain, Point, run, Sees, SkipsOnce, State, tab}
 use Rattle.state_verdicts.proofs.BlockPrelude.{Text}
 use Rattle.state_verdicts.proofs.BlockPrelude.{text_byte, with_enter}
 use Rattle.definition_block.specs.ThematicBreak.{is_break_by, is_break_marker, is_break_text}
@@ -331,7 +331,8 @@ module _ {T : Type 0} (x : Context T) (text : Text) (once : SkipsOnce text) (c0 
           resolvers = h.here.resolvers;
         } in
         let indented = white_within (code ∷ cs) in
-        let a = attempted (flows_bodies x) (flows_white x) text c0 (kept_at n 0) (closing es false p) no_limit (steps.readied c) p (still_at refl refl refl h.at) ready whole code cs s is
+        let a = attempted (flows_bodies x) (flows_white x) text c0 (kept_at n 0) (closing es false p) no_limit (steps.readied c) p
+        (still_at refl refl refl h.at) ready whole code cs s is
         (omega (arith, indented, room)) in
         let shorter = weight_line_bare (code ∷ cs) in
         let size = rest_within is_white cs in

@@ -1,8 +1,9 @@
 -- Spaces and tabs up to the end of a line: what a state comes to that goes over them, if there are any, to a state that wants the end.
-use Rattle.std.proofs.Common.{◌≡◌, ◌∙◌, ℕ, ◌≤◌, ◌⊎◌, Bool, true, false, not, ◌==◌, ◌&&◌, ◌||◌, nat_lt, if◌then◌else◌, List, [], ◌∷◌, ◌++◌, Some, None, inl, inr}
+use Rattle.std.proofs.Common.{◌≡◌, ◌∙◌, ℕ, ◌≤◌, ◌⊎◌, Bool, true, false, not, ◌==◌, ◌&&◌, ◌||◌, nat_lt, List, [], ◌∷◌, ◌++◌, Some, None, inl, inr}
 use Rattle.std.proofs.Common.{refl, sym, ap, subst, arith, append_assoc, append-nil}
 use Rattle.state_verdicts.proofs.BlockPrelude.{after_line, as_byte, AtHand, bare, byte, byte_of, cases_Bool, Config, event, Event, feed, has, indent, is_eol}
-use Rattle.state_verdicts.proofs.BlockPrelude.{is_feed, is_white, KeptState, line_of, LineEnds, list_all, lt-ltb, Name, no_limit, nothing, part, plain, Point, run, Sees}
+use Rattle.state_verdicts.proofs.BlockPrelude.{is_feed, is_white, KeptState, line_of, LineEnds, list_all, lt-ltb, Name, no_limit, nothing, part, plain, Point}
+use Rattle.state_verdicts.proofs.BlockPrelude.{run, Sees}
 use Rattle.state_verdicts.proofs.BlockPrelude.{SkipsOnce, tab, Text, text_byte, tries}
 use Rattle.engine_events.specs.declared.event.Kind.TheVariants.{Enter, Exit}
 use Rattle.engine_events.specs.declared.event.Name.TheVariants as names
@@ -12,7 +13,7 @@ use Rattle.engine_states.specs.declared.state.State.TheVariants as states
 use Rattle.state_verdicts.specs.Lines.{has_ending, is_filled}
 use Rattle.state_verdicts.specs.Machines.{GoesOnBy}
 use Rattle.state_verdicts.specs.WhiteSpace.{white_events, white_if}
-use Rattle.state_verdicts.proofs.LineCodes.{after_bare, after_none, bare_apart, line_more, line_none, none_white, prefix_more, prefix_none}
+use Rattle.state_verdicts.proofs.LineCodes.{after_bare, after_none, bare_apart, line_more, line_none, none_white, prefix_more}
 use Rattle.state_verdicts.proofs.LineCodes.{rest_more, rest_none, weight, white_within}
 use Rattle.state_verdicts.proofs.MachineTurns.{and_on, byte_at, does, end_at, fed_again, feeds, still_at, tried}
 use Rattle.state_verdicts.proofs.Seen.{seen_eol, seen_feed, white_inner}

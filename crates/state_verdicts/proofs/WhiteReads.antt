@@ -160,7 +160,8 @@ module _ {W : Type 0} (bodies : Name → Body W) (states_do : ReadsWhite bodies)
     end = p;
     columns = w;
     goes = and_on bodies text (does bodies text inside c (with_exit names.SpaceOrTab c) (states.Retry after) e)
-        (does bodies text after (with_exit names.SpaceOrTab c) (with_exit names.SpaceOrTab c) states.Ok (after_does bodies states_do (with_exit names.SpaceOrTab c)));
+        (does bodies text after (with_exit names.SpaceOrTab c) (with_exit names.SpaceOrTab c) states.Ok
+        (after_does bodies states_do (with_exit names.SpaceOrTab c)));
     there = record {
       at = still_at refl refl refl h.at;
       here = exits text c0 names.SpaceOrTab h.here h.apart h.at.point;

@@ -1,5 +1,5 @@
 -- What the states of a byte order mark come to.
-use Rattle.std.specs.Prelude.{ℕ, Bool, true, false, List, [], ◌∷◌, drop, None}
+use Rattle.std.specs.Prelude.{Bool, true, false, List, [], ◌∷◌, drop, None}
 use Rattle.definition_text.specs.Lines.{has_mark}
 use Rattle.engine_events.specs.Events.{event}
 use Rattle.engine_events.specs.declared.event.Event.{Event}

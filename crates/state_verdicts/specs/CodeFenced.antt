@@ -57,8 +57,8 @@ fencing byte size columns k = record k {
   token_6 = names.CodeFlowChunk;
 }
 
--- an attempt fails where the definition has no fence; otherwise it goes on at the end of the line, and the events begin with those of the fence, of the spaces and
--- tabs after it, and of the info
+-- an attempt fails where the definition has no fence; otherwise it goes on at the end of the line, and the events begin with those of the fence, of the
+-- spaces and tabs after it, and of the info
 abbrev pub FenceVerdict : {T : Type 0} → InLine T → Option Fence → Type 0
 FenceVerdict here None = (d : Config Flows) × Reads here.context here.text (at_hand here) (retry state_block.RawFlowStart) d false
 FenceVerdict here (Some fence) =
@@ -68,7 +68,8 @@ FenceVerdict here (Some fence) =
     × Leaves here.text (at_hand here) d (fencing fence.byte fence.run columns here.config.tokenize_state)
     (fence_events (here.text.start here.place) (here.text.start mid)
     ++ (white_events (drop fence.run here.codes) (here.text.start mid) (here.text.start info) ++ (named ++ further))) end
-    × Sees here.text mid (drop fence.run here.codes) × Sees here.text info (bare (drop fence.run here.codes)) × InfoAt here.text info named rest × LineEnds here.text end × Sees here.text end (after_line here.codes)
+    × Sees here.text mid (drop fence.run here.codes) × Sees here.text info (bare (drop fence.run here.codes))
+    × InfoAt here.text info named rest × LineEnds here.text end × Sees here.text end (after_line here.codes)
 
 -- at the first byte after the indent, where that is no dollar, code begins exactly if fences are on and the line is one
 abbrev pub CodeFencedVerdict : Type 0 → Type 0

@@ -1,5 +1,5 @@
 -- What the states of the start of indented code come to (CommonMark 4.4).
-use Rattle.std.specs.Prelude.{◌≡◌, ℕ, Bool, true, false, not, ◌&&◌, List, [], ◌∷◌, drop, None}
+use Rattle.std.specs.Prelude.{◌≡◌, Bool, true, false, not, ◌&&◌, List, ◌∷◌, drop, None}
 use Rattle.definition_block.specs.CodeIndented.{starts_code_indented}
 use Rattle.definition_text.specs.Columns.{is_blank}
 use Rattle.engine_events.specs.Events.{event}

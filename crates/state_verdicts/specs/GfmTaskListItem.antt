@@ -53,8 +53,8 @@ CheckVerdict here (Some done) =
     (check_events done here.place here.after (here.text.start here.after) to (here.text.start to) end) (here.text.start end)
     × Sees here.text end (drop check_size (all_codes here))
 
--- at a `[` with which the first paragraph of an item begins, and after which these codes are seen, a check is read exactly where the definition has one, if no tab
--- stands between the brackets, in a text that skips nothing twice
+-- at a `[` with which the first paragraph of an item begins, and after which these codes are seen, a check is read exactly where the definition has one, if
+-- no tab stands between the brackets, in a text that skips nothing twice
 abbrev pub TaskCheckVerdict : Type 0 → Type 0
 TaskCheckVerdict T = AtByte T left_bracket (λ here. AreSeen here → SkipsOnce here.text → here.config.tokenize_state.connect ≡ false
     → length here.rest < 2 ^ 62 → begins_with_tab here.rest ≡ false → ApartFromTabs here.text here.after → goes_on_after_lines here.rest ≡ true

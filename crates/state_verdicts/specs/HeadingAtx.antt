@@ -70,8 +70,8 @@ pub data HeadingParts (text : Text) : Point → List Event → Point → Type 0 
       → Stretch text (goes_on_with (part_of b)) n q r → HeadingParts text r events end
       → HeadingParts text p (part_events (part_of b) (text.start p) (text.start r) ++ events) end
 
--- an attempt fails where the definition has no heading; otherwise it goes well, with the events of the opening sequence and of each part of the line, up to the end
--- of the line; then no paragraph is interrupted by what comes next, and the resolver of such headings is to run
+-- an attempt fails where the definition has no heading; otherwise it goes well, with the events of the opening sequence and of each part of the line, up to
+-- the end of the line; then no paragraph is interrupted by what comes next, and the resolver of such headings is to run
 abbrev pub HeadingVerdict : {T : Type 0} → InLine T → Option Atx → Type 0
 HeadingVerdict here None = (d : Config Flows) × Reads here.context here.text (at_hand here) (retry state_block.HeadingAtxStart) d false
 HeadingVerdict here (Some heading) =

@@ -45,8 +45,8 @@ underline_events rest p mid end =
 abbrev pub underlining : ℕ → ℕ → ℕ → KeptState → KeptState
 underlining start byte columns k = record k { start = start; marker = byte; size_c = columns }
 
--- an attempt goes well exactly if this holds, with the events of an underline, up to the end of the line; then no paragraph is interrupted by what comes next, and
--- the resolver of headings is to run
+-- an attempt goes well exactly if this holds, with the events of an underline, up to the end of the line; then no paragraph is interrupted by what comes
+-- next, and the resolver of headings is to run
 abbrev pub UnderlineVerdict : {T : Type 0} → InLine T → Option ℕ → Type 0
 UnderlineVerdict here None = (d : Config Flows) × Reads here.context here.text (at_hand here) (retry state_block.HeadingSetextStart) d false
 UnderlineVerdict here (Some rank) =

@@ -17,8 +17,8 @@ use Rattle.state_verdicts.specs.Verdicts.{Comes, Leaves}
 abbrev pub starting : LabelKind → ℕ → List Event → KeptState → KeptState
 starting kind size events k = record k { label_starts = k.label_starts ++ last_start kind size (length events) ∷ [] }
 
--- It goes well exactly if this holds, with the events of the start of a label: the start is kept, and the resolver of labels is to run first. Reading then stands
--- where the codes after the start are seen.
+-- It goes well exactly if this holds, with the events of the start of a label: the start is kept, and the resolver of labels is to run first. Reading then
+-- stands where the codes after the start are seen.
 abbrev pub StartVerdict : {T : Type 0} → Beginning T → Comes → LabelKind → ℕ → (Point → List Event) → (Point → Point) → Bool → Type 0
 StartVerdict here comes kind size events stands true =
     (d : Config Inlines) × (end : Point) × comes d true

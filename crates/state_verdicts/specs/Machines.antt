@@ -1,5 +1,5 @@
 -- What reading comes to by the states of any machine.
-use Rattle.std.specs.Prelude.{◌≡◌, ℕ, Bool, List, [], ◌++◌, Some}
+use Rattle.std.specs.Prelude.{◌≡◌, Bool, List, [], ◌++◌, Some}
 use Rattle.engine_events.specs.declared.event.Event.{Event}
 use Rattle.engine_events.specs.declared.place.Point.{Point}
 use Rattle.engine_states.specs.declared.state.Name.{Name}

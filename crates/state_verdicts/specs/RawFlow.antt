@@ -5,7 +5,6 @@ use Rattle.definition_text.specs.Runs.{is_run, run}
 use Rattle.engine_events.specs.Events.{event}
 use Rattle.engine_events.specs.declared.event.Event.{Event}
 use Rattle.engine_events.specs.declared.event.Kind.TheVariants.{Enter, Exit}
-use Rattle.engine_events.specs.declared.event.Name.{Name as EventName}
 use Rattle.engine_events.specs.declared.place.Point.{Point}
 use Rattle.engine_states.specs.declared.state.Block.TheVariants as state_block
 use Rattle.markdown_engine.specs.KeptState.{KeptState}

@@ -1,11 +1,7 @@
 -- What the states of spaces and tabs come to (CommonMark 2.1 and 2.2).
-use Rattle.std.specs.Prelude.{ℕ, ◌-◌, min, Bool, true, false, nat_lt, List, [], ◌∷◌, None}
+use Rattle.std.specs.Prelude.{ℕ, ◌-◌, min, Bool, true, false, nat_lt}
 use Rattle.definition_text.specs.Columns.{indent}
 use Rattle.definition_text.specs.Indents.{outdent}
-use Rattle.engine_events.specs.Events.{event}
-use Rattle.engine_events.specs.declared.event.Event.{Event}
-use Rattle.engine_events.specs.declared.event.Kind.TheVariants.{Enter, Exit}
-use Rattle.engine_events.specs.declared.event.Name.TheVariants as names
 use Rattle.engine_events.specs.declared.place.Point.{Point}
 use Rattle.engine_states.specs.declared.state.Inline.TheVariants as state_inline
 use Rattle.markdown_engine.specs.Reading.{Config}
