@@ -94,7 +94,7 @@ module _ (names : Names) (bytes : List ℕ) (events : List Event) where
       → headings ≡ [] → AllBegin bytes events → HasFront slugs texts headings 0
   no_front slugs texts headings h empty none b =
       let nothing : HasHeadings texts [] [] =
-      record { whole = empty; each = refl; texts = λ k d l. absurd (omega (arith, l)); slugs = λ k d l. absurd (omega (arith, l)) } in
+      record { whole = empty; each = refl; texts = λ k d l. absurd (omega (arith, l)); slugs = λ k d l. absurd (omega (arith, l)); utf8 = λ k d l. absurd (omega (arith, l)) } in
       record {
         taken = [];
         done = [];
