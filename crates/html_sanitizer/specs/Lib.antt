@@ -1,0 +1,5 @@
+pub mod Listing
+pub mod Page
+pub mod Urls
+pub mod Attributes
+pub mod Sanitized

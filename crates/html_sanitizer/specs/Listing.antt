@@ -1,0 +1,23 @@
+-- Names of the list, as the code finds them.
+use Rattle.std.specs.Prelude.{ℕ, if◌then◌else◌, List, Option, None, Some, map}
+use Rattle.std.proofs.Common.{Bor}
+use Rattle.definition_text.specs.Bytes.{lower}
+use Rattle.html_listed.specs.Listing.{is_in, is_listed, part_row}
+use Rattle.html_listed.specs.Listing as listing
+use Rattle.html_sanitizer.specs.declared.listing.PartRow.{PartRow}
+
+-- texts as names
+abbrev pub texts_of : List (Bor (List ℕ)) → List (List ℕ)
+texts_of names = map (λ n. n.now) names
+
+-- a written name in lower case, if it is one of these
+abbrev pub found_name : List (List ℕ) → List ℕ → Option (List ℕ)
+found_name names written = if is_in names (lower written) then Some (lower written) else None
+
+-- a written name in lower case, if the list has it
+abbrev pub listed_name : List ℕ → Option (List ℕ)
+listed_name written = if is_listed (lower written) then Some (lower written) else None
+
+-- a row of parts
+abbrev pub row_of : PartRow → listing.PartRow
+row_of row = part_row (texts_of row.names.now) (texts_of row.parents.now)

@@ -1,0 +1,168 @@
+//! The page that is printed, and the raw elements that are open in it.
+ghost use Rattle.std.specs.Prelude.{◌≡◌, ℕ, ◌++◌, ◌∷◌, ◌<◌, [], IfOk, OnOk, if◌then◌else◌, length, nat_lt, slice_index_or, string_bytes};
+ghost use Rattle.definition_text.specs.Encode.{encode};
+ghost use Rattle.definition_page.specs.Tags.{Tag, end_tag};
+ghost use Rattle.html_listed.specs.State.{State, nothing_open, says, with_open, opened, ended, ended_to, all_ended, count_to, begins_with_frame, without_frame, with_room};
+ghost use Rattle.html_listed.specs.Listed.{begins};
+ghost use Rattle.html_safe_page.specs.Views.{open_names};
+ghost use Rattle.html_sanitizer.specs.Listing.{texts_of};
+ghost use Rattle.html_sanitizer.specs.Page.{page_state};
+
+use crate::listing::{DEEPEST, FRAME_NAMES, HEADING_NAMES, is_in, parents_of};
+use html_escape::push_encoded;
+use std::alloc::{AllocError, Allocator};
+
+/// A page up to a place.
+#[derive(Drop)]
+pub(crate) struct Page<A: Allocator> {
+    /// What is printed.
+    pub(crate) out: String<A>,
+    /// The names of the raw elements that are open, the innermost last.
+    pub(crate) names: Vec<&'static str, A>,
+}
+
+impl<A: Allocator + Clone> Page<A> {
+    /// Nothing is printed.
+    pub(crate) fn new(alloc: A) -> Result<Page<A>, AllocError>
+        ensures { IfOk result (λ page. page_state page ≡ nothing_open) }
+    {
+        Ok(Page {
+            out: String::new(alloc.clone()?),
+            names: Vec::new(alloc),
+        })
+    }
+}
+
+impl<A: Allocator> Page<A> {
+    /// Prints a text.
+    pub(crate) fn push_text(&mut self, text: &str) -> Result<(), AllocError>
+        ensures { OnOk result (page_state self.new ≡ says (encode text.now) (page_state self.old)) }
+    {
+        push_encoded(&mut self.out, text)
+    }
+
+    /// An element of this name is open from here on.
+    pub(crate) fn open(&mut self, name: &'static str) -> Result<(), AllocError>
+        ensures { OnOk result (page_state self.new ≡ with_open (name.now ∷ open_names self.old.names.items) (page_state self.old)) }
+    {
+        self.names.push(name)?;
+        Ok(())
+    }
+
+    /// Ends the last so many elements.
+    pub(crate) fn end(&mut self, count: usize) -> Result<(), AllocError>
+        ensures { OnOk result (page_state self.new ≡ ended count (page_state self.old)) }
+    {
+        let mut left = count;
+        while left > 0 {
+            let Some(name) = self.names.pop() else {
+                return Ok(());
+            };
+            push_end_tag(&mut self.out, name)?;
+            left -= 1;
+        }
+        Ok(())
+    }
+
+    /// Ends the last element of these names, with those in it.
+    pub(crate) fn end_to(&mut self, wanted: &[&str]) -> Result<(), AllocError>
+        ensures { OnOk result (page_state self.new ≡ ended_to (texts_of wanted.now) (page_state self.old)) }
+    {
+        let count = count_to(self.names.as_slice(), wanted);
+        self.end(count)
+    }
+
+    /// Ends all elements.
+    pub(crate) fn end_all(&mut self) -> Result<(), AllocError>
+        ensures { OnOk result (page_state self.new ≡ all_ended (page_state self.old)) }
+    {
+        let count = self.names.len();
+        self.end(count)
+    }
+
+    /// Whether the last element holds nothing but its parts and text.
+    fn is_in_frame(&self) -> bool
+        ensures { result ≡ begins_with_frame (open_names self.now.names.items) }
+    {
+        match self.names.as_slice().split_last() {
+            Some((name, _)) => is_in(&FRAME_NAMES, name),
+            None => false,
+        }
+    }
+
+    /// Ends what can't hold an element of this name: a table, and for a heading a heading.
+    pub(crate) fn make_room(&mut self, name: &str) -> Result<(), AllocError>
+        ensures { OnOk result (page_state self.new ≡ with_room name.now (page_state self.old)) }
+    {
+        self.end_frame()?;
+        if is_in(&HEADING_NAMES, name) {
+            self.end_to(&HEADING_NAMES)
+        } else {
+            Ok(())
+        }
+    }
+
+    /// Ends a table that would hold something else than its parts.
+    fn end_frame(&mut self) -> Result<(), AllocError>
+        ensures { OnOk result (page_state self.new ≡ without_frame (page_state self.old)) }
+    {
+        if self.is_in_frame() {
+            self.end_to(&["table"])
+        } else {
+            Ok(())
+        }
+    }
+
+    /// Ends what is open above the place of an element of this name. Returns whether there is one.
+    pub(crate) fn find_place(&mut self, name: &str) -> Result<bool, AllocError>
+        ensures { IfOk result (λ found. (next : State → State) (t : Tag) → t.name ≡ name.now
+            → begins next t (page_state self.old) ≡ (if found then next (opened t (page_state self.new)) else page_state self.new)) }
+    {
+        let parents = parents_of(name);
+        if parents.is_empty() {
+            self.make_room(name)?;
+            return Ok(self.has_room());
+        }
+        let count = count_to(self.names.as_slice(), parents);
+        if count == 0 {
+            return Ok(false);
+        }
+        self.end(count - 1)?;
+        Ok(self.has_room())
+    }
+
+    /// Whether one more element may be open.
+    fn has_room(&self) -> bool
+        ensures { result ≡ nat_lt (length (open_names self.now.names.items)) 50 }
+    {
+        self.names.len() < DEEPEST
+    }
+}
+
+/// How many elements are open up to the last one of these names, with it; 0 if none is.
+fn count_to(names: &[&str], wanted: &[&str]) -> usize
+    ensures { result ≡ count_to (texts_of wanted.now) (open_names names.now) }
+{
+    for above in 0..names.len() {
+        if is_in(wanted, name_at(names, names.len() - 1 - above)) {
+            return above + 1;
+        }
+    }
+    0
+}
+
+fn name_at<'a>(names: &[&'a str], place: usize) -> &'a str
+    requires { place < length names.now }
+    ensures { result.now ≡ slice_index_or (texts_of names.now) place [] }
+{
+    names[place]
+}
+
+/// Appends an end tag.
+fn push_end_tag<A: Allocator>(out: &mut String<A>, name: &str) -> Result<(), AllocError>
+    ensures { OnOk result (string_bytes out.new ≡ string_bytes out.old ++ end_tag name.now) }
+{
+    out.push_str("</")?;
+    out.push_str(name)?;
+    out.push_str(">")
+}
