@@ -1,3 +1,4 @@
 pub mod Points
 pub mod Events
 pub mod Nested
+pub mod Merged

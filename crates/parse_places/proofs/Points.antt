@@ -51,7 +51,7 @@ point_none text i = let s = index_spot text i in same_point s.line s.line (s.col
 owed_some : (k : ℕ) → (suc k == 0) ≡ false
 owed_some k = ne_eqb (suc k) 0 (λ (e : suc k ≡ 0). omega (arith, e))
 
-columns_some : (s : Spot) (k : ℕ) → columns_before s (suc k) ≡ tab_size s.column - suc k
+pub columns_some : (s : Spot) (k : ℕ) → columns_before s (suc k) ≡ tab_size s.column - suc k
 columns_some s k = cond-false (suc k == 0) _ _ (owed_some k)
 
 point_some : (text : List ℕ) (i k : ℕ) → end_point text (end_at i (suc k))

@@ -1,7 +1,7 @@
 -- The events that the definition gives pieces are those of their drafts.
 use Rattle.std.specs.Prelude.{◌≡◌, ℕ, List, []}
 use Rattle.event_definition.specs.Events.{events_from, marks}
-use Rattle.event_definition.specs.Pieces.{Pieces}
+use Rattle.event_definition.specs.Pieces.{Pieces, merged}
 use Rattle.event_definition.specs.Places.{first_point}
 use Rattle.event_grammar.specs.Trees.{tree}
 use Rattle.parse_output.specs.Drafts.{unmatched_in}
@@ -23,6 +23,11 @@ abbrev pub EventsHaveNodes : Type 0
 EventsHaveNodes =
     (text : List ℕ) (ps : Pieces) → HoldInOthers ps → columns ps 0 ≡ 0 → PiecesCome text 0 ps 0
     → bytewise (tree (events_from first_point (marks ps))) ≡ nodes text 0 ps 0
+
+-- Data beside data has the same nodes as data that is joined.
+abbrev pub MergedHaveNodes : Type 0
+MergedHaveNodes =
+    (text : List ℕ) (before : ℕ) (ps : Pieces) (after : ℕ) → PiecesCome text before ps after → nodes text before (merged ps) after ≡ nodes text before ps after
 
 -- The drafts of pieces exit what they enter, and nothing else: they leave nothing open.
 abbrev pub DraftsAreNested : Type 0
