@@ -1,5 +1,6 @@
 -- The headings that are listed are those of the page.
-use Rattle.std.proofs.Common.{◌≡◌, ◌+◌, ℕ, Bool, true, false, not, ◌&&◌, ◌||◌, if◌then◌else◌, List, [], ◌∷◌, ◌++◌, map, drop, refl, sym, ap, ap₂, ◌∙◌, subst, append_assoc}
+use Rattle.std.proofs.Common.{◌≡◌, ◌+◌, ℕ, Bool, true, false, not, ◌&&◌, ◌||◌, if◌then◌else◌, List, [], ◌∷◌}
+use Rattle.std.proofs.Common.{◌++◌, map, drop, refl, sym, ap, ap₂, ◌∙◌, subst, append_assoc}
 use Rattle.std.proofs.lemmas.Bool.{and_parts, cond-false, cond-true}
 use Rattle.std.proofs.lemmas.List.{append-nil}
 use denote.Enum.Bare.{same_true, true_same}
@@ -12,18 +13,18 @@ use Rattle.engine_events.specs.declared.event.Name.{Name}
 use Rattle.engine_events.specs.declared.event.Name.TheVariants as n
 use Rattle.definition_inline.specs.CharacterReference.{Names}
 use Rattle.definition_page.specs.Page as page
-use Rattle.event_check.specs.Matches.{MatchesGrammar, NodeMatches, matches, KidsMatch, nothing, between, one, opt, no_opt, many, no_more, lead, no_lead}
+use Rattle.event_check.specs.Matches.{NodeMatches, matches, KidsMatch, nothing, between, one, opt, no_opt, many, no_more, lead, no_lead}
 use Rattle.event_grammar.specs.declared.slot.Between.{Between}
 use Rattle.event_grammar.specs.declared.slot.Between.TheVariants.{Nothing, Spaces, Lines}
 use Rattle.event_grammar.specs.declared.slot.Child.{Child}
 use Rattle.event_grammar.specs.declared.slot.Child.TheVariants.{Only, As, Either, Block, StringPart, TextPart}
 use Rattle.event_grammar.specs.declared.slot.Form.{Form}
-use Rattle.event_grammar.specs.declared.slot.Form.TheVariants.{Plain, Ordered, Closing, Opening, OfImage, OfCall}
+use Rattle.event_grammar.specs.declared.slot.Form.TheVariants.{Ordered, Closing, OfImage, OfCall}
 use Rattle.event_grammar.specs.declared.slot.Slot.{Slot}
-use Rattle.event_grammar.specs.declared.slot.Slot.TheVariants.{One, Opt, Lead, Many}
+use Rattle.event_grammar.specs.declared.slot.Slot.TheVariants.{One, Many}
 use Rattle.event_grammar.specs.Checks.{stands_between}
 use Rattle.event_grammar.specs.Grammar.{row, space_names, line_names, string_names, text_names}
-use Rattle.event_grammar.specs.InGrammar.{Within, Before, node_name, kids_of}
+use Rattle.event_grammar.specs.InGrammar.{Within, Before, node_name}
 use Rattle.event_grammar.specs.SlotViews.{child_of}
 use Rattle.event_grammar.specs.Slots.{has}
 use Rattle.event_grammar.specs.Trees.{Node, Nodes, Around, Nil, Cons, AreNodes, events_of, tree}
@@ -274,16 +275,16 @@ module _ (names : Names) (bytes : List ℕ) where
       → ((top : Bool) → headings_in (blocks_of names bytes top ns) ≡ nodes_headings ns)
       → headings_in (blocks_from names bytes start (Cons node ns)) ≡ nodes_headings (Cons node ns)
   from_here (Around enter kids exit) ns start e h k =
-      ap headings_in
-      (cond-true (same_name enter.name start) (join (node_blocks false (Around enter kids exit)) (blocks_of names bytes false ns)) (blocks_from names bytes start ns) e)
+      let here = join (node_blocks false (Around enter kids exit)) (blocks_of names bytes false ns) in
+      ap headings_in (cond-true (same_name enter.name start) here (blocks_from names bytes start ns) e)
       ∙ cons_page (Around enter kids exit) ns h k false
 
   from_later : (node : Node) (ns : Nodes) (start : Name) → same_name (node_name node) start ≡ false → node_headings node ≡ []
       → headings_in (blocks_from names bytes start ns) ≡ nodes_headings ns
       → headings_in (blocks_from names bytes start (Cons node ns)) ≡ nodes_headings (Cons node ns)
   from_later (Around enter kids exit) ns start e h k =
-      ap headings_in
-      (cond-false (same_name enter.name start) (join (node_blocks false (Around enter kids exit)) (blocks_of names bytes false ns)) (blocks_from names bytes start ns) e)
+      let here = join (node_blocks false (Around enter kids exit)) (blocks_of names bytes false ns) in
+      ap headings_in (cond-false (same_name enter.name start) here (blocks_from names bytes start ns) e)
       ∙ k
       ∙ sym (ap (λ (hs : List PageHeading). hs ++ nodes_headings ns) h)
 

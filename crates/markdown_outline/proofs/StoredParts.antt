@@ -1,5 +1,5 @@
 -- Parts of a text that grows.
-use Rattle.std.proofs.Common.{◌≡◌, ◌≤◌, ◌<◌, ◌+◌, ◌-◌, ℕ, zero, suc, List, [], ◌∷◌, ◌++◌, length, map, take, drop, refl, sym, ap, ap₂, ◌∙◌, subst, append_assoc, arith}
+use Rattle.std.proofs.Common.{◌≡◌, ◌≤◌, ◌-◌, ℕ, zero, suc, List, [], ◌∷◌, ◌++◌, length, map, take, drop, refl, sym, ap, ap₂, ◌∙◌, subst, append_assoc, arith}
 use Rattle.std.proofs.Common.{length-append}
 use Rattle.std.proofs.lemmas.List.{append-nil, drop-append-le, length-drop, map-append, take-append-le}
 use Rattle.std.proofs.lemmas.List.Concat.{flat_map-append}
@@ -60,7 +60,8 @@ stored_parts before text slug b t all =
       slug_utf8 = utf8_after (before ++ text) slug (IsUtf8-append before text b t) all;
     }
 
-pub both_stored : (before middle after text slug : List ℕ) (start seam end : ℕ) → IsUtf8 before → IsUtf8 text → IsUtf8 after → middle ≡ before ++ text → after ≡ middle ++ slug
+pub both_stored : (before middle after text slug : List ℕ) (start seam end : ℕ) → IsUtf8 before → IsUtf8 text → IsUtf8 after
+    → middle ≡ before ++ text → after ≡ middle ++ slug
     → start ≡ length before → seam ≡ length middle → end ≡ length after → AreStored before after text slug (range start seam) (range seam end)
 both_stored before middle after text slug start seam end b t u m a s n e =
     let is : after ≡ (before ++ text) ++ slug = a ∙ ap (λ (bs : List ℕ). bs ++ slug) m in
