@@ -1,8 +1,7 @@
 -- A tag in codes and in bytes: where CR LF is one code and where it is two, the same attributes are read.
-use Rattle.std.proofs.Common.{◌≡◌, ℕ, zero, suc, ◌+◌, ◌<◌, Bool, true, false, not, ◌&&◌, ◌||◌, cond, eqb, List, [], ◌∷◌, ◌++◌, Option, None, Some, codes, length, take, drop}
+use Rattle.std.proofs.Common.{◌≡◌, ℕ, zero, suc, ◌+◌, Bool, true, false, not, ◌&&◌, cond, eqb, List, [], ◌∷◌, ◌++◌, Option, None, Some, codes, drop}
 use Rattle.std.proofs.Common.{map, refl, sym, ap, ◌∙◌, subst, arith, inl, inr}
-use Rattle.std.specs.Prelude.{nat_lt}
-use Rattle.std.specs.List.{flat_map, list_all, prefix_len, take_while}
+use Rattle.std.specs.List.{prefix_len, take_while}
 use Rattle.std.specs.Option.{option_map}
 use Rattle.std.proofs.lemmas.Bool.{cases_Bool, cond-true, cond-false, eqb-true, ne_eqb, and_parts, not-true}
 use Rattle.std.proofs.lemmas.List.Sums.{take_while-cons}
@@ -11,10 +10,10 @@ use Rattle.definition_text.specs.Bytes.{begins_with, after_all}
 use Rattle.definition_text.specs.Columns.{Code}
 use Rattle.definition_text.specs.Content.{Part, part}
 use Rattle.definition_inline.specs.HtmlTags.{is_attribute_byte, begins_with_attribute}
-use Rattle.definition_inline.specs.Strings.{eol_bytes}
 use Rattle.html_listed.specs.Attributes.{code_bytes}
 use Rattle.html_sanitizer.specs.Attributes.{is_space_code, after_space, is_unquoted_code, ahead, quoted, unquoted, split_value, Attribute, attribute}
-use Rattle.html_sanitizer.specs.Attributes.{SplitAttribute, split, with_value, named, split_attribute, begins_with_space, attribute_start, cut_then, cut_from, cut}
+use Rattle.html_sanitizer.specs.Attributes.{SplitAttribute, split, with_value, named, split_attribute, begins_with_space, attribute_start, cut_then, cut_from}
+use Rattle.html_sanitizer.specs.Attributes.{cut}
 use Rattle.html_sanitizer.specs.Attributes.{rest_then, rest_from, rest_after}
 
 -- ---- one code
@@ -207,8 +206,10 @@ value_bytes (c ∷ cs) =
     (ap (λ x. unquoted (prefix_len is_unquoted_code x) x) (sym own) ∙ unquoted_bytes (c ∷ cs)))
   where
     by_case : (s t : Bool) → quoted 34 (code_bytes cs) ≡ option_map part_bytes (quoted 34 cs) → quoted 39 (code_bytes cs) ≡ option_map part_bytes (quoted 39 cs)
-        → unquoted (prefix_len is_unquoted_code (c ∷ code_bytes cs)) (c ∷ code_bytes cs) ≡ option_map part_bytes (unquoted (prefix_len is_unquoted_code (c ∷ cs)) (c ∷ cs))
-        → cond s (quoted 34 (code_bytes cs)) (cond t (quoted 39 (code_bytes cs)) (unquoted (prefix_len is_unquoted_code (c ∷ code_bytes cs)) (c ∷ code_bytes cs)))
+        → unquoted (prefix_len is_unquoted_code (c ∷ code_bytes cs)) (c ∷ code_bytes cs)
+        ≡ option_map part_bytes (unquoted (prefix_len is_unquoted_code (c ∷ cs)) (c ∷ cs))
+        → cond s (quoted 34 (code_bytes cs)) (cond t (quoted 39 (code_bytes cs))
+        (unquoted (prefix_len is_unquoted_code (c ∷ code_bytes cs)) (c ∷ code_bytes cs)))
         ≡ option_map part_bytes (cond s (quoted 34 cs) (cond t (quoted 39 cs) (unquoted (prefix_len is_unquoted_code (c ∷ cs)) (c ∷ cs))))
     by_case true t e f g = e
     by_case false true e f g = f

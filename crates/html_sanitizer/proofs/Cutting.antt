@@ -1,5 +1,6 @@
 -- Attributes cut from left to right are those of the definition, which cuts them by their places.
-use Rattle.std.proofs.Common.{◌≡◌, ℕ, zero, suc, ◌+◌, ◌-◌, ◌<◌, ◌≤◌, Bool, true, false, ◌&&◌, ◌||◌, cond, eqb, List, [], ◌∷◌, ◌++◌, Option, None, Some, codes, length, take, drop}
+use Rattle.std.proofs.Common.{◌≡◌, ℕ, zero, suc, ◌+◌, ◌-◌, ◌<◌, ◌≤◌, Bool, true, false, ◌&&◌, ◌||◌, cond, eqb, List, [], ◌∷◌, ◌++◌, Option, None, Some, codes}
+use Rattle.std.proofs.Common.{length, take, drop}
 use Rattle.std.proofs.Common.{map, refl, sym, ap, ◌∙◌, arith, inl, inr, append_assoc}
 use Rattle.std.specs.Prelude.{unwrap_or}
 use Rattle.std.specs.List.{prefix_len, take_while}
@@ -17,9 +18,10 @@ use Rattle.definition_inline.specs.HtmlTags.{begins_attribute, is_attribute_byte
 use Rattle.definition_inline.specs.HtmlTags.{begins_with_attribute, quoted_value, unquoted_value, value, value_or, specification, has_attribute, attributes}
 use Rattle.definition_inline.specs.HtmlTags.{attribute as after_attribute, then_part}
 use Rattle.definition_inline.specs.HtmlText.{html_byte}
-use Rattle.html_listed.specs.Attributes.{Written, tag_bytes, decoded, codes_at, is_quote, without_quotes, value_codes, written_attribute, with_others, written}
-use Rattle.html_sanitizer.specs.Attributes.{is_space_code, after_space, is_unquoted_code, ahead, quoted, unquoted, split_value, Attribute, attribute}
-use Rattle.html_sanitizer.specs.Attributes.{SplitAttribute, split, with_value, named, split_attribute, begins_with_space, attribute_start, cut_then, cut_from, cut}
+use Rattle.html_listed.specs.Attributes.{tag_bytes, decoded, codes_at, is_quote, without_quotes, value_codes, written_attribute, with_others, written}
+use Rattle.html_sanitizer.specs.Attributes.{is_space_code, after_space, is_unquoted_code, ahead, quoted, unquoted, split_value, attribute}
+use Rattle.html_sanitizer.specs.Attributes.{SplitAttribute, split, with_value, named, split_attribute, begins_with_space, attribute_start, cut_then, cut_from}
+use Rattle.html_sanitizer.specs.Attributes.{cut}
 use Rattle.html_sanitizer.specs.Attributes.{rest_then, rest_from, rest_after, read_attribute}
 use Rattle.html_sanitizer.proofs.Codes.{after_cons}
 
@@ -46,7 +48,8 @@ html_own c h =
     let b = h.0.1 in
     let d = h.1.0 in
     let e = h.1.1 in
-    cond-false ((eqb c 10 || eqb c 13) || eqb c 257) 10 _ (or_from (eqb c 10 || eqb c 13) (eqb c 257) (or_from (eqb c 10) (eqb c 13) (ne_eqb c 10 a) (ne_eqb c 13 b)) (ne_eqb c 257 d))
+    cond-false ((eqb c 10 || eqb c 13) || eqb c 257) 10 _ (or_from (eqb c 10 || eqb c 13) (eqb c 257)
+    (or_from (eqb c 10) (eqb c 13) (ne_eqb c 10 a) (ne_eqb c 13 b)) (ne_eqb c 257 d))
     ∙ cond-false (eqb c 256) 32 c (ne_eqb c 256 e)
 
 -- a test that no such code passes
@@ -114,10 +117,12 @@ starts_own : IsOwn begins_attribute
 starts_own = record { feed = refl; return = refl; both = refl; column = refl; space = refl }
 
 -- a code is told by its byte
-pub is_html : (t : ℕ) (c : Code) → (eqb t 10 ≡ false) × (eqb t 32 ≡ false) → (eqb t 13 ≡ false) × ((eqb t 257 ≡ false) × (eqb t 256 ≡ false)) → eqb t (html_byte c) ≡ eqb t c
+pub is_html : (t : ℕ) (c : Code) → (eqb t 10 ≡ false) × (eqb t 32 ≡ false) → (eqb t 13 ≡ false) × ((eqb t 257 ≡ false) × (eqb t 256 ≡ false))
+    → eqb t (html_byte c) ≡ eqb t c
 is_html t c a b = same_html (eqb t) (record { feed = a.0; return = b.0; both = b.1.0; column = b.1.1; space = a.1 }) c
 
-is_byte : (t : ℕ) (c : Code) → (eqb 10 t ≡ false) × (eqb 32 t ≡ false) → (eqb 13 t ≡ false) × ((eqb 257 t ≡ false) × (eqb 256 t ≡ false)) → eqb (html_byte c) t ≡ eqb c t
+is_byte : (t : ℕ) (c : Code) → (eqb 10 t ≡ false) × (eqb 32 t ≡ false) → (eqb 13 t ≡ false) × ((eqb 257 t ≡ false) × (eqb 256 t ≡ false))
+    → eqb (html_byte c) t ≡ eqb c t
 is_byte t c a b = same_html (λ x. eqb x t) (record { feed = a.0; return = b.0; both = b.1.0; column = b.1.1; space = a.1 }) c
 
 -- ---- values
@@ -190,7 +195,8 @@ quoted_whole q (c ∷ cs) p h = elim (cases_Bool (eqb c q)) [
   | inr t ↦ with_rest (quoted_whole q cs) (quoted q cs) refl (sym (cond-false (eqb c q) (Some (part [] cs)) (option_map (ahead c) (quoted q cs)) t) ∙ h)
 ]
   where
-    with_rest : ((r : Part) → quoted q cs ≡ Some r → IsQuoted q cs r) → (o : Option Part) → quoted q cs ≡ o → option_map (ahead c) o ≡ Some p → IsQuoted q (c ∷ cs) p
+    with_rest : ((r : Part) → quoted q cs ≡ Some r → IsQuoted q cs r) → (o : Option Part) → quoted q cs ≡ o → option_map (ahead c) o ≡ Some p
+        → IsQuoted q (c ∷ cs) p
     with_rest ih None e k = cc
     with_rest ih (Some r) e k =
         let same : ahead c r ≡ p = cc in
@@ -310,8 +316,10 @@ specified_html name after (c ∷ cs) =
     (ap value (space_html cs) ∙ value_html (after_space cs) ∙ with_value_html name (split_value (after_space cs)))
     ∙ by_case (eqb 61 c)
   where
-    by_case : (t : Bool) → cond t (option_map (λ (f : SplitAttribute). tag_bytes f.rest) (option_map (with_value name) (split_value (after_space cs)))) (Some (tag_bytes after))
-        ≡ option_map (λ (f : SplitAttribute). tag_bytes f.rest) (cond (t && true) (option_map (with_value name) (split_value (after_space cs))) (Some (split (attribute name []) after)))
+    by_case : (t : Bool) → cond t (option_map (λ (f : SplitAttribute). tag_bytes f.rest) (option_map (with_value name) (split_value (after_space cs))))
+        (Some (tag_bytes after))
+        ≡ option_map (λ (f : SplitAttribute). tag_bytes f.rest) (cond (t && true) (option_map (with_value name) (split_value (after_space cs)))
+        (Some (split (attribute name []) after)))
     by_case true = refl
     by_case false = refl
 
@@ -351,7 +359,8 @@ attribute_cut html start found from h =
     ap (λ x. tag_space (drop 1 x)) (space_html after) ∙ ap tag_space (drop_html specified) ∙ space_html (drop 1 specified) in
     elim (cases_Bool (begins_with (codes "=") specified)) [
       | inl t ↦ with_part name after specified v to_v test place t (split_value v) refl
-          (sym (cond-true (begins_with (codes "=") specified) (option_map (with_value name) (split_value v)) (Some (split (attribute name []) after)) t) ∙ h) refl refl
+          (sym (cond-true (begins_with (codes "=") specified) (option_map (with_value name) (split_value v)) (Some (split (attribute name []) after)) t) ∙ h)
+          refl refl
       | inr t ↦
           let some : Some (split (attribute name []) after) ≡ Some found =
           sym (cond-false (begins_with (codes "=") specified) (option_map (with_value name) (split_value v)) (Some (split (attribute name []) after)) t) ∙ h in
@@ -393,7 +402,11 @@ module _ (names : Names) where
   one_written : (html start : List Code) (found : SplitAttribute) → IsCutAttribute html start found
       → written_attribute names html (tag_bytes start) (tag_bytes found.rest) ≡ read_attribute names found.attribute
   one_written html start found cut =
-      ap (λ x. record { name = lower x; value = decoded names (without_quotes (value_codes html (after_all is_attribute_byte (tag_bytes start)) (tag_bytes found.rest))) })
+      ap (λ x. record {
+        name = lower x;
+        value = decoded names (without_quotes
+            (value_codes html (after_all is_attribute_byte (tag_bytes start)) (tag_bytes found.rest)));
+      })
       (while_own is_attribute_byte names_own start ∙ sym cut.name)
       ∙ ap (λ x. record { name = lower found.attribute.name; value = decoded names (without_quotes (value_codes html x (tag_bytes found.rest))) })
       (after_own is_attribute_byte names_own start)
@@ -434,7 +447,8 @@ written_cut names (suc n) html =
     ∙ elim (cases_Bool test) [
       | inl h ↦
           cond-true test _ [] h
-          ∙ ap (λ o. with_others names html (tag_bytes start) o (written names n)) (split_html start (and_parts (begins_with_space html) (begins_with_attribute start) h).1)
+          ∙ ap (λ o. with_others names html (tag_bytes start) o (written names n))
+          (split_html start (and_parts (begins_with_space html) (begins_with_attribute start) h).1)
           ∙ others_cut names n html start (split_attribute start) (later_all is_space_code html) refl (written_cut names n)
           ∙ ap (λ o. map (read_attribute names) (cut_from o (cut n))) (sym (cond-true test (Some start) None h))
       | inr h ↦ cond-false test _ [] h ∙ ap (λ o. map (read_attribute names) (cut_from o (cut n))) (sym (cond-false test (Some start) None h))
@@ -514,7 +528,8 @@ cut_enough (suc m) zero [] a b = refl
 cut_enough (suc m) zero (c ∷ cs) a b = absurd (omega arith)
 cut_enough (suc m) (suc n) html a b = cut_from_same m n html (attribute_start html) (cut_enough m n) refl a b
 
-rest_then_same : (m n : ℕ) (html start : List Code) (o : Option SplitAttribute) → IsEnough rest_after m n → split_attribute start ≡ o → length start < length html
+rest_then_same : (m n : ℕ) (html start : List Code) (o : Option SplitAttribute) → IsEnough rest_after m n → split_attribute start ≡ o
+    → length start < length html
     → length html ≤ suc m → length html ≤ suc n → rest_then o (rest_after m) ≡ rest_then o (rest_after n)
 rest_then_same m n html start None ih e less a b = refl
 rest_then_same m n html start (Some found) ih e less a b = let shorter = split_shorter start found e in ih found.rest (omega arith) (omega arith)

@@ -1,13 +1,14 @@
 -- A page up to a place, and what ends in it.
-use Rattle.std.proofs.Common.{◌≡◌, ℕ, zero, suc, ◌+◌, ◌-◌, ◌<◌, ◌≤◌, Bool, true, false, not, ◌||◌, cond, eqb, List, [], ◌∷◌, ◌++◌, codes, length, take, drop, refl, sym, ap, ◌∙◌}
-use Rattle.std.proofs.Common.{Bor, arith, inl, inr, get_or, map}
+use Rattle.std.proofs.Common.{◌≡◌, ℕ, zero, suc, ◌+◌, ◌-◌, ◌<◌, ◌≤◌, Bool, true, false, not, ◌||◌, cond, eqb, List, [], ◌∷◌, ◌++◌, length, take, refl, sym}
+use Rattle.std.proofs.Common.{ap, ◌∙◌}
+use Rattle.std.proofs.Common.{Bor, arith, inl, inr, get_or}
 use Rattle.std.specs.Prelude.{nat_lt, nat_le}
 use Rattle.std.specs.List.{list_all, list_any, prefix_len}
 use Rattle.std.proofs.lemmas.Bool.{cases_Bool, cond-true, cond-false, lt-ltb, le-ltb, leb-true, leb-false, and_parts, ne_eqb}
 use Rattle.std.proofs.lemmas.List.{take_all}
-use Rattle.definition_page.specs.Tags.{Tag, end_tag, start_tag}
+use Rattle.definition_page.specs.Tags.{Tag, end_tag}
 use Rattle.html_listed.specs.Listing.{is_in, is_part, PartRow, part_rows, parents_by, parents_of, heading_names, frame_names}
-use Rattle.html_listed.specs.State.{State, state, level, says, with_open, opened, ended_of, ended, count_to, ended_to, begins_with_frame, without_frame, with_room}
+use Rattle.html_listed.specs.State.{State, state, level, says, with_open, opened, ended_of, ended, count_to, begins_with_frame, with_room}
 use Rattle.html_listed.specs.Listed.{begun, begun_in, begun_heading, begins}
 use Rattle.html_safe_page.specs.Views.{onto, open_names}
 use Rattle.html_safe_page.proofs.Follow.{open_push}
@@ -25,7 +26,8 @@ ended_open zero names before s = refl
 ended_open (suc n) [] before s = refl
 ended_open (suc n) (name ∷ names) before s = ended_open n names before (says (end_tag name) s)
 
-pub ended_step : (n : ℕ) (out name : List ℕ) (names : List (List ℕ)) → ended (suc n) (page_of out (name ∷ names)) ≡ ended n (page_of (out ++ end_tag name) names)
+pub ended_step : (n : ℕ) (out name : List ℕ) (names : List (List ℕ)) → ended (suc n) (page_of out (name ∷ names))
+    ≡ ended n (page_of (out ++ end_tag name) names)
 ended_step n out name names = sym (ended_open n names names (says (end_tag name) (page_of out (name ∷ names))))
 
 pub ended_none : (n : ℕ) (out : List ℕ) → ended n (page_of out []) ≡ page_of out []
@@ -33,7 +35,8 @@ ended_none zero out = refl
 ended_none (suc n) out = refl
 
 -- one more ends
-pub popped : (left : ℕ) (out after : List ℕ) (items others : List (Bor (List ℕ))) (last : Bor (List ℕ)) (target : State) → 0 < left → items ≡ others ++ last ∷ []
+pub popped : (left : ℕ) (out after : List ℕ) (items others : List (Bor (List ℕ))) (last : Bor (List ℕ)) (target : State) → 0 < left → items ≡ others
+    ++ last ∷ []
     → after ≡ out ++ end_tag last.now → ended left (page_of out (open_names items)) ≡ target → ended (left - 1) (page_of after (open_names others)) ≡ target
 popped left out after items others last target some is printed e =
     let more : suc (left - 1) ≡ left = omega arith in
@@ -70,7 +73,8 @@ counted wanted names above e less =
 -- nothing is found
 pub counted_none : (wanted names : List (List ℕ)) → prefix_len (is_other wanted) names ≡ length names → count_to wanted names ≡ 0
 counted_none wanted names e =
-    ap (λ k. cond (nat_lt k (length names)) (k + 1) 0) e ∙ cond-false (nat_lt (length names) (length names)) (length names + 1) 0 (le-ltb (length names) (length names) (omega arith))
+    ap (λ k. cond (nat_lt k (length names)) (k + 1) 0) e ∙ cond-false (nat_lt (length names) (length names)) (length names + 1) 0
+    (le-ltb (length names) (length names) (omega arith))
 
 -- ---- the place of an element
 
@@ -122,7 +126,8 @@ begun_found next t s n found size test = elim (cases_Bool (nat_le 50 (length s.l
       cond-false (nat_le 50 (length s.level.names)) s _ h ∙ sym (cond-true found _ s (test ∙ lt-ltb n 50 (omega arith)))
 ]
 
-heading_begun : (h : Bool) (next : State → State) (t : Tag) (s : State) → s.level.in_heading ≡ false → cond h (begun_heading next t s) (begun next t s) ≡ begun next t s
+heading_begun : (h : Bool) (next : State → State) (t : Tag) (s : State) → s.level.in_heading ≡ false → cond h (begun_heading next t s) (begun next t s)
+    ≡ begun next t s
 heading_begun true next t s e = cond-false s.level.in_heading s (begun next t s) e
 heading_begun false next t s e = refl
 
@@ -215,7 +220,8 @@ found_nowhere wanted items count so all =
     nothing m n le = omega arith
 
 -- the last one holds nothing but its parts and text
-pub frame_last : (items before : List (Bor (List ℕ))) (last : Bor (List ℕ)) → items ≡ before ++ last ∷ [] → is_in frame_names last.now ≡ begins_with_frame (open_names items)
+pub frame_last : (items before : List (Bor (List ℕ))) (last : Bor (List ℕ)) → items ≡ before ++ last ∷ [] → is_in frame_names last.now
+    ≡ begins_with_frame (open_names items)
 frame_last items before last is = sym (ap begins_with_frame (ap open_names is ∙ open_push before last))
 
 pub frame_none : (items : List (Bor (List ℕ))) → length items ≡ 0 → false ≡ begins_with_frame (open_names items)

@@ -1,12 +1,13 @@
 -- Names of the list, found in tables.
-use Rattle.std.proofs.Common.{◌≡◌, ℕ, Bool, true, false, ◌||◌, cond, List, [], ◌∷◌, ◌++◌, Option, None, Some, codes, refl, sym, ap, ◌∙◌, zero, suc, ◌<◌, Bor, length, drop, get_or, arith}
+use Rattle.std.proofs.Common.{◌≡◌, ℕ, Bool, true, false, ◌||◌, cond, List, [], ◌∷◌, ◌++◌, None, Some, codes, refl, sym, ap, ◌∙◌, zero, suc, ◌<◌, Bor, length}
+use Rattle.std.proofs.Common.{drop, get_or, arith}
 use Rattle.std.proofs.lemmas.Bool.{cond-true}
 use Rattle.std.proofs.lemmas.Slice.Eq.{bytes_eq-Decides}
 use Rattle.std.specs.List.{list_any, flat_map}
 use Rattle.std.specs.Option.{option_or}
 use Rattle.std.specs.Str.{bytes_eq}
 use Rattle.definition_text.specs.Bytes.{lower}
-use Rattle.html_listed.specs.Listing.{is_in, is_listed, is_part, free_names, heading_names, void_names, PartRow, part_rows}
+use Rattle.html_listed.specs.Listing.{is_in, free_names, heading_names, void_names, PartRow, part_rows}
 use Rattle.html_sanitizer.specs.Listing.{texts_of, found_name, listed_name}
 
 or_step : (a b c d : Bool) → b ≡ (c || d) → (a || b) ≡ ((a || c) || d)
@@ -47,7 +48,8 @@ or_found false false false false x = refl
 
 -- a name is found in one of four tables
 pub found_listed : (written : List ℕ)
-    → option_or (option_or (option_or (found_name free_names written) (found_name heading_names written)) (found_name void_names written)) (found_name part_names written)
+    → option_or (option_or (option_or (found_name free_names written) (found_name heading_names written)) (found_name void_names written))
+    (found_name part_names written)
     ≡ listed_name written
 found_listed written =
     let name = lower written in
@@ -56,7 +58,8 @@ found_listed written =
     (ap (λ names. is_in names name) (sym rows_are) ∙ sym (parts_any part_rows name))
 
 -- the name in a place
-pub found_at : (names : List (Bor (List ℕ))) (i : ℕ) (d : Bor (List ℕ)) (written : List ℕ) → i < length names → bytes_eq (get_or names i d).now (lower written) ≡ true
+pub found_at : (names : List (Bor (List ℕ))) (i : ℕ) (d : Bor (List ℕ)) (written : List ℕ) → i < length names
+    → bytes_eq (get_or names i d).now (lower written) ≡ true
     → found_name (texts_of (drop i names)) written ≡ Some (get_or names i d).now
 found_at [] i d written h e = absurd (omega arith)
 found_at (x ∷ xs) zero d written h e =

@@ -1,14 +1,13 @@
 -- HTML from left to right: text, and what begins with `<` or `&`.
-use Rattle.std.proofs.Common.{◌≡◌, ℕ, zero, suc, ◌+◌, ◌-◌, ◌<◌, ◌≤◌, Bool, true, false, not, ◌&&◌, ◌||◌, cond, eqb, List, [], ◌∷◌, ◌++◌, Option, None, Some, codes, length, take, drop}
+use Rattle.std.proofs.Common.{◌≡◌, ℕ, zero, suc, ◌+◌, ◌-◌, ◌<◌, Bool, true, false, not, ◌||◌, cond, eqb, List, [], ◌∷◌, ◌++◌, Option, None, Some, codes}
+use Rattle.std.proofs.Common.{length, take, drop}
 use Rattle.std.proofs.Common.{refl, sym, ap, ◌∙◌, arith, inl, inr, get_or, append_assoc}
 use Rattle.std.specs.List.{fold, list_all, prefix_len, position_or_len}
 use Rattle.std.specs.Option.{option_map, option_and_then}
-use Rattle.std.proofs.lemmas.Bool.{cases_Bool, cond-true, cond-false, eqb-true, eqb-false, ne_eqb, and_parts, and_from, and_left, or_parts, not-true, true≢false, false≢true}
-use Rattle.std.proofs.lemmas.List.{append-nil, take-append-drop, length-append, length-drop, drop_at}
-use Rattle.std.proofs.lemmas.List.Sums.{prefix_len-le-length}
+use Rattle.std.proofs.lemmas.Bool.{cases_Bool, cond-true, cond-false, eqb-false, ne_eqb, and_parts, and_from, and_left, or_parts, not-true, false≢true}
+use Rattle.std.proofs.lemmas.List.{length-append, drop_at}
 use Rattle.std.proofs.lemmas.Option.{none-some, same_Some}
 use Rattle.markdown_options.specs.declared.configuration.CompileOptions.{CompileOptions}
-use Rattle.markdown_options.specs.declared.configuration.Constructs.{Constructs}
 use Rattle.markdown_options.specs.Defaults.{default_constructs}
 use Rattle.definition_text.specs.Bytes.{begins_with}
 use Rattle.definition_text.specs.Columns.{Code}
@@ -16,17 +15,14 @@ use Rattle.definition_text.specs.Content.{Part, part, content_codes}
 use Rattle.definition_text.specs.Encode.{encoded_byte, encode}
 use Rattle.definition_inline.specs.CharacterReference.{Names, reference_after}
 use Rattle.definition_inline.specs.Decoded.{known_text, known_at}
-use Rattle.definition_inline.specs.HtmlText.{html_byte, html_end, html_leaf, html_text_at}
+use Rattle.definition_inline.specs.HtmlText.{html_end, html_leaf, html_text_at}
 use Rattle.definition_inline.specs.Inline as inline
 use Rattle.definition_inline.specs.Strings.{eol_bytes}
-use Rattle.inline_leaves.specs.Leaves.{found_leaf, size_before, parts_of, IsAfter}
-use Rattle.inline_leaves.specs.declared.leaf.Leaf.{Leaf}
-use Rattle.inline_leaves.specs.declared.leaf.LeafPart.TheVariants.{Html}
-use Rattle.inline_leaves.proofs.Codes.{plain_code}
+use Rattle.inline_leaves.specs.Leaves.{size_before, IsAfter}
 use Rattle.inline_links.specs.Codes.{IsCut}
 use Rattle.inline_links.proofs.Cuts.{cut_after}
 use Rattle.inline_links.proofs.Runs.{one_more}
-use Rattle.inline_references.proofs.Decoding.{HasReference, known_has}
+use Rattle.inline_references.proofs.Decoding.{known_has}
 use Rattle.html_listed.specs.Attributes.{tag_bytes, code_bytes}
 use Rattle.html_listed.specs.Raw.{RawPart, Text, token_part, found_raw, token_to, reference_to, token_or_reference, or_code, raw_parts_after}
 use Rattle.html_listed.specs.State.{State, says, all_ended}
@@ -185,10 +181,12 @@ reference_printed names options s after p are is = by_bytes (known_at names (38 
         let printed : part (encode q.text) q.rest ≡ p = ap (reference_part after) (sym e) ∙ is in
         let has = known_has names (38 ∷ content_codes after) (part q.text (content_codes q.rest)) some in
         let size = length (38 ∷ content_codes after) - length (content_codes q.rest) in
-        let sizes : length (38 ∷ content_codes after) ≡ length has.front + length (content_codes q.rest) = ap length has.is ∙ length-append has.front (content_codes q.rest) in
+        let sizes : length (38 ∷ content_codes after) ≡ length has.front + length (content_codes q.rest) = ap length has.is
+        ∙ length-append has.front (content_codes q.rest) in
         let same : size ≡ length has.front = omega arith in
         let place : content_codes q.rest ≡ drop size (38 ∷ content_codes after) =
-        sym (ap (λ k. drop k (38 ∷ content_codes after)) same ∙ ap (drop (length has.front)) has.is ∙ drop_at has.front (content_codes q.rest) (length has.front) refl) in
+        sym (ap (λ k. drop k (38 ∷ content_codes after)) same ∙ ap (drop (length has.front)) has.is
+        ∙ drop_at has.front (content_codes q.rest) (length has.front) refl) in
         let front_some = written_some names has.front has.name has.written in
         ap (λ (x : Part). page_after names options (says x.text s) x.rest) (sym printed)
         ∙ sym (ap (λ u. let t = all_ended u in t.out) (one_found names options 38 (content_codes after) (content_codes q.rest) s (Text (encode q.text)) size
@@ -199,7 +197,8 @@ reference_printed names options s after p are is = by_bytes (known_at names (38 
 -- equal leaves of raw HTML
 leaf_same : (a b : List Code) (m n : ℕ) → Some (inline.leaf (inline.Html a ∷ []) m) ≡ Some (inline.leaf (inline.Html b ∷ []) n) → (a ≡ b) × (m ≡ n)
 leaf_same a b m n h =
-    let same : inline.leaf (inline.Html a ∷ []) m ≡ inline.leaf (inline.Html b ∷ []) n = same_Some (inline.leaf (inline.Html a ∷ []) m) (inline.leaf (inline.Html b ∷ []) n) h in
+    let same : inline.leaf (inline.Html a ∷ []) m ≡ inline.leaf (inline.Html b ∷ []) n = same_Some (inline.leaf (inline.Html a ∷ []) m)
+    (inline.leaf (inline.Html b ∷ []) n) h in
     let parts : inline.Html a ∷ [] ≡ inline.Html b ∷ [] = ap (λ (f : inline.Found). f.parts) same in
     (one_html parts, ap (λ (f : inline.Found). f.size) same)
   where
@@ -225,7 +224,8 @@ token_of_leaf names options html token size (Some rest) e begins h =
     )
 
 -- a token at the front of codes
-token_first : (html token : List Code) (size : ℕ) → begins_with (codes "<") html ≡ true → token ≡ take size html → 0 < size → begins_with (codes "<") token ≡ true
+token_first : (html token : List Code) (size : ℕ) → begins_with (codes "<") html ≡ true → token ≡ take size html → 0 < size → begins_with (codes "<") token
+    ≡ true
 token_first [] token size h e some = absurd (false≢true h)
 token_first (c ∷ cs) token zero h e some = absurd (omega arith)
 token_first (c ∷ cs) token (suc size) h e some = ap (begins_with (codes "<")) e ∙ h
@@ -235,18 +235,26 @@ token_codes : (names : Names) (options : CompileOptions) (s : State) (html token
     → begins_with (codes "<") html ≡ true → 0 < size → rest ≡ drop size html
     → after_codes names options (raw_part s (token_part names options token)) rest ≡ after_codes names options s html
 token_codes names options s [] token rest size found h some e = absurd (false≢true h)
-token_codes names options s (c ∷ cs) token rest size found h some e = sym (one_found names options c cs rest s (token_part names options token) size found some e)
+token_codes names options s (c ∷ cs) token rest size found h some e = sym
+    (one_found names options c cs rest s (token_part names options token) size found some e)
 
 -- the leaf that begins here is raw HTML
 pub record IsToken (rest : List ℕ) (text after : List ℕ) : Type 0 where
   pub begins : begins_with (codes "<") (content_codes rest) ≡ true
-  pub leaf : Some (inline.leaf (inline.Html (content_codes text) ∷ []) (size_before rest after)) ≡ html_leaf (content_codes rest) (html_end (tag_bytes (content_codes rest)))
+  pub leaf : Some (inline.leaf (inline.Html (content_codes text) ∷ []) (size_before rest after))
+      ≡ html_leaf (content_codes rest) (html_end (tag_bytes (content_codes rest)))
 
-pub is_token : (rest text after : List ℕ) → Some (inline.leaf (inline.Html (content_codes text) ∷ []) (size_before rest after)) ≡ html_text_at default_constructs (content_codes rest)
+pub is_token : (rest text after : List ℕ) → Some (inline.leaf (inline.Html (content_codes text) ∷ []) (size_before rest after))
+    ≡ html_text_at default_constructs (content_codes rest)
     → IsToken rest text after
 is_token rest text after h = elim (cases_Bool (begins_with (codes "<") (content_codes rest))) [
-  | inl t ↦ record { begins = t; leaf = h ∙ cond-true (begins_with (codes "<") (content_codes rest)) (html_leaf (content_codes rest) (html_end (tag_bytes (content_codes rest)))) None t }
-  | inr t ↦ absurd (none-some _ (sym (h ∙ cond-false (begins_with (codes "<") (content_codes rest)) (html_leaf (content_codes rest) (html_end (tag_bytes (content_codes rest)))) None t)))
+  | inl t ↦ record {
+    begins = t;
+    leaf = h ∙ cond-true (begins_with (codes "<") (content_codes rest))
+        (html_leaf (content_codes rest) (html_end (tag_bytes (content_codes rest)))) None t;
+  }
+  | inr t ↦ absurd (none-some _ (sym (h ∙ cond-false (begins_with (codes "<") (content_codes rest))
+      (html_leaf (content_codes rest) (html_end (tag_bytes (content_codes rest)))) None t)))
 ]
 
 pub token_begins : (rest text after : List ℕ) → AreBytes text → IsToken rest text after → IsAfter rest after → begins_with (codes "<") text ≡ true
@@ -269,7 +277,8 @@ token_begins rest text after are token later =
             let sizes = same.1 in
             let tokens = same.0 in tokens ∙ ap (λ k. take k (content_codes rest)) (sym sizes)
 
-pub token_printed : (names : Names) (options : CompileOptions) (s : State) (rest text after : List ℕ) → AreBytes text → IsToken rest text after → IsAfter rest after
+pub token_printed : (names : Names) (options : CompileOptions) (s : State) (rest text after : List ℕ) → AreBytes text → IsToken rest text after
+    → IsAfter rest after
     → page_after names options (raw_part s (token_part names options text)) after ≡ page_after names options s rest
 token_printed names options s rest text after are token later =
     let html = content_codes rest in
@@ -280,7 +289,8 @@ token_printed names options s rest text after are token later =
     let same : token_part names options text ≡ token_part names options (content_codes text) =
     ap (token_part names options) (sym (codes_back text are)) ∙ token_bytes names options (content_codes text) first in
     ap (λ p. page_after names options (raw_part s p) after) same
-    ∙ ap (λ u. let t = all_ended u in t.out) (token_codes names options s html (content_codes text) (content_codes after) size found.0 token.begins some later.codes)
+    ∙ ap (λ u. let t = all_ended u in t.out) (token_codes names options s html (content_codes text)
+    (content_codes after) size found.0 token.begins some later.codes)
 
 -- `<` alone
 no_leaf : (html : List Code) (o : Option (List ℕ)) → None ≡ html_leaf html o → o ≡ None

@@ -1,5 +1,5 @@
 -- Raw HTML as it is printed, by its first bytes and its name.
-use Rattle.std.proofs.Common.{◌≡◌, ℕ, Bool, true, false, cond, List, [], ◌∷◌, ◌++◌, Option, None, Some, codes, length, drop, map, refl, sym, ap, ◌∙◌, append_assoc}
+use Rattle.std.proofs.Common.{◌≡◌, ℕ, Bool, true, false, cond, List, [], ◌∷◌, ◌++◌, None, Some, codes, length, drop, map, refl, sym, ap, ◌∙◌, append_assoc}
 use Rattle.std.proofs.Common.{inl, inr}
 use Rattle.std.proofs.lemmas.Bool.{cases_Bool, cond-true, cond-false}
 use Rattle.std.proofs.lemmas.Option.{none-some, same_Some}
@@ -8,10 +8,10 @@ use Rattle.definition_text.specs.Bytes.{begins_with, after_all, without_slash, l
 use Rattle.definition_text.specs.Encode.{encode}
 use Rattle.definition_inline.specs.CharacterReference.{Names}
 use Rattle.definition_inline.specs.HtmlTags.{is_tag_name_byte, tag_name}
-use Rattle.definition_page.specs.Tags.{Tag, tag, tag_bytes, start_tag, void_tag}
+use Rattle.definition_page.specs.Tags.{Tag, tag, tag_bytes, void_tag}
 use Rattle.html_listed.specs.Listing.{is_in, is_listed, void_names}
 use Rattle.html_listed.specs.Attributes.{code_bytes, kept}
-use Rattle.html_listed.specs.Raw.{RawPart, Text, Begin, Empty, End, Single, kept_tag, ends_at_once, open_part, name_of, token_part}
+use Rattle.html_listed.specs.Raw.{Text, Begin, Empty, End, Single, kept_tag, ends_at_once, open_part, name_of, token_part}
 use Rattle.html_listed.specs.State.{State, says, with_open, opened, ended, with_room}
 use Rattle.html_listed.specs.Listed.{begins, raw_part}
 use Rattle.html_sanitizer.specs.Attributes.{after_space, read_attribute, cut, rest_after}

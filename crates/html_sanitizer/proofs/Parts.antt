@@ -6,26 +6,25 @@ use Rattle.markdown_options.specs.declared.configuration.CompileOptions.{Compile
 use Rattle.markdown_options.specs.declared.configuration.Constructs.{Constructs}
 use Rattle.markdown_options.specs.Defaults.{default_constructs}
 use Rattle.definition_text.specs.Bytes.{begins_with}
-use Rattle.definition_text.specs.Content.{Part, content_codes}
+use Rattle.definition_text.specs.Content.{content_codes}
 use Rattle.definition_inline.specs.CharacterReference.{Names}
 use Rattle.definition_inline.specs.Decoded.{known_at}
 use Rattle.definition_inline.specs.HtmlText.{html_text_at, html_leaf, html_end}
 use Rattle.definition_inline.specs.Inline as inline
 use Rattle.inline_links.specs.Codes.{IsShorterRest}
-use Rattle.inline_leaves.specs.Leaves.{found_leaf, parts_of, size_before, IsAfter}
+use Rattle.inline_leaves.specs.Leaves.{found_leaf, parts_of, size_before}
 use Rattle.inline_leaves.specs.declared.leaf.Leaf.{Leaf}
 use Rattle.inline_leaves.specs.declared.leaf.LeafPart.{LeafPart}
 use Rattle.inline_leaves.specs.declared.leaf.LeafPart.TheVariants.{Escape, Character, Number, Code, Math, Unclosed, Autolink, Literal, Html, EscapedBreak}
 use Rattle.inline_leaves.specs.declared.leaf.LeafPart.TheVariants.{TrailingBreak, LineEnd, Spaces}
 use Rattle.html_listed.specs.Attributes.{tag_bytes}
-use Rattle.html_listed.specs.Raw.{token_part}
 use Rattle.html_listed.specs.State.{State, says, all_ended}
-use Rattle.html_listed.specs.Listed.{raw_part, sanitized}
+use Rattle.html_listed.specs.Listed.{sanitized}
 use Rattle.html_sanitizer.specs.Sanitized.{page_after, reference_part}
 use Rattle.html_sanitizer.proofs.Ends.{page_of}
 use Rattle.html_sanitizer.proofs.Tokens.{AreBytes}
-use Rattle.html_sanitizer.proofs.Marks.{IsToken, is_token, token_begins, token_printed, lone_printed, reference_printed}
-use Rattle.html_sanitizer.proofs.Rests.{byte_passed, reference_passed, after_passed}
+use Rattle.html_sanitizer.proofs.Marks.{IsToken, is_token, lone_printed, reference_printed}
+use Rattle.html_sanitizer.proofs.Rests.{byte_passed, reference_passed}
 
 -- ---- leaves
 
@@ -85,7 +84,8 @@ leaf_token on rest found t is read html =
 
 -- ---- what is printed
 
-pub sign_printed : (names : Names) (options : CompileOptions) (on : Constructs) (out after rest next : List ℕ) (open_here : List (List ℕ)) → on ≡ default_constructs
+pub sign_printed : (names : Names) (options : CompileOptions) (on : Constructs) (out after rest next : List ℕ) (open_here : List (List ℕ)) → on
+    ≡ default_constructs
     → found_leaf rest None ≡ html_text_at on (content_codes rest) → rest ≡ 60 ∷ next → after ≡ out ++ codes "&lt;"
     → page_after names options (page_of after open_here) next ≡ page_after names options (page_of out open_here) rest
 sign_printed names options on out after rest next open_here is read first printed =

@@ -1,5 +1,5 @@
 -- Attributes as they are printed.
-use Rattle.std.proofs.Common.{◌≡◌, ℕ, true, false, cond, List, [], ◌∷◌, ◌++◌, Option, None, Some, codes, length, map, refl, sym, ap, ◌∙◌, append_assoc}
+use Rattle.std.proofs.Common.{◌≡◌, ℕ, false, List, [], ◌∷◌, ◌++◌, Option, None, Some, codes, map, refl, sym, ap, ◌∙◌, append_assoc}
 use Rattle.std.proofs.Common.{Bor, arith, inl, inr}
 use Rattle.std.specs.List.{flat_map}
 use Rattle.std.specs.Option.{option_map, option_copied}
@@ -62,7 +62,8 @@ href_some options ws value e =
     ap (λ o. flat_map attribute_bytes (if_written (codes "href") (option_map (λ v. link_url options (url_bytes v)) o))) e
     ∙ append-nil (attribute_bytes (attribute (codes "href") (link_url options (url_bytes value))))
 
-pub href_none : (options : CompileOptions) (ws : List Written) → first_of (codes "href") ws ≡ None → flat_map attribute_bytes (url_attributes options (codes "a") ws) ≡ []
+pub href_none : (options : CompileOptions) (ws : List Written) → first_of (codes "href") ws ≡ None
+    → flat_map attribute_bytes (url_attributes options (codes "a") ws) ≡ []
 href_none options ws e = ap (λ o. flat_map attribute_bytes (if_written (codes "href") (option_map (λ v. link_url options (url_bytes v)) o))) e
 
 pub src_some : (options : CompileOptions) (ws : List Written) (value : List ℕ) → first_of (codes "src") ws ≡ Some value
@@ -71,7 +72,8 @@ src_some options ws value e =
     ap (λ o. flat_map attribute_bytes (if_written (codes "src") (option_map (λ v. image_url options (url_bytes v)) o))) e
     ∙ append-nil (attribute_bytes (attribute (codes "src") (image_url options (url_bytes value))))
 
-pub src_none : (options : CompileOptions) (ws : List Written) → first_of (codes "src") ws ≡ None → flat_map attribute_bytes (url_attributes options (codes "img") ws) ≡ []
+pub src_none : (options : CompileOptions) (ws : List Written) → first_of (codes "src") ws ≡ None
+    → flat_map attribute_bytes (url_attributes options (codes "img") ws) ≡ []
 src_none options ws e = ap (λ o. flat_map attribute_bytes (if_written (codes "src") (option_map (λ v. image_url options (url_bytes v)) o))) e
 
 no_word : (xs ys : List ℕ) → (xs ≡ ys → ⊥) → bytes_eq xs ys ≡ false
@@ -81,9 +83,11 @@ no_word xs ys h = elim (cases_Bool (bytes_eq xs ys)) [
 ]
 
 -- an element with no attribute with a URL
-pub no_url : (options : CompileOptions) (name : List ℕ) (ws : List Written) → (name ≡ codes "a" → ⊥) → (name ≡ codes "img" → ⊥) → url_attributes options name ws ≡ []
+pub no_url : (options : CompileOptions) (name : List ℕ) (ws : List Written) → (name ≡ codes "a" → ⊥) → (name ≡ codes "img" → ⊥)
+    → url_attributes options name ws ≡ []
 no_url options name ws link image =
-    cond-false (bytes_eq name (codes "a")) _ _ (no_word name (codes "a") link) ∙ cond-false (bytes_eq name (codes "img")) _ [] (no_word name (codes "img") image)
+    cond-false (bytes_eq name (codes "a")) _ _ (no_word name (codes "a") link)
+    ∙ cond-false (bytes_eq name (codes "img")) _ [] (no_word name (codes "img") image)
 
 -- both kinds of attributes
 pub kept_printed : (options : CompileOptions) (name : List ℕ) (ws : List Written)

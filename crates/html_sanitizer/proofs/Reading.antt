@@ -1,10 +1,11 @@
 -- Attributes as the code reads them.
-use Rattle.std.proofs.Common.{◌≡◌, ℕ, zero, suc, ◌+◌, ◌-◌, ◌<◌, ◌≤◌, Bool, true, false, not, ◌&&◌, ◌||◌, cond, eqb, List, [], ◌∷◌, ◌++◌, Option, None, Some, codes, length, take, drop}
+use Rattle.std.proofs.Common.{◌≡◌, ℕ, suc, ◌+◌, ◌-◌, ◌<◌, ◌≤◌, Bool, true, false, not, ◌&&◌, cond, eqb, List, [], ◌∷◌, ◌++◌, Option, None, Some, codes}
+use Rattle.std.proofs.Common.{length, take, drop}
 use Rattle.std.proofs.Common.{Bor, ◌⊎◌, map, refl, sym, ap, ◌∙◌, subst, arith, inl, inr, get_or, append_assoc}
-use Rattle.std.specs.List.{flat_map, position_or_len, before_first, after_first, prefix_len, take_while}
+use Rattle.std.specs.List.{position_or_len, before_first, after_first, prefix_len, take_while}
 use Rattle.std.specs.Option.{MatchOption, option_map}
 use Rattle.std.specs.Str.{bytes_eq, IsCharBoundary, IsUtf8}
-use Rattle.std.proofs.lemmas.Bool.{cases_Bool, cases_lt, cond-true, cond-false, eqb-true, eqb-false, ne_eqb, not-true}
+use Rattle.std.proofs.lemmas.Bool.{cases_Bool, cases_lt, cond-true, cond-false, eqb-true, eqb-false, ne_eqb}
 use Rattle.std.proofs.lemmas.Bool.Decides.{nat_tests}
 use Rattle.std.proofs.lemmas.Option.{none-some}
 use Rattle.std.proofs.lemmas.List.Sums.{prefix_len-le-length, prefix_len_passes, prefix_len_stops}
@@ -216,9 +217,10 @@ none_read (c ∷ cs) s = (ap (λ o. cut_from o (cut (length cs))) s, ap (λ o. r
 pub broken_read : (rest start : List ℕ) → attribute_start rest ≡ Some start → split_attribute start ≡ None
     → (cut (length rest) rest ≡ []) × (rest_after (length rest) rest ≡ [])
 broken_read [] start s e = absurd (none-some start s)
-broken_read (c ∷ cs) start s e =
-    (ap (λ o. cut_from o (cut (length cs))) s ∙ ap (λ o. cut_then o (cut (length cs))) e,
-    ap (λ o. rest_from (c ∷ cs) o (rest_after (length cs))) s ∙ ap (λ o. rest_then o (rest_after (length cs))) e)
+broken_read (c ∷ cs) start s e = (
+  ap (λ o. cut_from o (cut (length cs))) s ∙ ap (λ o. cut_then o (cut (length cs))) e,
+  ap (λ o. rest_from (c ∷ cs) o (rest_after (length cs))) s ∙ ap (λ o. rest_then o (rest_after (length cs))) e,
+)
 
 pub attributes_push : (items : List code.Written) (w : code.Written) → attributes_of (items ++ w ∷ []) ≡ attributes_of items ++ attribute_of w ∷ []
 attributes_push [] w = refl

@@ -1,22 +1,22 @@
 -- What follows in HTML, and loops over it.
-use Rattle.std.proofs.Common.{◌≡◌, ℕ, zero, suc, ◌+◌, ◌-◌, ◌<◌, ◌≤◌, Bool, true, false, not, ◌&&◌, ◌||◌, cond, eqb, List, [], ◌∷◌, ◌++◌, Option, None, Some, codes, length, drop}
+use Rattle.std.proofs.Common.{◌≡◌, ℕ, suc, ◌+◌, ◌-◌, ◌<◌, ◌≤◌, true, false, not, ◌&&◌, ◌||◌, cond, eqb, List, [], ◌∷◌, ◌++◌, Option, None, Some, codes}
+use Rattle.std.proofs.Common.{length, drop}
 use Rattle.std.proofs.Common.{refl, sym, ap, ◌∙◌, subst, arith, inl, inr, get_or}
-use Rattle.std.specs.List.{position_or_len, prefix_len}
+use Rattle.std.specs.List.{position_or_len}
 use Rattle.std.specs.Str.{IsCharBoundary, IsUtf8}
-use Rattle.std.proofs.lemmas.Bool.{cases_Bool, cond-true, cond-false, eqb-true, eqb-false, ne_eqb, and_parts, false≢true}
+use Rattle.std.proofs.lemmas.Bool.{cases_Bool, cond-false, eqb-true, ne_eqb, and_parts, false≢true}
 use Rattle.std.proofs.lemmas.Bool.Decides.{nat_tests}
-use Rattle.std.proofs.lemmas.List.{drop_at, drop-drop, length-drop, length-append}
+use Rattle.std.proofs.lemmas.List.{drop_at, length-drop, length-append}
 use Rattle.std.proofs.lemmas.List.Sums.{prefix_len-le-length}
-use Rattle.std.proofs.lemmas.Option.{none-some}
 use Rattle.definition_text.specs.Bytes.{begins_with, without_slash}
-use Rattle.definition_text.specs.Content.{Part, part}
+use Rattle.definition_text.specs.Content.{Part}
 use Rattle.definition_inline.specs.CharacterReference.{Names}
 use Rattle.definition_inline.specs.Decoded.{known_at}
 use Rattle.inline_leaves.specs.Leaves.{IsAfter}
 use Rattle.inline_links.specs.Codes.{IsRest, IsShorterRest}
 use Rattle.inline_leaves.proofs.Codes.{rest_of_rest}
-use Rattle.inline_references.proofs.Decoding.{HasReference, known_has}
-use Rattle.html_sanitizer.specs.Sanitized.{is_mark, before_marks, after_marks, begins_with_mark, reference_part}
+use Rattle.inline_references.proofs.Decoding.{known_has}
+use Rattle.html_sanitizer.specs.Sanitized.{is_mark, after_marks, begins_with_mark, reference_part}
 use Rattle.html_sanitizer.proofs.Reading.{stop_boundary}
 use Rattle.html_sanitizer.proofs.Tokens.{written_some}
 
@@ -97,7 +97,8 @@ pub after_passed : (html after : List ℕ) → IsAfter html after → IsShorterR
 after_passed html after later = record { shorter = later.shorter; place = later.place }
 
 -- a reference, or `&`, is passed
-pub reference_passed : (names : Names) (after rest : List ℕ) → (let found = reference_part after (known_at names (38 ∷ after)) in found.rest) ≡ rest → IsShorterRest (38 ∷ after) rest
+pub reference_passed : (names : Names) (after rest : List ℕ) → (let found = reference_part after (known_at names (38 ∷ after)) in found.rest) ≡ rest
+    → IsShorterRest (38 ∷ after) rest
 reference_passed names after rest is = by_case (known_at names (38 ∷ after)) refl is
   where
     by_case : (o : Option Part) → known_at names (38 ∷ after) ≡ o → (let found = reference_part after o in found.rest) ≡ rest → IsShorterRest (38 ∷ after) rest

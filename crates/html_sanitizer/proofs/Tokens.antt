@@ -1,33 +1,33 @@
 -- Raw HTML in codes and in bytes: the same is printed of both.
-use Rattle.std.proofs.Common.{◌≡◌, ℕ, zero, suc, ◌+◌, ◌-◌, ◌<◌, ◌≤◌, Bool, true, false, not, ◌&&◌, ◌||◌, cond, eqb, List, [], ◌∷◌, ◌++◌, Option, None, Some, codes, length, take, drop}
+use Rattle.std.proofs.Common.{◌≡◌, ℕ, zero, suc, ◌+◌, ◌<◌, ◌≤◌, Bool, true, false, not, ◌&&◌, cond, eqb, List, [], ◌∷◌, ◌++◌, Option, None, Some, codes}
+use Rattle.std.proofs.Common.{length, drop}
 use Rattle.std.proofs.Common.{map, refl, sym, ap, ◌∙◌, subst, arith, inl, inr, append_assoc}
-use Rattle.std.specs.Prelude.{unwrap_or, IsTrue}
+use Rattle.std.specs.Prelude.{unwrap_or}
 use Rattle.std.specs.Char.{is_ascii_digit, is_ascii_hexdigit, is_ascii_alphanumeric}
-use Rattle.std.specs.List.{flat_map, list_all, prefix_len, take_while}
+use Rattle.std.specs.List.{list_all, prefix_len}
 use Rattle.std.specs.Option.{option_map}
-use Rattle.std.proofs.lemmas.Bool.{cases_Bool, cond-true, cond-false, eqb-true, eqb-false, ne_eqb, and_parts, not-true, true≢false, false≢true}
+use Rattle.std.proofs.lemmas.Bool.{cases_Bool, cond-true, cond-false, eqb-true, eqb-false, ne_eqb, and_parts, not-true, false≢true}
 use Rattle.std.proofs.lemmas.List.{length-append, length-map, length-drop}
 use Rattle.std.proofs.lemmas.Option.{none-some}
-use Rattle.std.proofs.Math.Seq.{drop-append_seam}
 use Rattle.markdown_options.specs.declared.configuration.CompileOptions.{CompileOptions}
 use Rattle.definition_text.specs.Bytes.{begins_with, after_all, without_slash, lower}
 use Rattle.definition_text.specs.Columns.{Code}
 use Rattle.definition_text.specs.Content.{Part, part, content_codes}
 use Rattle.definition_text.specs.Encode.{encode}
-use Rattle.definition_inline.specs.CharacterReference.{Names, CharacterName, reference_text}
+use Rattle.definition_inline.specs.CharacterReference.{Names, CharacterName}
 use Rattle.definition_inline.specs.Decoded.{known_at, decode, decoded_after, replace_reference}
 use Rattle.definition_inline.specs.HtmlTags.{is_tag_name_byte, tag_name, tag_space, attributes}
 use Rattle.definition_inline.specs.HtmlText.{html_byte}
 use Rattle.definition_inline.specs.Strings.{eol_bytes}
 use Rattle.definition_page.specs.Tags.{tag}
 use Rattle.inline_references.specs.Grammar.{IsWritten, name, digits, lower_x, upper_x}
-use Rattle.inline_references.proofs.Decoding.{known_written, HasReference, known_has, decoded_known}
+use Rattle.inline_references.proofs.Decoding.{known_written, known_has, decoded_known}
 use Rattle.inline_leaves.proofs.Codes.{plain_code}
 use Rattle.html_listed.specs.Listing.{is_in, is_listed, void_names}
-use Rattle.html_listed.specs.Attributes.{tag_bytes, code_bytes, decoded, written, kept}
-use Rattle.html_listed.specs.Raw.{RawPart, Text, Begin, Empty, End, Single, kept_tag, after_attributes, ends_at_once, open_part, name_of, token_part}
-use Rattle.html_sanitizer.specs.Attributes.{after_space, Attribute, attribute, read_attribute, cut, rest_after}
-use Rattle.html_sanitizer.proofs.Codes.{own_bytes, by_code, IsEven, after_cons, after_bytes, while_same, is_ink, begins_bytes, drop_bytes, space_bytes, attribute_bytes}
+use Rattle.html_listed.specs.Attributes.{tag_bytes, code_bytes, written, kept}
+use Rattle.html_listed.specs.Raw.{Text, Begin, Empty, End, Single, kept_tag, ends_at_once, open_part, name_of, token_part}
+use Rattle.html_sanitizer.specs.Attributes.{after_space, Attribute, read_attribute, cut, rest_after}
+use Rattle.html_sanitizer.proofs.Codes.{own_bytes, by_code, IsEven, after_bytes, while_same, is_ink, begins_bytes, drop_bytes, space_bytes, attribute_bytes}
 use Rattle.html_sanitizer.proofs.Codes.{cut_bytes, rest_bytes}
 use Rattle.html_sanitizer.proofs.Cutting.{IsOwn, after_own, space_html, is_html, written_cut, rest_cut, cut_enough, rest_enough}
 
@@ -141,6 +141,7 @@ module _ (names : Names) where
           let front = front_back has.front cs q.rest (written_ink has.front has.name has.written) has.is in
           let there = known_written names has.front front.rest q.text has.name has.written has.text in
           absurd (none-some _ (sym none ∙ ap (known_at names) front.whole ∙ there))
+
       by_codes : (o : Option Part) → known_at names cs ≡ o → known_at names (code_bytes cs) ≡ option_map (λ (p : Part). part p.text (code_bytes p.rest)) o
       by_codes None e = nothing (known_at names (code_bytes cs)) refl e
       by_codes (Some p) e =
@@ -150,12 +151,14 @@ module _ (names : Names) where
           ∙ known_written names has.front (code_bytes p.rest) p.text has.name has.written has.text
 
   -- the same of bytes, with what follows in codes
-  pub known_codes : (bs : List ℕ) → AreBytes bs → known_at names (content_codes bs) ≡ option_map (λ (p : Part). part p.text (content_codes p.rest)) (known_at names bs)
+  pub known_codes : (bs : List ℕ) → AreBytes bs → known_at names (content_codes bs)
+      ≡ option_map (λ (p : Part). part p.text (content_codes p.rest)) (known_at names bs)
   known_codes bs are = by_bytes (known_at names bs) refl
     where
       none : (o : Option Part) → option_map (λ (p : Part). part p.text (code_bytes p.rest)) o ≡ None → o ≡ None
       none None h = refl
       none (Some p) h = absurd (none-some _ (sym h))
+
       by_bytes : (o : Option Part) → known_at names bs ≡ o → known_at names (content_codes bs) ≡ option_map (λ (p : Part). part p.text (content_codes p.rest)) o
       by_bytes (Some p) e =
           let has = known_has names bs p e in
@@ -216,14 +219,16 @@ module _ (names : Names) where
   decoded_bytes zero (c ∷ cs) le = absurd (omega arith)
   decoded_bytes (suc n) (c ∷ cs) le = by_case (decoded_bytes n) (known_at names (c ∷ cs)) refl
     where
-      by_case : IsDecoded n → (o : Option Part) → known_at names (c ∷ cs) ≡ o → code_bytes (decode names (code_bytes (c ∷ cs))) ≡ code_bytes (decode names (c ∷ cs))
+      by_case : IsDecoded n → (o : Option Part) → known_at names (c ∷ cs) ≡ o → code_bytes (decode names (code_bytes (c ∷ cs)))
+          ≡ code_bytes (decode names (c ∷ cs))
       by_case ih (Some p) e = decoded_reference n c cs p ih le e
       by_case ih None e = decoded_code n c cs ih (omega arith) e
 
   read_same : (items : List Attribute) → map (read_attribute names) (map attribute_bytes items) ≡ map (read_attribute names) items
   read_same [] = refl
   read_same (a ∷ items) =
-      ap (λ v. record { name = lower a.name; value = v } ∷ map (read_attribute names) (map attribute_bytes items)) (decoded_bytes (length a.value) a.value (omega arith))
+      ap (λ v. record { name = lower a.name; value = v } ∷ map (read_attribute names) (map attribute_bytes items))
+      (decoded_bytes (length a.value) a.value (omega arith))
       ∙ ap (λ ws. read_attribute names a ∷ ws) (read_same items)
 
 -- ---- tags
@@ -309,16 +314,19 @@ pub token_bytes : (names : Names) (options : CompileOptions) (html : List Code) 
 token_bytes names options html h =
     let inside = drop_bytes 60 html refl h in
     let same_name : name_of (code_bytes html) ≡ name_of html =
-    ap lower (ap (λ x. tag_name (without_slash x)) inside ∙ ap tag_name (slash_bytes (drop 1 html)) ∙ while_same is_tag_name_byte refl refl (without_slash (drop 1 html))) in
+    ap lower (ap (λ x. tag_name (without_slash x)) inside ∙ ap tag_name (slash_bytes (drop 1 html))
+    ∙ while_same is_tag_name_byte refl refl (without_slash (drop 1 html))) in
     let n = name_of html in
     ap (λ t. cond t (Text []) (cond (is_listed (name_of (code_bytes html)))
-    (cond (begins_with (codes "</") (code_bytes html)) (End (name_of (code_bytes html))) (open_part names options (name_of (code_bytes html)) (drop 1 (code_bytes html))))
+    (cond (begins_with (codes "</") (code_bytes html)) (End (name_of (code_bytes html)))
+    (open_part names options (name_of (code_bytes html)) (drop 1 (code_bytes html))))
     (Text (encode (code_bytes (code_bytes html)))))) (begins_bytes (codes "<!--") html refl)
     ∙ ap (λ m. cond (begins_with (codes "<!--") html) (Text []) (cond (is_listed m)
     (cond (begins_with (codes "</") (code_bytes html)) (End m) (open_part names options m (drop 1 (code_bytes html))))
     (Text (encode (code_bytes (code_bytes html)))))) same_name
     ∙ ap (λ t. cond (begins_with (codes "<!--") html) (Text []) (cond (is_listed n)
-    (cond t (End n) (open_part names options n (drop 1 (code_bytes html)))) (Text (encode (code_bytes (code_bytes html)))))) (begins_bytes (codes "</") html refl)
+    (cond t (End n) (open_part names options n (drop 1 (code_bytes html)))) (Text (encode (code_bytes (code_bytes html))))))
+    (begins_bytes (codes "</") html refl)
     ∙ ap (λ p. cond (begins_with (codes "<!--") html) (Text []) (cond (is_listed n)
     (cond (begins_with (codes "</") html) (End n) p) (Text (encode (code_bytes (code_bytes html))))))
     (ap (open_part names options n) inside ∙ open_bytes names options n (drop 1 html))

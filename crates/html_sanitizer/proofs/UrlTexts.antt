@@ -1,8 +1,8 @@
 -- URLs, and texts in which a byte is printed as something else.
-use Rattle.std.proofs.Common.{◌≡◌, ℕ, zero, suc, ◌+◌, ◌<◌, Bool, true, false, not, ◌||◌, cond, eqb, List, [], ◌∷◌, ◌++◌, length, take, drop, refl, sym, ap, ◌∙◌}
+use Rattle.std.proofs.Common.{◌≡◌, ℕ, suc, ◌+◌, ◌<◌, Bool, true, false, not, ◌||◌, cond, eqb, List, [], ◌∷◌, ◌++◌, length, take, drop, refl, sym, ap, ◌∙◌}
 use Rattle.std.proofs.Common.{arith, inl, inr, append_assoc}
-use Rattle.std.specs.List.{filter, flat_map, position_or_len, before_first, after_first}
-use Rattle.std.proofs.lemmas.Bool.{cases_Bool, cond-true, cond-false, eqb-true, eqb-false, ne_eqb, or_from}
+use Rattle.std.specs.List.{filter, position_or_len, before_first, after_first}
+use Rattle.std.proofs.lemmas.Bool.{cases_Bool, cond-true, cond-false, eqb-true, or_from}
 use Rattle.inline_links.proofs.Runs.{one_more}
 use Rattle.definition_text.specs.Encode.{encode, plain_byte, plain}
 use Rattle.definition_page.specs.Urls.{percent, sanitize, permits, sanitized_with}
@@ -52,7 +52,8 @@ replaced_none c other (b ∷ bs) h = elim (cases_Bool (eqb b c)) [
 replaced_append : (c : ℕ) (other a b : List ℕ) → replaced c other (a ++ b) ≡ replaced c other a ++ replaced c other b
 replaced_append c other [] b = refl
 replaced_append c other (x ∷ xs) b =
-    ap (λ y. replaced_byte c other x ++ y) (replaced_append c other xs b) ∙ sym (append_assoc (replaced_byte c other x) (replaced c other xs) (replaced c other b))
+    ap (λ y. replaced_byte c other x ++ y) (replaced_append c other xs b)
+    ∙ sym (append_assoc (replaced_byte c other x) (replaced c other xs) (replaced c other b))
 
 -- ---- a URL as a browser reads it
 

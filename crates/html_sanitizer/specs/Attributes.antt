@@ -1,5 +1,5 @@
 -- The attributes of a tag, cut from it from left to right. A tag is a list of codes, in which CR LF may be one code or two.
-use Rattle.std.specs.Prelude.{ℕ, zero, suc, Bool, false, if◌then◌else◌, ◌==◌, ◌&&◌, List, [], ◌∷◌, Option, None, Some, codes, map, take, drop, length}
+use Rattle.std.specs.Prelude.{ℕ, zero, suc, Bool, false, if◌then◌else◌, ◌==◌, ◌&&◌, List, [], ◌∷◌, Option, None, Some, codes, map, take, drop}
 use Rattle.std.proofs.Common.{Bor}
 use Rattle.std.specs.List.{flat_map, prefix_len, take_while}
 use Rattle.std.specs.Option.{option_map}

@@ -1,5 +1,5 @@
 -- A page up to a place, as the state of the pass.
-use Rattle.std.specs.Prelude.{ℕ, false, List, [], string_bytes}
+use Rattle.std.specs.Prelude.{false, [], string_bytes}
 use Rattle.html_listed.specs.State.{State, state, level}
 use Rattle.html_safe_page.specs.Views.{open_names}
 use Rattle.html_sanitizer.specs.declared.page.Page.{Page}

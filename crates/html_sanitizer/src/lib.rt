@@ -1,4 +1,5 @@
-//! Any HTML to a page that has only the elements and attributes of a list.
+//! Any HTML to a page that has only the elements and attributes of a list (`html_listed`). It knows
+//! nothing of Markdown.
 #![tactic(auto)]
 
 mod attributes;

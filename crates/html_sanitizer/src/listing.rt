@@ -10,9 +10,45 @@ ghost use Rattle.html_sanitizer.specs.Listing.{texts_of, found_name, listed_name
 
 /// Elements that may stand anywhere.
 const FREE_NAMES: [&str; 39] = [
-    "a", "abbr", "b", "bdo", "blockquote", "cite", "code", "del", "details", "dfn", "div", "dl", "em", "figcaption",
-    "figure", "i", "ins", "kbd", "mark", "ol", "p", "picture", "pre", "q", "ruby", "s", "samp", "small", "span",
-    "strike", "strong", "sub", "summary", "sup", "table", "time", "tt", "ul", "var",
+    "a",
+    "abbr",
+    "b",
+    "bdo",
+    "blockquote",
+    "cite",
+    "code",
+    "del",
+    "details",
+    "dfn",
+    "div",
+    "dl",
+    "em",
+    "figcaption",
+    "figure",
+    "i",
+    "ins",
+    "kbd",
+    "mark",
+    "ol",
+    "p",
+    "picture",
+    "pre",
+    "q",
+    "ruby",
+    "s",
+    "samp",
+    "small",
+    "span",
+    "strike",
+    "strong",
+    "sub",
+    "summary",
+    "sup",
+    "table",
+    "time",
+    "tt",
+    "ul",
+    "var",
 ];
 
 /// The headings, which hold no heading.
@@ -64,8 +100,8 @@ pub(crate) const FRAME_NAMES: [&str; 5] = ["table", "thead", "tbody", "tfoot", "
 
 /// Attributes without a URL, in the order in which they are printed.
 pub(crate) const LISTED_ATTRIBUTES: [&str; 17] = [
-    "alt", "title", "align", "valign", "width", "height", "colspan", "rowspan", "dir", "lang", "start", "reversed",
-    "type", "value", "open", "datetime", "media",
+    "alt", "title", "align", "valign", "width", "height", "colspan", "rowspan", "dir", "lang",
+    "start", "reversed", "type", "value", "open", "datetime", "media",
 ];
 
 /// How many raw elements may be open.

@@ -2,7 +2,8 @@
 ghost use Rattle.std.specs.Prelude.{◌≡◌, ℕ, ◌++◌, ◌∷◌, ◌<◌, [], IfOk, OnOk, if◌then◌else◌, length, nat_lt, slice_index_or, string_bytes};
 ghost use Rattle.definition_text.specs.Encode.{encode};
 ghost use Rattle.definition_page.specs.Tags.{Tag, end_tag};
-ghost use Rattle.html_listed.specs.State.{State, nothing_open, says, with_open, opened, ended, ended_to, all_ended, count_to, begins_with_frame, without_frame, with_room};
+ghost use Rattle.html_listed.specs.State.{State, nothing_open, says, with_open, opened, ended, ended_to, all_ended, count_to, begins_with_frame};
+ghost use Rattle.html_listed.specs.State.{without_frame, with_room};
 ghost use Rattle.html_listed.specs.Listed.{begins};
 ghost use Rattle.html_safe_page.specs.Views.{open_names};
 ghost use Rattle.html_sanitizer.specs.Listing.{texts_of};

@@ -143,7 +143,14 @@ fn push_tag<A: Allocator, T: Tables>(
 {
     out.push_str("<")?;
     out.push_str(name)?;
-    push_attributes(out, &mut scratch.buffers, options, tables, name, scratch.written.as_slice())
+    push_attributes(
+        out,
+        &mut scratch.buffers,
+        options,
+        tables,
+        name,
+        scratch.written.as_slice(),
+    )
 }
 
 /// Appends the text of the reference that `&` begins, or `&`. Returns what follows.

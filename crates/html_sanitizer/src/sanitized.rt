@@ -27,7 +27,17 @@ const MARKS: BytePair = BytePair {
     second: b'&',
 };
 
-/// Returns a page that keeps of any HTML what is listed.
+/// Returns a page that keeps of any HTML the elements and attributes of a list. `html_listed` has
+/// the list and the rules.
+///
+/// - A listed tag is printed with its listed attributes. A URL has a permitted protocol or none, by
+///   `options`.
+/// - A comment is left out, and a tag that has no place here. Elements that are open at the end are
+///   ended.
+/// - Any other raw HTML is printed as text.
+/// - A character reference is printed as the text that it stands for, if `tables` have its name.
+///
+/// NUL becomes U+FFFD. Time is linear in the HTML. The only error is out of memory.
 pub fn sanitized_html<A: Allocator + Clone, T: Tables>(
     alloc: A,
     html: &str,
@@ -50,7 +60,15 @@ pub fn sanitized_html<A: Allocator + Clone, T: Tables>(
     let mut searches = Searches::new(alloc, html);
     let mut rest = push_text(&mut page.out, html)?;
     while !rest.is_empty() {
-        let after = push_part(&mut page, &mut scratch, &mut searches, &on, options, tables, rest)?;
+        let after = push_part(
+            &mut page,
+            &mut scratch,
+            &mut searches,
+            &on,
+            options,
+            tables,
+            rest,
+        )?;
         rest = push_text(&mut page.out, after)?;
     }
     page.end_all()?;

@@ -1,11 +1,11 @@
-use Rattle.std.proofs.Common.{◌≡◌, ◌++◌, ◌∷◌, [], ℕ, List, codes, string_bytes, sym, ap, ◌∙◌, arith, refl}
+use Rattle.std.proofs.Common.{◌≡◌, ◌++◌, ◌∷◌, [], codes, string_bytes, sym, ap, ◌∙◌, arith, refl}
 use Rattle.std.specs.Prelude.{map}
 use Rattle.std.specs.List.{flat_map}
 use Rattle.std.proofs.lemmas.Grind.{common_steps}
 use Rattle.std.proofs.lemmas.List.{append-nil}
 use Rattle.definition_page.specs.InlinePieces.{link_url}
 use Rattle.definition_text.specs.Encode.{encode}
-use Rattle.definition_page.specs.Tags.{attribute, attribute_bytes}
+use Rattle.definition_page.specs.Tags.{attribute_bytes}
 use Rattle.html_listed.specs.Attributes.{decoded, url_attributes, url_bytes}
 use Rattle.html_sanitizer.specs.Attributes.{attributes_of, read_attribute}
 use Rattle.html_sanitizer.proofs.Printing.{attribute_printed, if_none, if_found, href_some, href_none}
@@ -28,8 +28,10 @@ returns g c =
     let text : c.as_str.result.now ≡ url = c.as_str.ensures.value ∙ c.in_ok-read_url.ensures in
     let printed : string_bytes c.push_link_url.new.out ≡ string_bytes c.push_start.new.out ++ encode (link_url options url) =
     c.in_ok-push_link_url.ensures ∙ ap (λ x. string_bytes c.push_start.new.out ++ encode (link_url options x)) text in
-    let all : string_bytes c.push_link_url.new.out ++ (34 ∷ []) ≡ string_bytes c.args.out.now ++ flat_map attribute_bytes (url_attributes options (codes "a") (map (read_attribute names) items)) =
-    attribute_printed (string_bytes c.args.out.now) (string_bytes c.push_start.new.out) (string_bytes c.push_link_url.new.out) _ (codes "href") (link_url options url)
+    let all : string_bytes c.push_link_url.new.out ++ (34 ∷ []) ≡ string_bytes c.args.out.now
+    ++ flat_map attribute_bytes (url_attributes options (codes "a") (map (read_attribute names) items)) =
+    attribute_printed (string_bytes c.args.out.now) (string_bytes c.push_start.new.out) (string_bytes c.push_link_url.new.out) _ (codes "href")
+    (link_url options url)
     c.in_ok-push_start.ensures printed refl
     ∙ ap (λ x. string_bytes c.args.out.now ++ x) (sym (href_some options (map (read_attribute names) items) (decoded names c.in-Some.value.now)
     (if_found names (codes "href") items c.first_of.result c.in-Some.value c.first_of.ensures c.in-Some.is))) in

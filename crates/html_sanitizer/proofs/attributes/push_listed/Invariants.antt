@@ -9,6 +9,7 @@ use Rattle.html_sanitizer.proofs.attributes.push_listed.Given as goal
 abbrev pub invariant-loop-name : goal.invariant-loop-name
 invariant-loop-name g l =
     string_bytes l.out
-    ++ flat_map attribute_bytes (named_attributes (texts_of (drop l.name-index l.names)) (map (read_attribute (g.T.Tables.reference_of l.tables)) (attributes_of l.written)))
+    ++ flat_map attribute_bytes (named_attributes (texts_of (drop l.name-index l.names))
+    (map (read_attribute (g.T.Tables.reference_of l.tables)) (attributes_of l.written)))
     ≡ string_bytes l.fn.out
     ++ flat_map attribute_bytes (named_attributes (texts_of l.names) (map (read_attribute (g.T.Tables.reference_of l.tables)) (attributes_of l.written)))

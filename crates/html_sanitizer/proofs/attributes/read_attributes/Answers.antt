@@ -1,6 +1,6 @@
-use Rattle.std.proofs.Common.{◌≡◌, ◌++◌, ◌∷◌, [], Some, length, arith, sym, ap, ◌∙◌, rules}
+use Rattle.std.proofs.Common.{◌++◌, length, arith, sym, ap, ◌∙◌, rules}
 use Rattle.std.specs.Option.{option_copied}
-use Rattle.html_sanitizer.specs.Attributes.{attribute_of, attributes_of, attribute_start, cut, split, split_attribute, split_of}
+use Rattle.html_sanitizer.specs.Attributes.{attribute_of, attributes_of, cut, split, split_of}
 use Rattle.html_sanitizer.proofs.Cutting.{start_shorter, split_shorter}
 use Rattle.html_sanitizer.proofs.Reading.{one_read, attributes_push}
 use Rattle.html_sanitizer.proofs.attributes.read_attributes.Goals as goal

@@ -1,4 +1,4 @@
-use Rattle.std.proofs.Common.{arith, sym, ◌∙◌}
+use Rattle.std.proofs.Common.{sym, ◌∙◌}
 use Rattle.html_sanitizer.proofs.ListedNames.{found_at}
 use Rattle.html_sanitizer.proofs.listing.find_name.Goals as goal
 

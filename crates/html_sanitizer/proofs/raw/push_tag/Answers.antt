@@ -14,6 +14,7 @@ returns g c =
     let before = string_bytes c.args.out.now ++ (60 ∷ []) in
     let others = flat_map attribute_bytes (kept options name (map (read_attribute names) (attributes_of c.args.scratch.now.written.items))) in
     subst (λ (s : List ℕ). OnOk c.push_attributes.result (string_bytes c.push_attributes.new.out ≡ s))
-    (ap (λ ws. string_bytes c.push_str-2.new.self ++ flat_map attribute_bytes (kept options name (map (read_attribute names) (attributes_of ws)))) c.as_slice.ensures.value
+    (ap (λ ws. string_bytes c.push_str-2.new.self ++ flat_map attribute_bytes (kept options name (map (read_attribute names) (attributes_of ws))))
+    c.as_slice.ensures.value
     ∙ ap (λ x. x ++ others) (c.in_ok-push_str-2.ensures.bytes ∙ ap (λ x. x ++ name) c.in_ok-push_str.ensures.bytes) ∙ append_assoc before name others)
     c.push_attributes.ensures

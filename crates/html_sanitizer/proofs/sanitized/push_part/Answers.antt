@@ -31,7 +31,8 @@ push_sign-requires g c =
 
 pub returns-in_default-html_text_at-clause-printed : goal.returns-in_default-html_text_at-clause-printed
 returns-in_default-html_text_at-clause-printed g c =
-    sign_printed (g.T.Tables.reference_of c.args.tables.now) c.args.options.now c.args.on.now (string_bytes c.args.page.now.out) (string_bytes c.push_sign.new.out)
+    sign_printed (g.T.Tables.reference_of c.args.tables.now) c.args.options.now c.args.on.now (string_bytes c.args.page.now.out)
+    (string_bytes c.push_sign.new.out)
     c.args.rest.now c.in_ok-next-2.next.now (open_names c.args.page.now.names.items) c.requires.on c.in_default-html_text_at.ensures.read
     c.in_ok-next-2.ensures.rest c.in_ok-next-2.ensures.printed
 

@@ -1,4 +1,4 @@
-use Rattle.std.proofs.Common.{◌-◌, ℕ, List, Bor, length, string_bytes, arith, sym, ap, subst, rules, ◌∙◌}
+use Rattle.std.proofs.Common.{◌-◌, ℕ, List, Bor, length, arith, sym, ap, subst, rules, ◌∙◌}
 use Rattle.std.proofs.lemmas.Bool.{eqb-true}
 use Rattle.inline_links.specs.Codes.{IsRest}
 use Rattle.definition_text.specs.Encode.{encode}

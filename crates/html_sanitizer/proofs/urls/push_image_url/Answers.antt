@@ -11,4 +11,5 @@ returns-else-options-2 g c =
     let refused : options.allow_any_img_src || options.allow_dangerous_protocol ≡ false = search rules in
     subst (λ (s : List ℕ). OnOk c.push_sanitized_with_protocols.result (string_bytes c.push_sanitized_with_protocols.new.out
     ≡ string_bytes c.args.out.now ++ s))
-    (sym (url_with (options.allow_any_img_src || options.allow_dangerous_protocol) src_protocols c.args.url.now refused)) c.push_sanitized_with_protocols.ensures
+    (sym (url_with (options.allow_any_img_src || options.allow_dangerous_protocol) src_protocols c.args.url.now refused))
+    c.push_sanitized_with_protocols.ensures

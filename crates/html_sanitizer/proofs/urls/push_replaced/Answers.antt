@@ -1,5 +1,5 @@
-use Rattle.std.proofs.Common.{◌≡◌, ◌++◌, ◌∷◌, string_bytes, sym, ap, ◌∙◌, append_assoc, arith, rules, eqb}
-use Rattle.std.specs.List.{before_first, after_first}
+use Rattle.std.proofs.Common.{◌≡◌, ◌++◌, string_bytes, sym, ap, ◌∙◌, append_assoc, arith, rules, eqb}
+use Rattle.std.specs.List.{before_first}
 use Rattle.std.proofs.lemmas.Grind.{common_steps}
 use Rattle.std.proofs.lemmas.Str.Pattern.{split_once_first}
 use Rattle.html_sanitizer.specs.Urls.{replaced}

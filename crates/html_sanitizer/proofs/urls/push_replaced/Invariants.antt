@@ -1,4 +1,4 @@
-use Rattle.std.proofs.Common.{◌≡◌, ◌++◌, ◌<◌, string_bytes, length}
+use Rattle.std.proofs.Common.{◌≡◌, ◌++◌, string_bytes, length}
 use Rattle.std.specs.Str.{IsUtf8}
 use Rattle.html_sanitizer.specs.Urls.{replaced}
 use Rattle.html_sanitizer.proofs.urls.push_replaced.Given as goal

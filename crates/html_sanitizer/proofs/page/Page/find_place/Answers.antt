@@ -1,4 +1,4 @@
-use Rattle.std.proofs.Common.{not, arith, sym, ap, refl, ◌∙◌}
+use Rattle.std.proofs.Common.{not, sym, ap, refl, ◌∙◌}
 use Rattle.html_safe_page.specs.Views.{open_names}
 use Rattle.html_listed.specs.State.{count_to}
 use Rattle.html_sanitizer.specs.Listing.{texts_of}

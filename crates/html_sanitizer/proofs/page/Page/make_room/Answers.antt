@@ -12,7 +12,8 @@ returns-then-is_in g c =
     let s = page_state c.args.self.now in
     subst (λ (t : State). OnOk c.end_to.result (page_state c.end_to.new.self ≡ t))
     (ap (ended_to heading_names) c.in_ok-end_frame.ensures
-    ∙ sym (cond-true (is_in heading_names c.args.name.now) (ended_to heading_names (without_frame s)) (without_frame s) (sym c.is_in.ensures ∙ c.if-is_in.true)))
+    ∙ sym (cond-true (is_in heading_names c.args.name.now) (ended_to heading_names (without_frame s)) (without_frame s)
+    (sym c.is_in.ensures ∙ c.if-is_in.true)))
     c.end_to.ensures
 
 pub returns-else-is_in : goal.returns-else-is_in
@@ -20,4 +21,5 @@ unfolding heading_names
 returns-else-is_in g c =
     let s = page_state c.args.self.now in
     c.in_ok-end_frame.ensures
-    ∙ sym (cond-false (is_in heading_names c.args.name.now) (ended_to heading_names (without_frame s)) (without_frame s) (sym c.is_in.ensures ∙ c.if-is_in.false))
+    ∙ sym (cond-false (is_in heading_names c.args.name.now) (ended_to heading_names (without_frame s)) (without_frame s)
+    (sym c.is_in.ensures ∙ c.if-is_in.false))
