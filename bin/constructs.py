@@ -8,7 +8,8 @@ usage: bin/constructs.py            writes the page
 A file belongs to the construct whose switch in `Constructs` it is named after: `code_text.rt`, `proofs/code_text`,
 `CodeText.antt`, `CodeTextLemmas.antt`; SHARED names the constructs of the others. The prefix of its crate is its room.
 Both ways fail on a gap: a construct that is read, but has no file in a room that it needs, or no grammar at its reader's
-head; and on an entry of SHARED or LAW_NAMES that points at no file, no law or no construct.
+head; on an entry of SHARED or LAW_NAMES that points at no file, no law or no construct; and where the list of verdicts in
+docs/PROVED.md isn't that of the functions of `state_verdicts`, or the README gives other numbers of them.
 """
 import os
 import re
@@ -93,7 +94,11 @@ SHARED = {
     "inline_rows/tell.rt": "attention gfm_strikethrough mark",
     "state_leaves/RawText.antt": "code_text math_text",
     "state_leaves/raw_text.rt": "code_text math_text",
+    "state_verdicts/LabelStarts.antt": "label_start_image label_start_link gfm_label_start_footnote",
+    "state_verdicts/RawFlow.antt": "code_fenced math_flow",
     "state_verdicts/RawText.antt": "code_text math_text",
+    "state_verdicts/raw_flow": "code_fenced math_flow",
+    "state_verdicts/raw_flow.rt": "code_fenced math_flow",
     "inline_tags/tags.rt": "html_flow html_text",
     "html_inline/leaf.rt": "autolink character_escape character_reference hard_break_escape hard_break_trailing",
     "html_inline/rows.rt": "attention gfm_strikethrough mark label_end",
@@ -176,6 +181,13 @@ WITHOUT = {
 }
 # Constructs that are never read.
 LEFT_OUT = "mdx_"
+# The list of verdicts, and the functions that it names; numbers in words.
+PROVED = "docs/PROVED.md"
+VERDICTS = "crates/state_verdicts/src"
+NUMBERS = (
+    "no one two three four five six seven eight nine ten eleven twelve thirteen fourteen fifteen sixteen seventeen eighteen nineteen twenty twenty-one twenty-two"
+    " twenty-three twenty-four twenty-five twenty-six twenty-seven twenty-eight twenty-nine thirty"
+).split()
 
 
 def text_of(path):
@@ -397,6 +409,21 @@ def is_read(name, found):
     return (name, "Reader") in found or (name, "Reader") in WITHOUT
 
 
+def verdict_gaps():
+    """Where the list of verdicts and the functions of their crate differ, and where the README gives other numbers of them."""
+    table = re.search(r"(?s)<!-- verdicts -->\n(.*?)<!-- end of verdicts -->", text_of(PROVED))
+    rows = [[cell.strip() for cell in row.strip("|").split("|")] for row in table[1].splitlines()[2:]] if table else []
+    said = [name for row in rows for cell in row[2:] for name in re.findall(r"`(\w+)`", cell)]
+    there = [name for file in names_in(VERDICTS) for name in re.findall(r"(?m)^pub fn (\w+_(?:verdict|choice))\b", text_of(f"{VERDICTS}/{file}"))]
+    yield from (f"{PROVED} lists {it}, which {VERDICTS} lacks" for it in said if it not in there)
+    yield from (f"{PROVED} lists {it} {said.count(it)} times, not once" for it in there if said.count(it) != 1)
+    rows = [row for row in rows if row[0] != "text"]
+    whole = {row[0] for row in rows if row[1].startswith("all") or "whole" in row[1]}
+    sentence = f"Of {NUMBERS[len({it for row in rows for it in row[0].split(', ')})]} constructs attempts agree with the definition there: all of {NUMBERS[len(whole)]},"
+    if sentence not in text_of("README.md"):
+        yield f"README.md doesn't say {sentence!r}"
+
+
 def page():
     """The page, and the gaps."""
     names = switches()
@@ -404,7 +431,7 @@ def page():
     standing = [it for it in names if any((it, room) in found for room in NEEDED)]
     rooms = [it for it in ROOMS if any((name, it) in found for name in standing)]
     lines = [HEAD.rstrip("\n")]
-    gaps = [*stale_entries(names)]
+    gaps = [*stale_entries(names), *verdict_gaps()]
     for name in standing:
         more, has_grammar = section(name, rooms, found)
         lines += more

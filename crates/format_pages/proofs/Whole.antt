@@ -10,7 +10,7 @@ use Rattle.format_pages.specs.Calls.{with_calls}
 use Rattle.format_pages.specs.Constructs.{by_every}
 use Rattle.format_pages.specs.Front.{front_size}
 use Rattle.format_pages.specs.Known.{HasCalled}
-use Rattle.format_pages.specs.SameDocument.{IsSameDocument, IsSameWhole}
+use Rattle.format_pages.specs.SameDocument.{IsSameDocument}
 
 -- a text is the same document as itself
 itself : (text : List ℕ) (options : Options) → IsSameDocument text text options
@@ -57,10 +57,6 @@ called_of known found wanted called lent added text options is of same page equa
     (sym ((bytes_decides (string_bytes called) (string_bytes wanted)).0 equal)
     ∙ subst (λ o. IfSome o (λ it. string_bytes it ≡ html builtin_tables (with_calls lent text) (by_every options))) of page
     ∙ ap (λ cs. html builtin_tables (with_calls cs text) (by_every options)) same)
-
--- equal texts are the same document as another
-pub same_whole : (one text other : List ℕ) (options : Options) → one ≡ text → IsSameWhole one other options → IsSameWhole text other options
-same_whole one text other options is whole = subst (λ xs. IsSameWhole xs other options) is whole
 
 -- a page that was found equal to a known one
 pub page_equal : {A : Type 0} (page wanted : String A) (wants : List ℕ) (found : Bool) → found ≡ string_eq page wanted → found ≡ true

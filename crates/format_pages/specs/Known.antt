@@ -7,6 +7,7 @@ use Rattle.format_pages.specs.Constructs.{by_every, by_plain}
 use Rattle.format_pages.specs.Front as before
 use Rattle.format_pages.specs.Hidden.{HasHidden, footnotes, text_rows}
 use Rattle.format_pages.specs.Calls.{calls, with_calls}
+use Rattle.format_pages.specs.SameDocument.{IsSameWhole}
 use Rattle.format_pages.specs.declared.known.Known.{Known}
 
 -- a text with these calls has this page, if there is one; otherwise there are no calls
@@ -29,3 +30,7 @@ pub record IsKnown (known : Known) (text : List ℕ) (options : Options) : Type 
   pub hidden : HasHidden known.hidden (text_rows text)
   pub calls : string_bytes known.calls ≡ calls (footnotes text)
   pub called : IfSome known.called (λ it. string_bytes it ≡ html builtin_tables (with_calls (string_bytes known.calls) text) (by_every options))
+
+-- a text was found to be the same document as whatever text this is known of
+abbrev pub IsKept : Known → List ℕ → Options → Type 0
+IsKept known text options = (other : List ℕ) → IsKnown known other options → IsSameWhole text other options

@@ -1,4 +1,4 @@
-//! Texts read and compared by options, and a text in place of another, if both are the same document.
+//! Texts read by options, and compared: whether two are the same document.
 #![tactic(auto)]
 
 mod calls;
@@ -7,9 +7,7 @@ mod constructs;
 mod front;
 mod hidden;
 mod known;
-mod page;
 mod reader;
 
 pub use known::Known;
-pub use page::with_page_of;
 pub use reader::{ByOptions, read_by};

@@ -1,4 +1,6 @@
 //! How texts are read and compared by options.
+ghost use Rattle.format_pages.specs.Known.{IsKept};
+
 use crate::closed::closed;
 use crate::constructs::{by_every, by_plain};
 use crate::known::Known;
@@ -41,6 +43,8 @@ pub fn read_by(
 }
 
 impl<'o> Reader for ByOptions<'o> {
+    ghost is_kept = { λ reader text. IsKept reader.known.now text reader.options.now };
+
     fn read(&self, text: &str) -> Result<Option<ReadText>, AllocError> {
         read_by(self.alloc, text, self.options)
     }

@@ -1,4 +1,6 @@
 //! Passes over the rules.
+ghost use Rattle.std.specs.Prelude.{◌≡◌, IfOk, IfSome, string_bytes};
+
 use format_edits::Edits;
 use format_rules::{Document, RULES, Style, all_edits};
 use format_search::{ReadText, Reader, Search};
@@ -36,7 +38,7 @@ fn document_of(
 }
 
 /// A text after the rules, in passes over them until one changes nothing. `edits` are those that all rules
-/// make of it at once.
+/// make of it at once. Returns none if nothing changes.
 ///
 /// Edits are made only if the reader finds the document the same.
 pub fn formatted<R: Reader>(
@@ -45,7 +47,9 @@ pub fn formatted<R: Reader>(
     text: &str,
     style: &Style,
     edits: Edits,
-) -> Result<String, AllocError> {
+) -> Result<Option<String>, AllocError>
+    ensures { IfOk result (λ next. IfSome next (λ it. R.is_kept reader.now (string_bytes it))) }
+{
     let formatter = Formatter {
         alloc,
         reader,
@@ -74,28 +78,30 @@ impl<'a, R: Reader> Formatter<'a, R> {
     }
 
     /// A text after passes over the rules until one changes nothing. `edits` are those that all rules make of
-    /// it at once.
-    fn after_passes(&self, text: &str, edits: Edits) -> Result<String, AllocError> {
-        let mut value = String::from_str(self.alloc, text)?;
+    /// it at once. Returns none if nothing changes.
+    fn after_passes(&self, text: &str, edits: Edits) -> Result<Option<String>, AllocError>
+        ensures { IfOk result (λ next. IfSome next (λ it. R.is_kept self.now.reader.now (string_bytes it))) }
+    {
+        let mut last: Option<String> = None;
         let mut edits = edits;
         for _ in 0..PASSES_MAX {
             if edits.is_empty() {
                 break;
             }
-            match self.after_pass(&value, edits)? {
-                Some(next) => {
-                    edits = self.edits(&next)?;
-                    value = next;
-                }
-                None => return Ok(value),
-            }
+            let Some(next) = self.after_pass(value_of(&last, text), edits)? else {
+                break;
+            };
+            edits = self.edits(&next)?;
+            last = Some(next);
         }
-        Ok(value)
+        Ok(last)
     }
 
     /// A text after all edits at once, or, if they change the document, after the rules one after the other.
     /// Returns none if nothing changes.
-    fn after_pass(&self, text: &str, edits: Edits) -> Result<Option<String>, AllocError> {
+    fn after_pass(&self, text: &str, edits: Edits) -> Result<Option<String>, AllocError>
+        ensures { IfOk result (λ next. IfSome next (λ it. R.is_kept self.now.reader.now (string_bytes it))) }
+    {
         let at_once = self.after_all(text, &edits)?;
         if at_once.is_some() {
             return Ok(at_once);
@@ -104,26 +110,34 @@ impl<'a, R: Reader> Formatter<'a, R> {
     }
 
     /// A text after all edits at once, or none if they change the document.
-    fn after_all(&self, text: &str, edits: &Edits) -> Result<Option<String>, AllocError> {
+    fn after_all(&self, text: &str, edits: &Edits) -> Result<Option<String>, AllocError>
+        ensures { IfOk result (λ next. IfSome next (λ it. R.is_kept self.now.reader.now (string_bytes it))) }
+    {
         self.search(text, edits).with_all()
     }
 
     /// A text after the rules one after the other. Returns none if nothing changes.
-    fn after_rules(&self, text: &str) -> Result<Option<String>, AllocError> {
-        let mut value = String::from_str(self.alloc, text)?;
+    fn after_rules(&self, text: &str) -> Result<Option<String>, AllocError>
+        ensures { IfOk result (λ next. IfSome next (λ it. R.is_kept self.now.reader.now (string_bytes it))) }
+    {
+        let mut last: Option<String> = None;
         let mut rule = 0;
         for _ in 0..RULES.len() {
-            if let Some(next) = self.after_rule(&value, &mut rule)? {
-                value = next;
+            if let Some(next) = self.after_rule(value_of(&last, text), &mut rule)? {
+                last = Some(next);
             }
         }
-        let changed = value.as_str() != text;
-        Ok(changed.then_some(value))
+        if value_of(&last, text) == text {
+            return Ok(None);
+        }
+        Ok(last)
     }
 
     /// A text after the first rule from a number on that has edits, or none if no edit is made. The
     /// number is then that of the rule after it.
-    fn after_rule(&self, text: &str, rule: &mut usize) -> Result<Option<String>, AllocError> {
+    fn after_rule(&self, text: &str, rule: &mut usize) -> Result<Option<String>, AllocError>
+        ensures { IfOk result (λ next. IfSome next (λ it. R.is_kept self.now.reader.now (string_bytes it))) }
+    {
         if *rule >= RULES.len() {
             return Ok(None);
         }
@@ -155,12 +169,22 @@ impl<'a, R: Reader> Formatter<'a, R> {
     }
 
     /// The search among edits of a text.
-    fn search<'s>(&'s self, text: &'s str, edits: &'s Edits) -> Search<'s, R> {
+    fn search<'s>(&'s self, text: &'s str, edits: &'s Edits) -> Search<'s, R>
+        ensures { result.reader.now ≡ self.now.reader.now }
+    {
         Search {
             alloc: self.alloc,
             reader: self.reader,
             text,
             edits,
         }
+    }
+}
+
+/// The last text, or the first one if there is no other.
+fn value_of<'t>(last: &'t Option<String>, first: &'t str) -> &'t str {
+    match last {
+        Some(last) => last.as_str(),
+        None => first,
     }
 }

@@ -4,6 +4,8 @@
 //! blocks that it is in alone: so the search costs little more than the pages of each block. Blocks depend
 //! on one another, so the whole text is compared at the end. If it changed, halves are tried once more,
 //! with the whole text.
+ghost use Rattle.std.specs.Prelude.{IfOk, IfSome, string_bytes};
+
 use crate::reader::Reader;
 use format_edits::{Edits, Window};
 use std::alloc::{AllocError, Global};
@@ -46,7 +48,9 @@ enum Scope {
 
 impl<'a, R: Reader> Search<'a, R> {
     /// The text after those edits that keep the document the same, or none if no edit does.
-    pub fn edited(&self) -> Result<Option<String>, AllocError> {
+    pub fn edited(&self) -> Result<Option<String>, AllocError>
+        ensures { IfOk result (λ next. IfSome next (λ it. R.is_kept self.now.reader.now (string_bytes it))) }
+    {
         let all = self.with_all()?;
         if all.is_some() || self.edits.groups() < 2 {
             return Ok(all);
@@ -59,25 +63,34 @@ impl<'a, R: Reader> Search<'a, R> {
     }
 
     /// The text after all edits, if it is the same document.
-    pub fn with_all(&self) -> Result<Option<String>, AllocError> {
+    pub fn with_all(&self) -> Result<Option<String>, AllocError>
+        ensures { IfOk result (λ next. IfSome next (λ it. R.is_kept self.now.reader.now (string_bytes it))) }
+    {
         let kept = vec![in self.alloc; true; self.edits.groups()]?;
         self.with(&kept)
     }
 
     /// The text after the edits that a search keeps, if it is the same document.
-    fn with_kept(&self, scope: Scope) -> Result<Option<String>, AllocError> {
+    fn with_kept(&self, scope: Scope) -> Result<Option<String>, AllocError>
+        ensures { IfOk result (λ next. IfSome next (λ it. R.is_kept self.now.reader.now (string_bytes it))) }
+    {
         let mut kept = vec![in self.alloc; false; self.edits.groups()]?;
         self.search(scope, &mut kept)?;
         self.with(&kept)
     }
 
     /// The text after the groups of edits that are kept, if it is the same document.
-    fn with(&self, kept: &[bool]) -> Result<Option<String>, AllocError> {
+    fn with(&self, kept: &[bool]) -> Result<Option<String>, AllocError>
+        ensures { IfOk result (λ next. IfSome next (λ it. R.is_kept self.now.reader.now (string_bytes it))) }
+    {
         let Some(next) = self.edits.apply(self.alloc, self.text, self.whole(), kept)? else {
             return Ok(None);
         };
-        let keeps = self.reader.is_same(&next)?;
-        Ok(keeps.then_some(next))
+        if self.reader.is_same(&next)? {
+            Ok(Some(next))
+        } else {
+            Ok(None)
+        }
     }
 
     /// Keeps groups of edits that change nothing that is compared of what is read.

@@ -19,8 +19,8 @@ use std::alloc::AllocError;
 pub struct BlankRules {
     /// Where this line starts.
     start: usize,
-    /// The name of the last event.
-    last: Option<Name>,
+    /// Where the spaces of the last hard break end, or 0.
+    hard_break: usize,
     code: Code,
     blank_lines: BlankLines,
     lengths: LineLength,
@@ -34,7 +34,7 @@ impl BlankRules {
     pub fn new(document: &Document<'_>, line_length: usize) -> BlankRules {
         BlankRules {
             start: 0,
-            last: None,
+            hard_break: 0,
             code: Code::default(),
             blank_lines: BlankLines::default(),
             lengths: LineLength::new(line_length),
@@ -44,8 +44,31 @@ impl BlankRules {
         }
     }
 
-    /// Reads the next event.
+    /// Whether the rules ask for the next event, if it has this name.
+    pub fn asks_for(&self, name: Name) -> bool {
+        self.tabs.is_waiting() || is_asked_for(name)
+    }
+
+    /// Reads the next event that the rules ask for.
     pub fn read(
+        &mut self,
+        document: &Document<'_>,
+        step: &Step<'_>,
+        report: &mut Report,
+    ) -> Result<(), AllocError> {
+        self.tabs.read(document, step, &self.code, report)?;
+        match step.name {
+            Name::Data | Name::GfmTableCell => self.emphasis.read(document, step, report),
+            Name::HardBreakTrailing => {
+                self.hard_break = step.index;
+                Ok(())
+            }
+            _ => self.read_block(document, step, report),
+        }
+    }
+
+    /// Reads the next event, if it is of a line or a block.
+    fn read_block(
         &mut self,
         document: &Document<'_>,
         step: &Step<'_>,
@@ -56,12 +79,10 @@ impl BlankRules {
         }
         if step.starts_line() {
             self.start = step.index;
+            self.emphasis.read(document, step, report)?;
         }
-        self.last = Some(step.name);
-        self.tabs.read(document, step, &self.code, report)?;
         self.code.read(step);
         self.lengths.read(step);
-        self.emphasis.read(document, step, report)?;
         match self.gaps.read(document, step) {
             Some(gap) => check_gap(&gap, report),
             None => Ok(()),
@@ -101,12 +122,50 @@ impl BlankRules {
         report: &mut Report,
     ) -> Result<(), AllocError> {
         self.lengths.check(document, line, report)?;
-        if self.last == Some(Name::HardBreakTrailing) || self.code.has_end(line.end) {
+        let is_break = self.hard_break == line.end && line.start < line.end;
+        if is_break || self.code.has_end(line.end) {
             Ok(())
         } else {
             trailing_spaces::check(document, line, report)
         }
     }
+}
+
+/// Whether a rule asks for events of this name, beside the first after an indent with a tab.
+fn is_asked_for(name: Name) -> bool {
+    matches!(
+        name,
+        Name::BlankLineEnding
+            | Name::BlockQuote
+            | Name::ByteOrderMark
+            | Name::CodeFenced
+            | Name::CodeFencedFence
+            | Name::CodeFlowChunk
+            | Name::CodeIndented
+            | Name::CodeText
+            | Name::CodeTextData
+            | Name::Data
+            | Name::Definition
+            | Name::Frontmatter
+            | Name::GfmFootnoteDefinition
+            | Name::GfmTable
+            | Name::GfmTableCell
+            | Name::HardBreakTrailing
+            | Name::HeadingAtx
+            | Name::HeadingSetext
+            | Name::HtmlFlow
+            | Name::LineEnding
+            | Name::ListItem
+            | Name::ListOrdered
+            | Name::ListUnordered
+            | Name::MathFlow
+            | Name::MathFlowChunk
+            | Name::MathFlowFence
+            | Name::MathText
+            | Name::MathTextData
+            | Name::Paragraph
+            | Name::ThematicBreak
+    )
 }
 
 /// Reports that there is no blank line in a gap.

@@ -26,6 +26,11 @@ impl TabIndent {
         }
     }
 
+    /// Whether it isn't known yet if the line is code, so that each event is asked for.
+    pub(crate) fn is_waiting(&self) -> bool {
+        self.indent.is_some()
+    }
+
     /// Reads the next event, before which code is open or not. Reports the indent of its line if that has a
     /// tab and the line is no code.
     pub(crate) fn read(

@@ -1,4 +1,6 @@
 //! A text, mended rule by rule.
+ghost use Rattle.std.specs.Prelude.{IfOk, IfSome, string_bytes};
+
 use crate::edits::edits_of;
 use crate::finder::Finder;
 use format_edits::Edits;
@@ -76,8 +78,8 @@ fn edits_by<F: Finder>(
     Ok(Edits::new(alloc))
 }
 
-/// A text after edits that mend what these rules find, as far as the reader finds the document the same.
-/// `first` has the first edits of the text. `finder` has the rules.
+/// A text after edits that mend what these rules find, as far as the reader finds the document the same, or none
+/// if no edit is made. `first` has the first edits of the text. `finder` has the rules.
 pub fn mended<R: Reader, F: Finder>(
     alloc: Global,
     reader: &R,
@@ -85,7 +87,9 @@ pub fn mended<R: Reader, F: Finder>(
     text: &str,
     rules: &RuleSet,
     first: FirstEdits,
-) -> Result<String, AllocError> {
+) -> Result<Option<String>, AllocError>
+    ensures { IfOk result (λ next. IfSome next (λ it. R.is_kept reader.now (string_bytes it))) }
+{
     let mender = Mender {
         alloc,
         reader,
@@ -117,9 +121,11 @@ struct Mender<'a, R, F> {
 }
 
 impl<'a, R: Reader, F: Finder> Mender<'a, R, F> {
-    /// A text after the rules one after the other.
-    fn after_rules(&self, text: &str, first: FirstEdits) -> Result<String, AllocError> {
-        let mut value = String::from_str(self.alloc, text)?;
+    /// A text after the rules one after the other, or none if no edit is made.
+    fn after_rules(&self, text: &str, first: FirstEdits) -> Result<Option<String>, AllocError>
+        ensures { IfOk result (λ next. IfSome next (λ it. R.is_kept self.now.reader.now (string_bytes it))) }
+    {
+        let mut last: Option<String> = None;
         let FirstEdits {
             mut edits,
             next: mut rule,
@@ -128,16 +134,18 @@ impl<'a, R: Reader, F: Finder> Mender<'a, R, F> {
             if edits.is_empty() {
                 break;
             }
-            if let Some(next) = self.after_edits(&value, &edits)? {
-                value = next;
+            if let Some(next) = self.after_edits(value_of(&last, text), &edits)? {
+                last = Some(next);
             }
-            edits = self.next_edits(&value, &mut rule)?;
+            edits = self.next_edits(value_of(&last, text), &mut rule)?;
         }
-        Ok(value)
+        Ok(last)
     }
 
     /// A text after those of its edits that keep the document the same, or none if no edit does.
-    fn after_edits(&self, text: &str, edits: &Edits) -> Result<Option<String>, AllocError> {
+    fn after_edits(&self, text: &str, edits: &Edits) -> Result<Option<String>, AllocError>
+        ensures { IfOk result (λ next. IfSome next (λ it. R.is_kept self.now.reader.now (string_bytes it))) }
+    {
         let search = Search {
             alloc: self.alloc,
             reader: self.reader,
@@ -155,5 +163,13 @@ impl<'a, R: Reader, F: Finder> Mender<'a, R, F> {
         }
         let read = self.reader.read(text)?;
         edits_by(self.alloc, self.finder, text, read, &self.rules, rule)
+    }
+}
+
+/// The last text, or the first one if there is no other.
+fn value_of<'t>(last: &'t Option<String>, first: &'t str) -> &'t str {
+    match last {
+        Some(last) => last.as_str(),
+        None => first,
     }
 }

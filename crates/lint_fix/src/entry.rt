@@ -6,10 +6,10 @@ ghost use Rattle.markdown_definition.specs.Html.{html};
 ghost use Rattle.markdown_tables.specs.Builtin.{builtin_tables};
 ghost use Rattle.format_pages.specs.SameDocument.{IsSameDocument};
 
-use format_pages::{ByOptions, Known, read_by, with_page_of};
+use format_pages::{ByOptions, Known, read_by};
 use lint_document::RuleSet;
 use lint_edits::{Finder, first_edits, mended};
-use markdown::SIZE_MAX;
+use markdown::{SIZE_MAX, fits};
 use markdown_options::{Message, Options};
 use std::alloc::Global;
 
@@ -48,6 +48,8 @@ pub fn fix<F: Finder>(
         options,
         known: &known,
     };
-    let fixed = mended(alloc, &reader, finder, value, rules, first)?;
-    with_page_of(alloc, fixed, value, &known, options)
+    match mended(alloc, &reader, finder, value, rules, first)? {
+        Some(fixed) if fits(&fixed) => Ok(fixed),
+        _ => Ok(String::from_str(alloc, value)?),
+    }
 }

@@ -17,6 +17,12 @@ pub(crate) struct HeadingSpace {
 }
 
 impl HeadingSpace {
+    /// Whether this line has nothing so far but white space and the `>` of quotes, so that each event is asked
+    /// for.
+    pub(crate) fn is_at_start(&self) -> bool {
+        !self.is_past_start
+    }
+
     /// Reads the next event. Reports the data that end there, if they begin a line with the signs of a
     /// heading that is none.
     pub(crate) fn read(

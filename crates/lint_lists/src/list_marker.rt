@@ -41,6 +41,11 @@ impl ListMarkers {
         }
     }
 
+    /// Whether a list was the last thing to end, so that each event is asked for.
+    pub(crate) fn is_after_list(&self) -> bool {
+        self.last.is_some()
+    }
+
     /// Reads the next event. Reports the list whose first marker ends there, if it comes on the line after a
     /// list with another marker.
     pub(crate) fn read(&mut self, step: &Step<'_>, report: &mut Report) -> Result<(), AllocError> {

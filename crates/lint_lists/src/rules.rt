@@ -3,6 +3,7 @@ use crate::item::{Item, Items};
 use crate::list_marker::ListMarkers;
 use crate::table_cells::TableCells;
 use crate::{list_indent, list_numbers, nested_list_indent};
+use engine_events::event::Name;
 use lint_document::Report;
 use lint_document::document::Step;
 use std::alloc::{AllocError, Global};
@@ -28,7 +29,12 @@ impl ListRules {
         }
     }
 
-    /// Reads the next event.
+    /// Whether the rules ask for the next event, if it has this name.
+    pub fn asks_for(&self, name: Name) -> bool {
+        self.markers.is_after_list() || is_asked_for(name)
+    }
+
+    /// Reads the next event that the rules ask for.
     pub fn read(&mut self, step: &Step<'_>, report: &mut Report) -> Result<(), AllocError> {
         self.markers.read(step, report)?;
         self.cells.read(step, report)?;
@@ -37,6 +43,26 @@ impl ListRules {
             None => Ok(()),
         }
     }
+}
+
+/// Whether a rule asks for events of this name, beside those right after a list.
+fn is_asked_for(name: Name) -> bool {
+    matches!(
+        name,
+        Name::BlankLineEnding
+            | Name::BlockQuote
+            | Name::BlockQuotePrefix
+            | Name::GfmFootnoteDefinition
+            | Name::GfmTable
+            | Name::GfmTableCell
+            | Name::GfmTableRow
+            | Name::LineEnding
+            | Name::ListItemMarker
+            | Name::ListItemPrefix
+            | Name::ListItemValue
+            | Name::ListOrdered
+            | Name::ListUnordered
+    )
 }
 
 /// Reports what is wrong with an item, where lists of bullets are indented by so many columns a level.

@@ -2,6 +2,7 @@
 use crate::code_language::CodeLanguage;
 use crate::raw_html::RawHtml;
 use crate::switch::{CommentReader, Comments};
+use engine_events::event::Name;
 use lint_document::document::Step;
 use lint_document::{Document, Report};
 use std::alloc::{AllocError, Global};
@@ -24,7 +25,25 @@ impl RawRules {
         }
     }
 
-    /// Reads the next event.
+    /// Whether the rules ask for events of this name.
+    pub fn asks_for(name: Name) -> bool {
+        matches!(
+            name,
+            Name::BlankLineEnding
+                | Name::ByteOrderMark
+                | Name::CodeFenced
+                | Name::CodeFencedFence
+                | Name::CodeFencedFenceInfo
+                | Name::CodeFencedFenceSequence
+                | Name::HtmlFlow
+                | Name::HtmlFlowData
+                | Name::HtmlText
+                | Name::HtmlTextData
+                | Name::LineEnding
+        )
+    }
+
+    /// Reads the next event that the rules ask for.
     pub fn read(
         &mut self,
         document: &Document<'_>,

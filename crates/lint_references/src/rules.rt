@@ -2,6 +2,7 @@
 use crate::definitions::Defined;
 use crate::undefined_reference::Texts;
 use crate::unused_definition::{self, Uses};
+use engine_events::event::Name;
 use lint_document::document::Step;
 use lint_document::{Document, Report};
 use std::alloc::{AllocError, Global};
@@ -24,7 +25,12 @@ impl ReferenceRules {
         })
     }
 
-    /// Reads the next event, before which there are so many.
+    /// Whether the rules ask for the next event, if it has this name.
+    pub fn asks_for(&self, name: Name) -> bool {
+        self.texts.is_after_bracket() || is_asked_for(name)
+    }
+
+    /// Reads the next event that the rules ask for, before which there are so many.
     pub fn read(
         &mut self,
         document: &Document<'_>,
@@ -43,4 +49,28 @@ impl ReferenceRules {
     pub fn finish(&self, report: &mut Report) -> Result<(), AllocError> {
         unused_definition::check(&self.defined, report)
     }
+}
+
+/// Whether a rule asks for events of this name, beside those in brackets and right after them.
+fn is_asked_for(name: Name) -> bool {
+    matches!(
+        name,
+        Name::BlockQuotePrefix
+            | Name::CodeFencedFence
+            | Name::Data
+            | Name::Definition
+            | Name::GfmFootnoteCall
+            | Name::GfmFootnoteDefinitionLabel
+            | Name::GfmTableCellText
+            | Name::HeadingAtxText
+            | Name::HeadingSetextText
+            | Name::Image
+            | Name::LabelText
+            | Name::Link
+            | Name::MathFlowFence
+            | Name::Paragraph
+            | Name::Reference
+            | Name::ReferenceString
+            | Name::Resource
+    )
 }

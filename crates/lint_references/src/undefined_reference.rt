@@ -74,6 +74,11 @@ impl Texts {
         }
     }
 
+    /// Whether a bracket is open, or closed last, so that each event is asked for.
+    pub(crate) fn is_after_bracket(&self) -> bool {
+        self.last.is_some() || !self.open.is_empty()
+    }
+
     /// Reads the next event. Reports the references and calls in the data that end there, if they have no
     /// definition.
     pub(crate) fn read(

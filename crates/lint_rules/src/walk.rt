@@ -1,5 +1,6 @@
 //! The rules, while they read the events of a text. All read them in one walk.
 use crate::rules::Settings;
+use engine_events::event::{Kind, Name};
 use lint_blanks::BlankRules;
 use lint_document::document::Step;
 use lint_document::{Document, Report};
@@ -60,15 +61,18 @@ impl Walk {
         folder: &mut F,
         report: &mut Report,
     ) -> Result<(), AllocError> {
-        for (number, step) in document.steps().enumerate() {
+        let mut number: usize = 0;
+        for step in document.steps() {
             self.step(document, number, &step, folder, report)?;
+            number = number.saturating_add(1);
         }
         self.blanks.finish(document, report)?;
         self.links.finish(document, report)?;
         self.references.finish(report)
     }
 
-    /// Reads the next event, before which there are so many.
+    /// Reads the next event, before which there are so many. Rules read only those events that they ask for: most
+    /// names concern few of them.
     fn step<F: Folder>(
         &mut self,
         document: &Document<'_>,
@@ -77,11 +81,58 @@ impl Walk {
         folder: &mut F,
         report: &mut Report,
     ) -> Result<(), AllocError> {
-        self.blanks.read(document, step, report)?;
-        self.headings.read(document, number, step, report)?;
-        self.lists.read(step, report)?;
-        self.raw.read(document, step, report)?;
-        self.links.read(document, step, folder, report)?;
-        self.references.read(document, number, step, report)
+        let name = step.name;
+        // Data are read where they end, with their bytes.
+        if name == Name::Data && step.kind == Kind::Enter {
+            return Ok(());
+        }
+        if self.blanks.asks_for(name) {
+            self.blanks.read(document, step, report)?;
+        }
+        if self.headings.asks_for(name) {
+            self.headings.read(document, number, step, report)?;
+        }
+        if self.lists.asks_for(name) {
+            self.lists.read(step, report)?;
+        }
+        if RawRules::asks_for(name) {
+            self.raw.read(document, step, report)?;
+        }
+        if is_asked_for_by_links(name) {
+            self.links.read(document, step, folder, report)?;
+        }
+        if self.references.asks_for(name) {
+            self.references.read(document, number, step, report)?;
+        }
+        Ok(())
     }
+}
+
+/// Whether a rule on links and images asks for events of this name.
+fn is_asked_for_by_links(name: Name) -> bool {
+    matches!(
+        name,
+        Name::AutolinkEmail
+            | Name::AutolinkProtocol
+            | Name::CharacterEscapeValue
+            | Name::CharacterReference
+            | Name::CharacterReferenceValue
+            | Name::CodeFencedFence
+            | Name::CodeTextData
+            | Name::Data
+            | Name::Definition
+            | Name::DefinitionDestinationString
+            | Name::GfmAutolinkLiteralEmail
+            | Name::GfmAutolinkLiteralMailto
+            | Name::GfmAutolinkLiteralProtocol
+            | Name::GfmAutolinkLiteralWww
+            | Name::GfmAutolinkLiteralXmpp
+            | Name::Image
+            | Name::Link
+            | Name::MathFlowFence
+            | Name::MathTextData
+            | Name::Reference
+            | Name::Resource
+            | Name::ResourceDestinationString
+    )
 }

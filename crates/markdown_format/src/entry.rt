@@ -6,10 +6,10 @@ ghost use Rattle.markdown_definition.specs.Html.{html};
 ghost use Rattle.markdown_tables.specs.Builtin.{builtin_tables};
 ghost use Rattle.format_pages.specs.SameDocument.{IsSameDocument};
 
-use format_pages::{ByOptions, Known, read_by, with_page_of};
+use format_pages::{ByOptions, Known, read_by};
 use format_passes::{first_edits, formatted};
 use format_rules::Style;
-use markdown::SIZE_MAX;
+use markdown::{SIZE_MAX, fits};
 use markdown_options::{Message, Options};
 use std::alloc::Global;
 
@@ -46,6 +46,8 @@ pub fn format(
         options,
         known: &known,
     };
-    let found = formatted(alloc, &reader, value, style, edits)?;
-    with_page_of(alloc, found, value, &known, options)
+    match formatted(alloc, &reader, value, style, edits)? {
+        Some(found) if fits(&found) => Ok(found),
+        _ => Ok(String::from_str(alloc, value)?),
+    }
 }

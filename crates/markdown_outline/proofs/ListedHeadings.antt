@@ -1,5 +1,6 @@
 -- Headings, one after another.
-use Rattle.std.proofs.Common.{◌≡◌, ◌<◌, ◌≤◌, ◌+◌, ◌-◌, ℕ, Bool, true, false, if◌then◌else◌, List, [], ◌∷◌, ◌++◌, drop, take, length, get_or, refl, sym, ap, ◌∙◌, subst, append_assoc, arith}
+use Rattle.std.proofs.Common.{◌≡◌, ◌<◌, ◌≤◌, ◌+◌, ◌-◌, ℕ, Bool, true, false, if◌then◌else◌, List, [], ◌∷◌, ◌++◌, drop, take}
+use Rattle.std.proofs.Common.{length, get_or, refl, sym, ap, ◌∙◌, subst, append_assoc, arith}
 use Rattle.std.proofs.lemmas.List.{append-nil, drop_all, drop_more, length-drop, take_all}
 use Rattle.std.proofs.lemmas.Bool.{cond-false, cond-true}
 use Rattle.engine_events.specs.Names.{same_name}
@@ -21,7 +22,7 @@ use Rattle.event_meaning.specs.Texts.{text_within}
 use Rattle.text_slugs.specs.Slugs.{HasSlugs}
 use Rattle.text_slugs.specs.declared.slugs.Slugs.{Slugs}
 use Rattle.markdown_outline.specs.Listed.{BeginsSound, HasHeadings, IsListed, Listed, begins_heading, headings_from, listed_at, outline_of}
-use Rattle.markdown_outline.specs.Rank.{page_heading, rank_of, said_by}
+use Rattle.markdown_outline.specs.Rank.{page_heading, said_by}
 use Rattle.markdown_outline.specs.Said.{text_says}
 use Rattle.markdown_outline.specs.declared.heading.Heading.{Heading}
 use Rattle.markdown_outline.proofs.Begun.{AllBegin}
@@ -94,7 +95,13 @@ module _ (names : Names) (bytes : List ℕ) (events : List Event) where
       → headings ≡ [] → AllBegin bytes events → HasFront slugs texts headings 0
   no_front slugs texts headings h empty none b =
       let nothing : HasHeadings texts [] [] =
-      record { whole = empty; each = refl; texts = λ k d l. absurd (omega (arith, l)); slugs = λ k d l. absurd (omega (arith, l)) } in
+      record {
+        whole = empty;
+        each = refl;
+        texts = λ k d l. absurd (omega (arith, l));
+        slugs = λ k d l. absurd (omega (arith, l));
+        utf8 = λ k d l. absurd (omega (arith, l));
+      } in
       record {
         taken = [];
         done = [];

@@ -3,7 +3,6 @@ use Rattle.std.proofs.Common.{◌≡◌, ◌<◌, ◌+◌, ◌-◌, ℕ, zero, s
 use Rattle.std.specs.List.{flat_map, fold}
 use Rattle.std.proofs.lemmas.List.{append-nil}
 use Rattle.definition_text.specs.Encode.{plain_byte, plain}
-use Rattle.definition_inline.specs.Inline as inline
 use Rattle.definition_inline.specs.Inline.{InlineLeaf, Data, Escape, Target, LinkTexts, Link, Image, Inline, Leaf, Span, Linked, Call, Inlines, Nil, Cons}
 use Rattle.inline_rows.specs.InlineRows as spec
 use Rattle.inline_rows.specs.InlineRows.{Part, Leave, part_rows, inline_rows}

@@ -1,12 +1,14 @@
 -- Parts of a text that grows.
-use Rattle.std.proofs.Common.{◌≡◌, ◌≤◌, ◌<◌, ◌+◌, ◌-◌, ℕ, zero, suc, List, [], ◌∷◌, ◌++◌, length, map, take, drop, refl, sym, ap, ap₂, ◌∙◌, subst, append_assoc, arith}
+use Rattle.std.proofs.Common.{◌≡◌, ◌≤◌, ◌-◌, ℕ, zero, suc, List, [], ◌∷◌, ◌++◌, length, map, take, drop, refl, sym, ap, ap₂, ◌∙◌, subst, append_assoc, arith}
 use Rattle.std.proofs.Common.{length-append}
 use Rattle.std.proofs.lemmas.List.{append-nil, drop-append-le, length-drop, map-append, take-append-le}
 use Rattle.std.proofs.lemmas.List.Concat.{flat_map-append}
 use Rattle.std.proofs.lemmas.List.Elements.{All-append}
 use Rattle.std.proofs.Math.Seq.{drop-append_seam, take-append_seam}
 use Rattle.std.specs.List.{All}
-use Rattle.markdown_outline.specs.Listed.{AreStored, HasHeadings, IsListed, IsWithin, Listed, joined, listed, part}
+use Rattle.std.specs.Str.{IsUtf8}
+use Rattle.std.proofs.lemmas.Str.{IsCharBoundary-from_take, IsUtf8-append, IsUtf8-drop}
+use Rattle.markdown_outline.specs.Listed.{AreStored, AreUtf8, HasHeadings, IsListed, IsWithin, Listed, joined, listed, part}
 use Rattle.markdown_outline.specs.declared.heading.Heading.{Heading}
 use Rattle.markdown_outline.specs.declared.heading.Range.{Range}
 
@@ -33,11 +35,19 @@ within_more old more r h = record { ordered = h.ordered; fits = (let n = length-
 within_last : (old more : List ℕ) → IsWithin (length (old ++ more)) (range (length old) (length (old ++ more)))
 within_last old more = record { ordered = (let n = length-append old more in omega (arith, n)); fits = omega arith }
 
+-- what stands after a text in a text
+utf8_after : (old more : List ℕ) → IsUtf8 old → IsUtf8 (old ++ more) → IsUtf8 more
+utf8_after old more o all =
+    let front : take (length old) (old ++ more) ≡ old = take-append_seam old more in
+    let fits : length old ≤ length (old ++ more) = (let n = length-append old more in omega (arith, n)) in
+    subst IsUtf8 (drop-append_seam old more)
+    (IsUtf8-drop (old ++ more) (length old) all (IsCharBoundary-from_take (old ++ more) (length old) all fits (subst IsUtf8 (sym front) o)))
+
 -- a text, and a slug after it
-stored_parts : (before text slug : List ℕ)
+stored_parts : (before text slug : List ℕ) → IsUtf8 before → IsUtf8 text → IsUtf8 ((before ++ text) ++ slug)
     → AreStored before ((before ++ text) ++ slug) text slug (range (length before) (length (before ++ text)))
     (range (length (before ++ text)) (length ((before ++ text) ++ slug)))
-stored_parts before text slug =
+stored_parts before text slug b t all =
     let first = range (length before) (length (before ++ text)) in
     let within = within_last before text in
     record {
@@ -46,15 +56,18 @@ stored_parts before text slug =
       slug = part_last (before ++ text) slug;
       text_within = within_more (before ++ text) slug first within;
       slug_within = within_last (before ++ text) slug;
+      text_utf8 = t;
+      slug_utf8 = utf8_after (before ++ text) slug (IsUtf8-append before text b t) all;
     }
 
-pub both_stored : (before middle after text slug : List ℕ) (start seam end : ℕ) → middle ≡ before ++ text → after ≡ middle ++ slug
+pub both_stored : (before middle after text slug : List ℕ) (start seam end : ℕ) → IsUtf8 before → IsUtf8 text → IsUtf8 after
+    → middle ≡ before ++ text → after ≡ middle ++ slug
     → start ≡ length before → seam ≡ length middle → end ≡ length after → AreStored before after text slug (range start seam) (range seam end)
-both_stored before middle after text slug start seam end m a s n e =
+both_stored before middle after text slug start seam end b t u m a s n e =
     let is : after ≡ (before ++ text) ++ slug = a ∙ ap (λ (bs : List ℕ). bs ++ slug) m in
     let here : seam ≡ length (before ++ text) = n ∙ ap length m in
     let there : end ≡ length ((before ++ text) ++ slug) = e ∙ ap length is in
-    let known = stored_parts before text slug in
+    let known = stored_parts before text slug b t (subst IsUtf8 is u) in
     let at_start = subst (λ (k : ℕ). AreStored before ((before ++ text) ++ slug) text slug (range k (length (before ++ text)))
     (range (length (before ++ text)) (length ((before ++ text) ++ slug)))) (sym s) known in
     let at_seam = subst (λ (k : ℕ). AreStored before ((before ++ text) ++ slug) text slug (range start k)
@@ -102,4 +115,5 @@ headings_more old new hs done h wanted has is =
       slugs =
           All-append (λ (it : Heading). IsWithin (length new) it.slug) hs (h ∷ []) (λ k d l. stays _ (has.slugs k d l))
           (all_one (λ (it : Heading). IsWithin (length new) it.slug) h is.stored.slug_within);
+      utf8 = All-append AreUtf8 done (wanted ∷ []) has.utf8 (all_one AreUtf8 wanted (is.stored.text_utf8, is.stored.slug_utf8));
     }

@@ -1,3 +1,5 @@
+pub mod Laws
 pub mod Listed
+pub mod PageHeadings
 pub mod Rank
 pub mod Said

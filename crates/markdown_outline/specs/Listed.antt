@@ -1,6 +1,7 @@
 -- Headings as they are listed.
 use Rattle.std.specs.Prelude.{◌≡◌, ◌≤◌, ℕ, ◌+◌, Bool, false, if◌then◌else◌, List, [], ◌∷◌, ◌++◌, All, length, map, drop, slice_range}
 use Rattle.std.specs.List.{flat_map}
+use Rattle.std.specs.Str.{IsUtf8}
 use Rattle.engine_events.specs.Events.{point_of}
 use Rattle.engine_events.specs.declared.event.Event.{Event}
 use Rattle.engine_events.specs.declared.event.Kind.{Kind}
@@ -91,12 +92,16 @@ listed texts heading = record {
 abbrev pub joined : List Listed → List ℕ
 joined headings = flat_map (λ (heading : Listed). heading.text ++ heading.slug) headings
 
+abbrev pub AreUtf8 : Listed → Type 0
+AreUtf8 heading = IsUtf8 heading.text × IsUtf8 heading.slug
+
 -- headings are these, with their texts and slugs in some bytes, and nothing else is with them
 pub record HasHeadings (bytes : List ℕ) (headings : List Heading) (wanted : List Listed) : Type 0 where
   pub whole : bytes ≡ joined wanted
   pub each : map (listed bytes) headings ≡ wanted
   pub texts : All (λ (heading : Heading). IsWithin (length bytes) heading.text) headings
   pub slugs : All (λ (heading : Heading). IsWithin (length bytes) heading.slug) headings
+  pub utf8 : All AreUtf8 wanted
 
 -- bytes are those before, a text and its slug, and the last two are these parts
 pub record AreStored (before after said named : List ℕ) (text_at slug_at : Range) : Type 0 where
@@ -105,6 +110,8 @@ pub record AreStored (before after said named : List ℕ) (text_at slug_at : Ran
   pub slug : part after slug_at ≡ named
   pub text_within : IsWithin (length after) text_at
   pub slug_within : IsWithin (length after) slug_at
+  pub text_utf8 : IsUtf8 said
+  pub slug_utf8 : IsUtf8 named
 
 -- one heading more, behind these bytes
 pub record IsListed (before after : List ℕ) (heading : Heading) (wanted : Listed) : Type 0 where

@@ -1,5 +1,5 @@
 -- What a text says without tags, images, hard line breaks, boxes of tasks and calls of footnotes.
-use Rattle.std.specs.Prelude.{◌≡◌, ℕ, zero, suc, List, [], ◌∷◌, ◌++◌, OnOk, string_bytes}
+use Rattle.std.specs.Prelude.{ℕ, zero, suc, List, [], ◌∷◌, ◌++◌}
 use Rattle.definition_text.specs.Encode.{plain_byte, plain}
 use Rattle.definition_inline.specs.Inline.{InlineLeaf, Data, Escape, Character, Code, Math, Autolink, Literal, Html, EscapedBreak, TrailingBreak, LineEnd}
 use Rattle.definition_inline.specs.Inline.{TaskCheck, Link, Image, Inline, Leaf, Span, Linked, Call, Inlines, Nil, Cons}

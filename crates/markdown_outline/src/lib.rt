@@ -10,6 +10,7 @@
 mod character_reference;
 mod code_text;
 pub mod heading;
+pub mod laws;
 mod list;
 mod rank;
 mod said;

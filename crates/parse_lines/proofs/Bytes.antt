@@ -2,13 +2,13 @@
 use Rattle.std.proofs.Common.{◌≡◌, ℕ, ◌+◌, ◌-◌, zero, suc, Bool, true, false, not, ◌&&◌, List, [], ◌∷◌, ◌++◌, refl, sym, ap, ap₂, ◌∙◌, subst, arith, drop, take}
 use Rattle.std.proofs.Common.{length}
 use Rattle.parse_lines.proofs.Prelude.{and_parts, AreNext, between, End, end_after, end_at, end_edge, end_in, ends_line, HasBytes, is_token, list_all, list_any}
-use Rattle.parse_lines.proofs.Prelude.{list_all-append, Name, none_between, or_parts, StandsInLine, text_between, Walk}
+use Rattle.parse_lines.proofs.Prelude.{Name, none_between, or_parts, StandsInLine, text_between, Walk}
 use Rattle.parse_lines.proofs.Prelude.{ending_bytes, index_spot, IsInTab, LineEnding}
 use Rattle.markdown_options.specs.declared.line_ending.LineEnding.TheVariants.{CarriageReturnLineFeed, CarriageReturn, LineFeed}
 use Rattle.engine_events.specs.declared.event.Name.TheVariants as n
 use Rattle.parse_output.proofs.Between.{text_on}
 use Rattle.parse_lines.specs.InContent.{IsWhole}
-use Rattle.parse_lines.proofs.Ahead.{after_bytes, follows_after, next_after}
+use Rattle.parse_lines.proofs.Ahead.{after_bytes, follows_after}
 use Rattle.parse_lines.proofs.SameText.{tab_edge}
 
 -- no line ends in them

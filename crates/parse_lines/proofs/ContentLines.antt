@@ -6,9 +6,9 @@ use Rattle.parse_lines.proofs.Prelude.{end_after, end_at, end_in, ending_bytes, 
 use Rattle.parse_lines.proofs.Prelude.{Follows, HasSameOpen, if◌then◌else◌, is_tab_column, IsApart, IsInLine, IsInOrder, IsRestLine, IsSameText, line_after}
 use Rattle.parse_lines.proofs.Prelude.{line_left, LineEnding, LineRest, lines, list_any, map, Name, Nil, one, Option, or_parts, Output, Place}
 use Rattle.parse_lines.proofs.Prelude.{prefix_len, prefixed, Prefixed, replicate, Rest, rest_of, rest_start, reverse, same_name, standing, Standing}
-use Rattle.parse_lines.proofs.Prelude.{StandsAt, StandsInContent, Stop, take-append_seam, text_between, true≢false, void_nodes, Walk, whole, Within, Writes}
-use Rattle.parse_lines.proofs.Prelude.{writes_both, writes_joined, written_to, ◌==◌}
-use Rattle.std.proofs.Common.{◌≡◌, ℕ, ◌+◌, ◌-◌, ◌<◌, ◌≤◌, ◌^◌, Bool, true, false, ◌&&◌, List, [], ◌∷◌, ◌++◌, None, Some, eqb, inl, inr, refl, sym, ap, ap₂, ◌∙◌, subst}
+use Rattle.parse_lines.proofs.Prelude.{StandsAt, StandsInContent, Stop, take-append_seam, text_between, true≢false, Walk, whole, Within, Writes}
+use Rattle.parse_lines.proofs.Prelude.{writes_both, writes_joined, written_to}
+use Rattle.std.proofs.Common.{◌≡◌, ℕ, ◌+◌, ◌-◌, ◌<◌, ◌≤◌, ◌^◌, Bool, true, false, List, [], ◌∷◌, ◌++◌, None, Some, eqb, inl, inr, refl, sym, ap, ap₂, ◌∙◌, subst}
 use Rattle.std.proofs.Common.{drop, get_or, take, length, length-append, arith}
 use Rattle.markdown_options.specs.declared.line_ending.LineEnding.TheVariants.{CarriageReturnLineFeed, CarriageReturn, LineFeed}
 use Rattle.definition_text.specs.BlockLines.{last_ending_or}

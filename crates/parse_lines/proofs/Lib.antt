@@ -27,3 +27,5 @@ pub mod Markers
 pub mod Parts
 pub mod PrefixNodes
 pub mod Starts
+pub mod LinePieces
+pub mod PrefixPieces

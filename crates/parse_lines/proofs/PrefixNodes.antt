@@ -9,7 +9,7 @@ use Rattle.std.proofs.Common.{arith, append_assoc, drop, take, length, length-ap
 use Rattle.parse_lines.proofs.Prelude.{IsToken}
 use Rattle.parse_lines.proofs.Prelude.{append, append-nil-list, AreJoined, Around, bare, byte_nodes, bytes_of, cases_Bool, cond-false, cond-true, Cons}
 use Rattle.parse_lines.proofs.Prelude.{content_codes, drop-append_seam, drop-drop, End, end_at, end_edge, end_in, enter_at, Enters, exit_at, Exits, flat_void}
-use Rattle.parse_lines.proofs.Prelude.{Follows, gap, indent, is_digit, is_eol, is_space, is_tab_column, is_white, IsInOrder, IsLineOf, ItemParts, list_any}
+use Rattle.parse_lines.proofs.Prelude.{gap, indent, is_digit, is_eol, is_space, is_tab_column, is_white, IsInOrder, IsLineOf, ItemParts, list_any}
 use Rattle.parse_lines.proofs.Prelude.{list_any-append, Name, named, named_in, Nil, Node, node_name, Nodes, number_of, one, Option, or_parts, Output}
 use Rattle.parse_lines.proofs.Prelude.{prefix_len, Rest, rest_start, same_end, same_name, take-append_seam, text_between, void_nodes, whole, Writes}
 use Rattle.parse_lines.proofs.Prelude.{writes_around, writes_both, writes_joined, ◌==◌}

@@ -1,5 +1,5 @@
 -- Codes that are white space.
-use Rattle.std.proofs.Common.{◌≡◌, ℕ, ◌+◌, ◌≤◌, zero, suc, Bool, true, ◌&&◌, List, [], ◌∷◌, inl, inr, refl, ap, ap₂, ◌∙◌, arith, take}
+use Rattle.std.proofs.Common.{◌≡◌, ℕ, zero, suc, Bool, true, ◌&&◌, List, [], ◌∷◌, inl, inr, refl, ap, ap₂, ◌∙◌, arith, take}
 use Rattle.std.specs.Prelude.{leb, ◌||◌}
 use Rattle.std.proofs.Common.{sym}
 use Rattle.std.proofs.lemmas.Bool.{leb-true}

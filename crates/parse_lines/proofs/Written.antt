@@ -19,6 +19,12 @@ use Rattle.event_grammar.specs.Grammar.{row}
 use Rattle.parse_slots.specs.Left.{Fill}
 use Rattle.parse_lines.proofs.Prelude.{append}
 use Rattle.parse_lines.proofs.Quiet.{prefix_fill, prefix_marker, prefix_space, quote_node, quiet_space}
+use Rattle.event_definition.specs.BlockQuote.{quote_mark}
+use Rattle.event_definition.specs.Pieces.{join, token}
+use Rattle.event_definition.specs.Written.{before_rest}
+use Rattle.parse_pieces.proofs.Written.{pieces_around, pieces_both}
+use Rattle.parse_pieces.specs.Written.{WritesPieces}
+use Rattle.parse_lines.proofs.LinePieces.{before_take, line_token}
 
 module _ (text before content after : List ℕ) (n line_end : ℕ) (start : Rest) where
   -- where the white space ahead begins
@@ -59,10 +65,11 @@ module _ (text before content after : List ℕ) (n line_end : ℕ) (start : Rest
 
 module _ {A : Type 0} (text before content after : List ℕ) (n line_end : ℕ) (start rest : Rest) where
   -- white space up to a rest further on
-  pub space_written : (a b : Output A) (to : End) → IsLineOf text before content after → line_end ≡ length before + length content
+  space_step : (a b : Output A) (to : End) → IsLineOf text before content after → line_end ≡ length before + length content
       → start ≡ drop n (whole content) → end_in a ≡ rest_start line_end start → IsInOrder text a → IsAfterWhite rest start → to ≡ rest_start line_end rest
-      → (IsInOrder text a → IsToken text SpaceOrTab (end_in a) to → Writes text a b (void_nodes text SpaceOrTab (end_in a) to)) → WritesQuiet text a b
-  space_written a b to line end at from order further is writes =
+      → (IsInOrder text a → IsToken text SpaceOrTab (end_in a) to → Writes text a b (void_nodes text SpaceOrTab (end_in a) to))
+      → Follows text (end_in a) to × (list_all is_white (text_between text (end_in a) to) ≡ true) × Writes text a b (void_nodes text SpaceOrTab (end_in a) to)
+  space_step a b to line end at from order further is writes =
       let k = further.count in
       let at_rest : drop (n + k) (whole content) ≡ rest = sym (further.is ∙ ap (drop k) at ∙ drop-drop k n (whole content)) in
       let follows = line_follows text before content after line_end n (n + k) line end (omega arith) in
@@ -75,7 +82,26 @@ module _ {A : Type 0} (text before content after : List ℕ) (n line_end : ℕ) 
       sym (ap₂ (text_between text) from_start to_rest) ∙ rests_between text before content after line_end line end n k
       ∙ ap (λ (r : Rest). bytes_of (take k r)) (sym at) in
       let white = ap (list_all is_white) same ∙ all_filter is_white is_byte (take k start) further.white in
-      quiet_space text a b (end_in a) to on white (writes order (record { follows = on; bytes = λ apart. white }))
+      (on, white, writes order (record { follows = on; bytes = λ apart. white }))
+
+  pub space_written : (a b : Output A) (to : End) → IsLineOf text before content after → line_end ≡ length before + length content
+      → start ≡ drop n (whole content) → end_in a ≡ rest_start line_end start → IsInOrder text a → IsAfterWhite rest start → to ≡ rest_start line_end rest
+      → (IsInOrder text a → IsToken text SpaceOrTab (end_in a) to → Writes text a b (void_nodes text SpaceOrTab (end_in a) to)) → WritesQuiet text a b
+  space_written a b to line end at from order further is writes =
+      let step = space_step a b to line end at from order further is writes in quiet_space text a b (end_in a) to step.0 step.1 step.2
+
+  -- the same, as pieces
+  pub space_pieces : (a b : Output A) (to : End) → IsLineOf text before content after → line_end ≡ length before + length content
+      → start ≡ drop n (whole content) → end_in a ≡ rest_start line_end start → IsInOrder text a → IsAfterWhite rest start → to ≡ rest_start line_end rest
+      → (IsInOrder text a → IsToken text SpaceOrTab (end_in a) to → Writes text a b (void_nodes text SpaceOrTab (end_in a) to)) → end_in b ≡ to
+      → WritesPieces text (token SpaceOrTab (before_rest start rest)) a b
+  space_pieces a b to line end at from order further is writes to_end =
+      let k = further.count in
+      let step = space_step a b to line end at from order further is writes in
+      let rest_at : rest ≡ drop (n + k) (whole content) = further.is ∙ ap (drop k) at ∙ drop-drop k n (whole content) in
+      line_token text before content after line_end line end SpaceOrTab n k (before_rest start rest) a b
+      (ap (before_rest start) further.is ∙ before_take k start ∙ ap (take k) at) (from ∙ ap (rest_start line_end) at)
+      (to_end ∙ is ∙ ap (rest_start line_end) rest_at) (subst (λ (x : End). Writes text a b (void_nodes text SpaceOrTab (end_in a) x)) (sym to_end) step.2)
 
   -- the prefix of a quote, where all before its mark is written
   pub quote_inner : (on : Constructs) (quote : ContainerLine) (b c d e f : Output A) (bare_end to : End)
@@ -88,9 +114,9 @@ module _ {A : Type 0} (text before content after : List ℕ) (n line_end : ℕ) 
       → Writes text c d (void_nodes text BlockQuoteMarker (end_in c) (end_at ((end_in c).index + 1) 0)))
       → ((end_in c).index + 1 < 2 ^ 64 → end_in d ≡ end_at ((end_in c).index + 1) 0)
       → (IsInOrder text d → IsToken text SpaceOrTab (end_in d) to → Writes text d e (void_nodes text SpaceOrTab (end_in d) to))
-      → (IsInOrder text e → Exits text BlockQuotePrefix e f)
-      → (first : Node) × IsQuotePrefix first × Writes text b f (one first)
-  quote_inner on quote b c d e f bare_end to line end at order is same bare_is to_is white_end enters enter_end marker marker_end space exits =
+      → (IsInOrder text e → Exits text BlockQuotePrefix e f) → end_in e ≡ to → end_in f ≡ end_in e
+      → (first : Node) × IsQuotePrefix first × Writes text b f (one first) × WritesPieces text (quote_mark (bare start) rest) b f
+  quote_inner on quote b c d e f bare_end to line end at order is same bare_is to_is white_end enters enter_end marker marker_end space exits space_end exit_end =
       let parts = quote_parts on start quote is in
       let n1 = n + indent start in
       let bare_at : bare start ≡ drop n1 (whole content) = ap (drop (indent start)) at ∙ drop-drop (indent start) n (whole content) in
@@ -145,8 +171,24 @@ module _ {A : Type 0} (text before content after : List ℕ) (n line_end : ℕ) 
       (sym (marker_end fits)) (prefix_fill text (end_in c) (end_at ((end_in c).index + 1) 0) to (omega arith)) in
       let second = marker fits entered.order (record { follows = follows2; bytes = λ apart. ap (is_token BlockQuoteMarker) mark_is }) in
       let third = space second.order (record { follows = follows3; bytes = λ apart. white_is }) in
-      quote_node text b c d e f (void_nodes text BlockQuoteMarker (end_in c) (end_at ((end_in c).index + 1) 0)) (void_nodes text SpaceOrTab (end_in d) to)
-      (prefix_marker text (end_in c) (end_at ((end_in c).index + 1) 0)) (prefix_space text (end_in d) to) filled entered second third (exits third.order)
+      let exited = exits third.order in
+      let node = quote_node text b c d e f (void_nodes text BlockQuoteMarker (end_in c) (end_at ((end_in c).index + 1) 0)) (void_nodes text SpaceOrTab (end_in d) to)
+      (prefix_marker text (end_in c) (end_at ((end_in c).index + 1) 0)) (prefix_space text (end_in d) to) filled entered second third exited in
+      let mark = line_token text before content after line_end line end BlockQuoteMarker n1 1 (take 1 (bare start)) c d (ap (take 1) bare_at) (at_c ∙ e1)
+      (marker_end fits ∙ marked) (subst (λ (x : End). Writes text c d (void_nodes text BlockQuoteMarker (end_in c) x)) (sym (marker_end fits)) second) in
+      let after_mark : drop 1 (bare start) ≡ drop n2 (whole content) = ap (drop 1) parts.mark ∙ codes_at in
+      let rest_after : rest ≡ drop parts.end.0 (drop 1 (bare start)) = same ∙ parts.end.1 ∙ ap (drop parts.end.0) (codes_at ∙ sym after_mark) in
+      let space_codes : before_rest (drop 1 (bare start)) rest ≡ take parts.end.0 (drop n2 (whole content)) =
+      ap (before_rest (drop 1 (bare start))) rest_after ∙ before_take parts.end.0 (drop 1 (bare start)) ∙ ap (take parts.end.0) after_mark in
+      let gap = line_token text before content after line_end line end SpaceOrTab n2 parts.end.0 (before_rest (drop 1 (bare start)) rest) d e space_codes
+      (marker_end fits ∙ marked) (space_end ∙ e3) (subst (λ (x : End). Writes text d e (void_nodes text SpaceOrTab (end_in d) x)) (sym space_end) third) in
+      let inner = pieces_both text (token BlockQuoteMarker (take 1 (bare start))) (token SpaceOrTab (before_rest (drop 1 (bare start)) rest)) c d e mark gap in (
+        node.0,
+        node.1,
+        node.2,
+        pieces_around text BlockQuotePrefix (join (token BlockQuoteMarker (take 1 (bare start))) (token SpaceOrTab (before_rest (drop 1 (bare start)) rest)))
+            b c e f refl entered enter_end inner exited exit_end,
+      )
 
 -- a line is begun, of which nothing is read: all before it is written
 pub line_ready : (old : Standing) (text : List ℕ) (next : LineRest) (others : List LineRest) (content after : List ℕ)

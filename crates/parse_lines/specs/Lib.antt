@@ -7,3 +7,4 @@ pub mod Ends
 pub mod Steps
 pub mod Content
 pub mod InContent
+pub mod Pieces

@@ -10,6 +10,7 @@ ghost use Rattle.parse_laid.specs.EmptyRests.{is_quote};
 ghost use Rattle.parse_lines.specs.Kinds.{is_footnote, is_item};
 ghost use Rattle.parse_lines.specs.Ends.{WritesFootnoteLabel, WritesMarker, WritesPrefix, WritesPrefixes, WritesStartOf};
 ghost use Rattle.parse_lines.specs.Open.{still_open, with_entered};
+ghost use Rattle.parse_lines.specs.Pieces.{WritesPrefixPieces, WritesPrefixesPieces};
 ghost use Rattle.std.specs.List.{prefix_len};
 ghost use Rattle.definition_block.specs.ListItem.{is_digit};
 ghost use Rattle.definition_block.specs.Container.{Footnote as FootnoteView, Item as ItemView, Quote};
@@ -47,6 +48,7 @@ impl<'a, A: Allocator> Walk<'a, A> {
         ensures reads { OnOk result (ReadsPrefixes (standing self.old) (standing self.new)) }
         ensures stays { OnOk result (standing self.new ≡ with_rest (standing self.old) (rest_of self.new.rest)) }
         ensures written { OnOk result (WritesPrefixes self.old self.new) }
+        ensures exact { OnOk result (WritesPrefixesPieces self.old self.new) }
     {
         for depth in 0..self.open.len() {
             if depth >= self.quotes_end && self.rest.is_blank() && self.rest.indent() == 0 {
@@ -70,6 +72,7 @@ impl<'a, A: Allocator> Walk<'a, A> {
         ensures open { OnOk result (still_open self.new ≡ still_open self.old) }
         ensures stays { OnOk result (standing self.new ≡ with_rest (standing self.old) (rest_of after.entry)) }
         ensures written { OnOk result (WritesPrefix (container_view container.entry) (rest_of after.entry) self.old self.new) }
+        ensures exact { OnOk result (WritesPrefixPieces (container_view container.entry) (rest_of after.entry) self.old self.new) }
     {
         match container {
             Container::Quote => self.quote_prefix(after)?,
@@ -86,6 +89,7 @@ impl<'a, A: Allocator> Walk<'a, A> {
         ensures open { OnOk result (still_open self.new ≡ still_open self.old) }
         ensures stays { OnOk result (standing self.new ≡ standing self.old) }
         ensures written { OnOk result (WritesPrefix Quote (rest_of after.entry) self.old self.new) }
+        ensures exact { OnOk result (WritesPrefixPieces Quote (rest_of after.entry) self.old self.new) }
         ensures marked { OnOk result (WritesMarker Quote (rest_of after.entry) self.old self.new) }
     {
         let _bare = self.white()?;

@@ -14,6 +14,7 @@ ghost use Rattle.parse_output.specs.Children.{holds_lines, may_enter};
 ghost use Rattle.parse_lines.specs.Ends.{EndsInLine, WritesEnding, WritesLine, WritesNextLine, WritesUpTo, line_after, rest_start, written_to};
 ghost use Rattle.parse_lines.specs.Content.{EntersInLine, ExitsInLine, StandsInLine};
 ghost use Rattle.parse_lines.specs.Open.{still_open};
+ghost use Rattle.parse_lines.specs.Pieces.{WritesBegun, WritesNextBegun};
 ghost use Rattle.parse_lines.specs.Standing.{standing};
 ghost use Rattle.parse_lines.specs.Steps.{BeginsAt, BeginsLine, EndsLine, HasSameOpen, IsBegun, PassesLine};
 
@@ -119,6 +120,7 @@ impl<'a, A: Allocator> Walk<'a, A> {
         ensures open { OnOk result (still_open self.new ≡ still_open self.old) }
         ensures begun { OnOk result (IsBegun (standing self.old) (standing self.new)) }
         ensures written { OnOk result (WritesLine self.old self.new) }
+        ensures exact { OnOk result (WritesBegun self.old self.new) }
         ensures line { OnOk result (EndsInLine self.old self.new) }
         ensures around { OnOk result (HasSameOpen (standing self.old) (standing self.new)) }
         ensures stays { self.old.is_in_line ≡ true → OnOk result (self.new ≡ self.old) }
@@ -136,6 +138,7 @@ impl<'a, A: Allocator> Walk<'a, A> {
         ensures open { OnOk result (still_open self.new ≡ still_open self.old) }
         ensures begins { OnOk result (BeginsLine (standing self.old) (standing self.new)) }
         ensures written { OnOk result (WritesLine self.old self.new) }
+        ensures exact { OnOk result (WritesBegun self.old self.new) }
         ensures line { OnOk result (EndsInLine self.old self.new) }
         ensures around { OnOk result (HasSameOpen (standing self.old) (standing self.new)) }
     {
@@ -158,6 +161,7 @@ impl<'a, A: Allocator> Walk<'a, A> {
         ensures open { OnOk result (still_open self.new ≡ still_open self.old) }
         ensures passes { OnOk result (PassesLine (standing self.old) (standing self.new)) }
         ensures written { OnOk result (WritesNextLine self.old self.new) }
+        ensures exact { OnOk result (WritesNextBegun self.old self.new) }
         ensures around { OnOk result (HasSameOpen (standing self.old) (standing self.new)) }
     {
         self.ending(Name::LineEnding)?;

@@ -19,6 +19,20 @@ use Rattle.parse_raw.specs.Laid.{WritesBlank}
 use Rattle.parse_raw.specs.Bytes.{IsEndingName}
 use Rattle.parse_raw.proofs.Bytes.{blank_ending_fits, ending_token, rest_white}
 use Rattle.parse_raw.proofs.Endings.{ending_nodes}
+use Rattle.std.proofs.Common.{take}
+use Rattle.definition_page.specs.Read.{Reading}
+use Rattle.definition_text.specs.Content.{ending_code}
+use Rattle.event_definition.specs.Blocks.{blank_written as blank_pieces}
+use Rattle.event_definition.specs.Pieces.{token}
+use Rattle.event_definition.specs.Written.{before_rest}
+use Rattle.event_definition.specs.Written as definition
+use Rattle.parse_pieces.proofs.Written.{pieces_both}
+use Rattle.parse_pieces.specs.Written.{WritesPieces}
+use Rattle.parse_lines.proofs.LinePieces.{ending_left, ending_written}
+use Rattle.parse_lines.proofs.Written.{ending_end, space_pieces}
+use Rattle.parse_lines.specs.Pieces.{left_in_line}
+use Rattle.parse_raw.proofs.Prelude.{lines}
+use Rattle.parse_raw.specs.Pieces.{WritesToNextLine}
 
 -- ---- white space takes all that is left
 
@@ -161,4 +175,46 @@ module _ {A : Type 0} (text : List ℕ) where
         stands = subst (λ (p : Place). StandsAt text p (standing d)) to_is (ends text here.beside.ending left st_a);
         around = (kept.0 ∙ ap (λ (s : Standing). s.on) same, kept.1 ∙ ap (λ (s : Standing). s.outermost) same);
         written = done.written;
+      }
+
+  -- all that is left of it, and its ending, as the definition has them
+  pub blank_exact : (r : Reading) (ending : Option LineEnding) (here : LineRest) (left : List LineRest) (to : Place) (old b a d : Walk A) → b ≡ old
+      → StandsAt text (Within here left) (standing old) → IsWrittenToRest old → IsInOrder text old.out
+      → IsBlankLaid old.on.now (around (standing old)) ending (Within here left) to → standing a ≡ standing b → written_to a ≡ end_at b.line_end 0
+      → WritesUpTo n.SpaceOrTab (end_at b.line_end 0) b a → EndsLine (standing a) (standing d) → WritesEnding n.BlankLineEnding a d
+      → line_after d ≡ line_after a → WritesToNextLine text (blank_pieces r (standing old).outermost (left_in_line (standing old))) old d
+  blank_exact r ending here left to old b a d is st at order laid same_b end_b writes_b ends writes after =
+      let same : standing a ≡ standing old = same_b ∙ ap (λ (w : Walk A). standing w) is in
+      let line : here ≡ laid.0 = ap line_left laid.2.0 in
+      let line_end : a.line_end ≡ old.line_end = ap (λ (s : Standing). s.line_end) same in
+      let end_old : written_to a ≡ end_at old.line_end 0 = end_b ∙ ap (λ (w : Walk A). end_at w.line_end 0) is in
+      let end : written_to a ≡ end_at a.line_end 0 = end_old ∙ ap (λ (k : ℕ). end_at k 0) (sym line_end) in
+      let upto = subst (λ (w : Walk A). WritesUpTo n.SpaceOrTab (end_at w.line_end 0) w a) is writes_b in
+      let start = rest_of old.rest in
+      let all : list_all is_white start ≡ true = ap (list_all is_white) st.rest ∙ ap (λ (l : LineRest). is_blank l.rest) line ∙ laid.3 in
+      let further : IsAfterWhite [] start =
+      record {
+        count = length start;
+        is = sym (drop_all (length start) start (omega arith));
+        white = ap (list_all is_white) (take-length start) ∙ all;
+      } in
+      let index : old.line_end ≡ old.line_end - 0 = omega arith in
+      let spaces = space_pieces text st.line.before st.line.content (ending_text old.ending ++ old.left.now) st.columns old.line_end start [] old.out a.out
+      (end_at old.line_end 0) st.line.parts st.line.end (st.rest ∙ st.suffix) at order further (ap (λ (k : ℕ). end_at k 0) index) (λ o f. upto text o f) end_old in
+      let count : length start - 0 ≡ length start = omega arith in
+      let codes : before_rest start [] ≡ start = ap (λ (k : ℕ). take k start) count ∙ take-length start in
+      let white = subst (λ (cs : Rest). WritesPieces text (token n.SpaceOrTab cs) old.out a.out) codes spaces in
+      let st_a = subst (StandsAt text (AtEnding here.beside.ending left)) (sym same) (at_ending text here left (standing old) st) in
+      let done = writes text here.beside.ending left st_a spaces.writes.order (ending_token text n.BlankLineEnding a blank_ending_fits st_a.line end) in
+      let size = ending_end text (standing a) st_a.line in
+      let to_d : written_to d ≡ line_after a = done.1 ∙ after in
+      let ended = ending_written text n.BlankLineEnding a.ending a.line_end (a.size - length a.left.now) a.out d.out size.0 end to_d
+      (subst (λ (e : End). Writes text a.out d.out (void_nodes text n.BlankLineEnding (written_to a) e)) (sym to_d) done.0) in
+      let ending_is : a.ending ≡ old.ending = ap (λ (s : Standing). s.ending) same in
+      let last = subst (λ (e : Option LineEnding). WritesPieces text (token n.BlankLineEnding (ending_code e)) a.out d.out) ending_is ended in
+      let kept = ending_left text (standing a) (standing d) st_a.line left (ends text here.beside.ending left st_a) after in
+      record {
+        pieces =
+            pieces_both text (token n.SpaceOrTab start) (token n.BlankLineEnding (ending_code old.ending)) old.out a.out d.out white last;
+        left = ap (λ (xs : List ℕ). definition.Between (lines xs)) (kept ∙ ap (λ (s : Standing). s.left) same);
       }

@@ -21,7 +21,19 @@ use Rattle.parse_alike.specs.BlockLines.{AreCodeLinesAlike}
 use Rattle.parse_laid.specs.Leaves.{AreCode, IsCodeLine}
 use Rattle.parse_raw.proofs.Prelude.{append-nil, Around, end_in, enter_at, exit_at, false≢true, list_all, take-append-drop}
 use Rattle.parse_raw.proofs.LeafNodes.{leaf_written}
-use Rattle.parse_raw.proofs.RawBlocks.{WritesFirst, all_written, own_count, taken_as}
+use Rattle.parse_raw.proofs.RawBlocks.{WritesFirst, all_exact, all_written, block_exact, own_count, taken_as}
+use Rattle.std.proofs.Common.{ap₂}
+use Rattle.event_definition.specs.CodeIndented.{indented_written}
+use Rattle.event_definition.specs.Pieces.{token}
+use Rattle.event_definition.specs.RawLines.{raw_lines as raw_lines_written}
+use Rattle.event_definition.specs.Written.{Written, and_then, before_rest, inside, whole_rest, with_rest}
+use Rattle.parse_pieces.proofs.Written.{pieces_both}
+use Rattle.parse_pieces.specs.Written.{WritesPieces}
+use Rattle.parse_lines.proofs.Written.{space_pieces}
+use Rattle.parse_lines.specs.Pieces.{left_in_line}
+use Rattle.parse_raw.proofs.Prelude.{void_nodes, Writes}
+use Rattle.parse_raw.specs.Pieces.{WritesCutPieces, WritesToEnding}
+use Rattle.parse_raw.proofs.Pieces.{rest_token}
 use Rattle.parse_lines.proofs.Cuts.{line_end_cut}
 use Rattle.parse_raw.proofs.RawLines.{has_some, rest_written}
 
@@ -56,6 +68,8 @@ module _ {A : Type 0} (text : List ℕ) where
     pub at : written_to a ≡ rest_start a.line_end (drop columns (whole content))
     pub starts : (written_to old).index ≤ (written_to a).index
     pub begins : (written_to a).index ≤ old.line_end
+    pub exact : WritesPieces text (token n.SpaceOrTab (before_rest (rest_of old.rest) (outdent k (rest_of old.rest)))) old.out a.out
+    pub same_rest : outdent k (rest_of old.rest) ≡ drop columns (whole content)
 
   pub indent_written : (k : ℕ) (here : LineRest) (left : List LineRest) (old a : Walk A) → StandsAt text (Within here left) (standing old) → IsWrittenToRest old
       → IsInOrder text old.out → standing a ≡ standing old → written_to a ≡ rest_start old.line_end (outdent k (rest_of old.rest))
@@ -92,6 +106,10 @@ module _ {A : Type 0} (text : List ℕ) where
         at = sym mid_is ∙ ap (λ (e : ℕ). rest_start e (drop columns (whole content))) (sym line_end);
         starts = omega (arith, onward.forward, ap (λ (e : End). e.index) mid_is, ap (λ (e : End). e.index) from_is);
         begins = omega (arith, to_end.forward, ap (λ (e : End). e.index) mid_is);
+        exact =
+            space_pieces text before content after st.columns old.line_end start (outdent k start) old.out a.out mid st.line.parts st.line.end rest_at at order
+            further refl (λ o f. writes text o f) to;
+        same_rest = cut;
       }
 
   code_by : (on : Constructs) (names : Names) (top : Bool) (ls : List BlockLine) (count more : ℕ) (here : LineRest) (left : List LineRest) (to after : Place)
@@ -100,13 +118,14 @@ module _ {A : Type 0} (text : List ℕ) where
       → WritesIndent 4 here old a
       → Enters text n.CodeIndented a.out b.out → standing b ≡ standing a → written_to b ≡ written_to a
       → standing c ≡ standing b → written_to c ≡ end_at b.line_end 0 → WritesUpTo n.CodeFlowChunk (end_at b.line_end 0) b c
-      → WritesCutLines n.CodeFlowChunk (outdent 4) more c e
+      → WritesCutLines n.CodeFlowChunk (outdent 4) more c e → WritesCutPieces n.CodeFlowChunk (outdent 4) more c e
       → (IsInOrder text e.out → Exits text n.CodeIndented e.out d.out) → standing d ≡ standing e → written_to d ≡ written_to e
       → WritesLeaf on names text top (page.IndentedCode ls) [] to old d
-  code_by on names top ls count more here left to after [] old a b c e d size fewer st code is ends space enters same_b end_b same_c end_c writes_c lines exits
-      same_d end_d = absurd code
+      × WritesToEnding text (indented_written old.on.now (standing old).outermost count (left_in_line (standing old))) old d
+  code_by on names top ls count more here left to after [] old a b c e d size fewer st code is ends space enters same_b end_b same_c end_c writes_c lines exact
+      exits same_d end_d = absurd code
   code_by on names top ls count more here left to after (first ∷ others) old a b c e d size fewer st code is ends space enters same_b end_b same_c end_c writes_c
-      lines exits same_d end_d =
+      lines exact exits same_d end_d =
       let same : standing b ≡ standing old = same_b ∙ space.same in
       let line_b : b.line_end ≡ a.line_end = ap (λ (s : Standing). s.line_end) same_b in
       let at_b : written_to b ≡ rest_start b.line_end (drop space.columns (whole space.content)) =
@@ -152,14 +171,36 @@ module _ {A : Type 0} (text : List ℕ) where
       let front = chunk.taken row_is chunk_slots (has_some (drop space.columns (whole space.content)) some) refl in
       let node = Around (enter_at text n.CodeIndented (end_in a.out)) all.nodes (exit_at text n.CodeIndented (end_in e.out)) in
       let filled = filled_by Lines Plain n.CodeIndented chunk_slots node refl (all.fill row_is chunk_slots front takes) refl in
-      leaf_written text on names top (page.IndentedCode ls) to old a b e d n.CodeIndented all.nodes space.quiet enters all.writes
+      let start = rest_of old.rest in
+      let inner = outdent 4 start in
+      let chunk_end : written_to c ≡ end_at b.line_end 0 = end_c in
+      let token_written = subst (λ (r : Rest). WritesPieces text (token n.CodeFlowChunk r) b.out c.out) (sym space.same_rest)
+      (rest_token text space.before space.content space.after b.line_end space.line (line_b ∙ space.end) n.CodeFlowChunk space.columns b.out c.out at_b chunk_end
+      (subst (λ (e : End). Writes text b.out c.out (void_nodes text n.CodeFlowChunk (written_to b) e)) (sym chunk_end)
+      (subst (Writes text b.out c.out) chunk.is chunk.writes))) in
+      let lines_exact = all_exact text n.CodeFlowChunk (outdent 4) first others left ends.0 more b c e (inl refl) one fits taken_b exact in
+      let block = block_exact text n.CodeIndented n.CodeFlowChunk (outdent 4) 4 more inner a b c e d (λ r. refl) refl enters end_b token_written same_c lines_exact
+      (exits all.writes.order) same_d end_d in
+      let here = with_rest inner (left_in_line (standing old)) in
+      let block_old = subst (λ (w : Written). WritesToEnding text w a d)
+      (ap₂ (λ (s : Standing) (k : ℕ). inside n.CodeIndented (and_then (whole_rest n.CodeFlowChunk (with_rest inner (left_in_line s)))
+      (raw_lines_written s.on s.outermost n.CodeFlowChunk 4 k))) same fewer) block in
+      let leaf = leaf_written text on names top (page.IndentedCode ls) to old a b e d n.CodeIndented all.nodes space.quiet enters all.writes
       (exits all.writes.order) refl refl refl all.raw.definitions (λ m m'. (alike, tt))
       (subst (λ (p : Place). StandsAt text p (standing d)) (sym ends.2) (subst (StandsAt text (AtEnding (last_ending (first ∷ others)) ends.0)) (sym same_d) all.stands)) (
         ap (λ (s : Standing). s.on) same_d ∙ all.around.0 ∙ ap (λ (s : Standing). s.on) same,
         ap (λ (s : Standing). s.outermost) same_d ∙ all.around.1 ∙ ap (λ (s : Standing). s.outermost) same,
       )
       end_d (all.written ∙ ap (λ (k : ℕ). end_at k 0) (sym line_end)) space.starts space.begins filled
-      (sound_filled on names text 2 Lines Plain n.CodeIndented node refl refl filled)
+      (sound_filled on names text 2 Lines Plain n.CodeIndented node refl refl filled) in (
+        leaf,
+        record {
+          pieces = pieces_both text (token n.SpaceOrTab (before_rest start inner))
+              (inside n.CodeIndented (and_then (whole_rest n.CodeFlowChunk here) (raw_lines_written old.on.now (standing old).outermost n.CodeFlowChunk 4 (count - 1)))).pieces
+              old.out a.out d.out space.exact block_old.pieces;
+          left = block_old.left;
+        },
+      )
 
   pub code_written : (on : Constructs) (names : Names) (top : Bool) (ls : List BlockLine) (count more : ℕ) (here : LineRest) (left : List LineRest) (to : Place)
       (old a b c e d : Walk A) → count ≡ length ls → more ≡ count - 1 → StandsAt text (Within here left) (standing old)
@@ -167,8 +208,9 @@ module _ {A : Type 0} (text : List ℕ) where
       → WritesIndent 4 here old a
       → Enters text n.CodeIndented a.out b.out → standing b ≡ standing a → written_to b ≡ written_to a
       → standing c ≡ standing b → written_to c ≡ end_at b.line_end 0 → WritesUpTo n.CodeFlowChunk (end_at b.line_end 0) b c
-      → WritesCutLines n.CodeFlowChunk (outdent 4) more c e
+      → WritesCutLines n.CodeFlowChunk (outdent 4) more c e → WritesCutPieces n.CodeFlowChunk (outdent 4) more c e
       → (IsInOrder text e.out → Exits text n.CodeIndented e.out d.out) → standing d ≡ standing e → written_to d ≡ written_to e
       → WritesLeaf on names text top (page.IndentedCode ls) [] to old d
+      × WritesToEnding text (indented_written old.on.now (standing old).outermost count (left_in_line (standing old))) old d
   code_written on names top ls count more here left to old a b c e d size fewer st laid =
       code_by on names top ls count more here left to laid.1 laid.0 old a b c e d size fewer st laid.2 laid.3 laid.4

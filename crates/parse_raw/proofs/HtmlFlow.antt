@@ -18,8 +18,18 @@ use Rattle.parse_references.proofs.Sound.{sound_filled}
 use Rattle.parse_raw.proofs.Prelude.{Around, end_in, enter_at, exit_at}
 use Rattle.parse_raw.specs.RawLines.{TakesChunks}
 use Rattle.parse_raw.proofs.LeafNodes.{leaf_written, rest_within}
-use Rattle.parse_raw.proofs.RawBlocks.{WritesFirst, all_written, html_alike, own_count, taken_as}
+use Rattle.parse_raw.proofs.RawBlocks.{WritesFirst, all_exact, all_written, block_exact, html_alike, own_count, taken_as}
 use Rattle.parse_raw.proofs.RawLines.{whole_written}
+use Rattle.std.proofs.Common.{ap₂}
+use Rattle.parse_raw.proofs.Prelude.{rest_of}
+use Rattle.event_definition.specs.HtmlFlow.{html_written as html_pieces}
+use Rattle.event_definition.specs.Pieces.{Pieces, token}
+use Rattle.event_definition.specs.RawLines.{raw_lines as raw_lines_written}
+use Rattle.event_definition.specs.Written.{Written, and_then, inside, whole_rest}
+use Rattle.parse_pieces.specs.Written.{WritesPieces}
+use Rattle.parse_lines.specs.Pieces.{left_in_line}
+use Rattle.parse_raw.specs.Pieces.{WritesCutPieces, WritesToEnding}
+use Rattle.parse_raw.proofs.Pieces.{none_before, none_cut}
 
 -- a later line is a line of which nothing is cut
 html_line : (kind : ℕ) (here : Prefixed) (line : BlockLine) → IsHtmlLine kind here line → IsCutLine (λ rest. rest) here line
@@ -37,13 +47,14 @@ module _ {A : Type 0} (text : List ℕ) where
       → EndsAt taken after to
       → Enters text n.HtmlFlow old.out b.out → standing b ≡ standing old → written_to b ≡ written_to old
       → standing c ≡ standing b → written_to c ≡ end_at b.line_end 0 → WritesUpTo n.HtmlFlowData (end_at b.line_end 0) b c
-      → WritesCutLines n.HtmlFlowData (λ rest. rest) more c e
+      → WritesCutLines n.HtmlFlowData (λ rest. rest) more c e → WritesCutPieces n.HtmlFlowData (λ rest. rest) more c e
       → (IsInOrder text e.out → Exits text n.HtmlFlow e.out d.out) → standing d ≡ standing e → written_to d ≡ written_to e
       → WritesLeaf on names text top (page.Html ls) [] to old d
-  html_by on names top ls count more kind here left to after [] old b c e d size fewer st at order html is ends enters same_b end_b same_c end_c writes_c lines exits
-      same_d end_d = absurd html
+      × WritesToEnding text (html_pieces old.on.now (standing old).outermost count (left_in_line (standing old))) old d
+  html_by on names top ls count more kind here left to after [] old b c e d size fewer st at order html is ends enters same_b end_b same_c end_c writes_c lines exact
+      exits same_d end_d = absurd html
   html_by on names top ls count more kind here left to after (first ∷ others) old b c e d size fewer st at order html is ends enters same_b end_b same_c end_c
-      writes_c lines exits same_d end_d =
+      writes_c lines exact exits same_d end_d =
       let st_b = subst (StandsAt text (Within here left)) (sym same_b) st in
       let at_b : IsWrittenToRest b = end_b ∙ at ∙ ap (λ (s : Standing). rest_start s.line_end s.rest) (sym same_b) in
       let line = whole_written text n.HtmlFlowData b c here left (inr (inr (inl refl))) st_b at_b enters.order same_c end_c writes_c in
@@ -75,22 +86,33 @@ module _ {A : Type 0} (text : List ℕ) where
       let takes : TakesChunks n.HtmlFlowData html_row = record { chunk = refl; between = record { space = refl; ending = refl; blank = refl; quote = refl } } in
       let node = Around (enter_at text n.HtmlFlow (end_in old.out)) all.nodes (exit_at text n.HtmlFlow (end_in e.out)) in
       let filled = filled_by Lines Plain n.HtmlFlow html_row node refl (all.fill html_row html_row (line.fill html_row takes) takes) refl in
-      leaf_written text on names top (page.Html ls) to old old b e d n.HtmlFlow all.nodes (quiet_none text old.out order) enters all.writes
+      let chunk = subst (λ (ps : Pieces). WritesPieces text ps b.out c.out)
+      (none_before n.SpaceOrTab (rest_of b.rest) (token n.HtmlFlowData (rest_of b.rest))) line.exact in
+      let lines_exact = all_exact text n.HtmlFlowData (λ rest. rest) first others left ends.0 more b c e (inr (inr (inl refl))) one fits taken_b exact in
+      let block = block_exact text n.HtmlFlow n.HtmlFlowData (λ rest. rest) 0 more (rest_of b.rest) old b c e d none_cut refl enters end_b chunk same_c lines_exact
+      (exits all.writes.order) same_d end_d in
+      let leaf = leaf_written text on names top (page.Html ls) to old old b e d n.HtmlFlow all.nodes (quiet_none text old.out order) enters all.writes
       (exits all.writes.order) refl refl refl all.raw.definitions (λ m m'. (alike, tt))
       (subst (λ (p : Place). StandsAt text p (standing d)) (sym ends.2) (subst (StandsAt text (AtEnding (last_ending (first ∷ others)) ends.0)) (sym same_d) all.stands)) (
         ap (λ (s : Standing). s.on) same_d ∙ all.around.0 ∙ ap (λ (s : Standing). s.on) same_b,
         ap (λ (s : Standing). s.outermost) same_d ∙ all.around.1 ∙ ap (λ (s : Standing). s.outermost) same_b,
       )
       end_d (all.written ∙ ap (λ (k : ℕ). end_at k 0) (sym line_end)) (omega arith) (rest_within text old here left st at)
-      filled (sound_filled on names text 2 Lines Plain n.HtmlFlow node refl refl filled)
+      filled (sound_filled on names text 2 Lines Plain n.HtmlFlow node refl refl filled) in (
+        leaf,
+        subst (λ (w : Written). WritesToEnding text w old d)
+            (ap₂ (λ (s : Standing) (k : ℕ). inside n.HtmlFlow (and_then (whole_rest n.HtmlFlowData (left_in_line s))
+            (raw_lines_written s.on s.outermost n.HtmlFlowData 0 k))) same_b fewer) block,
+      )
 
   pub html_written : (on : Constructs) (names : Names) (top : Bool) (ls : List BlockLine) (count more : ℕ) (here : LineRest) (left : List LineRest) (to : Place)
       (old b c e d : Walk A) → count ≡ length ls → more ≡ count - 1 → StandsAt text (Within here left) (standing old) → IsWrittenToRest old
       → IsInOrder text old.out → IsLeafLaid old.on.now (around (standing old)) (Html ls) (Within here left) to
       → Enters text n.HtmlFlow old.out b.out → standing b ≡ standing old → written_to b ≡ written_to old
       → standing c ≡ standing b → written_to c ≡ end_at b.line_end 0 → WritesUpTo n.HtmlFlowData (end_at b.line_end 0) b c
-      → WritesCutLines n.HtmlFlowData (λ rest. rest) more c e
+      → WritesCutLines n.HtmlFlowData (λ rest. rest) more c e → WritesCutPieces n.HtmlFlowData (λ rest. rest) more c e
       → (IsInOrder text e.out → Exits text n.HtmlFlow e.out d.out) → standing d ≡ standing e → written_to d ≡ written_to e
       → WritesLeaf on names text top (page.Html ls) [] to old d
+      × WritesToEnding text (html_pieces old.on.now (standing old).outermost count (left_in_line (standing old))) old d
   html_written on names top ls count more here left to old b c e d size fewer st at order laid =
       html_by on names top ls count more laid.0 here left to laid.2 laid.1 old b c e d size fewer st at order laid.3 laid.4 laid.5

@@ -17,6 +17,10 @@ use Rattle.parse_raw.proofs.Prelude.{AreNext, left_bytes, left_next, replicate, 
 use Rattle.parse_lines.proofs.Columns.{bare_owes_none}
 use Rattle.parse_lines.proofs.Written.{bare_follows, bare_start}
 use Rattle.parse_slots.specs.Left.{IsFilled}
+use Rattle.event_definition.specs.Pieces.{token}
+use Rattle.event_definition.specs.Written.{before_rest}
+use Rattle.parse_lines.proofs.Written.{space_pieces}
+use Rattle.parse_pieces.specs.Written.{WritesPieces}
 use Rattle.parse_references.specs.Sound.{IsSound}
 use Rattle.parse_raw.specs.Written.{SpellsLeaf}
 
@@ -30,6 +34,7 @@ pub record WritesWhite {A : Type 0} (text : List ℕ) (old new : Walk A) : Type 
   pub starts : (written_to old).index ≤ (written_to new).index
   pub begins : (written_to new).index ≤ old.line_end
   pub after : AreLeft text (bytes_of (bare (rest_of old.rest))) new
+  pub exact : WritesPieces text (token n.SpaceOrTab (before_rest (rest_of old.rest) (bare (rest_of old.rest)))) old.out new.out
 
 -- the ending of a line is in the text
 pub line_in_text : (text : List ℕ) (s : Standing) → IsInLine text s → s.line_end ≤ length text
@@ -107,6 +112,9 @@ module _ {A : Type 0} (text : List ℕ) where
           end = omega (arith, line_in_text text (standing old) st.line, line_end);
           fits = st.line.over.fits;
         };
+        exact =
+            space_pieces text before content after st.columns old.line_end start (bare start) old.out a.out bare_end st.line.parts st.line.end rest_at at order
+            further bare_is (λ o f. writes text o f) to;
       }
 
   -- quiet nodes, and an event with these in it

@@ -6,9 +6,11 @@ pub mod Nodes
 pub mod Endings
 pub mod Raw
 pub mod RawLines
+pub mod Pieces
 pub mod NextLines
 pub mod Tokens
 pub mod FilledTokens
+pub mod BreakPieces
 pub mod Breaks
 pub mod LeafNodes
 pub mod Blank

@@ -1,5 +1,5 @@
 -- What is written of the lines of a raw block, one after another (CommonMark 4.4 to 4.6).
-use Rattle.std.proofs.Common.{◌≡◌, ℕ, ◌+◌, ◌<◌, Bool, true, false, cond, ◌&&◌, is_some, List, [], ◌∷◌, ◌++◌, Option, None, Some, eqb, inl, inr, refl, sym, ap, ap₂}
+use Rattle.std.proofs.Common.{◌≡◌, ℕ, suc, ◌+◌, ◌<◌, Bool, true, false, cond, ◌&&◌, is_some, List, [], ◌∷◌, ◌++◌, Option, None, Some, eqb, inl, inr, refl, sym, ap, ap₂}
 use Rattle.std.proofs.Common.{subst, ◌∙◌, ◌≤◌, append_assoc, drop, length, length-append, length-drop, reverse, arith, Result, Ok, Err}
 use Rattle.parse_raw.proofs.Prelude.{and_parts, append, append-nil, AreRaw, AreTaken, around, AtEnding, beside_line, Between, block_codes, BlockLine}
 use Rattle.parse_raw.proofs.Prelude.{cases_Bool, chunk_parts, codes_first, cond-false, cond-true, Cons, Constructs, Container, End, end_at, end_part}
@@ -23,6 +23,12 @@ use Rattle.definition_text.specs.Lines.{after_return, first_of, in_first_line, t
 use Rattle.parse_raw.specs.RawLines.{WritesCutLine}
 use Rattle.parse_raw.proofs.Bytes.{ending_token, line_ending_fits}
 use Rattle.parse_raw.proofs.Endings.{ending_nodes, ending_parts}
+use Rattle.event_definition.specs.Containers.{next_line}
+use Rattle.event_definition.specs.Written.{Written}
+use Rattle.parse_pieces.proofs.Written.{pieces_none}
+use Rattle.parse_lines.specs.Pieces.{WritesNextBegun, left_at_ending}
+use Rattle.parse_raw.specs.Pieces.{WritesCutPieces, WritesToEnding, cut_lines, next_cut}
+use Rattle.parse_raw.proofs.Pieces.{line_then, lines_last, then_written}
 use Rattle.parse_raw.proofs.Nodes.{ends_append, quiet_parts, raw_append, raw_none, raw_parts_append, raw_quiet, raw_void}
 
 -- three facts of a call that succeeds
@@ -278,6 +284,7 @@ pub record SomeLines {A : Type 0} (text : List ℕ) (name : Name) (cut : Rest �
   pub mid : List LineRest
   pub lines : WritesLines text name first done mid old new
   pub ahead : AreTaken old.on.now (around (standing old)) (IsCutLine cut) others (Between mid) (Between after)
+  pub exact : WritesToEnding text (cut_lines old.on.now (standing old).outermost name cut count (left_at_ending (standing old))) old new
 
 abbrev pub LinesSoFar : {A : Type 0} → Name → (Rest → Rest) → ℕ → ℕ → Walk A → Walk A → Type 0
 LinesSoFar name cut all count old new =
@@ -297,25 +304,45 @@ module _ {A : Type 0} (name : Name) (cut : Rest → Rest) (all : ℕ) where
         mid = left;
         lines = lines_none text name first left w st at order;
         ahead = taken;
+        exact = record { pieces = pieces_none text w.out order; left = refl };
       }
 
   one_more : (count : ℕ) (old a b d : Walk A) → count < all → PassesLine (standing a) (standing b) → WritesNextLine a b
-      → HasSameOpen (standing a) (standing b) → WritesCutLine name cut b d → (text : List ℕ) (first : Option LineEnding) (ls : List BlockLine)
+      → WritesNextBegun a b → HasSameOpen (standing a) (standing b) → WritesCutLine name cut b d → (text : List ℕ) (first : Option LineEnding) (ls : List BlockLine)
       (after : List LineRest) → all ≡ length ls → IsChunkName name → (done others : List BlockLine) (mid : List LineRest) → ls ≡ done ++ others
       → length done ≡ count → WritesLines text name first done mid old a
       → AreTaken old.on.now (around (standing old)) (IsCutLine cut) others (Between mid) (Between after)
+      → WritesToEnding text (cut_lines old.on.now (standing old).outermost name cut count (left_at_ending (standing old))) old a
       → SomeLines text name cut first ls after (count + 1) old d
-  one_more count old a b d less passes writes kept cuts text first ls after size is_chunk done [] mid parts done_size lines ahead =
+  one_more count old a b d less passes writes begun kept cuts text first ls after size is_chunk done [] mid parts done_size lines ahead exact =
       absurd (omega (arith, ap length parts, length-append done []))
-  one_more count old a b d less passes writes kept cuts text first ls after size is_chunk done (line ∷ others) [] parts done_size lines ahead = absurd ahead.2
-  one_more count old a b d less passes writes kept cuts text first ls after size is_chunk done (line ∷ others) (next ∷ mid) parts done_size lines ahead =
+  one_more count old a b d less passes writes begun kept cuts text first ls after size is_chunk done (line ∷ others) [] parts done_size lines ahead exact =
+      absurd ahead.2
+  one_more count old a b d less passes writes begun kept cuts text first ls after size is_chunk done (line ∷ others) (next ∷ mid) parts done_size lines ahead
+      exact =
       let on = ahead.2 in
       let is_line = ahead.3 in
       let same_on : prefixed a.on.now (around (standing a)) next ≡ prefixed old.on.now (around (standing old)) next =
       ap₂ (λ (c : Constructs) (cs : List Container). prefixed c (reverse cs) next) lines.around.0 lines.around.1 in
       let more = lines_more text name cut first done line next mid is_line.0 old a b d lines (same_on ∙ on.0 ∙ is_line.1) is_line.2 passes writes kept
       (λ here left st at order. cuts text here left is_chunk st at order) in
+      let passed = next_written text a b (last_ending_or first done) next mid lines.stands lines.written lines.writes.order passes writes in
+      let here = cuts text (line_left (prefixed a.on.now (around (standing a)) next)) mid is_chunk passed.stands passed.written passed.writes.order in
+      let to_line = begun text (last_ending_or first done) next mid lines.stands lines.written lines.writes.order
+      (ending_token text n.LineEnding a line_ending_fits lines.stands.line lines.written) in
+      let same_next : next_cut a.on.now (standing a).outermost name cut (left_at_ending (standing a))
+      ≡ next_cut old.on.now (standing old).outermost name cut (left_at_ending (standing a)) =
+      ap₂ (λ (c : Constructs) (cs : List Container). next_cut c cs name cut (left_at_ending (standing a))) lines.around.0 lines.around.1 in
+      let one = line_then text (next_line a.on.now (standing a).outermost (left_at_ending (standing a))) name cut a b d to_line here.exact here.same in
+      let own_next = subst (λ (w : Written). WritesToEnding text w a d) same_next one in
+      let counted : suc count ≡ count + 1 = omega arith in
       record {
+        exact =
+            subst (λ (k : ℕ). WritesToEnding text (cut_lines old.on.now (standing old).outermost name cut k (left_at_ending (standing old))) old d) counted
+            (subst (λ (w : Written). WritesToEnding text w old d)
+            (lines_last old.on.now (standing old).outermost name cut count (left_at_ending (standing old)))
+            (then_written text (cut_lines old.on.now (standing old).outermost name cut count (left_at_ending (standing old)))
+            (next_cut old.on.now (standing old).outermost name cut) old a d exact own_next));
         done = done ++ line ∷ [];
         others = others;
         parts = parts ∙ sym (append_assoc done (line ∷ []) others);
@@ -327,10 +354,11 @@ module _ {A : Type 0} (name : Name) (cut : Rest → Rest) (all : ℕ) where
 
   -- one more
   pub so_far_more : (count : ℕ) (old a b d : Walk A) → count < all → LinesSoFar name cut all count old a → PassesLine (standing a) (standing b) → WritesNextLine a b
-      → HasSameOpen (standing a) (standing b) → WritesCutLine name cut b d → LinesSoFar name cut all (count + 1) old d
-  so_far_more count old a b d less so_far passes writes kept cuts text first ls left after size is_chunk st at order taken =
+      → WritesNextBegun a b → HasSameOpen (standing a) (standing b) → WritesCutLine name cut b d → LinesSoFar name cut all (count + 1) old d
+  so_far_more count old a b d less so_far passes writes begun kept cuts text first ls left after size is_chunk st at order taken =
       let some = so_far text first ls left after size is_chunk st at order taken in
-      one_more count old a b d less passes writes kept cuts text first ls after size is_chunk some.done some.others some.mid some.parts some.size some.lines some.ahead
+      one_more count old a b d less passes writes begun kept cuts text first ls after size is_chunk some.done some.others some.mid some.parts some.size some.lines
+      some.ahead some.exact
 
   all_done : (count : ℕ) (old new : Walk A) → count ≡ all → (text : List ℕ) (first : Option LineEnding) (ls : List BlockLine)
       (after : List LineRest) → all ≡ length ls → (done others : List BlockLine) (mid : List LineRest) → ls ≡ done ++ others
@@ -349,6 +377,12 @@ module _ {A : Type 0} (name : Name) (cut : Rest → Rest) (all : ℕ) where
   so_far_all count old new is so_far text first ls left after size is_chunk st at order taken =
       let some = so_far text first ls left after size is_chunk st at order taken in
       all_done count old new is text first ls after size some.done some.others some.mid some.parts some.size some.lines some.ahead
+
+  -- exactly all
+  pub so_far_exact : (count : ℕ) (old new : Walk A) → count ≡ all → LinesSoFar name cut all count old new → WritesCutPieces name cut all old new
+  so_far_exact count old new is so_far text first ls left after size is_chunk st at order taken =
+      let some = so_far text first ls left after size is_chunk st at order taken in
+      subst (λ (k : ℕ). WritesToEnding text (cut_lines old.on.now (standing old).outermost name cut k (left_at_ending (standing old))) old new) is some.exact
 
 -- ---- a count of lines
 

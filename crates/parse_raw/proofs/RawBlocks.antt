@@ -1,5 +1,5 @@
 -- What is written of a raw block, step by step (CommonMark 4.4 and 4.6).
-use Rattle.std.proofs.Common.{◌≡◌, ℕ, suc, List, [], ◌∷◌, ◌++◌, Option, None, Some, refl, sym, ap, ap₂, subst, ◌∙◌}
+use Rattle.std.proofs.Common.{◌≡◌, ℕ, suc, false, List, [], ◌∷◌, ◌++◌, Option, None, Some, refl, sym, ap, ap₂, subst, ◌∙◌}
 use Rattle.std.proofs.Common.{append_assoc, flat_map, length, reverse}
 use Rattle.std.proofs.lemmas.Grind.{flat_map-append}
 use Rattle.parse_raw.proofs.Prelude.{append, append-nil, AreHtmlLinesAlike, AreRaw, AreTaken, around, AtEnding, Between, BlockLine, bytes_of, Chunk}
@@ -15,6 +15,15 @@ use Rattle.parse_raw.specs.RawLines.{TakesChunks}
 use Rattle.parse_alike.specs.BlockLines.{HtmlPart, html_end, html_parts, html_text}
 use Rattle.parse_raw.proofs.Nodes.{raw_append, raw_parts_append}
 use Rattle.parse_raw.proofs.RawLines.{bytes_stay}
+use Rattle.parse_raw.proofs.Prelude.{Enters, Exits, outdent, same_name, Standing}
+use Rattle.event_definition.specs.Pieces.{token}
+use Rattle.event_definition.specs.RawLines.{raw_lines as raw_lines_written}
+use Rattle.event_definition.specs.Written.{Written, and_then, inside, whole_rest, with_rest}
+use Rattle.parse_pieces.proofs.Written.{pieces_around}
+use Rattle.parse_pieces.specs.Written.{WritesPieces}
+use Rattle.parse_lines.specs.Pieces.{left_at_ending, left_in_line}
+use Rattle.parse_raw.specs.Pieces.{WritesCutPieces, WritesToEnding, cut_lines}
+use Rattle.parse_raw.proofs.Pieces.{lines_are, then_written}
 
 -- ---- the parts of lines
 
@@ -122,4 +131,38 @@ module _ {A : Type 0} (text : List ℕ) where
         around = (more.around.0 ∙ one.around.0, more.around.1 ∙ one.around.1);
         written = more.written;
         fill = λ slots rest fill takes. fill_both fill (more.fill rest takes);
+      }
+
+  -- the lines after the first
+  pub all_exact : (name : Name) (cut : Rest → Rest) (first : BlockLine) (others : List BlockLine) (left after : List LineRest) (count : ℕ) (b c e : Walk A)
+      → IsChunkName name → (one : WritesFirst text name first left b c) → count ≡ length others
+      → AreTaken b.on.now (around (standing b)) (IsCutLine cut) others (Between left) (Between after)
+      → WritesCutPieces name cut count c e
+      → WritesToEnding text (cut_lines c.on.now (standing c).outermost name cut count (left_at_ending (standing c))) c e
+  all_exact name cut first others left after count b c e is_chunk one size taken writes =
+      let taken_c = subst (λ (x : Constructs). AreTaken x (reverse (standing c).outermost) (IsCutLine cut) others (Between left) (Between after)) (sym one.around.0) (
+      subst (λ (cs : List Container). AreTaken b.on.now (reverse cs) (IsCutLine cut) others (Between left) (Between after)) (sym one.around.1) taken
+      ) in
+      writes text first.ending others left after size is_chunk one.stands one.written one.writes.order taken_c
+
+  -- an event around them, as the definition has it
+  pub block_exact : (block chunk : Name) (cut : Rest → Rest) (columns count : ℕ) (rest : Rest) (a b c e d : Walk A)
+      → ((r : Rest) → cut r ≡ outdent columns r) → same_name block n.Data ≡ false
+      → Enters text block a.out b.out → written_to b ≡ written_to a → WritesPieces text (token chunk rest) b.out c.out → standing c ≡ standing b
+      → WritesToEnding text (cut_lines c.on.now (standing c).outermost chunk cut count (left_at_ending (standing c))) c e
+      → Exits text block e.out d.out → standing d ≡ standing e → written_to d ≡ written_to e
+      → WritesToEnding text (inside block (and_then (whole_rest chunk (with_rest rest (left_in_line (standing b))))
+      (raw_lines_written b.on.now (standing b).outermost chunk columns count))) a d
+  block_exact block chunk cut columns count rest a b c e d cuts other enters end_b written_c same_c lines exits same_d end_d =
+      let here = with_rest rest (left_in_line (standing b)) in
+      let first : WritesToEnding text (whole_rest chunk here) b c = record { pieces = written_c; left = ap left_at_ending same_c } in
+      let lines_b = subst (λ (w : Written). WritesToEnding text w c e)
+      (ap (λ (s : Standing). cut_lines s.on s.outermost chunk cut count (left_at_ending (standing c))) same_c
+      ∙ lines_are b.on.now (standing b).outermost chunk cut columns count (left_at_ending (standing c)) cuts) lines in
+      let all = then_written text (whole_rest chunk here) (raw_lines_written b.on.now (standing b).outermost chunk columns count) b c e first lines_b in
+      record {
+        pieces =
+            pieces_around text block (and_then (whole_rest chunk here) (raw_lines_written b.on.now (standing b).outermost chunk columns count)).pieces
+            a.out b.out e.out d.out other enters end_b all.pieces exits end_d;
+        left = ap left_at_ending same_d ∙ all.left;
       }

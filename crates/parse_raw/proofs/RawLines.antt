@@ -25,6 +25,12 @@ use Rattle.parse_lines.proofs.Cuts.{line_end_cut}
 use Rattle.parse_raw.proofs.Bytes.{columns_white, rest_fits}
 use Rattle.parse_raw.proofs.Nodes.{IsRawName, ends_append, raw_append, raw_parts_append, raw_void, void_cases}
 use Rattle.parse_raw.proofs.Raw.{rest_bytes, rest_size, void_node}
+use Rattle.event_definition.specs.Pieces.{Pieces, token}
+use Rattle.event_definition.specs.Written.{with_rest}
+use Rattle.parse_pieces.specs.Written.{WritesPieces}
+use Rattle.parse_lines.specs.Pieces.{left_in_line}
+use Rattle.parse_raw.specs.RawLines.{cut_line}
+use Rattle.parse_raw.proofs.Pieces.{cut_token, none_before, rest_token}
 
 -- ---- the codes of what is left of a line
 
@@ -244,6 +250,11 @@ module _ {A : Type 0} (text : List ℕ) (name : Name) where
         written = end ∙ ap (λ (s : Standing). end_at s.line_end 0) (sym same);
         spaced = λ some none. let is = no_codes here.rest none in absurd (omega (arith, some, ap length is));
         fill = all.fill;
+        exact =
+            subst (λ (ps : Pieces). WritesPieces text ps b.out d.out) (sym (none_before n.SpaceOrTab (rest_of b.rest) (token name (rest_of b.rest))))
+            (subst (λ (r : Rest). WritesPieces text (token name r) b.out d.out) (sym (st.rest ∙ st.suffix))
+            (rest_token text st.line.before st.line.content (ending_text b.ending ++ b.left.now) b.line_end st.line.parts st.line.end name st.columns b.out d.out from
+            end (subst (λ (e : End). Writes text b.out d.out (void_nodes text name (written_to b) e)) (sym end) (subst (Writes text b.out d.out) all.is all.writes))));
       }
 
   -- what is left of a line after some columns of white space
@@ -310,4 +321,14 @@ module _ {A : Type 0} (text : List ℕ) (name : Name) where
             (λ h. refl);
         fill = λ slots takes.
             fill_both (void_between Lines slots n.SpaceOrTab text (written_to b) mid refl takes.between.space refl refl) (all.fill slots takes);
+        exact =
+            subst (λ (r : Rest). WritesPieces text (cut_line name (outdent k) (with_rest r (left_in_line (standing b)))).pieces b.out d.out)
+            (sym (st.rest ∙ st.suffix))
+            (cut_token text before content after b.line_end st.line.parts st.line.end name st.columns (min k (indent (drop st.columns (whole content)))) b.out c.out d.out
+            from
+            (to ∙ ap (λ (r : Rest). rest_start b.line_end (outdent k r)) (st.rest ∙ st.suffix)
+            ∙ ap (rest_start b.line_end) (drop-drop (min k (indent (drop st.columns (whole content)))) st.columns (whole content)))
+            (end ∙ ap (λ (e : ℕ). end_at e 0) line_end)
+            (subst (λ (e : End). Writes text b.out c.out (void_nodes text n.SpaceOrTab (written_to b) e)) (sym to) spaces)
+            (subst (λ (e : End). Writes text c.out d.out (void_nodes text name (written_to c) e)) (sym end) (subst (Writes text c.out d.out) all.is all.writes)));
       }

@@ -3,6 +3,7 @@ pub mod Written
 pub mod Reads
 pub mod Laid
 pub mod RawLines
+pub mod Pieces
 pub mod Tokens
 pub mod FenceParts
 pub mod Before

@@ -23,6 +23,9 @@ use Rattle.parse_references.specs.Sound.{asked_names}
 use Rattle.parse_alike.specs.Raw.{chunk, end_part, has_codes, is_there}
 use Rattle.parse_laid.specs.Leaves.{AreTaken}
 use Rattle.parse_laid.specs.Places.{AtEnding, Between, InAll, LineRest, Prefixed, Within}
+use Rattle.event_definition.specs.Written.{Left, Written, and_then, rest_of, up_to, whole_rest}
+use Rattle.parse_pieces.specs.Written.{WritesPieces}
+use Rattle.parse_lines.specs.Pieces.{left_in_line}
 use Rattle.parse_lines.specs.declared.walk.Walk.{Walk}
 use Rattle.parse_lines.specs.Ends.{IsWrittenToRest, written_to}
 use Rattle.parse_lines.specs.Standing.{StandsAt, around, standing}
@@ -72,6 +75,10 @@ IsChunkName name = (name ≡ n.CodeFlowChunk) ⊎ ((name ≡ n.MathFlowChunk) �
 
 -- ---- lines
 
+-- what is cut from a rest of a line, and what is left of it
+abbrev pub cut_line : Name → (Rest → Rest) → Left → Written
+cut_line name cut left = and_then (up_to n.SpaceOrTab (cut (rest_of left)) left) (whole_rest name)
+
 -- a line that is in all of the containers around it, and loses some of its columns
 abbrev pub IsCutLine : (Rest → Rest) → Prefixed → BlockLine → Type 0
 IsCutLine cut here line = (own : LineRest) × (here ≡ InAll own) × (line ≡ rest_line (cut own.rest) own.beside)
@@ -89,6 +96,8 @@ pub record WritesCut {A : Type 0} (text : List ℕ) (name : Name) (cut : Rest �
   pub spaced : 0 < length here.rest → has_codes (block_codes (cut here.rest)) ≡ false → ends_in n.SpaceOrTab false nodes ≡ true
   -- they are chunks of a row
   pub fill : (slots : List Slot) → TakesChunks name slots → Fill Lines slots nodes slots
+  -- as the definition has it
+  pub exact : WritesPieces text (cut_line name cut (left_in_line (standing old))).pieces old.out new.out
 
 -- From a walk within a line, what is left of it is written so.
 abbrev pub WritesCutLine : {A : Type 0} → Name → (Rest → Rest) → Walk A → Walk A → Type 0

@@ -17,6 +17,9 @@ use Rattle.parse_lines.specs.declared.walk.Walk.{Walk}
 use Rattle.parse_lines.specs.Content.{AreNext}
 use Rattle.parse_lines.specs.Ends.{written_to}
 use Rattle.parse_lines.specs.Standing.{TEXT_MAX, standing}
+use Rattle.event_definition.specs.Pieces.{Pieces, grouped, join}
+use Rattle.event_definition.specs.ThematicBreak.{break_name}
+use Rattle.parse_pieces.specs.Written.{WritesPieces}
 use Rattle.parse_raw.specs.RawLines.{AreRaw}
 
 -- these bytes are left of the line, and all before them is written
@@ -68,6 +71,10 @@ pub record WritesBreakPart {A : Type 0} (text before after : List ℕ) (old new 
   pub tokens : WritesTokens text after old new
   pub more : Fill Lines break_rest tokens.nodes break_rest
   pub first : BeginsDark before → Fill Lines (row n.ThematicBreak Plain) tokens.nodes break_rest
+  -- exactly the first of the pieces of these bytes
+  pub part : Pieces
+  pub parts : grouped break_name before ≡ join part (grouped break_name after)
+  pub exact : WritesPieces text part old.out new.out
 
 -- From a walk before these bytes, a part of a break is written, and others are left.
 abbrev pub PassesBreakPart : {A : Type 0} → List ℕ → List ℕ → Walk A → Walk A → Type 0

@@ -5,6 +5,7 @@ ghost use Rattle.parse_lines.specs.Open.{still_open};
 ghost use Rattle.definition_text.specs.BlockLines.{BlockLine};
 ghost use Rattle.definition_block.specs.Tree.{IndentedCode};
 ghost use Rattle.definition_page.specs.Read.{Reading};
+ghost use Rattle.parse_raw.specs.Pieces.{WritesLeafPieces};
 ghost use Rattle.parse_raw.specs.Reads.{WritesReadLeaf};
 
 use crate::code_lines::{push_code_lines, push_indent};
@@ -23,6 +24,8 @@ pub fn push_indented_code<A: Allocator>(
     ensures open { OnOk result (still_open walk.new ≡ still_open walk.old) }
     ensures written { OnOk result ((r : Reading) (first : Bool) (ls : List BlockLine) → count ≡ length ls
         → WritesReadLeaf r first (IndentedCode ls) [] walk.old walk.new) }
+    ensures exact { OnOk result ((r : Reading) (first : Bool) (ls : List BlockLine) → count ≡ length ls
+        → WritesLeafPieces r first (IndentedCode ls) walk.old walk.new) }
 {
     push_indent(walk, TAB_SIZE)?;
     walk.enter(Name::CodeIndented)?;

@@ -9,6 +9,7 @@ ghost use Rattle.parse_lines.specs.Ends.{WritesUpTo, rest_start, written_to};
 ghost use Rattle.parse_lines.specs.Open.{still_open};
 ghost use Rattle.parse_lines.specs.Standing.{standing};
 ghost use Rattle.parse_lines.specs.Steps.{HasSameOpen};
+ghost use Rattle.parse_raw.specs.Pieces.{WritesCutPieces};
 ghost use Rattle.parse_raw.specs.RawLines.{WritesCutLine, WritesCutLines};
 
 use engine_events::event::Name;
@@ -26,6 +27,7 @@ pub(crate) fn push_lines<A: Allocator>(
     requires lines { holds_lines (still_open walk.old) ≡ true }
     ensures open { OnOk result (still_open walk.new ≡ still_open walk.old) }
     ensures written { OnOk result (WritesCutLines chunk (λ rest. rest) count walk.old walk.new) }
+    ensures exact { OnOk result (WritesCutPieces chunk (λ rest. rest) count walk.old walk.new) }
 {
     for _ in 0..count {
         walk.next_line()?;
@@ -47,6 +49,7 @@ pub(crate) fn push_code_lines<A: Allocator>(
     requires lines { holds_lines (still_open walk.old) ≡ true }
     ensures open { OnOk result (still_open walk.new ≡ still_open walk.old) }
     ensures written { OnOk result (WritesCutLines chunk (outdent indent) count walk.old walk.new) }
+    ensures exact { OnOk result (WritesCutPieces chunk (outdent indent) count walk.old walk.new) }
 {
     for _ in 0..count {
         walk.next_line()?;

@@ -5,6 +5,7 @@ ghost use Rattle.parse_lines.specs.Open.{still_open};
 ghost use Rattle.definition_text.specs.BlockLines.{BlockLine};
 ghost use Rattle.definition_block.specs.Tree.{Html};
 ghost use Rattle.definition_page.specs.Read.{Reading};
+ghost use Rattle.parse_raw.specs.Pieces.{WritesLeafPieces};
 ghost use Rattle.parse_raw.specs.Reads.{WritesReadLeaf};
 
 use crate::code_lines::push_lines;
@@ -19,6 +20,8 @@ pub fn push_html<A: Allocator>(walk: &mut Walk<'_, A>, count: usize) -> Result<(
     ensures open { OnOk result (still_open walk.new ≡ still_open walk.old) }
     ensures written { OnOk result ((r : Reading) (first : Bool) (ls : List BlockLine) → count ≡ length ls
         → WritesReadLeaf r first (Html ls) [] walk.old walk.new) }
+    ensures exact { OnOk result ((r : Reading) (first : Bool) (ls : List BlockLine) → count ≡ length ls
+        → WritesLeafPieces r first (Html ls) walk.old walk.new) }
 {
     walk.enter(Name::HtmlFlow)?;
     walk.all(Name::HtmlFlowData)?;

@@ -8,6 +8,7 @@ ghost use Rattle.parse_lines.specs.Open.{still_open};
 ghost use Rattle.definition_block.specs.Tree.{Break};
 ghost use Rattle.definition_page.specs.Read.{Reading};
 ghost use Rattle.parse_raw.specs.Bytes.{AreBreak};
+ghost use Rattle.parse_raw.specs.Pieces.{WritesLeafPieces};
 ghost use Rattle.parse_raw.specs.Reads.{WritesReadLeaf};
 ghost use Rattle.parse_raw.specs.Tokens.{PassesBreakPart};
 
@@ -23,6 +24,7 @@ pub fn push_thematic_break<A: Allocator>(walk: &mut Walk<'_, A>) -> Result<(), A
     requires blocks { holds_blocks (still_open walk.old) ≡ true }
     ensures open { OnOk result (still_open walk.new ≡ still_open walk.old) }
     ensures written { OnOk result ((r : Reading) (first : Bool) → WritesReadLeaf r first Break [] walk.old walk.new) }
+    ensures exact { OnOk result ((r : Reading) (first : Bool) → WritesLeafPieces r first Break walk.old walk.new) }
 {
     let mut rest = walk.white()?.as_bytes();
     walk.enter(Name::ThematicBreak)?;

@@ -304,7 +304,8 @@ abbrev pub left : List ℕ → Option Found → Option (List ℕ)
 left cs None = None
 left cs (Some leaf) = Some (drop leaf.size (60 ∷ cs))
 
-left_by : (cs : List ℕ) (parts : List InlineLeaf) (c : ℕ) (rest : List ℕ) → IsRest cs (c ∷ rest) → drop (length (text_before cs (c ∷ rest)) + 2) (60 ∷ cs) ≡ rest
+left_by : (cs : List ℕ) (parts : List InlineLeaf) (c : ℕ) (rest : List ℕ) → IsRest cs (c ∷ rest) → drop (length (text_before cs (c ∷ rest)) + 2) (60 ∷ cs) ≡
+    rest
 left_by cs parts c rest r =
     let k = r.count in
     let size : length cs - length (c ∷ rest) ≡ k = (let f = r.few in let e = ap length r.is in let g = length-drop k cs in omega (arith, e, f, g)) in

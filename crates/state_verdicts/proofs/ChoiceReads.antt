@@ -2,12 +2,15 @@
 use Rattle.std.proofs.Common.{◌≡◌, ℕ, Bool, true, false, List, Option, Some, None, sym, subst}
 use Rattle.state_verdicts.proofs.Prelude.{AddressVerdict, Chooses, Config, Context, Effect, Event, feed, Found, GoesOn, hand_on, InlineName, Inlines, plain}
 use Rattle.state_verdicts.proofs.Prelude.{Point, ReferenceVerdict, run, SpanNames, SpanVerdict, State, Text, tries, Verdict, VirtualByte, with_byte}
+use Rattle.engine_states.specs.declared.label.LabelKind.{LabelKind}
 use Rattle.engine_states.specs.declared.state.Inline.TheVariants as state_inline
 use Rattle.engine_states.specs.declared.state.Name.TheVariants.{Inline}
 use Rattle.engine_states.specs.declared.state.State.TheVariants as states
 use Rattle.markdown_engine.specs.Reading.{first, next, second}
 use Rattle.markdown_engine.specs.ReadingLaws.{one_outcome}
 use Rattle.state_inline.specs.Inlines.{bodies}
+use Rattle.state_verdicts.specs.Beginnings.{Beginning}
+use Rattle.state_verdicts.specs.LabelStarts.{StartVerdict}
 use Rattle.state_verdicts.specs.Verdicts.{Comes, Reads}
 use Rattle.state_verdicts.proofs.Turns.{RunsOn, on_next}
 
@@ -99,6 +102,11 @@ module _ (text : Text) (old new : Comes) (follows : (d : Config Inlines) (w : Bo
       → Verdict text old c cs events stands leaf → Verdict text new c cs events stands leaf
   of_leaf c cs events stands None (d, r) = (d, follows d false r)
   of_leaf c cs events stands (Some leaf) (d, end, r, leaves, sees) = (d, end, follows d true r, leaves, sees)
+
+  pub of_start : {T : Type 0} (here : Beginning T) (kind : LabelKind) (size : ℕ) (events : Point → List Event) (stands : Point → Point) (is : Bool)
+      → StartVerdict here old kind size events stands is → StartVerdict here new kind size events stands is
+  of_start here kind size events stands true (d, end, r, leaves, sees) = (d, end, follows d true r, leaves, sees)
+  of_start here kind size events stands false (d, r) = (d, follows d false r)
 
   pub of_reference : (c : Config Inlines) (p q : Point) (cs : List ℕ) (leaf : Option Found) → ReferenceVerdict text old c p q cs leaf
       → ReferenceVerdict text new c p q cs leaf

@@ -4,27 +4,32 @@ use Rattle.std.proofs.Common.{◌∷◌, ◌++◌}
 use Rattle.std.proofs.Common.{drop, length, length-drop, Option, Some, None, inl, inr, refl, sym, ap, subst, arith, append_assoc, append-nil}
 use Rattle.state_verdicts.proofs.BlockPrelude.{after_line, and_right, as_byte, AtHand, bare, byte, cases_Bool, Config, Context, eq-eqb, eqb-true}
 use Rattle.state_verdicts.proofs.BlockPrelude.{event, Event}
-use Rattle.state_verdicts.proofs.BlockPrelude.{feed, Flows, GoesOn, InLine, is_eol, is_feed, is_space_or_tab, is_white, KeptState, line_of, list_all}
+use Rattle.state_verdicts.proofs.BlockPrelude.{feed, Flows, GoesOn, indent, InLine, is_eol, is_feed, is_space_or_tab, is_white, KeptState, line_of, LineEnds}
+use Rattle.state_verdicts.proofs.BlockPrelude.{list_all, lt-ltb}
 use Rattle.state_verdicts.proofs.BlockPrelude.{more}
-use Rattle.state_verdicts.proofs.BlockPrelude.{no_limit, nothing, or_cases, plain, Point, run, Sees, SkipsOnce, State, tab, Text, text_byte}
+use Rattle.state_verdicts.proofs.BlockPrelude.{no_limit, nothing, or_cases, part, plain, Point, run, Sees, SkipsOnce, State, tab, Text, text_byte, tries}
 use Rattle.definition_block.specs.CodeFenced.{Fence, fence_by, fence_of}
 use Rattle.definition_text.specs.Runs.{after_run, run as run_length}
 use Rattle.std.proofs.lemmas.List.Sums.{prefix_len-le-length}
 use Rattle.engine_events.specs.declared.event.Kind.TheVariants.{Enter, Exit}
 use Rattle.engine_events.specs.declared.event.Name.TheVariants as names
+use Rattle.engine_states.specs.declared.state.Inline.TheVariants as state_inline
 use Rattle.engine_states.specs.declared.state.State.TheVariants as states
 use Rattle.markdown_engine.specs.Reading.{at_point}
 use Rattle.state_flow.specs.Flows.{flows_bodies}
-use Rattle.state_verdicts.specs.CodeFenced.{CodeFencedVerdict, FenceVerdict, fence_events, fencing}
+use Rattle.state_verdicts.specs.CodeFenced.{CodeFencedVerdict, FenceVerdict, InfoAt, fence_events, fencing}
+use Rattle.state_verdicts.specs.WhiteSpace.{white_events, white_if}
 use Rattle.state_verdicts.specs.BlockVerdicts.{at_hand, line}
 use Rattle.state_verdicts.proofs.BreakTexts.{is_few}
-use Rattle.state_verdicts.proofs.FenceLines.{FenceByte, Outcome, Held, by_white, from_there, may_follow, reads}
+use Rattle.state_verdicts.proofs.FenceInfo.{named_on}
+use Rattle.state_verdicts.proofs.FenceLines.{FenceByte, Outcome, Held, by_white, follow_bare, from_there, may_follow, reads}
 use Rattle.state_verdicts.proofs.FenceStates as steps
-use Rattle.state_verdicts.proofs.LineCodes.{after_more, line_more, line_none, prefix_more, prefix_none, rest_more, weight, weight_four}
-use Rattle.state_verdicts.proofs.LineCodes.{weight_line_bare}
+use Rattle.state_verdicts.proofs.LineCodes.{after_bare, after_more, bare_apart, line_more, line_none, prefix_more, prefix_none, rest_more, weight, weight_four}
+use Rattle.state_verdicts.proofs.LineCodes.{weight_line_bare, white_within}
 use Rattle.state_verdicts.proofs.Seen.{seen_sort, seen_white}
-use Rattle.state_verdicts.proofs.BlockTurns.{and_on, byte_at, does, does_next, end_at, fails, fed, stays, still_at}
-use Rattle.state_verdicts.proofs.Standing.{Here, exits}
+use Rattle.state_verdicts.proofs.BlockTurns.{and_on, byte_at, does, does_next, end_at, fails, fed, fed_again, feeds, stays, still_at, tried}
+use Rattle.state_verdicts.proofs.Standing.{Here, exits, fed_here}
+use Rattle.state_verdicts.proofs.WhiteReads.{Attempted, attempted, flows_white, spaced}
 
 -- ---- the fence
 
@@ -223,6 +228,9 @@ module _ {T : Type 0} (here : InLine T) (once : SkipsOnce here.text) (few : leng
   four : (l : List Event) (a b e f : Event) → (((l ++ a ∷ []) ++ b ∷ []) ++ e ∷ []) ++ f ∷ [] ≡ l ++ (a ∷ b ∷ e ∷ f ∷ [])
   four l a b e f = simp append_assoc refl
 
+  three_more : (l : List Event) (a b : Event) (y : List Event) → ((l ++ a ∷ []) ++ b ∷ []) ++ y ≡ l ++ (a ∷ b ∷ y)
+  three_more l a b y = simp append_assoc refl
+
   module _ (m : ℕ) (fence : FenceByte m) (inner : is_eol m ≡ false) (cs : List ℕ) (q : Point) (is : here.codes ≡ m ∷ cs)
       (e : text.byte (text.start p) ≡ Some (as_byte m q)) (s : Sees text q cs)
       (opens : run (flows_bodies x steps.before) c0 ≡ plain (steps.opened m c0) (states.Next steps.sequence)) where
@@ -299,6 +307,69 @@ module _ {T : Type 0} (here : InLine T) (once : SkipsOnce here.text) (few : leng
         (states.Retry steps.sequence) (states.Retry steps.info_before) over.rest over.rest
         (does x text steps.sequence last (steps.closed last) (states.Retry steps.info_before) h) refl reads_rest
 
+    -- the end of the line is reached, with the info
+    record Told : Type 0 where
+      pub config : Config Flows
+      pub spare : ℕ
+      pub info : Point
+      pub rest : Point
+      pub end : Point
+      pub named : List Event
+      pub further : List Event
+      pub goes : GoesOn x text last (states.Retry steps.sequence) config (states.Retry steps.info_before)
+      pub at : AtHand text config end
+      pub stands : Here text c0 (fenced over.mid ++ (white_events over.rest (text.start over.mid) (text.start info) ++ (named ++ further))) (spaced spare kept)
+          config
+      pub seen : Sees text info (bare over.rest)
+      pub said : InfoAt text info named rest
+      pub ends : LineEnds text end
+      pub sees : Sees text end (after_line over.rest)
+
+    abbrev Tells : Bool → Type 0
+    Tells true = Told
+    Tells false = (d : Config Flows) × GoesOn x text last (states.Retry steps.sequence) d states.Nok
+
+    after_here : Here text c0 (fenced over.mid) (spaced after_fence.columns kept) (steps.closed last)
+    unfolding after_fence
+    after_here = record {
+      events = after_fence.here.events ∙ append-nil (fenced over.mid);
+      kept = after_fence.here.kept;
+      map = after_fence.here.map;
+      resolvers = after_fence.here.resolvers;
+    }
+
+    -- with no white space after the fence
+    passes_told : indent over.rest ≡ 0 → run (flows_bodies x steps.sequence) last ≡ plain (steps.closed last) (states.Retry steps.info_before)
+        → Tells (may_follow m (line_of over.rest))
+    passes_told none_there h = by_follow (may_follow m (line_of over.rest)) refl
+      where
+        by_follow : (good : Bool) → may_follow m (line_of over.rest) ≡ good → Tells good
+        by_follow true e = let o = named_on x text once c0 kept whole m fence refl refl over.rest over.mid over.sees none_there e room (fenced over.mid)
+            (steps.closed last) (record { columns = after_fence.columns; at = after_fence.at; here = after_here; apart = after_fence.apart }) in record {
+              config = o.config;
+              spare = o.columns;
+              info = over.mid;
+              rest = o.rest;
+              end = o.end;
+              named = o.named;
+              further = o.further;
+              goes = and_on x text (does x text steps.sequence last (steps.closed last) (states.Retry steps.info_before) h) o.goes;
+              at = o.at;
+              stands = record {
+                events = o.here.events
+                    ∙ ap (λ (i : ℕ). fenced over.mid ++ (white_if (nat_lt 0 i) (text.start over.mid) (text.start over.mid) ++ (o.named ++ o.further)))
+                    (sym none_there);
+                kept = o.here.kept;
+                map = o.here.map;
+                resolvers = o.here.resolvers;
+              };
+              seen = subst (λ (i : ℕ). Sees text over.mid (drop i over.rest)) (sym none_there) over.sees;
+              said = o.info;
+              ends = o.ends;
+              sees = o.sees;
+            }
+        by_follow false e = subst (λ (good : Bool). Ends good) e (passes h)
+
     size_last : nat_lt last.tokenize_state.size 3 ≡ not (leb 3 size)
     size_last = ap (λ (k : KeptState). nat_lt k.size 3) over.opening.here.kept ∙ is_few size (leb 3 size) refl
 
@@ -307,33 +378,92 @@ module _ {T : Type 0} (here : InLine T) (once : SkipsOnce here.text) (few : leng
 
     -- after the fence, whatever it has at least three or not
     abbrev Ended : Bool → Type 0
-    Ended long = Ends (long && may_follow m (line_of over.rest))
+    Ended long = Tells (long && may_follow m (line_of over.rest))
 
-    few_bytes : run (flows_bodies x steps.sequence) last ≡ plain last states.Nok → Ends false
+    few_bytes : run (flows_bodies x steps.sequence) last ≡ plain last states.Nok → Tells false
     few_bytes h = (last, does x text steps.sequence last last states.Nok h)
 
-    at_none : (long : Bool) → leb 3 size ≡ long → last.current ≡ None → Ended long
-    at_none true h k = passes (steps.sequence_none x last false k dollar_last (size_last ∙ ap not h))
-    at_none false h k = few_bytes (steps.sequence_none x last true k dollar_last (size_last ∙ ap not h))
+    at_none : (long : Bool) → leb 3 size ≡ long → last.current ≡ None → indent over.rest ≡ 0 → Ended long
+    at_none true h k none_there = passes_told none_there (steps.sequence_none x last false k dollar_last (size_last ∙ ap not h))
+    at_none false h k none_there = few_bytes (steps.sequence_none x last true k dollar_last (size_last ∙ ap not h))
 
-    at_black : (long : Bool) (b : ℕ) → leb 3 size ≡ long → last.current ≡ Some b → (b == m) ≡ false → is_space_or_tab b ≡ false → Ended long
-    at_black true b h k other black = passes (steps.sequence_other x b last false k (ap (λ (i : ℕ). b == i) marker_last ∙ other) dollar_last
+    at_black : (long : Bool) (b : ℕ) → leb 3 size ≡ long → last.current ≡ Some b → (b == m) ≡ false → is_space_or_tab b ≡ false
+        → indent over.rest ≡ 0 → Ended long
+    at_black true b h k other black none_there = passes_told none_there (steps.sequence_other x b last false k (ap (λ (i : ℕ). b == i) marker_last ∙ other)
+        dollar_last
         (size_last ∙ ap not h) black)
-    at_black false b h k other black = few_bytes (steps.sequence_other x b last true k (ap (λ (i : ℕ). b == i) marker_last ∙ other) dollar_last
+    at_black false b h k other black none_there = few_bytes (steps.sequence_other x b last true k (ap (λ (i : ℕ). b == i) marker_last ∙ other) dollar_last
         (size_last ∙ ap not h) black)
 
     at_white : (long : Bool) (b code : ℕ) (rest : List ℕ) → leb 3 size ≡ long → last.current ≡ Some b → (b == m) ≡ false → is_space_or_tab b ≡ true
         → over.rest ≡ code ∷ rest → is_white code ≡ true → Ended long
-    at_white true b code rest h k other white now is_it =
-        subst (λ (l : List ℕ). Outcome x text once c0 (fenced over.mid) kept whole m fence refl (may_follow m (line_of l)) last
-        (states.Retry steps.sequence) l) (sym now)
-        (by_white x text once c0 (fenced over.mid) kept whole m fence refl steps.sequence steps.info_before last (steps.closed last) over.mid code rest
-        after_fence (subst (λ (l : List ℕ). Sees text over.mid l) now over.sees) is_it
-        (subst (λ (l : List ℕ). weight (line_of l) ≤ no_limit) now room)
-        (steps.sequence_white x b last false k (ap (λ (i : ℕ). b == i) marker_last ∙ other) dollar_last (size_last ∙ ap not h) white)
-        (λ d r j t. reads x text once c0 (fenced over.mid) kept whole m fence refl (bare (code ∷ rest)) d r j t
-        (let w = weight_line_bare (code ∷ rest) in
-        let o : weight (line_of (code ∷ rest)) ≤ no_limit = subst (λ (l : List ℕ). weight (line_of l) ≤ no_limit) now room in omega (arith, w, o))))
+    at_white true b code rest h k other white now is_it = by_follow (may_follow m (line_of over.rest)) refl
+      where
+        tried_it : run (flows_bodies x steps.sequence) last
+            ≡ tries (states.Next steps.info_before) states.Nok (steps.readied (steps.closed last)) (part state_inline.SpaceOrTabStart)
+        tried_it = steps.sequence_white x b last false k (ap (λ (i : ℕ). b == i) marker_last ∙ other) dollar_last (size_last ∙ ap not h) white
+
+        failed : Ends (may_follow m (line_of over.rest))
+        failed =
+            subst (λ (l : List ℕ). Outcome x text once c0 (fenced over.mid) kept whole m fence refl (may_follow m (line_of l)) last
+            (states.Retry steps.sequence) l) (sym now)
+            (by_white x text once c0 (fenced over.mid) kept whole m fence refl steps.sequence steps.info_before last (steps.closed last) over.mid code rest
+            after_fence (subst (λ (l : List ℕ). Sees text over.mid l) now over.sees) is_it
+            (subst (λ (l : List ℕ). weight (line_of l) ≤ no_limit) now room)
+            (steps.sequence_white x b last false k (ap (λ (i : ℕ). b == i) marker_last ∙ other) dollar_last (size_last ∙ ap not h) white)
+            (λ d r j t. reads x text once c0 (fenced over.mid) kept whole m fence refl (bare (code ∷ rest)) d r j t
+            (let w = weight_line_bare (code ∷ rest) in
+            let o : weight (line_of (code ∷ rest)) ≤ no_limit = subst (λ (l : List ℕ). weight (line_of l) ≤ no_limit) now room in omega (arith, w, o))))
+
+        sees_white : Sees text over.mid (code ∷ rest)
+        sees_white = subst (λ (l : List ℕ). Sees text over.mid l) now over.sees
+
+        a : Attempted (flows_bodies x) (flows_white x) text c0 kept (fenced over.mid) (steps.readied (steps.closed last)) over.mid (bare (code ∷ rest))
+        a = attempted (flows_bodies x) (flows_white x) text c0 kept (fenced over.mid) no_limit (steps.readied (steps.closed last)) over.mid
+            (still_at refl refl refl after_fence.at) (record {
+              events = after_here.events;
+              kept = ap (spaced no_limit) after_here.kept;
+              map = after_here.map;
+              resolvers = after_here.resolvers;
+            }) whole code rest sees_white is_it
+            (let most = white_within (code ∷ rest) in let l = ap (λ (l : List ℕ). weight (line_of l)) now in let r = room in omega (arith, most, l, r))
+
+        by_follow : (good : Bool) → may_follow m (line_of over.rest) ≡ good → Tells good
+        by_follow true e = let o = named_on x text once c0 kept whole m fence refl refl (bare (code ∷ rest)) a.end a.sees (bare_apart (code ∷ rest))
+            (follow_bare m fence (code ∷ rest) ∙ (ap (λ (l : List ℕ). may_follow m (line_of l)) (sym now) ∙ e))
+            (let v = weight_line_bare (code ∷ rest) in let l = ap (λ (l : List ℕ). weight (line_of l)) now in let r = room in omega (arith, v, l, r))
+            ((fenced over.mid ++ event Enter names.SpaceOrTab (text.start over.mid) None ∷ []) ++ event Exit names.SpaceOrTab (text.start a.end) None ∷ [])
+            (feed text a.config) (record {
+              columns = a.columns;
+              at = fed_again text a.config a.end once a.there.at;
+              here = fed_here text c0 a.there.here;
+              apart = a.there.apart;
+            }) in record {
+              config = o.config;
+              spare = o.columns;
+              info = a.end;
+              rest = o.rest;
+              end = o.end;
+              named = o.named;
+              further = o.further;
+              goes = and_on x text (and_on x text (tried x text steps.sequence last (steps.readied (steps.closed last)) a.config (states.Next steps.info_before)
+                  states.Nok (part state_inline.SpaceOrTabStart) tried_it a.reads) (feeds x text steps.info_before a.config)) o.goes;
+              at = o.at;
+              stands = record {
+                events = o.here.events ∙ (three_more (fenced over.mid) (event Enter names.SpaceOrTab (text.start over.mid) None)
+                    (event Exit names.SpaceOrTab (text.start a.end) None) (o.named ++ o.further)
+                    ∙ ap (λ (b : Bool). fenced over.mid ++ (white_if b (text.start over.mid) (text.start a.end) ++ (o.named ++ o.further)))
+                    (sym (let size = prefix_more is_white code rest is_it in let l = ap indent now in lt-ltb 0 (indent over.rest) (omega (arith, size, l)))));
+                kept = o.here.kept;
+                map = o.here.map;
+                resolvers = o.here.resolvers;
+              };
+              seen = subst (λ (l : List ℕ). Sees text a.end (bare l)) (sym now) a.sees;
+              said = o.info;
+              ends = o.ends;
+              sees = subst (λ (l : List ℕ). Sees text o.end l) (after_bare (code ∷ rest) ∙ ap after_line (sym now)) o.sees;
+            }
+        by_follow false e = subst (λ (good : Bool). Ends good) e failed
     at_white false b code rest h k other white now is_it =
         few_bytes (steps.sequence_white x b last true k (ap (λ (i : ℕ). b == i) marker_last ∙ other) dollar_last (size_last ∙ ap not h) white)
 
@@ -342,6 +472,7 @@ module _ {T : Type 0} (here : InLine T) (once : SkipsOnce here.text) (few : leng
     at_byte b code rest k marks white now = elim (cases_Bool (is_white code)) [
       | inl is_it ↦ at_white (leb 3 size) b code rest refl k (marks ∙ fence.white_apart code is_it) (white ∙ is_it) now is_it
       | inr black ↦ at_black (leb 3 size) b refl k (marks ∙ none_marks code rest now) (white ∙ black)
+          (ap indent now ∙ prefix_none is_white code rest black)
     ]
       where
         none_by : (i : Bool) (l : List ℕ) → (code == m) ≡ i → is_eol code ≡ false → run_length m (line_of (code ∷ l)) ≡ 0 → i ≡ false
@@ -360,33 +491,42 @@ module _ {T : Type 0} (here : InLine T) (once : SkipsOnce here.text) (few : leng
             eol_apart false h eol = refl
 
     at_rest : (rest : List ℕ) → over.rest ≡ rest → Sees text over.mid rest → Ended (leb 3 size)
-    at_rest [] now (nothing ends) = at_none (leb 3 size) refl (end_at over.opening.at ends)
+    at_rest [] now (nothing ends) = at_none (leb 3 size) refl (end_at over.opening.at ends) (ap indent now)
     at_rest (code ∷ rest) now (byte apart stands more) =
         at_byte (text_byte code) code rest (byte_at over.opening.at stands) (fence.itself code) (seen_white code) now
     at_rest (code ∷ rest) now (tab most stands f more) = at_byte 9 9 rest (byte_at over.opening.at stands) refl refl now
 
-    by_outcome : (good : Bool) (run_is : ℕ) (after : List ℕ) → run_is ≡ size → Ends good → FenceVerdict here (fence_if good m run_is columns after)
-    by_outcome true run_is after count o = (
-      o.config,
-      over.mid,
-      o.end,
-      o.held.columns,
-      o.held.further,
-      and_on x text goes_in (and_on x text (does_next x text steps.before steps.sequence c0 (steps.opened m c0) opens) (and_on x text over.goes o.goes)),
-      record {
-        events = o.held.here.events ∙ append_assoc c0.events (fence_events (text.start p) (text.start over.mid)) o.held.further;
-        at = o.held.at;
-        kept = o.held.here.kept ∙ ap (λ (i : ℕ). fencing m i o.held.columns here.config.tokenize_state) (sym count);
-        map = o.held.here.map;
-        resolvers = o.held.here.resolvers;
-      },
-      subst (λ (l : List ℕ). Sees text over.mid l) (over.is ∙ (ap (λ (i : ℕ). drop i (m ∷ cs)) (let k : suc (run_length m (line_of cs)) ≡ run_is = omega (
-        arith,
-        count,
-      ) in k) ∙ ap (λ (l : List ℕ). drop run_is l) (sym is))) over.sees,
-      o.ends,
-      subst (λ (l : List ℕ). Sees text o.end l) (over.same ∙ sym (ap after_line is ∙ after_more m cs inner)) o.sees,
-    )
+    by_outcome : (good : Bool) (run_is : ℕ) (after : List ℕ) → run_is ≡ size → Tells good → FenceVerdict here (fence_if good m run_is columns after)
+    by_outcome true run_is after count o =
+        let rest_is : over.rest ≡ drop run_is here.codes =
+        over.is ∙ (ap (λ (i : ℕ). drop i (m ∷ cs)) (let k : suc (run_length m (line_of cs)) ≡ run_is = omega (arith, count) in k)
+        ∙ ap (λ (l : List ℕ). drop run_is l) (sym is)) in (
+          o.config,
+          o.spare,
+          over.mid,
+          o.info,
+          o.rest,
+          o.end,
+          o.named,
+          o.further,
+          and_on x text goes_in (and_on x text (does_next x text steps.before steps.sequence c0 (steps.opened m c0) opens) (and_on x text over.goes o.goes)),
+          record {
+            events = o.stands.events
+                ∙ (append_assoc c0.events (fence_events (text.start p) (text.start over.mid))
+                (white_events over.rest (text.start over.mid) (text.start o.info) ++ (o.named ++ o.further))
+                ∙ ap (λ (l : List ℕ). c0.events ++ (fence_events (text.start p) (text.start over.mid)
+                ++ (white_events l (text.start over.mid) (text.start o.info) ++ (o.named ++ o.further)))) rest_is);
+            at = o.at;
+            kept = o.stands.kept ∙ ap (λ (i : ℕ). fencing m i o.spare here.config.tokenize_state) (sym count);
+            map = o.stands.map;
+            resolvers = o.stands.resolvers;
+          },
+          subst (λ (l : List ℕ). Sees text over.mid l) rest_is over.sees,
+          subst (λ (l : List ℕ). Sees text o.info (bare l)) rest_is o.seen,
+          o.said,
+          o.ends,
+          subst (λ (l : List ℕ). Sees text o.end l) (over.same ∙ sym (ap after_line is ∙ after_more m cs inner)) o.sees,
+        )
     by_outcome false run_is after count (d, o) = (
       d,
       fails x text c0 d begins (and_on x text goes_in (and_on x text (does_next x text steps.before steps.sequence c0 (steps.opened m c0) opens)

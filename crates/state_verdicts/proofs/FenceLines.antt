@@ -22,7 +22,7 @@ use Rattle.state_verdicts.proofs.LineCodes.{weight_line_bare, weight_some, white
 use Rattle.state_verdicts.proofs.Seen.{seen_feed, seen_white, white_inner}
 use Rattle.state_verdicts.proofs.BlockTurns.{and_on, byte_at, does, does_next, end_at, fed, fed_again, feeds, stays, still_at, tried}
 use Rattle.state_verdicts.proofs.Standing.{Here}
-use Rattle.state_verdicts.proofs.WhiteReads.{attempted, spaced}
+use Rattle.state_verdicts.proofs.WhiteReads.{attempted, flows_white, spaced}
 
 -- codes that may follow a fence of this byte
 abbrev pub may_follow : ℕ → List ℕ → Bool
@@ -177,7 +177,8 @@ module _ {T : Type 0} (x : Context T) (text : Text) (once : SkipsOnce text) (c0 
         resolvers = h.here.resolvers;
       } in
       let indented = white_within (code ∷ cs) in
-      let a = attempted x text c0 k (es ++ h.further) no_limit (steps.readied d) p (still_at refl refl refl h.at) ready whole code cs sees is
+      let a = attempted (flows_bodies x) (flows_white x) text c0 k (es ++ h.further) no_limit (steps.readied d) p (still_at refl refl refl h.at) ready whole
+      code cs sees is
       (omega (arith, indented, room)) in
       let held : Held (feed text a.config) a.end = record {
         columns = a.columns;
@@ -437,6 +438,11 @@ module _ {T : Type 0} (x : Context T) (text : Text) (once : SkipsOnce text) (c0 
     meta_before = at_meta_before bound (all_of bound);
     meta = at_meta bound (all_of bound);
   }
+
+  -- before what follows the info
+  pub reads_meta : (codes : List ℕ) (c : Config Flows) (p : Point) → Held c p → Sees text p codes → weight (line_of codes) ≤ no_limit
+      → Outcome (may_follow m (line_of codes)) c (states.Retry steps.meta_before) codes
+  reads_meta codes c p h s room = (all_of (suc (weight codes))).meta_before codes (omega arith) c p h s room
 
   -- before the info
   pub reads : (codes : List ℕ) (c : Config Flows) (p : Point) → Held c p → Sees text p codes → weight (line_of codes) ≤ no_limit

@@ -120,6 +120,7 @@ module _ {T : Type 0} (x : Context T) (text : Text) (c0 : Config Flows) where
     pub at : AtHand text config end
     pub here : Here text c0 (es ++ event Exit names.HeadingAtxSequence (text.start end) None ∷ [])
         (record c0.tokenize_state { size = n + run_length 35 (line_of codes) }) config
+    pub apart : is_feed config.previous ≡ false
     pub sees : Sees text end (drop (run_length 35 (line_of codes)) codes)
 
   abbrev Outcome : Bool → Config Flows → ℕ → List Event → List ℕ → Type 0
@@ -145,6 +146,7 @@ module _ {T : Type 0} (x : Context T) (text : Text) (c0 : Config Flows) where
           map = f.map;
           resolvers = f.resolvers;
         };
+        apart = h.apart;
         sees = subst (λ (i : ℕ). Sees text p (drop i codes)) (sym none) s;
       }
 
@@ -166,6 +168,7 @@ module _ {T : Type 0} (x : Context T) (text : Text) (c0 : Config Flows) where
           map = o.here.map;
           resolvers = o.here.resolvers;
         };
+        apart = o.apart;
         sees = subst (λ (i : ℕ). Sees text o.end (drop i (code ∷ cs))) (sym size) o.sees;
       }
   goes_longer false n b es c code cs h inner g (d, o) = (d, and_on x text g o)
@@ -298,6 +301,7 @@ module _ {T : Type 0} (here : InLine T) where
       map = o.here.map;
       resolvers = o.here.resolvers;
     },
+    o.apart,
     subst (λ (ds : List ℕ). Sees text o.end ds) (ap (λ (i : ℕ). drop i (35 ∷ cs)) (let e : suc (run_length 35 (line_of cs)) ≡ rank = omega (
       arith,
       size,

@@ -5,6 +5,8 @@ mod Prelude
 mod BlockPrelude
 pub mod Turns
 pub mod Seen
+pub mod MachineTurns
+pub mod Standing
 pub mod EscapeReads
 pub mod BreakReads
 pub mod Stretches
@@ -14,7 +16,6 @@ pub mod RawStates
 pub mod RawReads
 pub mod SpanReads
 pub mod CodeReads
-pub mod Standing
 pub mod NamesSeen
 pub mod ReferenceStates
 pub mod ReferenceValues
@@ -25,6 +26,7 @@ pub mod AutolinkDomains
 pub mod AutolinkTexts
 pub mod AutolinkReads
 pub mod TrailingReads
+pub mod LabelStartReads
 pub mod ChoiceReads
 pub mod TextReads
 pub mod TextChoices
@@ -32,10 +34,25 @@ pub mod BlockTurns
 pub mod LineCodes
 pub mod Skips
 pub mod WhiteReads
+pub mod TaskCheckReads
+pub mod WhiteLines
+pub mod Markers
+pub mod RunLines
+pub mod BlankLineReads
+pub mod HeadingSetextReads
+pub mod ClosingReads
+pub mod ColumnReads
+pub mod CodeIndentedReads
+pub mod FrontmatterReads
+pub mod FrontmatterCloses
+pub mod BomReads
 pub mod BreakTexts
 pub mod ThematicBreakStates
 pub mod ThematicBreakReads
+pub mod StretchReads
 pub mod HeadingAtxReads
+pub mod HeadingAtxLines
 pub mod FenceStates
 pub mod FenceLines
+pub mod FenceInfo
 pub mod CodeFencedReads

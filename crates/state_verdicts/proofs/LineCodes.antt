@@ -70,6 +70,14 @@ none_white c cs h = none_by (is_white c) refl
     none_by true k = let e = prefix_more is_white c cs k in absurd (omega (arith, e, h))
     none_by false k = refl
 
+-- a line is no longer than the codes
+pub line_within : (cs : List ℕ) → length (line_of cs) ≤ length cs
+line_within [] = omega arith
+line_within (c ∷ cs) = elim (cases_Bool (is_eol c)) [
+  | inl h ↦ let e = ap length (line_none c cs h) in omega (arith, e)
+  | inr h ↦ let e = ap length (line_more c cs h) in let f = line_within cs in omega (arith, e, f)
+]
+
 -- ---- how many bytes codes may give
 
 -- a tab gives up to four, and any other code one
@@ -111,6 +119,26 @@ weight_line_bare (c ∷ cs) = elim (cases_Bool (is_white c)) [
       let l = ap weight (line_more c cs (white_inner c h)) in omega (arith, e, f, s, l)
   | inr h ↦ let e = ap (λ (l : List ℕ). weight (line_of l)) (rest_none is_white c cs h) in omega (arith, e)
 ]
+
+-- a prefix within a line
+module _ (p : ℕ → Bool) (inner : (c : ℕ) → p c ≡ true → is_eol c ≡ false) where
+  pub after_rest : (cs : List ℕ) → after_line (drop (prefix_len p cs) cs) ≡ after_line cs
+  after_rest [] = refl
+  after_rest (c ∷ cs) = elim (cases_Bool (p c)) [
+    | inl h ↦ ap after_line (rest_more p c cs h) ∙ (after_rest cs ∙ sym (after_more c cs (inner c h)))
+    | inr h ↦ ap after_line (rest_none p c cs h)
+  ]
+
+  pub weight_rest : (cs : List ℕ) → weight (line_of (drop (prefix_len p cs) cs)) ≤ weight (line_of cs)
+  weight_rest [] = omega arith
+  weight_rest (c ∷ cs) = elim (cases_Bool (p c)) [
+    | inl h ↦
+        let e = ap (λ (l : List ℕ). weight (line_of l)) (rest_more p c cs h) in
+        let f = weight_rest cs in
+        let s = weight_some c (line_of cs) in
+        let l = ap weight (line_more c cs (inner c h)) in omega (arith, e, f, s, l)
+    | inr h ↦ let e = ap (λ (l : List ℕ). weight (line_of l)) (rest_none p c cs h) in omega (arith, e)
+  ]
 
 -- the weight of the white space at the front
 abbrev pub white_weight : List ℕ → ℕ

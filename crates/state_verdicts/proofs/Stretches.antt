@@ -91,6 +91,15 @@ module _ (text : Text) (is : ℕ → Bool) where
   part_longer {q} {c} {k} {cs} h end st s =
       record { count = k; end = end; stretch = st; sees = subst (λ (ds : List ℕ). Sees text end ds) (sym (rest_more sight c cs h)) s }
 
+  -- a sort that has no tab
+  pub some_seen : is 9 ≡ false → (cs : List ℕ) {q : Point} → Sees text q cs → Part q cs
+  some_seen no_tab [] {q} (nothing e) = record { count = 0; end = q; stretch = ended (no_byte e); sees = nothing e }
+  some_seen no_tab (c ∷ cs) {q} (byte {q = r} apart e s) = elim (cases_Bool (sight c)) [
+    | inl h ↦ let f = some_seen no_tab cs s in part_longer h f.end (longer e h f.stretch) f.sees
+    | inr h ↦ part_ends h (other_byte e h) (byte apart e s)
+  ]
+  some_seen no_tab (c ∷ cs) {q} (tab few e f s) = part_ends no_tab (other_byte e no_tab) (tab few e f s)
+
   module _ (of_tab : is 9 ≡ true) (of_space : is 32 ≡ true) where
     -- the spaces of a tab, and then more
     pub record TabFill (q r : Point) : Type 0 where

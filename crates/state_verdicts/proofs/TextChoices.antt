@@ -1,23 +1,28 @@
 -- Before each part of a text the construct is attempted that its byte may begin.
 use Rattle.std.proofs.Common.{◌≡◌, ◌∙◌, ℕ, Bool, true, false, List, ◌∷◌, Option, None, Some, refl, ap, subst}
-use Rattle.definition_text.specs.Ascii.{ampersand, backslash, backtick, dollar, less_than}
+use Rattle.definition_text.specs.Ascii.{ampersand, backslash, backtick, dollar, exclamation_mark, left_bracket, less_than}
 use Rattle.state_verdicts.proofs.Prelude.{as_byte, at_byte, break_events, byte_at, Chooses, Config, Context, ends_apart, escape_at, escape_events}
 use Rattle.state_verdicts.proofs.Prelude.{escaped_break_at, Found, GoesOn, hand_on, InlineName, Inlines, next, Point, retry, run, Sees, Text, tries, Verdict}
 use Rattle.engine_states.specs.declared.state.Inline.TheVariants as state_inline
 use Rattle.engine_states.specs.declared.state.Name.TheVariants.{Inline}
 use Rattle.state_inline.specs.Inlines.{bodies}
 use Rattle.state_verdicts.specs.Autolink.{AutolinkChoice}
+use Rattle.state_verdicts.specs.Beginnings.{beginning}
 use Rattle.state_verdicts.specs.CharacterEscape.{EscapeChoice}
 use Rattle.state_verdicts.specs.CharacterReference.{CharacterReferenceChoice}
 use Rattle.state_verdicts.specs.CodeText.{CodeTextChoice}
+use Rattle.state_verdicts.specs.GfmLabelStartFootnote.{CallStartChoice}
 use Rattle.state_verdicts.specs.HardBreakEscape.{BreakChoice}
+use Rattle.state_verdicts.specs.LabelStartImage.{ImageStartChoice}
+use Rattle.state_verdicts.specs.LabelStartLink.{LinkStartChoice}
 use Rattle.state_verdicts.specs.MathText.{MathTextChoice}
 use Rattle.state_verdicts.specs.Text.{BackslashChoice}
 use Rattle.state_verdicts.proofs.AutolinkReads.{autolink_verdict}
 use Rattle.state_verdicts.proofs.BreakReads.{break_verdict}
-use Rattle.state_verdicts.proofs.ChoiceReads.{and_on, choice, of_autolink, of_leaf, of_reference, of_span}
+use Rattle.state_verdicts.proofs.ChoiceReads.{and_on, choice, of_autolink, of_leaf, of_reference, of_span, of_start}
 use Rattle.state_verdicts.proofs.CodeReads.{code_text, math_text}
 use Rattle.state_verdicts.proofs.EscapeReads.{escape_verdict}
+use Rattle.state_verdicts.proofs.LabelStartReads.{call_verdict, image_verdict, link_verdict}
 use Rattle.state_verdicts.proofs.ReferenceReads.{reference_verdict}
 
 module _ {T : Type 0} (texts : List ℕ → Option (List ℕ)) (is_punctuation : ℕ → Bool) (x : Context T) (text : Text) (c : Config Inlines) (q : Point) where
@@ -49,6 +54,45 @@ module _ {T : Type 0} (texts : List ℕ → Option (List ℕ)) (is_punctuation :
   at_math : Attempts dollar state_inline.TextBefore state_inline.RawTextStart state_inline.TextBeforeData
   unfolding bodies
   at_math = refl
+
+module _ {T : Type 0} (texts : List ℕ → Option (List ℕ)) (is_punctuation : ℕ → Bool) (x : Context T) (text : Text) (c : Config Inlines) (q : Point) where
+  at_call : Attempts texts is_punctuation x text c q left_bracket state_inline.TextBefore state_inline.GfmLabelStartFootnoteStart
+      state_inline.TextBeforeLabelStartLink
+  unfolding bodies
+  at_call = refl
+
+  at_link : Attempts texts is_punctuation x text c q left_bracket state_inline.TextBeforeLabelStartLink state_inline.LabelStartLinkStart
+      state_inline.TextBeforeData
+  unfolding bodies
+  at_link = refl
+
+  at_image : Attempts texts is_punctuation x text c q exclamation_mark state_inline.TextBefore state_inline.LabelStartImageStart state_inline.TextBeforeData
+  unfolding bodies
+  at_image = refl
+
+pub call_choice : (T : Type 0) → CallStartChoice T
+call_choice T texts is_punctuation x text c q cs h s =
+    of_start text _ _
+    (choice texts is_punctuation x text c (Some (as_byte left_bracket q)) state_inline.TextBefore state_inline.TextBeforeLabelStartLink
+    (retry state_inline.GfmLabelStartFootnoteStart) h (at_call texts is_punctuation x text c q))
+    (beginning texts is_punctuation x text c left_bracket (text.start c.point) q cs) _ 2 _ _ _
+    (call_verdict T texts is_punctuation x text c (text.start c.point) q cs s)
+
+pub link_choice : (T : Type 0) → LinkStartChoice T
+link_choice T texts is_punctuation x text c q cs h s =
+    of_start text _ _
+    (choice texts is_punctuation x text c (Some (as_byte left_bracket q)) state_inline.TextBeforeLabelStartLink state_inline.TextBeforeData
+    (retry state_inline.LabelStartLinkStart) h (at_link texts is_punctuation x text c q))
+    (beginning texts is_punctuation x text c left_bracket (text.start c.point) q cs) _ 1 _ _ _
+    (link_verdict T texts is_punctuation x text c (text.start c.point) q cs s)
+
+pub image_choice : (T : Type 0) → ImageStartChoice T
+image_choice T texts is_punctuation x text c q cs h s =
+    of_start text _ _
+    (choice texts is_punctuation x text c (Some (as_byte exclamation_mark q)) state_inline.TextBefore state_inline.TextBeforeData
+    (retry state_inline.LabelStartImageStart) h (at_image texts is_punctuation x text c q))
+    (beginning texts is_punctuation x text c exclamation_mark (text.start c.point) q cs) _ 2 _ _ _
+    (image_verdict T texts is_punctuation x text c (text.start c.point) q cs s)
 
 pub escape_choice : (T : Type 0) → EscapeChoice T
 escape_choice T texts is_punctuation x text c q cs h s =

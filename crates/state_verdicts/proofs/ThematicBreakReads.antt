@@ -4,7 +4,7 @@ use Rattle.std.proofs.Common.{◌∷◌, ◌++◌, length, Some, None, inl, inr,
 use Rattle.state_verdicts.proofs.BlockPrelude.{after_line, and_left, as_byte, AtHand, bare, byte, byte_of, cases_Bool, Config, Context, eq-eqb, eqb-true}
 use Rattle.state_verdicts.proofs.BlockPrelude.{event}
 use Rattle.state_verdicts.proofs.BlockPrelude.{Event, feed, Flows, GoesOn, has, indent, InLine, is_eol, is_feed, is_space_or_tab, is_white, KeptState, line_of}
-use Rattle.state_verdicts.proofs.BlockPrelude.{LineEnds, more, no_limit, nothing, or_cases, or_from, part, plain, Point, run, Sees, SkipsOnce, State, tab}
+use Rattle.state_verdicts.proofs.BlockPrelude.{LineEnds, more, no_limit, nothing, or_from, part, plain, Point, run, Sees, SkipsOnce, State, tab}
 use Rattle.state_verdicts.proofs.BlockPrelude.{Text}
 use Rattle.state_verdicts.proofs.BlockPrelude.{text_byte, with_enter}
 use Rattle.definition_block.specs.ThematicBreak.{is_break_by, is_break_marker, is_break_text}
@@ -19,30 +19,19 @@ use Rattle.state_verdicts.specs.BlockVerdicts.{at_hand, line}
 use Rattle.state_verdicts.proofs.BreakTexts.{breaks, breaks_bare, breaks_first, breaks_marker, breaks_none, breaks_other, is_few}
 use Rattle.state_verdicts.proofs.LineCodes.{after_bare, after_more, after_none, bare_apart, line_more, line_none, none_white, rest_more}
 use Rattle.state_verdicts.proofs.LineCodes.{rest_within, weight, weight_four, weight_line_bare, weight_some, white_within}
-use Rattle.state_verdicts.proofs.Seen.{seen_eol, seen_feed, seen_sort, seen_white}
+use Rattle.state_verdicts.proofs.Markers.{Marker, marker_inner, marker_of, no_feed_at, white_apart}
+use Rattle.state_verdicts.proofs.Seen.{seen_eol, seen_feed, seen_white}
 use Rattle.state_verdicts.proofs.ThematicBreakStates as steps
 use Rattle.state_verdicts.proofs.BlockTurns.{and_on, byte_at, does, does_next, end_at, ends_well, fails, fed, fed_again, feeds}
 use Rattle.state_verdicts.proofs.BlockTurns.{still_at, tried}
 use Rattle.state_verdicts.proofs.Standing.{Here, enters, exits, fed_here}
-use Rattle.state_verdicts.proofs.WhiteReads.{Whites, attempted, none, one, spaced}
+use Rattle.state_verdicts.proofs.WhiteReads.{Whites, attempted, flows_white, none, one, spaced}
 
 two : (l : List Event) (a b : Event) (y : List Event) → ((l ++ a ∷ []) ++ b ∷ []) ++ y ≡ l ++ (a ∷ b ∷ y)
 two l a b y = simp append_assoc refl
 
--- what is known of a marker
-pub record Marker (m : ℕ) : Type 0 where
-  pub itself : (c : ℕ) → (text_byte c == m) ≡ (c == m)
-  pub no_white : (b : ℕ) → is_space_or_tab b ≡ true → (b == m) ≡ false
-  pub no_feed : (10 == m) ≡ false
-
 module _ {T : Type 0} (x : Context T) (text : Text) (once : SkipsOnce text) (c0 : Config Flows) (whole : c0.tokenize_state.connect ≡ false) (m : ℕ)
     (marker : Marker m) where
-  white_apart : (c : ℕ) → is_white c ≡ true → (c == m) ≡ false
-  white_apart c h = sym (marker.itself c) ∙ marker.no_white (text_byte c) (seen_white c ∙ h)
-
-  eol_apart : (c : ℕ) → is_eol c ≡ true → (c == m) ≡ false
-  eol_apart c h = sym (marker.itself c) ∙ (ap (λ (b : ℕ). b == m) (seen_eol c h) ∙ marker.no_feed)
-
   -- what is kept where so many markers were read
   abbrev kept_at : ℕ → ℕ → KeptState
   kept_at n columns = breaking m (min n no_limit) columns c0.tokenize_state
@@ -183,20 +172,6 @@ module _ {T : Type 0} (x : Context T) (text : Text) (once : SkipsOnce text) (c0 
   counts : (n : ℕ) → more (min n no_limit) ≡ min (n + 1) no_limit
   counts n = omega arith
 
-  no_feed_at : (b : ℕ) → (b == m) ≡ true → is_feed (Some b) ≡ false
-  no_feed_at b h = no_by (b == 10) refl
-    where
-      no_by : (is : Bool) → (b == 10) ≡ is → is ≡ false
-      no_by true k = absurd (let f : true ≡ false = sym h ∙ (ap (λ (i : ℕ). i == m) (eqb-true b 10 k) ∙ marker.no_feed) in cc)
-      no_by false k = refl
-
-  marker_inner : (c : ℕ) → (c == m) ≡ true → is_eol c ≡ false
-  marker_inner c h = no_by (is_eol c) refl
-    where
-      no_by : (is : Bool) → is_eol c ≡ is → is ≡ false
-      no_by true k = absurd (let f : true ≡ false = sym h ∙ eol_apart c k in cc)
-      no_by false k = refl
-
   -- a further marker of a part
   longer_is : (n b : ℕ) (es : List Event) (c : Config Flows) (p q : Point) → Held n es c p → text.byte (text.start p) ≡ Some (as_byte b q) → (b == m) ≡ true
       → Held (n + 1) es (feed text (steps.longer c)) q
@@ -209,7 +184,7 @@ module _ {T : Type 0} (x : Context T) (text : Text) (once : SkipsOnce text) (c0 
       map = h.here.map;
       resolvers = h.here.resolvers;
     };
-    apart = ap is_feed (byte_at h.at e) ∙ no_feed_at b is;
+    apart = ap is_feed (byte_at h.at e) ∙ no_feed_at m marker b is;
   }
 
   -- the first marker of a part
@@ -224,7 +199,7 @@ module _ {T : Type 0} (x : Context T) (text : Text) (once : SkipsOnce text) (c0 
       map = h.here.map;
       resolvers = h.here.resolvers;
     };
-    apart = ap is_feed (byte_at h.at e) ∙ no_feed_at b is;
+    apart = ap is_feed (byte_at h.at e) ∙ no_feed_at m marker b is;
   }
 
   -- the outcome from the byte after a further marker
@@ -323,7 +298,7 @@ module _ {T : Type 0} (x : Context T) (text : Text) (once : SkipsOnce text) (c0 
     after_white [] few p (nothing e) black n es c h room = at_end n es true c p h e
     after_white (code ∷ cs) few p (byte {q = q} apart e s) black n es c h room = elim (cases_Bool (code == m)) [
       | inl is ↦
-          let inner = marker_inner code is in
+          let inner = marker_inner m marker code is in
           let l = ap weight (line_more code cs inner) in
           let some = weight_some code (line_of cs) in
           subst (λ (b : Bool). Outcome b c (states.Retry steps.at_break) es true p (code ∷ cs))
@@ -356,7 +331,8 @@ module _ {T : Type 0} (x : Context T) (text : Text) (once : SkipsOnce text) (c0 
           resolvers = h.here.resolvers;
         } in
         let indented = white_within (code ∷ cs) in
-        let a = attempted x text c0 (kept_at n 0) (closing es false p) no_limit (steps.readied c) p (still_at refl refl refl h.at) ready whole code cs s is
+        let a = attempted (flows_bodies x) (flows_white x) text c0 (kept_at n 0) (closing es false p) no_limit (steps.readied c) p
+        (still_at refl refl refl h.at) ready whole code cs s is
         (omega (arith, indented, room)) in
         let shorter = weight_line_bare (code ∷ cs) in
         let size = rest_within is_white cs in
@@ -371,7 +347,7 @@ module _ {T : Type 0} (x : Context T) (text : Text) (once : SkipsOnce text) (c0 
         let o = after_white (bare (code ∷ cs)) (omega (arith, few, size, size_is)) a.end a.sees (bare_apart (code ∷ cs)) n entered (feed text a.config) held
         (omega (arith, room, shorter)) in
         let found = breaks m n (line_of (bare (code ∷ cs))) in
-        subst (λ (f : Bool). Outcome f c (states.Retry steps.sequence) es false p (code ∷ cs)) (breaks_bare m white_apart n (code ∷ cs))
+        subst (λ (f : Bool). Outcome f c (states.Retry steps.sequence) es false p (code ∷ cs)) (breaks_bare m (white_apart m marker) n (code ∷ cs))
         (turn_to found false a.code c (feed text a.config) (states.Retry steps.sequence) (states.Retry steps.at_break) es p a.next (code ∷ cs) (code ∷ cs)
         (and_on x text (tried x text steps.sequence c (steps.readied c) a.config (states.Next steps.at_break) states.Nok (part state_inline.SpaceOrTabStart)
         (steps.sequence_white x b c (byte_at h.at e) (ap (λ (i : ℕ). b == i) (marker_is h) ∙ marker.no_white b white) white) a.reads)
@@ -388,7 +364,7 @@ module _ {T : Type 0} (x : Context T) (text : Text) (once : SkipsOnce text) (c0 
         (at_end n es false (steps.closed c) p (closed_is n es c p h) e)
     within (code ∷ cs) few p (byte {q = q} apart e s) n es c h room = elim (cases_Bool (code == m)) [
       | inl is ↦
-          let inner = marker_inner code is in
+          let inner = marker_inner m marker code is in
           let l = ap weight (line_more code cs inner) in
           let some = weight_some code (line_of cs) in
           subst (λ (b : Bool). Outcome b c (states.Retry steps.sequence) es false p (code ∷ cs))
@@ -419,24 +395,14 @@ module _ {T : Type 0} (x : Context T) (text : Text) (once : SkipsOnce text) (c0 
 
 -- ---- from the first marker on
 
-white_is : (b : ℕ) → is_space_or_tab b ≡ true → (is : ℕ → Bool) → is 9 ≡ false → is 32 ≡ false → is b ≡ false
-white_is b h is k l = elim (or_cases (b == 9) (b == 32) h) [ inl e ↦ ap is (eqb-true b 9 e) ∙ k | inr e ↦ ap is (eqb-true b 32 e) ∙ l ]
-
-marker_feed : (m : ℕ) → Marker m → is_feed (Some m) ≡ false
-marker_feed m marker = no_by (m == 10) refl
-  where
-    no_by : (is : Bool) → (m == 10) ≡ is → is ≡ false
-    no_by true k = absurd (let f : true ≡ false = sym (eq-eqb 10 m (sym (eqb-true m 10 k))) ∙ marker.no_feed in cc)
-    no_by false k = refl
-
 asterisk_marker : Marker 42
-asterisk_marker = record { itself = seen_sort (λ b. b == 42) refl refl refl refl; no_white = λ b h. white_is b h (λ c. c == 42) refl refl; no_feed = refl }
+asterisk_marker = marker_of 42 refl refl refl refl refl refl
 
 hyphen_marker : Marker 45
-hyphen_marker = record { itself = seen_sort (λ b. b == 45) refl refl refl refl; no_white = λ b h. white_is b h (λ c. c == 45) refl refl; no_feed = refl }
+hyphen_marker = marker_of 45 refl refl refl refl refl refl
 
 underscore_marker : Marker 95
-underscore_marker = record { itself = seen_sort (λ b. b == 95) refl refl refl refl; no_white = λ b h. white_is b h (λ c. c == 95) refl refl; no_feed = refl }
+underscore_marker = marker_of 95 refl refl refl refl refl refl
 
 module _ {T : Type 0} (here : InLine T) (once : SkipsOnce here.text) (few : length (line_of here.codes) < 2 ^ 62)
     (whole : here.config.tokenize_state.connect ≡ false) where
@@ -513,7 +479,7 @@ module _ {T : Type 0} (here : InLine T) (once : SkipsOnce here.text) (few : leng
         columns = c0.tokenize_state.size_c;
         at = fed text (steps.opened m entered) q (at_p.next (as_byte m q) e);
         here = record { events = refl; kept = refl; map = refl; resolvers = refl };
-        apart = ap is_feed (byte_at at_p e) ∙ marker_feed m marker;
+        apart = ap is_feed (byte_at at_p e) ∙ no_feed_at m marker m (eq-eqb m m refl);
       } in
       let l = ap length (ap line_of is ∙ line_more m cs inner) in
       let weighed = weight_four (line_of cs) in

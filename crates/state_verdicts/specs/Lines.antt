@@ -1,5 +1,5 @@
 -- Lines among the codes of a text (CommonMark 2.1).
-use Rattle.std.specs.Prelude.{◌≡◌, ℕ, Bool, false, not, ◌==◌, List, drop, Some}
+use Rattle.std.specs.Prelude.{◌≡◌, ℕ, Bool, true, false, not, ◌==◌, List, [], ◌∷◌, drop, Some}
 use Rattle.std.specs.BTreeMap.{is_at}
 use Rattle.std.specs.List.{prefix_len, take_while}
 use Rattle.std.specs.Map.{lookup}
@@ -22,6 +22,14 @@ line_of codes = take_while is_inner codes
 -- the line ending and what follows it
 abbrev pub after_line : List ℕ → List ℕ
 after_line codes = drop (prefix_len is_inner codes) codes
+
+abbrev pub is_filled : List ℕ → Bool
+is_filled [] = false
+is_filled (code ∷ codes) = true
+
+-- a line ending follows the line
+abbrev pub has_ending : List ℕ → Bool
+has_ending codes = is_filled (after_line codes)
 
 -- at a place the line ends, or the text
 abbrev pub LineEnds : Text → Point → Type 0

@@ -13,13 +13,14 @@ use Rattle.state_inline.specs.declared.inlines.Inlines.{Inlines}
 use Rattle.state_inline.specs.Inlines.{bodies}
 use Rattle.state_verdicts.specs.Codes.{Sees}
 
--- these events were added, this is kept, and reading is at this place; and neither edits nor resolvers were added
-pub record Leaves (c d : Config Inlines) (keeps : KeptState) (added : List Event) (p : Point) : Type 0 where
-  pub events : d.events ≡ c.events ++ added
-  pub point : d.point ≡ p
-  pub kept : d.tokenize_state ≡ keeps
-  pub map : d.map ≡ c.map
-  pub resolvers : d.resolvers ≡ c.resolvers
+module _ {W : Type 0} where
+  -- these events were added, this is kept, and reading is at this place; and neither edits nor resolvers were added
+  pub record Leaves (c d : Config W) (keeps : KeptState) (added : List Event) (p : Point) : Type 0 where
+    pub events : d.events ≡ c.events ++ added
+    pub point : d.point ≡ p
+    pub kept : d.tokenize_state ≡ keeps
+    pub map : d.map ≡ c.map
+    pub resolvers : d.resolvers ≡ c.resolvers
 
 -- the same, where nothing else is kept than before
 abbrev pub LeavesEvents : Config Inlines → Config Inlines → List Event → Point → Type 0

@@ -1,9 +1,15 @@
-//! The opening of ATX headings (CommonMark 4.2).
-ghost use Rattle.state_verdicts.specs.HeadingAtx.{HeadingAtxVerdict};
+//! ATX headings (CommonMark 4.2).
+ghost use Rattle.state_verdicts.specs.HeadingAtx.{HeadingAtxLineVerdict, HeadingAtxVerdict};
 
 /// At the first byte after the indent, an attempt at an ATX heading fails exactly if headings are off
 /// or the line is none. Otherwise reading continues after the opening sequence, with its events
 /// added.
 pub fn heading_atx_verdict<T>()
     ensures { HeadingAtxVerdict T }
+{}
+
+/// At the first byte after the indent, an attempt at an ATX heading goes well exactly if headings are
+/// on and the line is one, with the events of each part of the line and up to its end.
+pub fn heading_atx_line_verdict<T>()
+    ensures { HeadingAtxLineVerdict T }
 {}

@@ -1,4 +1,4 @@
-use Rattle.std.proofs.Common.{◌≡◌, ◌+◌, ◌∙◌, [], string_bytes, refl, sym, subst}
+use Rattle.std.proofs.Common.{◌+◌, ◌∙◌, [], string_bytes, refl, sym, subst}
 use Rattle.std.proofs.lemmas.List.{append-nil}
 use Rattle.event_grammar.specs.Trees.{events_of}
 use Rattle.compile_html.proofs.Checked.{checked_sound}

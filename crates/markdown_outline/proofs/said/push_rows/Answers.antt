@@ -1,4 +1,4 @@
-use Rattle.std.proofs.Common.{◌≡◌, ◌<◌, ◌≤◌, ◌+◌, ◌∷◌, ℕ, List, drop, string_bytes, refl, sym, ap, ◌∙◌, subst, arith}
+use Rattle.std.proofs.Common.{◌≡◌, ◌<◌, ◌≤◌, ◌+◌, ◌∷◌, ℕ, List, drop, string_bytes, sym, ap, ◌∙◌, subst, arith}
 use Rattle.std.proofs.lemmas.List.{drop_all, drop_more}
 use Rattle.std.specs.List.{fold}
 use Rattle.inline_rows.specs.View.{row_view}
@@ -42,5 +42,6 @@ returns g c = λ at.
     let before = string_bytes c.args.out.now in
     let out = string_bytes c.loop-row.out in
     all_said before out c.loop-row.silent rows
-    (subst (λ (rs : List InlineRow). SaysAll before out c.loop-row.silent rs rows) (drop_all c.loop-row.row-index rows c.loop-row-test.false) c.loop-row.invariant.0)
+    (subst (λ (rs : List InlineRow). SaysAll before out c.loop-row.silent rs rows) (drop_all c.loop-row.row-index rows c.loop-row-test.false)
+    c.loop-row.invariant.0)
     at

@@ -6,7 +6,7 @@ use Rattle.event_grammar.specs.InGrammar.{PlacesFit}
 use Rattle.event_meaning.specs.Texts.{inlines_of}
 use Rattle.inline_rows.specs.InlineRows.{inline_rows}
 use Rattle.inline_rows.specs.View.{rows_view}
-use Rattle.markdown_outline.specs.Said.{rows_say, text_says}
+use Rattle.markdown_outline.specs.Said.{rows_say}
 use Rattle.markdown_outline.proofs.SaidRows.{said_law}
 use Rattle.markdown_outline.proofs.said.push_said.Goals as goal
 

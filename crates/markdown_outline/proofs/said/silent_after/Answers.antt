@@ -1,10 +1,10 @@
-use Rattle.std.proofs.Common.{◌≡◌, sym, ap, ◌∙◌}
+use Rattle.std.proofs.Common.{sym, ap, ◌∙◌}
 use Rattle.std.specs.List.{fold}
 use Rattle.inline_rows.specs.View.{row_view}
 use Rattle.inline_leaves.specs.Leaves.{parts_of}
 use Rattle.inline_rows.specs.declared.row.InlineRow.{InlineRow}
 use Rattle.markdown_outline.specs.Said.{silent_after}
-use Rattle.markdown_outline.proofs.SaidRows.{leaf_open, one_less_is, text_open}
+use Rattle.markdown_outline.proofs.SaidRows.{leaf_open, text_open}
 use Rattle.markdown_outline.proofs.said.silent_after.Goals as goal
 
 pub returns-in-Text-clause-after : goal.returns-in-Text-clause-after

@@ -1,5 +1,5 @@
 use Rattle.std.proofs.Common.{◌≡◌, ◌∙◌, arith}
-use Rattle.parse_raw.proofs.NextLines.{so_far_all, so_far_more, so_far_none}
+use Rattle.parse_raw.proofs.NextLines.{so_far_all, so_far_exact, so_far_more, so_far_none}
 use Rattle.parse_raw.proofs.RawLines.{whole_written}
 use Rattle.parse_raw.proofs.code_lines.push_lines.Goals as goal
 use Rattle.std.proofs.Common.{refl}
@@ -14,7 +14,7 @@ loop-preserved g c =
     record {
       «open» = all.open ∙ next.open ∙ c.loop.invariant.open;
       so_far = so_far_more c.args.chunk (λ rest. rest) c.args.count c.loop.counter c.args.walk.now c.loop.walk c.next_line.new.self c.all.new.self
-          (omega arith) c.loop.invariant.so_far next.passes next.written next.around
+          (omega arith) c.loop.invariant.so_far next.passes next.written next.exact next.around
           (λ text here left is st at order. whole_written text c.args.chunk c.next_line.new.self c.all.new.self here left is st at order all.stays all.end all.written);
     }
 
@@ -22,3 +22,8 @@ pub returns-clause-written : goal.returns-clause-written
 returns-clause-written g c =
     let done : c.loop.counter ≡ c.args.count = omega arith in
     so_far_all c.args.chunk (λ rest. rest) c.args.count c.loop.counter c.args.walk.now c.loop.walk done c.loop.invariant.so_far
+
+pub returns-clause-exact : goal.returns-clause-exact
+returns-clause-exact g c =
+    let done : c.loop.counter ≡ c.args.count = omega arith in
+    so_far_exact c.args.chunk (λ rest. rest) c.args.count c.loop.counter c.args.walk.now c.loop.walk done c.loop.invariant.so_far

@@ -14,6 +14,15 @@ use Rattle.parse_raw.proofs.LeafNodes.{leaf_written, stands_here, white_written}
 use Rattle.parse_raw.proofs.NextLines.{all_ok, no_bytes_left, some_length}
 use Rattle.parse_raw.proofs.Runs.{break_drop, break_of}
 use Rattle.parse_raw.proofs.Tokens.{left_none, left_same}
+use Rattle.std.proofs.Common.{[]}
+use Rattle.event_definition.specs.Pieces.{Pieces, around, grouped, join, token}
+use Rattle.event_definition.specs.ThematicBreak.{break_name}
+use Rattle.event_definition.specs.Written.{before_rest}
+use Rattle.parse_pieces.proofs.Sizes.{join_nil}
+use Rattle.parse_pieces.proofs.Written.{pieces_around, pieces_both}
+use Rattle.parse_pieces.specs.Written.{WritesPieces}
+use Rattle.parse_lines.specs.Pieces.{left_at_ending}
+use Rattle.parse_raw.proofs.BreakPieces.{no_bytes_here}
 use Rattle.parse_raw.proofs.thematic_break.push_thematic_break.Goals as goal
 
 pub loop-rest-init : goal.loop-rest-init
@@ -70,4 +79,40 @@ returns-clause-written g c =
     (ap (λ (s : Standing). s.on) same, ap (λ (s : Standing). s.outermost) same) end
     (left_none text _ c.loop-rest.walk none kids.after ∙ ap (λ (k : ℕ). end_at k 0) (sym line_end)) space.starts space.begins
     filled (sound_filled r.parse.constructs r.tables.names text 2 Lines Plain n.ThematicBreak node refl refl filled))
+    c.exit.ensures.exits c.exit.ensures.end c.exit.ensures.stays
+
+pub returns-clause-exact : goal.returns-clause-exact
+returns-clause-exact g c =
+    let old = c.args.walk.now in
+    let a = c.white.new.self in
+    let b = c.enter.new.self in
+    let l = c.loop-rest.walk in
+    let d = c.exit.new.self in
+    let white = c.in_ok-white.ensures in
+    let enter = c.in_ok-enter.ensures in
+    let start = rest_of old.rest in
+    all_ok c.exit.result
+    (λ exits end stays. λ r first text here left to st at order by laid.
+    let space = white_written text old a here left st at order white.stays white.end white.written in
+    let entered = enter.enters text space.quiet.writes.order in
+    let bytes = c.as_bytes-rest.ensures.value ∙ white.bare in
+    let left_b = left_same text _ a b space.after entered.order enter.stays enter.end in
+    let rest_is : start ≡ laid.0.rest = st.rest ∙ ap (λ (p : Prefixed). (line_left p).rest) laid.2.0 in
+    let is = break_of old.on.now laid.0.rest laid.3 in
+    let same_bytes = sym (bytes ∙ ap (λ (r : Rest). bytes_of (bare r)) rest_is) in
+    let parts = (c.loop-rest.invariant.on is.marker (subst (AreBreak is.marker) same_bytes is.are)).1 text
+    (subst (λ (bs : List ℕ). AreLeft text bs b) (sym bytes) left_b) in
+    let none : c.loop-rest.rest.now ≡ [] = no_bytes_here c.loop-rest.rest.now (no_bytes_left c.loop-rest.rest.now c.loop-rest-test.ensures) in
+    let all : parts.front ≡ grouped break_name (bytes_of (bare start)) =
+    sym (join_nil parts.front) ∙ ap (λ (bs : List ℕ). join parts.front (grouped break_name bs)) (sym none) ∙ sym parts.parts ∙ ap (grouped break_name) bytes in
+    let kids = subst (λ (ps : Pieces). WritesPieces text ps b.out l.out) all parts.exact in
+    let inner = pieces_around text n.ThematicBreak (grouped break_name (bytes_of (bare start))) a.out b.out l.out d.out refl entered enter.end kids
+    (exits text parts.tokens.writes.order) end in
+    let same = stays ∙ parts.tokens.same ∙ enter.stays ∙ white.stays in
+    record {
+      pieces =
+          pieces_both text (token n.SpaceOrTab (before_rest start (bare start)))
+          (around n.ThematicBreak (grouped break_name (bytes_of (bare start)))) old.out a.out d.out space.exact inner;
+      left = ap left_at_ending same;
+    })
     c.exit.ensures.exits c.exit.ensures.end c.exit.ensures.stays

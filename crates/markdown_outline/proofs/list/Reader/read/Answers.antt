@@ -1,7 +1,6 @@
-use Rattle.std.proofs.Common.{◌≡◌, ◌++◌, ◌∷◌, [], ◌∙◌, ℕ, List, drop, length, string_bytes, refl, sym, ap, subst}
+use Rattle.std.proofs.Common.{◌≡◌, ◌++◌, ◌∷◌, [], ◌∙◌, ℕ, List, drop, length, string_bytes, sym, ap, subst}
 use Rattle.engine_events.specs.Events.{point_of}
-use Rattle.engine_events.specs.declared.event.Event.{Event}
-use Rattle.event_grammar.specs.Trees.{Nodes, events_of, tree}
+use Rattle.event_grammar.specs.Trees.{Nodes, tree}
 use Rattle.compile_levels.specs.Siblings.{first_or, inside}
 use Rattle.text_slugs.specs.Slugs.{HasSlugs}
 use Rattle.markdown_outline.specs.Listed.{AreStored, end_of, next_slug}
@@ -34,8 +33,8 @@ returns-clause-listed g c = λ taken linked labels b h.
     let here = c.node_after.ensures.inside ∙ events_inside bytes enter after b in
     let said = c.in_ok-say.ensures.said kids linked labels (kids_are bytes enter after b) here ∙ text_is bytes enter after b names in
     let known = c.in_ok-text.ensures.stored taken (subst (λ slugs. HasSlugs slugs taken) (sym c.say.ensures.slugs) h) in
-    let grown = subst (λ texts. AreStored (string_bytes texts) new (string_bytes c.say.new.self.text) (next_slug taken (string_bytes c.say.new.self.text)) text slug)
-    c.say.ensures.texts known in
+    let says = string_bytes c.say.new.self.text in
+    let grown = subst (λ texts. AreStored (string_bytes texts) new says (next_slug taken says) text slug) c.say.ensures.texts known in
     let stored = subst (λ (t : List ℕ). AreStored (string_bytes c.args.self.now.texts) new t (next_slug taken t) text slug) said grown in
     let rank : c.rank_of.result ≡ rank_of heading =
     c.rank_of.ensures names kids (kids_are bytes enter after b) here b.sound.rank.0

@@ -1,0 +1,4 @@
+pub mod Sizes
+pub mod Nodes
+pub mod Written
+pub mod Drafts

@@ -1,0 +1,5 @@
+pub mod Sizes
+pub mod Nodes
+pub mod Written
+pub mod Drafts
+pub mod Laws

@@ -1,0 +1,4 @@
+pub mod Points
+pub mod Events
+pub mod Nested
+pub mod Merged

@@ -1,0 +1,8 @@
+//! Underlines of setext headings (CommonMark 4.3).
+ghost use Rattle.state_verdicts.specs.HeadingSetext.{HeadingSetextVerdict};
+
+/// At the first byte after the indent, an attempt at an underline goes well exactly if underlines are
+/// on, one may stand there, and the line is one, with its events and up to the end of the line.
+pub fn heading_setext_verdict<T>()
+    ensures { HeadingSetextVerdict T }
+{}
