@@ -33,7 +33,7 @@ LAYERS = (
     "markdown_by_events",
     "markdown_html markdown_block markdown_links markdown_outline",
     "markdown_input lint_ format_",
-    "markdown_format",
+    "markdown_format format_settings",
     "markdown_events markdown_lint markdown_fmt markdown_safe markdown_c_options markdown_buffers",
     "markdown_c",
     "tests_ wrong_",

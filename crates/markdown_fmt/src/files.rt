@@ -1,7 +1,7 @@
 //! Files, formatted.
-use crate::command::Command;
 use crate::diff::diff;
 use crate::outcome::Outcome;
+use format_settings::Command;
 use markdown_format::{SIZE_MAX, format};
 use markdown_input::{Fault, STANDARD_INPUT, markdown_files, replace, text};
 use markdown_options::{CompileOptions, Options};

@@ -2,21 +2,14 @@
 #![tactic(auto)]
 
 mod changes;
-mod command;
-mod config;
 mod diff;
 mod files;
-mod help;
-mod options;
 mod outcome;
-mod refusal;
 
-use command::Command;
 use files::format_all;
+use format_settings::{Command, Options, Refusal, config};
 use markdown_input::{Fault, words};
-use options::Options;
 use outcome::Outcome;
-use refusal::Refusal;
 use std::process::ExitCode;
 
 fn main(rt: HostRuntime) -> ExitCode {

@@ -8,18 +8,18 @@ const OFF: &str = "code-indented";
 
 /// What is asked for.
 #[derive(Drop)]
-pub(crate) struct Options {
+pub struct Options {
     /// How texts are formatted.
-    pub(crate) style: Style,
+    pub style: Style,
     /// Which constructs are on beside those of CommonMark.
-    pub(crate) flags: Flags,
+    pub flags: Flags,
     /// The names of files and folders that are left out below folders.
-    pub(crate) ignored: Vec<String>,
+    pub ignored: Vec<String>,
 }
 
 impl Options {
     /// Nothing is asked for.
-    pub(crate) fn new(alloc: Global) -> Options {
+    pub fn new(alloc: Global) -> Options {
         let mut style = Style::default();
         style.rules.set(OFF, false);
         Options {
@@ -30,14 +30,14 @@ impl Options {
     }
 
     /// Adds the name of a file or a folder that is left out.
-    pub(crate) fn ignore(&mut self, alloc: Global, name: &str) -> Result<(), AllocError> {
+    pub fn ignore(&mut self, alloc: Global, name: &str) -> Result<(), AllocError> {
         let name = String::from_str(alloc, name)?;
         self.ignored.push(name)?;
         Ok(())
     }
 
     /// Pads tables, or doesn't.
-    pub(crate) fn set_padded(&mut self, is_padded: bool) {
+    pub fn set_padded(&mut self, is_padded: bool) {
         self.style.tables = if is_padded {
             TableStyle::Padded
         } else {
@@ -47,7 +47,7 @@ impl Options {
 }
 
 /// How hard breaks are written, by its word.
-pub(crate) fn hard_breaks_of(word: &str) -> Option<BreakStyle> {
+pub fn hard_breaks_of(word: &str) -> Option<BreakStyle> {
     match word {
         "spaces" => Some(BreakStyle::Spaces),
         "backslash" => Some(BreakStyle::Backslash),

@@ -4,7 +4,7 @@ use std::alloc::{AllocError, AllocFailed};
 
 /// Why words ask for nothing that can be done.
 #[derive(Clone, Copy)]
-pub(crate) enum Refusal<'w> {
+pub enum Refusal<'w> {
     /// This word is no rule.
     Rule(&'w str),
     /// What else is wrong.

@@ -20,7 +20,7 @@ const CONFIG_NAME: &str = ".markdown-fmt.toml";
 
 /// What the file of settings asks for: the one that is named, or the first one around. None if it can't be
 /// used; then standard error says why.
-pub(crate) fn options(rt: &HostRuntime, named: Option<&str>) -> Result<Option<Options>, Fault> {
+pub fn options(rt: &HostRuntime, named: Option<&str>) -> Result<Option<Options>, Fault> {
     if let Some(path) = named {
         return options_of_file(rt, path);
     }

@@ -7,20 +7,20 @@ use std::alloc::Global;
 
 /// What a command line asks for.
 #[derive(Drop)]
-pub(crate) struct Command<'w> {
+pub struct Command<'w> {
     alloc: Global,
     /// What to print, and nothing else to do: the help or the version.
-    pub(crate) answer: Option<&'static str>,
+    pub answer: Option<&'static str>,
     /// Whether files are only checked.
-    pub(crate) checks: bool,
+    pub checks: bool,
     /// Whether what would change is printed. Then files are only checked.
-    pub(crate) prints_diff: bool,
+    pub prints_diff: bool,
     /// How files are formatted.
-    pub(crate) options: Options,
+    pub options: Options,
     /// The file of settings, if one is named.
-    pub(crate) config: Option<&'w str>,
+    pub config: Option<&'w str>,
     /// The names of the files and folders. There is at least one.
-    pub(crate) files: Vec<&'w str>,
+    pub files: Vec<&'w str>,
     /// The option whose value is the next word.
     wanting: Option<&'w str>,
     /// Whether all further words are names of files.
@@ -31,7 +31,7 @@ impl<'w> Command<'w> {
     /// Reads the words, without the name of the program. Flags and files may come in any order. What the
     /// words ask for is added to options. Fails with `Rule`, with `Words` if an option is wrong, or with
     /// `Memory`.
-    pub(crate) fn read(
+    pub fn read(
         alloc: Global,
         words: &'w [String],
         options: Options,
