@@ -37,7 +37,7 @@ TICKS = os.sysconf("SC_CLK_TCK")
 A_CRATE, A_FUNCTION, A_PROGRAM, A_TEST, A_FURTHER_EDIT = 6, 2.4, 40, 3, 25
 # The crates and groups of crates whose cost CONTRIBUTING.md names.
 NAMED = (
-    "markdown_options definition_text definition_inline definition_block definition_page text_search text_bytes inline_leaves inline_runs "
+    "markdown_options markdown_compile_options definition_text definition_inline definition_block definition_page text_search text_bytes inline_leaves inline_runs "
     "inline_parser block_starts block_parser html_inline html_page markdown markdown_engine event_grammar parse_lines parse_leaves "
     "compile_rows".split()
 )

@@ -15,6 +15,7 @@ TOP = os.path.dirname(os.path.dirname(os.path.realpath(__file__)))
 # From the bottom up; in a line, layers that may depend on one another. A name that ends in `_` is a prefix.
 LAYERS = (
     "markdown_options",
+    "markdown_compile_options",
     "definition_",
     "markdown_definition",
     "text_",

@@ -9,7 +9,7 @@ use Rattle.compile_blocks.proofs.Prelude.{row_of, row_pieces, Table, with_bytes,
 use Rattle.std.proofs.lemmas.List.{append_assoc, drop_all}
 use Rattle.engine_events.specs.Names.{same_name}
 use Rattle.engine_events.specs.declared.event.Name.TheVariants as n
-use Rattle.markdown_options.specs.declared.configuration.CompileOptions.{CompileOptions}
+use Rattle.markdown_compile_options.specs.declared.configuration.CompileOptions.{CompileOptions}
 use Rattle.definition_inline.specs.CharacterReference.{Names}
 use Rattle.definition_inline.specs.Inline.{Nil as NoInline}
 use Rattle.definition_page.specs.GfmTable.{TableRow, align_attributes, body_row_pieces}

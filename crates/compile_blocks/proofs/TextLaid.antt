@@ -12,7 +12,7 @@ use Rattle.html_inline.specs.Prints.{Definitions}
 use Rattle.html_inline.specs.declared.printing.Printing.{Printing}
 use Rattle.inline_links.specs.View.{link_texts_view}
 use Rattle.inline_links.specs.declared.text.LinkTexts.{LinkTexts}
-use Rattle.markdown_options.specs.declared.configuration.CompileOptions.{CompileOptions}
+use Rattle.markdown_compile_options.specs.declared.configuration.CompileOptions.{CompileOptions}
 use Rattle.markdown_options.specs.declared.configuration.Constructs.{Constructs}
 use Rattle.compile_blocks.specs.Meant.{IsMeant}
 use Rattle.compile_blocks.specs.declared.source.Source.{Source}

@@ -28,7 +28,8 @@ use compile_raw::{
 };
 use compile_rows::Columns;
 use html_leaves::Page;
-use markdown_options::{CompileOptions, LineEnding, Tables};
+use markdown_compile_options::CompileOptions;
+use markdown_options::{LineEnding, Tables};
 use std::alloc::{AllocError, Allocator};
 
 /// A page that the leaf blocks of a list are printed to.

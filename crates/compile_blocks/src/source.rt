@@ -6,7 +6,8 @@ use event_check::Checked;
 use html_inline::Printing;
 use inline_labels::LabelTable;
 use inline_links::LinkTexts;
-use markdown_options::{CompileOptions, Constructs};
+use markdown_compile_options::CompileOptions;
+use markdown_options::Constructs;
 use std::alloc::Allocator;
 
 /// What the events of a list are printed by.

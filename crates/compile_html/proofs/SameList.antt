@@ -1,7 +1,7 @@
 -- What holds of a list in the grammar holds of an equal list, with equal bytes and names: it is in the grammar, and the same is printed.
 use Rattle.std.proofs.Common.{◌≡◌, ℕ, List, sym, subst}
 use Rattle.definition_inline.specs.CharacterReference.{Names}
-use Rattle.markdown_options.specs.declared.configuration.CompileOptions.{CompileOptions}
+use Rattle.markdown_compile_options.specs.declared.configuration.CompileOptions.{CompileOptions}
 use Rattle.compile_html.proofs.Prelude.{Event, MatchesGrammar}
 use Rattle.event_meaning.specs.Spelled.{html_of_events}
 

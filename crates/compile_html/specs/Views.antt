@@ -1,6 +1,6 @@
 -- What is open on a page, and what was printed on it.
 use Rattle.std.specs.Prelude.{Bool, false, List, [], ◌∷◌, reverse}
-use Rattle.markdown_options.specs.declared.configuration.CompileOptions.{CompileOptions}
+use Rattle.markdown_compile_options.specs.declared.configuration.CompileOptions.{CompileOptions}
 use Rattle.definition_page.specs.Pieces.{Piece}
 use Rattle.html_bytes.specs.Pieces.{in_bytes}
 use Rattle.html_leaves.specs.Prints.{LaysOut}

@@ -1,6 +1,6 @@
 //! Where containers start and end (CommonMark 5).
 ghost use Rattle.std.specs.Prelude.{◌≡◌, OnOk};
-ghost use Rattle.markdown_options.specs.declared.configuration.CompileOptions.{CompileOptions};
+ghost use Rattle.markdown_compile_options.specs.declared.configuration.CompileOptions.{CompileOptions};
 ghost use Rattle.html_leaves.specs.Prints.{KeepsEnding};
 ghost use Rattle.event_meaning.specs.Left.{closing};
 ghost use Rattle.compile_html.specs.Frames.{holder_view};

@@ -1,6 +1,6 @@
 //! Footnote definitions, whose blocks are printed at the page's end (in neither standard).
 ghost use Rattle.std.specs.Prelude.{◌≡◌, OnOk, false};
-ghost use Rattle.markdown_options.specs.declared.configuration.CompileOptions.{CompileOptions};
+ghost use Rattle.markdown_compile_options.specs.declared.configuration.CompileOptions.{CompileOptions};
 ghost use Rattle.html_leaves.specs.Prints.{KeepsEnding};
 ghost use Rattle.compile_levels.specs.declared.kind.BlockKind.TheVariants as kinds;
 ghost use Rattle.compile_levels.specs.declared.level.Holder.TheVariants as holders;

@@ -1,6 +1,6 @@
 //! Lists (CommonMark 5.3).
 ghost use Rattle.std.specs.Prelude.{◌≡◌, ◌-◌, ◌^◌, OnOk, Some, not, min, drop, reverse};
-ghost use Rattle.markdown_options.specs.declared.configuration.CompileOptions.{CompileOptions};
+ghost use Rattle.markdown_compile_options.specs.declared.configuration.CompileOptions.{CompileOptions};
 ghost use Rattle.html_leaves.specs.Prints.{KeepsEnding};
 ghost use Rattle.definition_block.specs.ListItem.{number_of};
 ghost use Rattle.definition_inline.specs.CharacterReference.{Names};

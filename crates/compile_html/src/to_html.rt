@@ -22,7 +22,8 @@ use compile_blocks::Source;
 use compile_written::{footnote_labels, loose_lists, read_definitions};
 use engine_events::event::Event;
 use event_check::{Checked, CompileError, check_events};
-use markdown_options::{CompileOptions, Constructs, LineEnding, Tables};
+use markdown_compile_options::CompileOptions;
+use markdown_options::{Constructs, LineEnding, Tables};
 use std::alloc::{AllocError, Allocator};
 use text_search::{BytePair, next_of};
 

@@ -31,7 +31,7 @@ pub use Rattle.html_bytes.specs.Pieces.{in_bytes}
 pub use Rattle.html_leaves.specs.CodeLines.{code_of, html_of}
 pub use Rattle.html_leaves.specs.Prints.{KeepsEnding, layout_after, page_view, with_bytes, with_fresh, with_tag}
 pub use Rattle.markdown_options.specs.LineEndings.{ending_bytes}
-pub use Rattle.markdown_options.specs.declared.configuration.CompileOptions.{CompileOptions}
+pub use Rattle.markdown_compile_options.specs.declared.configuration.CompileOptions.{CompileOptions}
 pub use Rattle.markdown_options.specs.declared.line_ending.LineEnding.{LineEnding}
 pub use Rattle.compile_raw.specs.Endings.{endings_bytes}
 pub use Rattle.compile_raw.specs.Raw.{fenced_close, fenced_end, has_any, last_end, lines_behind, part_bytes, part_view, passed}

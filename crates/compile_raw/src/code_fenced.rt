@@ -2,7 +2,7 @@
 ghost use Rattle.std.specs.Prelude.{◌≡◌, ◌&&◌, ◌||◌, Bool, OnOk, Some, false, is_some, not};
 ghost use Rattle.std.specs.List.{flat_map};
 ghost use Rattle.markdown_options.specs.LineEndings.{ending_bytes};
-ghost use Rattle.markdown_options.specs.declared.configuration.CompileOptions.{CompileOptions};
+ghost use Rattle.markdown_compile_options.specs.declared.configuration.CompileOptions.{CompileOptions};
 ghost use Rattle.definition_page.specs.BlockPieces.{Place, fenced_pieces, info_attributes, leaf_block_pieces};
 ghost use Rattle.definition_page.specs.InlinePieces.{Meaning};
 ghost use Rattle.definition_page.specs.Tags.{attribute_bytes};

@@ -12,7 +12,7 @@ ghost use Rattle.compile_raw.specs.Sound.{AreSound, HaveNoChunk};
 use crate::raw::push_html_parts;
 use engine_events::event::Event;
 use html_leaves::Page;
-use markdown_options::CompileOptions;
+use markdown_compile_options::CompileOptions;
 use std::alloc::{AllocError, Allocator};
 
 /// Prints an HTML block of these events.

@@ -1,6 +1,6 @@
 //! Line endings (CommonMark 2.1).
 ghost use Rattle.std.specs.Prelude.{◌≡◌, OnOk};
-ghost use Rattle.markdown_options.specs.declared.configuration.CompileOptions.{CompileOptions};
+ghost use Rattle.markdown_compile_options.specs.declared.configuration.CompileOptions.{CompileOptions};
 ghost use Rattle.definition_inline.specs.CharacterReference.{Names};
 ghost use Rattle.definition_page.specs.GfmTable.{endings_pieces};
 ghost use Rattle.event_grammar.specs.Trees as tree;

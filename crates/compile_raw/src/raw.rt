@@ -25,7 +25,8 @@ use compile_rows::Columns;
 use engine_events::event::{Event, Name};
 use html_escape::{push_encoded, push_html};
 use html_leaves::Page;
-use markdown_options::{CompileOptions, LineEnding};
+use markdown_compile_options::CompileOptions;
+use markdown_options::LineEnding;
 use std::alloc::{AllocError, Allocator};
 use text_pieces::push_columns;
 

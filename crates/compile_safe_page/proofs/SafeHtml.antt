@@ -1,7 +1,7 @@
 -- The HTML of every list of events in the grammar is a safe page.
 use Rattle.std.proofs.Common.{ℕ, List, true}
 use Rattle.std.specs.Prelude.{unwrap_or}
-use Rattle.markdown_options.specs.declared.configuration.CompileOptions.{CompileOptions}
+use Rattle.markdown_compile_options.specs.declared.configuration.CompileOptions.{CompileOptions}
 use Rattle.definition_text.specs.Lines.{first_line, without_mark}
 use Rattle.definition_inline.specs.CharacterReference.{Names}
 use Rattle.event_grammar.specs.Trees.{Nodes, tree}

@@ -1,6 +1,6 @@
 -- The HTML of a list of events is a safe page.
 use Rattle.std.specs.Prelude.{ℕ, List}
-use Rattle.markdown_options.specs.declared.configuration.CompileOptions.{CompileOptions}
+use Rattle.markdown_compile_options.specs.declared.configuration.CompileOptions.{CompileOptions}
 use Rattle.definition_inline.specs.CharacterReference.{Names}
 use Rattle.engine_events.specs.declared.event.Event.{Event}
 use Rattle.event_check.specs.Matches.{MatchesGrammar}

@@ -1,6 +1,6 @@
 -- What a page prints, and by which ending lines end that it adds.
 use Rattle.std.specs.Prelude.{ℕ, List, unwrap_or}
-use Rattle.markdown_options.specs.declared.configuration.Options.{Options}
+use Rattle.markdown_compile_options.specs.declared.configuration.Options.{Options}
 use Rattle.markdown_options.specs.LineEndings.{ending_bytes}
 use Rattle.definition_text.specs.Lines.{first_line}
 use Rattle.definition_inline.specs.Targets.{linked_by}

@@ -2,7 +2,7 @@
 use Rattle.std.specs.Prelude.{ℕ, zero, suc, ◌-◌, if◌then◌else◌, nat_le, List, [], ◌∷◌, ◌++◌, Option, None, Some, String, string_bytes, codes}
 use Rattle.std.specs.Prelude.{take, drop, length}
 use Rattle.std.specs.List.{flat_map, suffix_len}
-use Rattle.markdown_options.specs.declared.configuration.CompileOptions.{CompileOptions}
+use Rattle.markdown_compile_options.specs.declared.configuration.CompileOptions.{CompileOptions}
 use Rattle.definition_text.specs.Encode.{encode}
 use Rattle.definition_text.specs.Lines.{ends_line}
 use Rattle.definition_inline.specs.GfmAutolinkLiteral.{ends_with}

@@ -1,6 +1,6 @@
 -- Calls of footnotes, and what they print (in no standard; as GitHub prints them).
 use Rattle.std.specs.Prelude.{ℕ, if◌then◌else◌, nat_le, List, [], ◌∷◌, Option, None, Some, String, string_bytes, codes}
-use Rattle.markdown_options.specs.declared.configuration.CompileOptions.{CompileOptions}
+use Rattle.markdown_compile_options.specs.declared.configuration.CompileOptions.{CompileOptions}
 use Rattle.definition_page.specs.Urls.{percent}
 use Rattle.definition_page.specs.Tags.{PrintedPart, Words, Number, Attribute, attribute, Tag, tag, bare_tag}
 use Rattle.definition_page.specs.Pieces.{Piece, Says}

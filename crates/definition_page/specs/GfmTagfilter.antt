@@ -1,7 +1,7 @@
 -- The filter of tags in raw HTML (GFM 6.11).
 use Rattle.std.specs.Prelude.{ℕ, Bool, true, if◌then◌else◌, ◌==◌, ◌&&◌, ◌||◌, List, [], ◌∷◌, ◌++◌, codes}
 use Rattle.std.specs.List.{take_while}
-use Rattle.markdown_options.specs.declared.configuration.CompileOptions.{CompileOptions}
+use Rattle.markdown_compile_options.specs.declared.configuration.CompileOptions.{CompileOptions}
 use Rattle.definition_text.specs.Ascii.{tab, line_feed, form_feed, carriage_return, space, slash, less_than, greater_than}
 use Rattle.definition_text.specs.Bytes.{is_letter, after_all, without_slash}
 use Rattle.definition_block.specs.HtmlNames.{is_one_of}

@@ -1,6 +1,6 @@
 -- The check of a task list item, and what it prints (GFM 5.3).
 use Rattle.std.specs.Prelude.{Bool, if◌then◌else◌, List, [], ◌∷◌, ◌++◌, codes}
-use Rattle.markdown_options.specs.declared.configuration.CompileOptions.{CompileOptions}
+use Rattle.markdown_compile_options.specs.declared.configuration.CompileOptions.{CompileOptions}
 use Rattle.definition_page.specs.Tags.{Attribute, attribute, Tag, tag}
 
 abbrev pub checkable_attributes : Bool → List Attribute

@@ -1,6 +1,6 @@
 -- The HTML of a text: it is read to a page, the page is printed to pieces, and these are laid out, with its footnotes at the end.
 use Rattle.std.specs.Prelude.{ℕ, List}
-use Rattle.markdown_options.specs.declared.configuration.Options.{Options}
+use Rattle.markdown_compile_options.specs.declared.configuration.Options.{Options}
 use Rattle.definition_text.specs.Lines.{without_mark}
 use Rattle.definition_page.specs.TextTables.{TextTables}
 use Rattle.definition_page.specs.Read.{read}

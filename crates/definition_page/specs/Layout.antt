@@ -1,7 +1,7 @@
 -- The pieces of a page laid out: its footnotes are numbered by their first calls, and stand at its end (in no standard; as GitHub prints them).
 use Rattle.std.specs.Prelude.{ℕ, zero, suc, not, if◌then◌else◌, ◌==◌, List, [], ◌∷◌, ◌++◌, map, reverse, slice_index_or}
 use Rattle.std.specs.List.{filter, fold}
-use Rattle.markdown_options.specs.declared.configuration.CompileOptions.{CompileOptions}
+use Rattle.markdown_compile_options.specs.declared.configuration.CompileOptions.{CompileOptions}
 use Rattle.definition_page.specs.Pieces.{Piece, CallOf, CountOf, NoteStart, NoteEnd, print}
 use Rattle.definition_page.specs.GfmLabelStartFootnote.{Call, call_pieces}
 use Rattle.definition_page.specs.GfmFootnoteDefinition.{Footnote, section_pieces}

@@ -6,8 +6,9 @@ use Rattle.std.specs.Str.{chars, is_utf8}
 use Rattle.std.specs.Str.Lossy.{utf8_valid_len, utf8_lossy}
 use Rattle.std.proofs.Common.{refl}
 use Rattle.caseless.proofs.Computing.{caseless}
-use Rattle.markdown_options.specs.declared.configuration.Options.{Options}
-use Rattle.markdown_options.specs.Defaults.{default_constructs, default_parse_options, default_options}
+use Rattle.markdown_compile_options.specs.declared.configuration.Options.{Options}
+use Rattle.markdown_options.specs.Defaults.{default_constructs, default_parse_options}
+use Rattle.markdown_compile_options.specs.Defaults.{default_options}
 use Rattle.definition_page.specs.Html.{html}
 use Rattle.definition_page.specs.Urls.{href_protocols, src_protocols}
 use Rattle.examples_block.proofs.SmallTables.{small}

@@ -4,8 +4,9 @@ use Rattle.std.proofs.Common.{refl}
 use Rattle.markdown_options.specs.declared.beside.Kind.TheVariants.{Whitespace, Punctuation}
 use Rattle.markdown_options.specs.declared.align_kind.AlignKind.TheVariants as align
 use Rattle.definition_block.specs.GfmTable.{cell, cells, delimiters}
-use Rattle.markdown_options.specs.declared.configuration.Options.{Options}
-use Rattle.markdown_options.specs.Defaults.{default_constructs, default_parse_options, default_options}
+use Rattle.markdown_compile_options.specs.declared.configuration.Options.{Options}
+use Rattle.markdown_options.specs.Defaults.{default_constructs, default_parse_options}
+use Rattle.markdown_compile_options.specs.Defaults.{default_options}
 use Rattle.definition_page.specs.Html.{html}
 use Rattle.examples_block.proofs.SmallTables.{small}
 

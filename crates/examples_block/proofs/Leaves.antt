@@ -1,8 +1,9 @@
 -- Texts with underlined headings, link reference definitions and HTML blocks, and their HTML, which the definition computes.
 use Rattle.std.specs.Prelude.{◌≡◌, ℕ, true, List, [], ◌∷◌, ◌++◌, codes, map, replicate}
 use Rattle.std.proofs.Common.{refl}
-use Rattle.markdown_options.specs.declared.configuration.Options.{Options}
-use Rattle.markdown_options.specs.Defaults.{no_constructs, default_parse_options, default_compile_options, default_options}
+use Rattle.markdown_compile_options.specs.declared.configuration.Options.{Options}
+use Rattle.markdown_options.specs.Defaults.{no_constructs, default_parse_options}
+use Rattle.markdown_compile_options.specs.Defaults.{default_compile_options, default_options}
 use Rattle.definition_block.specs.HtmlNames.{raw_names, block_names}
 use Rattle.definition_page.specs.GfmTagfilter.{filtered_names}
 use Rattle.markdown_options.specs.declared.beside.Kind.TheVariants.{Whitespace}

@@ -1,8 +1,9 @@
 -- Texts with blocks of math, and their HTML, which the definition computes.
 use Rattle.std.specs.Prelude.{◌≡◌, true, [], ◌∷◌, ◌++◌, codes}
 use Rattle.std.proofs.Common.{refl}
-use Rattle.markdown_options.specs.declared.configuration.Options.{Options}
-use Rattle.markdown_options.specs.Defaults.{no_constructs, default_parse_options, default_options}
+use Rattle.markdown_compile_options.specs.declared.configuration.Options.{Options}
+use Rattle.markdown_options.specs.Defaults.{no_constructs, default_parse_options}
+use Rattle.markdown_compile_options.specs.Defaults.{default_options}
 use Rattle.definition_page.specs.Html.{html}
 use Rattle.examples_block.proofs.SmallTables.{small}
 

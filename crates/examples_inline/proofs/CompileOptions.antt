@@ -2,8 +2,8 @@
 use Rattle.std.specs.Prelude.{◌≡◌, true, codes}
 use Rattle.std.proofs.Common.{refl}
 use Rattle.markdown_options.specs.declared.line_ending.LineEnding.TheVariants.{CarriageReturnLineFeed, CarriageReturn}
-use Rattle.markdown_options.specs.declared.configuration.Options.{Options}
-use Rattle.markdown_options.specs.Defaults.{default_compile_options, default_options}
+use Rattle.markdown_compile_options.specs.declared.configuration.Options.{Options}
+use Rattle.markdown_compile_options.specs.Defaults.{default_compile_options, default_options}
 use Rattle.examples_inline.proofs.Computing.{pages}
 use Rattle.examples_inline.specs.Pages.{page_with}
 

@@ -4,8 +4,9 @@ use Rattle.std.proofs.Common.{refl}
 use Rattle.examples_inline.proofs.Computing.{pages}
 use Rattle.examples_inline.specs.Pages.{page_with}
 use Rattle.std.specs.Prelude.{false}
-use Rattle.markdown_options.specs.declared.configuration.Options.{Options}
-use Rattle.markdown_options.specs.Defaults.{default_constructs, default_parse_options, default_options}
+use Rattle.markdown_compile_options.specs.declared.configuration.Options.{Options}
+use Rattle.markdown_options.specs.Defaults.{default_constructs, default_parse_options}
+use Rattle.markdown_compile_options.specs.Defaults.{default_options}
 
 abbrev without_attention : Options
 without_attention = record default_options { parse = record default_parse_options { constructs = record default_constructs { attention = false } } }

@@ -2,7 +2,7 @@
 use Rattle.std.specs.Prelude.{◌≡◌, ℕ, List, Option, [], ◌∷◌, ◌++◌, codes}
 use Rattle.std.specs.Char.{encode_utf8, is_ascii_punctuation}
 use Rattle.std.proofs.Common.{refl}
-use Rattle.markdown_options.specs.Defaults.{default_options}
+use Rattle.markdown_compile_options.specs.Defaults.{default_options}
 use Rattle.definition_text.specs.Encode.{encode, plain}
 use Rattle.definition_inline.specs.Decoded.{decode}
 use Rattle.definition_page.specs.TextTables.{TextTables}

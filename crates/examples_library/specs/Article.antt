@@ -1,6 +1,6 @@
 -- A comment's page in an element of its own.
 use Rattle.std.specs.Prelude.{ℕ, List, ◌++◌, codes}
-use Rattle.markdown_options.specs.Defaults.{default_options}
+use Rattle.markdown_compile_options.specs.Defaults.{default_options}
 use Rattle.markdown_definition.specs.Html.{html}
 use Rattle.markdown_tables.specs.Builtin.{builtin_tables}
 

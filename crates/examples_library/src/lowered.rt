@@ -4,8 +4,9 @@ ghost use Rattle.std.specs.Prelude.{◌≤◌, IfOk, length};
 use engine_events::event::{Event, Kind, Name};
 use engine_events::place::Point;
 use markdown::{Builtin, RunError};
+use markdown_compile_options::CompileOptions;
 use markdown_html::compile;
-use markdown_options::{CompileOptions, ParseOptions};
+use markdown_options::ParseOptions;
 use parse_events::{SIZE_MAX, parse};
 use std::alloc::{AllocError, Global};
 

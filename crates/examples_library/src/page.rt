@@ -1,5 +1,5 @@
 //! A page with each feature.
-ghost use Rattle.markdown_options.specs.Mdx.{HasNoMdx};
+ghost use Rattle.markdown_compile_options.specs.Mdx.{HasNoMdx};
 
 use markdown::{Builtin, Options, RunError, Watched, run};
 use std::io::Write;

@@ -1,7 +1,7 @@
 -- What is made of HTML, by the definition, a small table and the default options.
 use Rattle.std.specs.Prelude.{ℕ, if◌then◌else◌, List, [], ◌∷◌, Option, None, Some, codes}
 use Rattle.std.specs.Str.{bytes_eq}
-use Rattle.markdown_options.specs.Defaults.{default_compile_options}
+use Rattle.markdown_compile_options.specs.Defaults.{default_compile_options}
 use Rattle.html_listed.specs.Listed.{listed, sanitized}
 
 -- the texts of some names of references

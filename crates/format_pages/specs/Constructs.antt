@@ -1,7 +1,7 @@
 -- The sets of constructs that documents are compared by.
 use Rattle.std.specs.Prelude.{true, None}
 use Rattle.markdown_options.specs.declared.configuration.Constructs.{Constructs}
-use Rattle.markdown_options.specs.declared.configuration.Options.{Options}
+use Rattle.markdown_compile_options.specs.declared.configuration.Options.{Options}
 use Rattle.markdown_options.specs.Defaults.{default_constructs, gfm_constructs}
 
 -- every construct but those of MDX

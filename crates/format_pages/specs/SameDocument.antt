@@ -1,6 +1,6 @@
 -- When two texts are the same document.
 use Rattle.std.specs.Prelude.{◌≡◌, ℕ, List}
-use Rattle.markdown_options.specs.declared.configuration.Options.{Options}
+use Rattle.markdown_compile_options.specs.declared.configuration.Options.{Options}
 use Rattle.markdown_definition.specs.Html.{html}
 use Rattle.markdown_tables.specs.Builtin.{builtin_tables}
 use Rattle.format_pages.specs.Constructs.{by_every, by_plain}

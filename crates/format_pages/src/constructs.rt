@@ -2,7 +2,8 @@
 ghost use Rattle.std.specs.Prelude.{◌≡◌};
 ghost use Rattle.format_pages.specs.Constructs as spec;
 
-use markdown_options::{CompileOptions, Constructs, Options, ParseOptions};
+use markdown_compile_options::{CompileOptions, Options};
+use markdown_options::{Constructs, ParseOptions};
 
 /// Every construct but those of MDX.
 pub(crate) fn every_construct() -> Constructs

@@ -1,6 +1,6 @@
 //! What is known of a text that others are compared with.
 ghost use Rattle.std.specs.Prelude.{◌≡◌, ◌≤◌, ℕ, List, true, IfOk, IfErr, IfSome, length, string_bytes};
-ghost use Rattle.markdown_options.specs.Mdx.{HasNoMdx};
+ghost use Rattle.markdown_compile_options.specs.Mdx.{HasNoMdx};
 ghost use Rattle.markdown_options.specs.Messages.{IsOutOfMemory};
 ghost use Rattle.markdown_definition.specs.Html.{html};
 ghost use Rattle.markdown_tables.specs.Builtin.{builtin_tables};
@@ -15,7 +15,8 @@ use crate::constructs::{by_every, by_plain};
 use crate::front::{copy_of_front, has_front, with_calls};
 use crate::hidden::Hidden;
 use markdown::{SIZE_MAX, fits, to_html_with_options};
-use markdown_options::{Message, Options};
+use markdown_compile_options::Options;
+use markdown_options::Message;
 use std::alloc::{AllocError, Global};
 
 /// What is known of a text that others are compared with: its pages, and what these may not show.

@@ -6,7 +6,7 @@ use crate::constructs::{by_every, by_plain};
 use crate::known::Known;
 use format_search::{ReadText, Reader};
 use markdown::{fits, to_html_with_options};
-use markdown_options::Options;
+use markdown_compile_options::Options;
 use markdown_tables::Builtin;
 use parse_events::parse;
 use std::alloc::{AllocError, Global};

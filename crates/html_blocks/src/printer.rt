@@ -11,7 +11,8 @@ ghost use Rattle.html_leaves.specs.Prints.{LaysOut, KeepsEnding, page_view};
 use html_contents::{TextBuffers, Texts};
 use html_leaves::Page;
 use html_looseness::Level;
-use markdown_options::{CompileOptions, LineEnding, Tables};
+use markdown_compile_options::CompileOptions;
+use markdown_options::{LineEnding, Tables};
 use std::alloc::{AllocError, Allocator};
 use text_pieces::Piece;
 

@@ -1,7 +1,7 @@
 -- The page that is printed in bytes is the page of the definition.
 use Rattle.std.proofs.Common.{◌≡◌, ℕ, Bool, true, false, not, List, ◌++◌, None, refl, ap, ◌∙◌}
-use Rattle.markdown_options.specs.declared.configuration.CompileOptions.{CompileOptions}
-use Rattle.markdown_options.specs.declared.configuration.Options.{Options}
+use Rattle.markdown_compile_options.specs.declared.configuration.CompileOptions.{CompileOptions}
+use Rattle.markdown_compile_options.specs.declared.configuration.Options.{Options}
 use Rattle.definition_text.specs.Lines.{without_mark, kind_before_text}
 use Rattle.definition_block.specs.Lists.{group_items}
 use Rattle.definition_block.specs.Tree.{blocks}

@@ -3,7 +3,7 @@ use Rattle.std.proofs.Common.{◌≡◌, ℕ, List, [], ◌∷◌, ◌++◌, ref
 use Rattle.std.specs.List.{fold}
 use Rattle.std.proofs.lemmas.List.{map-append}
 use Rattle.std.proofs.lemmas.List.Sums.{fold-append}
-use Rattle.markdown_options.specs.declared.configuration.CompileOptions.{CompileOptions}
+use Rattle.markdown_compile_options.specs.declared.configuration.CompileOptions.{CompileOptions}
 use Rattle.html_bytes.specs.Layout.{LayoutState, layout_state, once_more, latest_call}
 use Rattle.html_bytes.proofs.LayoutSteps.{lay}
 use Rattle.definition_page.specs.Tags.{Tag, start_tag, end_tag}

@@ -5,7 +5,7 @@ use Rattle.std.proofs.lemmas.Bool.{true≢false, or_parts}
 use Rattle.std.proofs.lemmas.List.{map-append}
 use Rattle.std.proofs.lemmas.List.Concat.{flat_map-append}
 use Rattle.std.proofs.lemmas.List.Sums.{fold-append}
-use Rattle.markdown_options.specs.declared.configuration.CompileOptions.{CompileOptions}
+use Rattle.markdown_compile_options.specs.declared.configuration.CompileOptions.{CompileOptions}
 use Rattle.definition_inline.specs.Inline as inline
 use Rattle.definition_inline.specs.Inline.{InlineLeaf, Link, Image, Inline, Leaf, Span, Linked, Call, Inlines, Nil, Cons}
 use Rattle.definition_inline.specs.Targets.{leads_to}

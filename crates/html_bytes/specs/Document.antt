@@ -1,6 +1,6 @@
 -- What a document gives to its texts, and what they print.
 use Rattle.std.specs.Prelude.{ℕ, Bool, List}
-use Rattle.markdown_options.specs.declared.configuration.Options.{Options}
+use Rattle.markdown_compile_options.specs.declared.configuration.Options.{Options}
 use Rattle.definition_text.specs.BlockLines.{BlockLine}
 use Rattle.definition_inline.specs.Inline.{Inlines}
 use Rattle.definition_inline.specs.Strings.{string_text}

@@ -1,7 +1,7 @@
 -- What inline structure prints, in bytes: what the definition's pieces of it are (CommonMark 6).
 use Rattle.std.specs.Prelude.{ℕ, List}
 use Rattle.std.specs.List.{flat_map}
-use Rattle.markdown_options.specs.declared.configuration.CompileOptions.{CompileOptions}
+use Rattle.markdown_compile_options.specs.declared.configuration.CompileOptions.{CompileOptions}
 use Rattle.definition_inline.specs.Inline.{InlineLeaf, Inline, Inlines}
 use Rattle.definition_page.specs.Tags.{PrintedPart, said_bytes}
 use Rattle.definition_page.specs.InlinePieces.{Meaning, leaf_says, leaf_pieces, part_pieces, inline_pieces}

@@ -1,7 +1,7 @@
 -- The pieces of a page laid out one after another, as printers do it: its footnotes are numbered by their first calls, and stand at its end.
 use Rattle.std.specs.Prelude.{ℕ, suc, if◌then◌else◌, ◌==◌, List, [], ◌∷◌, ◌++◌, map, slice_index_or}
 use Rattle.std.specs.List.{fold}
-use Rattle.markdown_options.specs.declared.configuration.CompileOptions.{CompileOptions}
+use Rattle.markdown_compile_options.specs.declared.configuration.CompileOptions.{CompileOptions}
 use Rattle.definition_page.specs.Pieces as page
 use Rattle.definition_page.specs.GfmLabelStartFootnote.{Call, call_pieces}
 use Rattle.definition_page.specs.GfmFootnoteDefinition.{Footnote, section_pieces}

@@ -23,7 +23,8 @@ use inline_content::{Content, line_content, whole_content};
 use inline_labels::LabelTable;
 use inline_links::LinkTexts;
 use inline_parser::{FoundRows, Room, RowRoom, content_start, inline_rows};
-use markdown_options::{Kind, Options, Tables};
+use markdown_compile_options::Options;
+use markdown_options::{Kind, Tables};
 use std::alloc::{AllocError, Allocator};
 use text_pieces::Piece;
 

@@ -4,7 +4,7 @@ ghost use Rattle.html_bytes.specs.RawHtml.{raw_bytes};
 
 use crate::encode::push_encoded;
 use crate::filter::push_raw;
-use markdown_options::CompileOptions;
+use markdown_compile_options::CompileOptions;
 use std::alloc::{AllocError, Allocator};
 
 /// Appends raw HTML: as it is if the options allow that, otherwise as text. In HTML that is

@@ -16,7 +16,7 @@ pub use Rattle.html_bytes.specs.InlineHtml.{say_bytes}
 pub use Rattle.html_bytes.specs.Layout.{latest_call, note_of, NoteCalls, once_more}
 pub use Rattle.html_bytes.specs.Pieces.{pieces_html}
 pub use Rattle.markdown_options.specs.LineEndings.{ending_bytes}
-pub use Rattle.markdown_options.specs.declared.configuration.CompileOptions.{CompileOptions}
+pub use Rattle.markdown_compile_options.specs.declared.configuration.CompileOptions.{CompileOptions}
 pub use Rattle.html_footnotes.specs.Calls.{AreNumbers, called_view, number_of, with_one_more}
 pub use Rattle.html_footnotes.specs.Footnotes.{call_view, note_view}
 pub use Rattle.html_footnotes.specs.declared.calls.CalledFootnote.{CalledFootnote}

@@ -1,7 +1,7 @@
 -- What is printed of footnotes.
 use Rattle.std.specs.Prelude.{◌≡◌, ℕ, List, OnOk, Result, String, string_bytes}
 use Rattle.std.specs.List.{fold}
-use Rattle.markdown_options.specs.declared.configuration.CompileOptions.{CompileOptions}
+use Rattle.markdown_compile_options.specs.declared.configuration.CompileOptions.{CompileOptions}
 use Rattle.definition_page.specs.GfmLabelStartFootnote as call
 use Rattle.definition_page.specs.GfmFootnoteDefinition as footnote
 use Rattle.definition_page.specs.GfmFootnoteDefinition.{backs_pieces, content_pieces}

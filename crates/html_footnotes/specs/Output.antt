@@ -1,6 +1,6 @@
 -- What was printed of a page.
 use Rattle.std.specs.Prelude.{◌≡◌, ℕ, List, OnOk, Result, map, reverse, string_bytes}
-use Rattle.markdown_options.specs.declared.configuration.CompileOptions.{CompileOptions}
+use Rattle.markdown_compile_options.specs.declared.configuration.CompileOptions.{CompileOptions}
 use Rattle.html_bytes.specs.Layout.{LayoutState, layout_state, lay}
 use Rattle.html_bytes.specs.Pieces.{Piece}
 use Rattle.html_footnotes.specs.declared.output.Output.{Output}

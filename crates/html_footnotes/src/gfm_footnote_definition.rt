@@ -18,7 +18,8 @@ ghost use Rattle.html_footnotes.specs.Footnotes.{LaysOut, note_view, with_ways_b
 use crate::fresh::push_fresh;
 use crate::ids::{push_call_id, push_footnote_id, text_or};
 use html_escape::{push_encoded, push_raw};
-use markdown_options::{CompileOptions, LineEnding};
+use markdown_compile_options::CompileOptions;
+use markdown_options::LineEnding;
 use std::alloc::{AllocError, Allocator};
 
 /// A footnote that is called.

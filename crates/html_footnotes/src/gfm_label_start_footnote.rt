@@ -8,7 +8,7 @@ ghost use Rattle.html_escape.specs.Prints.{Prints};
 ghost use Rattle.html_footnotes.specs.Footnotes.{call_view};
 
 use crate::ids::{push_call_id, push_footnote_id};
-use markdown_options::CompileOptions;
+use markdown_compile_options::CompileOptions;
 use std::alloc::{AllocError, Allocator};
 
 /// A call of a footnote.

@@ -8,7 +8,7 @@ ghost use Rattle.html_bytes.specs.InlineHtml.{say_bytes};
 ghost use Rattle.html_escape.specs.Prints.{Prints};
 
 use html_escape::{push_encoded, push_sanitized};
-use markdown_options::CompileOptions;
+use markdown_compile_options::CompileOptions;
 use std::alloc::{AllocError, Allocator};
 
 /// A text of the options, or this one.

@@ -1,6 +1,6 @@
 //! Where a page is printed to: its footnotes are numbered by their first calls, and stand at its end.
 ghost use Rattle.std.specs.Prelude.{◌≡◌, ℕ, List, IfOk, string_bytes};
-ghost use Rattle.markdown_options.specs.declared.configuration.CompileOptions.{CompileOptions};
+ghost use Rattle.markdown_compile_options.specs.declared.configuration.CompileOptions.{CompileOptions};
 ghost use Rattle.markdown_options.specs.LineEndings.{ending_bytes};
 ghost use Rattle.html_bytes.specs.Layout.{with_footnotes, nothing_laid};
 ghost use Rattle.html_bytes.specs.Pieces.{CallOf, CountOf, NoteEnd, NoteStart};
@@ -9,7 +9,8 @@ ghost use Rattle.html_footnotes.specs.Output.{Lays, output_view};
 use crate::calls::Calls;
 use crate::gfm_footnote_definition::push_section;
 use crate::gfm_label_start_footnote::push_call;
-use markdown_options::{CompileOptions, LineEnding};
+use markdown_compile_options::CompileOptions;
+use markdown_options::LineEnding;
 use std::alloc::{AllocError, Allocator};
 
 /// Where a page is printed to: its text, the footnotes that have ended, and those that are called.

@@ -1,7 +1,7 @@
 -- Inline structure, laid out row by row.
 use Rattle.std.specs.Prelude.{ℕ, Bool, true, false, if◌then◌else◌, List, [], ◌∷◌, ◌++◌, codes}
 use Rattle.std.specs.List.{flat_map, fold}
-use Rattle.markdown_options.specs.declared.configuration.CompileOptions.{CompileOptions}
+use Rattle.markdown_compile_options.specs.declared.configuration.CompileOptions.{CompileOptions}
 use Rattle.definition_text.specs.Encode.{encode}
 use Rattle.definition_inline.specs.Inline.{InlineLeaf, SpanKind, Link, Image, LinkTexts}
 use Rattle.definition_inline.specs.LabelMatch.{first_match, normal_label}

@@ -7,7 +7,7 @@ ghost use Rattle.html_inline.specs.Prints.{Prints};
 
 use crate::url::push_link_url;
 use html_escape::push_encoded;
-use markdown_options::CompileOptions;
+use markdown_compile_options::CompileOptions;
 use std::alloc::{AllocError, Allocator};
 
 /// Prints an autolink (CommonMark 6.5). `room` is used for its URL.

@@ -1,7 +1,7 @@
 //! The calls of footnotes in a content that isn't printed: they count.
 ghost use Rattle.std.specs.Prelude.{◌≡◌, ℕ, List, OnOk};
 ghost use Rattle.std.specs.List.{fold};
-ghost use Rattle.markdown_options.specs.declared.configuration.CompileOptions as compile_options;
+ghost use Rattle.markdown_compile_options.specs.declared.configuration.CompileOptions as compile_options;
 ghost use Rattle.definition_text.specs.Content.{content_codes};
 ghost use Rattle.definition_inline.specs.Inline as inline;
 ghost use Rattle.definition_inline.specs.LabelMatch.{first_match, normal_label};

@@ -8,7 +8,7 @@ ghost use Rattle.inline_leaves.specs.Leaves.{kind_view};
 
 use crate::autolink::push_linked_text;
 use inline_leaves::LiteralKind;
-use markdown_options::CompileOptions;
+use markdown_compile_options::CompileOptions;
 use std::alloc::{AllocError, Allocator};
 
 /// Prints a literal (GFM 6.9). `room` is used for its URL.

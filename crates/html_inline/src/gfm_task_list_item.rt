@@ -5,7 +5,7 @@ ghost use Rattle.definition_page.specs.GfmTaskListItem.{check_tag, checkable_att
 ghost use Rattle.definition_page.specs.Tags.{attribute_bytes, void_tag};
 ghost use Rattle.html_inline.specs.Prints.{Prints};
 
-use markdown_options::CompileOptions;
+use markdown_compile_options::CompileOptions;
 use std::alloc::{AllocError, Allocator};
 
 /// Prints a check box, which is disabled unless the options let it be changed (GFM 5.3).

@@ -14,7 +14,7 @@ use html_escape::push_html;
 use inline_leaves::cut::{cut_after, text_before};
 use inline_leaves::line_ending::ending_at;
 use inline_leaves::space::white_size;
-use markdown_options::CompileOptions;
+use markdown_compile_options::CompileOptions;
 use std::alloc::{AllocError, Allocator};
 
 /// Prints raw HTML in a text (CommonMark 6.6).

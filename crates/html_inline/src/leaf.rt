@@ -16,7 +16,8 @@ use crate::math_text::push_math;
 use crate::printing::Printing;
 use html_escape::push_encoded;
 use inline_leaves::LeafPart;
-use markdown_options::{CompileOptions, Tables};
+use markdown_compile_options::CompileOptions;
+use markdown_options::Tables;
 use std::alloc::{AllocError, Allocator};
 
 /// Prints what a construct says in the description of an image, in a cell or not (CommonMark 6.4).

@@ -4,7 +4,8 @@ ghost use Rattle.std.specs.Prelude.{◌≡◌, [], IfOk, string_bytes};
 use crate::stack::OpenPart;
 use inline_labels::LabelTable;
 use inline_links::LinkTexts;
-use markdown_options::{CompileOptions, Constructs};
+use markdown_compile_options::CompileOptions;
+use markdown_options::Constructs;
 use std::alloc::{AllocError, Allocator};
 
 /// What rows are printed by.

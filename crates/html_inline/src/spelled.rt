@@ -16,7 +16,7 @@ use crate::gfm_table::push_cell_code;
 use crate::gfm_task_list_item::push_check;
 use html_escape::push_encoded;
 use inline_rows::SpelledLeaf;
-use markdown_options::CompileOptions;
+use markdown_compile_options::CompileOptions;
 use std::alloc::{AllocError, Allocator};
 
 /// Prints what a construct says in the description of an image, in a cell or not (CommonMark 6.4).

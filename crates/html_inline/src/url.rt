@@ -4,7 +4,7 @@ ghost use Rattle.definition_page.specs.InlinePieces.{image_url, link_url};
 ghost use Rattle.html_inline.specs.Prints.{Prints};
 
 use html_escape::{push_sanitized, push_sanitized_with_protocols};
-use markdown_options::CompileOptions;
+use markdown_compile_options::CompileOptions;
 use markdown_options::constants::{SAFE_PROTOCOL_HREF, SAFE_PROTOCOL_SRC};
 use std::alloc::{AllocError, Allocator};
 

@@ -12,9 +12,9 @@ pub use Rattle.html_bytes.proofs.SameBlocks.{end_said}
 pub use Rattle.html_bytes.specs.Layout.{LayoutState, with_text}
 pub use Rattle.html_bytes.specs.RawHtml.{raw_bytes}
 pub use Rattle.html_footnotes.specs.Output.{output_view}
-pub use Rattle.markdown_options.specs.Defaults.{default_compile_options}
+pub use Rattle.markdown_compile_options.specs.Defaults.{default_compile_options}
 pub use Rattle.markdown_options.specs.LineEndings.{ending_bytes}
-pub use Rattle.markdown_options.specs.declared.configuration.CompileOptions.{CompileOptions}
+pub use Rattle.markdown_compile_options.specs.declared.configuration.CompileOptions.{CompileOptions}
 pub use Rattle.markdown_options.specs.declared.line_ending.LineEnding.{LineEnding}
 pub use Rattle.text_pieces.proofs.OwnLines.{last_ending_more, lines_printed}
 pub use Rattle.text_pieces.proofs.Pieces.{no_piece}

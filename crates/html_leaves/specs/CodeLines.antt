@@ -1,7 +1,7 @@
 -- Lines of code and of HTML, as their printers write them to a text.
 use Rattle.std.specs.Prelude.{ℕ, Bool, List, ◌++◌, map, false}
 use Rattle.std.specs.List.{flat_map}
-use Rattle.markdown_options.specs.declared.configuration.CompileOptions.{CompileOptions}
+use Rattle.markdown_compile_options.specs.declared.configuration.CompileOptions.{CompileOptions}
 use Rattle.definition_text.specs.BlockLines.{BlockLine}
 use Rattle.definition_text.specs.Columns.{code_byte, bytes_of}
 use Rattle.definition_text.specs.Encode.{encode}

@@ -1,7 +1,7 @@
 //! Fenced code (CommonMark 4.5).
 ghost use Rattle.std.specs.Prelude.{◌≡◌, Bool, OnOk, codes, true};
 ghost use Rattle.markdown_options.specs.LineEndings.{ending_bytes};
-ghost use Rattle.markdown_options.specs.declared.configuration.CompileOptions.{CompileOptions};
+ghost use Rattle.markdown_compile_options.specs.declared.configuration.CompileOptions.{CompileOptions};
 ghost use Rattle.definition_text.specs.Lines.{ending_text};
 ghost use Rattle.text_pieces.specs.Pieces.{piece_lines, whole_lines};
 ghost use Rattle.html_leaves.specs.CodeLines.{fenced_bytes};

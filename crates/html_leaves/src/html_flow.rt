@@ -17,7 +17,7 @@ ghost use Rattle.html_leaves.specs.Prints.{LaysOut, Prints, KeepsEnding};
 
 use crate::page::Page;
 use html_escape::push_html;
-use markdown_options::CompileOptions;
+use markdown_compile_options::CompileOptions;
 use std::alloc::{AllocError, Allocator};
 use text_pieces::{Piece, push_ending};
 

@@ -7,7 +7,8 @@ ghost use Rattle.html_bytes.specs.Layout.{nothing_laid, with_footnotes};
 
 use html_escape::push_encoded;
 use html_footnotes::{Output, push_fresh};
-use markdown_options::{CompileOptions, LineEnding};
+use markdown_compile_options::CompileOptions;
+use markdown_options::LineEnding;
 use std::alloc::{AllocError, Allocator};
 use text_pieces::push_ending;
 

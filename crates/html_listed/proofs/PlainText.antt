@@ -6,7 +6,7 @@ use Rattle.std.specs.List.{list_all, fold, flat_map}
 use Rattle.std.specs.Option.{option_map, option_and_then}
 use Rattle.std.proofs.lemmas.Bool.{cond-false, cond_both, and_parts, and_from, and_left, or_parts, not-true, ltb-true, eqb-true, eqb-false, ne_eqb}
 use Rattle.definition_text.specs.Bytes.{begins_with}
-use Rattle.markdown_options.specs.declared.configuration.CompileOptions.{CompileOptions}
+use Rattle.markdown_compile_options.specs.declared.configuration.CompileOptions.{CompileOptions}
 use Rattle.definition_text.specs.Content.{after_return_code, content_codes}
 use Rattle.definition_text.specs.Columns.{Code}
 use Rattle.definition_text.specs.Encode.{encoded_byte, encode}

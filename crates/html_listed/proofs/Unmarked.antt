@@ -1,7 +1,7 @@
 -- A safe page without raw HTML stays as it is.
 use Rattle.std.proofs.Common.{◌≡◌, ℕ, Bool, true, false, ◌&&◌, List, [], ◌∷◌, ◌++◌, refl, sym, ap, ◌∙◌, append_assoc}
 use Rattle.std.proofs.lemmas.Bool.{cond_both, false≢true, and_parts}
-use Rattle.markdown_options.specs.declared.configuration.CompileOptions.{CompileOptions}
+use Rattle.markdown_compile_options.specs.declared.configuration.CompileOptions.{CompileOptions}
 use Rattle.definition_inline.specs.CharacterReference.{Names}
 use Rattle.html_safe_page.specs.Table.{start_rows, void_rows}
 use Rattle.html_safe_page.specs.SafePage.{spell_letter, spell_tag, Items, End, Letter, Void, Element, void_end, spell_before, spell, is_tag_of, is_safe}

@@ -4,7 +4,7 @@ use Rattle.std.specs.Prelude.{length}
 use Rattle.std.specs.List.{filter, flat_map, take_while}
 use Rattle.std.specs.Option.{option_map}
 use Rattle.std.specs.Str.{bytes_eq}
-use Rattle.markdown_options.specs.declared.configuration.CompileOptions.{CompileOptions}
+use Rattle.markdown_compile_options.specs.declared.configuration.CompileOptions.{CompileOptions}
 use Rattle.definition_text.specs.Ascii.{tab, double_quote, single_quote}
 use Rattle.definition_text.specs.Bytes.{begins_with, after_all, lower}
 use Rattle.definition_text.specs.Columns.{Code}

@@ -1,7 +1,7 @@
 -- A safe page in which raw HTML stands as text in elements without a name, to one in which listed tags are tags. It knows nothing of Markdown.
 use Rattle.std.specs.Prelude.{ℕ, zero, suc, if◌then◌else◌, nat_le, List, [], ◌∷◌, length}
 use Rattle.std.specs.List.{fold}
-use Rattle.markdown_options.specs.declared.configuration.CompileOptions.{CompileOptions}
+use Rattle.markdown_compile_options.specs.declared.configuration.CompileOptions.{CompileOptions}
 use Rattle.definition_inline.specs.CharacterReference.{Names}
 use Rattle.definition_page.specs.Tags.{Tag, void_tag}
 use Rattle.html_listed.specs.Listing.{is_in, is_part, parents_of, heading_names, deepest}

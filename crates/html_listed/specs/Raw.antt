@@ -1,7 +1,7 @@
 -- Raw HTML from left to right: tags that are listed, and text (CommonMark 6.6).
 use Rattle.std.specs.Prelude.{ℕ, zero, suc, ◌-◌, Bool, if◌then◌else◌, List, [], ◌∷◌, Option, None, Some, codes, drop, take, length, unwrap_or}
 use Rattle.std.specs.Option.{option_map}
-use Rattle.markdown_options.specs.declared.configuration.CompileOptions.{CompileOptions}
+use Rattle.markdown_compile_options.specs.declared.configuration.CompileOptions.{CompileOptions}
 use Rattle.definition_text.specs.Bytes.{begins_with, after_all, without_slash, lower}
 use Rattle.definition_text.specs.Columns.{Code}
 use Rattle.definition_text.specs.Content.{Part, content_codes}

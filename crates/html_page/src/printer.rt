@@ -19,7 +19,8 @@ use crate::leaf_block::print_leaf_block;
 use block_rows::Row;
 use html_blocks::{Containers, LeafPrinter};
 use html_contents::Texts;
-use markdown_options::{CompileOptions, LineEnding, Tables};
+use markdown_compile_options::CompileOptions;
+use markdown_options::{LineEnding, Tables};
 use std::alloc::{AllocError, Allocator};
 use text_pieces::Piece;
 

@@ -1,7 +1,7 @@
 -- What is left to print of HTML.
 use Rattle.std.specs.Prelude.{ℕ, Bool, false, ◌==◌, ◌||◌, List, [], ◌∷◌, Option, None, Some, IsTrue, codes, take, drop}
 use Rattle.std.specs.List.{fold, position_or_len}
-use Rattle.markdown_options.specs.declared.configuration.CompileOptions.{CompileOptions}
+use Rattle.markdown_compile_options.specs.declared.configuration.CompileOptions.{CompileOptions}
 use Rattle.definition_text.specs.Ascii.{ampersand, less_than}
 use Rattle.definition_text.specs.Content.{Part, part}
 use Rattle.definition_text.specs.Encode.{encode}

@@ -15,7 +15,8 @@ use crate::listing::{LISTED_ATTRIBUTES, is_lower};
 use crate::urls::{Buffers, clean_url, push_image_url, push_link_url};
 use html_escape::push_encoded;
 use inline_references::push_decoded;
-use markdown_options::{CompileOptions, Tables};
+use markdown_compile_options::CompileOptions;
+use markdown_options::Tables;
 use std::alloc::{AllocError, Allocator};
 
 /// An attribute as it is written: its name, and its value without quotes.

@@ -19,7 +19,8 @@ use crate::page::Page;
 use crate::urls::Buffers;
 use html_escape::push_encoded;
 use inline_references::{character_reference, push_value};
-use markdown_options::{CompileOptions, Tables};
+use markdown_compile_options::CompileOptions;
+use markdown_options::Tables;
 use std::alloc::{AllocError, Allocator};
 
 /// What is used again for each tag.

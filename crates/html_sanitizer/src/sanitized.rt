@@ -17,7 +17,8 @@ use crate::urls::Buffers;
 use html_escape::push_encoded;
 use inline_constructs::searches::Searches;
 use inline_leaves::LeafPart;
-use markdown_options::{CompileOptions, Constructs, Tables};
+use markdown_compile_options::CompileOptions;
+use markdown_options::{Constructs, Tables};
 use std::alloc::{AllocError, Allocator};
 use text_search::{BytePair, next_of};
 

@@ -6,7 +6,7 @@ ghost use Rattle.html_listed.specs.Attributes.{code_bytes, url_bytes};
 ghost use Rattle.html_sanitizer.specs.Urls.{replaced};
 
 use html_escape::{push_sanitized, push_sanitized_with_protocols};
-use markdown_options::CompileOptions;
+use markdown_compile_options::CompileOptions;
 use markdown_options::constants::{SAFE_PROTOCOL_HREF, SAFE_PROTOCOL_SRC};
 use std::alloc::{AllocError, Allocator};
 

@@ -10,7 +10,7 @@ use Rattle.laws_endings.proofs.Prelude.{or_right, Piece, place_of, print, read_b
 use Rattle.laws_endings.proofs.Prelude.{unwrap_or, with_calls, with_ending, with_spaces, without_mark, ◌≢◌}
 use Rattle.std.proofs.lemmas.List.Elements.{All-drop}
 use Rattle.markdown_options.specs.declared.line_ending.LineEnding.TheVariants.{LineFeed}
-use Rattle.markdown_options.specs.declared.configuration.Options.{Options}
+use Rattle.markdown_compile_options.specs.declared.configuration.Options.{Options}
 use Rattle.definition_text.specs.Lines.{first_line}
 use Rattle.definition_block.specs.Tree as tree
 use Rattle.definition_page.specs.TextTables.{TextTables}

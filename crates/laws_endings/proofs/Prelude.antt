@@ -89,7 +89,7 @@ pub use Rattle.markdown_options.specs.LineEndings.{ending_bytes}
 pub use Rattle.markdown_options.specs.declared.align_kind.AlignKind.{AlignKind}
 pub use Rattle.markdown_options.specs.declared.beside.Beside.{Beside}
 pub use Rattle.markdown_options.specs.declared.beside.Kind.{Kind}
-pub use Rattle.markdown_options.specs.declared.configuration.CompileOptions.{CompileOptions}
+pub use Rattle.markdown_compile_options.specs.declared.configuration.CompileOptions.{CompileOptions}
 pub use Rattle.markdown_options.specs.declared.configuration.Constructs.{Constructs}
 pub use Rattle.markdown_options.specs.declared.configuration.ParseOptions.{ParseOptions}
 pub use Rattle.markdown_options.specs.declared.line_ending.LineEnding.{LineEnding}

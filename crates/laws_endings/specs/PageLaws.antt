@@ -1,8 +1,8 @@
 -- The law of the page of a text with another line ending in place of each LF.
 use Rattle.std.specs.Prelude.{◌≡◌, ◌≢◌, ℕ, true, List, [], Option, String, Contains, All, IsUtf8}
 use Rattle.markdown_options.specs.declared.line_ending.LineEnding.{LineEnding}
-use Rattle.markdown_options.specs.declared.configuration.CompileOptions.{CompileOptions}
-use Rattle.markdown_options.specs.declared.configuration.Options.{Options}
+use Rattle.markdown_compile_options.specs.declared.configuration.CompileOptions.{CompileOptions}
+use Rattle.markdown_compile_options.specs.declared.configuration.Options.{Options}
 use Rattle.definition_text.specs.Ascii.{line_feed, ampersand}
 use Rattle.definition_page.specs.TextTables.{TextTables}
 use Rattle.definition_page.specs.GfmLabelStartFootnote.{text_or}

@@ -41,8 +41,8 @@ pub use Rattle.markdown_options.specs.Defaults.{no_constructs}
 pub use Rattle.markdown_options.specs.LineEndings.{ending_bytes}
 pub use Rattle.markdown_options.specs.declared.beside.Beside.{Beside}
 pub use Rattle.markdown_options.specs.declared.beside.Kind.{Kind}
-pub use Rattle.markdown_options.specs.declared.configuration.CompileOptions.{CompileOptions}
+pub use Rattle.markdown_compile_options.specs.declared.configuration.CompileOptions.{CompileOptions}
 pub use Rattle.markdown_options.specs.declared.configuration.Constructs.{Constructs}
-pub use Rattle.markdown_options.specs.declared.configuration.Options.{Options}
+pub use Rattle.markdown_compile_options.specs.declared.configuration.Options.{Options}
 pub use Rattle.markdown_options.specs.declared.line_ending.LineEnding.{LineEnding}
 pub use Rattle.laws_escape.specs.Escaped.{is_line_byte, IsTrimmedLine, with_backslashes}

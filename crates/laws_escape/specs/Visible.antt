@@ -1,7 +1,7 @@
 -- The laws of the definition.
 use Rattle.std.specs.Prelude.{◌≡◌, ℕ, ◌<◌, Bool, true, false, not, if◌then◌else◌, ◌==◌, ◌||◌, List, [], ◌∷◌, ◌++◌}
 use Rattle.std.specs.List.{All, filter, flat_map}
-use Rattle.markdown_options.specs.declared.configuration.Options.{Options}
+use Rattle.markdown_compile_options.specs.declared.configuration.Options.{Options}
 use Rattle.markdown_options.specs.Defaults.{no_constructs}
 use Rattle.definition_text.specs.Ascii.{line_feed, carriage_return, less_than, greater_than}
 use Rattle.definition_text.specs.Lines.{TextLine, lines, without_mark}

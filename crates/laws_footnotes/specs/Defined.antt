@@ -1,7 +1,7 @@
 -- Where the calls of a page lead (in no standard; as GitHub prints them).
 use Rattle.std.specs.Prelude.{◌≡◌, ◌<◌, ℕ, List, [], length, slice_index_or}
 use Rattle.std.specs.List.{All}
-use Rattle.markdown_options.specs.declared.configuration.Options.{Options}
+use Rattle.markdown_compile_options.specs.declared.configuration.Options.{Options}
 use Rattle.definition_inline.specs.LabelMatch.{normal_label}
 use Rattle.definition_page.specs.TextTables.{TextTables}
 use Rattle.definition_page.specs.Page.{Page}

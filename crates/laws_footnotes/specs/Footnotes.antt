@@ -1,7 +1,7 @@
 -- Footnotes of a page (in no standard; as GitHub prints them).
 use Rattle.std.specs.Prelude.{◌≡◌, ℕ, zero, suc, Bool, true, false, if◌then◌else◌, ◌==◌, List, [], ◌∷◌, ◌++◌, map, reverse}
 use Rattle.std.specs.List.{count_by}
-use Rattle.markdown_options.specs.declared.configuration.CompileOptions.{CompileOptions}
+use Rattle.markdown_compile_options.specs.declared.configuration.CompileOptions.{CompileOptions}
 use Rattle.definition_page.specs.Pieces.{Piece, CallOf, CountOf, NoteEnd, NoteStart}
 use Rattle.definition_page.specs.Layout.{NamedCall, named_call, named_calls, first_calls, content, contents, layout, called_footnotes, page_layout}
 

@@ -1,7 +1,7 @@
 -- Footnotes that are off.
 use Rattle.std.specs.Prelude.{◌≡◌, ℕ, false, List}
-use Rattle.markdown_options.specs.declared.configuration.CompileOptions.{CompileOptions}
-use Rattle.markdown_options.specs.declared.configuration.Options.{Options}
+use Rattle.markdown_compile_options.specs.declared.configuration.CompileOptions.{CompileOptions}
+use Rattle.markdown_compile_options.specs.declared.configuration.Options.{Options}
 use Rattle.definition_page.specs.TextTables.{TextTables}
 use Rattle.definition_page.specs.Html.{html}
 use Rattle.laws_options.specs.Laws.{printing_by}

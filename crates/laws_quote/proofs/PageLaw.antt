@@ -5,7 +5,7 @@ use Rattle.std.specs.Fn.{iterate}
 use Rattle.std.proofs.lemmas.List.Sums.{fold-append}
 use Rattle.markdown_options.specs.declared.line_ending.LineEnding.{LineEnding}
 use Rattle.markdown_options.specs.declared.configuration.Constructs.{Constructs}
-use Rattle.markdown_options.specs.declared.configuration.Options.{Options}
+use Rattle.markdown_compile_options.specs.declared.configuration.Options.{Options}
 use Rattle.markdown_options.specs.LineEndings.{ending_bytes}
 use Rattle.markdown_options.specs.declared.beside.Kind.TheVariants.{Whitespace, Other}
 use Rattle.definition_text.specs.Lines.{TextLine, lines, first_of, first_line, has_mark}

@@ -1,7 +1,7 @@
 -- The HTML of a text is a safe page.
 use Rattle.std.specs.Prelude.{◌≡◌, ℕ, false, List, None}
-use Rattle.markdown_options.specs.declared.configuration.CompileOptions.{CompileOptions}
-use Rattle.markdown_options.specs.declared.configuration.Options.{Options}
+use Rattle.markdown_compile_options.specs.declared.configuration.CompileOptions.{CompileOptions}
+use Rattle.markdown_compile_options.specs.declared.configuration.Options.{Options}
 use Rattle.definition_page.specs.TextTables.{TextTables}
 use Rattle.definition_page.specs.Html.{html}
 use Rattle.html_safe_page.specs.SafePage.{Items, IsReading}

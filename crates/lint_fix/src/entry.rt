@@ -1,6 +1,6 @@
 //! From a text to the same text, mended.
 ghost use Rattle.std.specs.Prelude.{◌≡◌, ◌≤◌, IfOk, IfErr, length, string_bytes};
-ghost use Rattle.markdown_options.specs.Mdx.{HasNoMdx};
+ghost use Rattle.markdown_compile_options.specs.Mdx.{HasNoMdx};
 ghost use Rattle.markdown_options.specs.Messages.{IsOutOfMemory};
 ghost use Rattle.markdown_definition.specs.Html.{html};
 ghost use Rattle.markdown_tables.specs.Builtin.{builtin_tables};
@@ -10,7 +10,8 @@ use format_pages::{ByOptions, Known, read_by};
 use lint_document::RuleSet;
 use lint_edits::{Finder, first_edits, mended};
 use markdown::{SIZE_MAX, fits};
-use markdown_options::{Message, Options};
+use markdown_compile_options::Options;
+use markdown_options::Message;
 use std::alloc::Global;
 
 /// Mends what these rules find in a text, as far as that can be done. `finder` has the rules. The result is

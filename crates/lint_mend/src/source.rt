@@ -2,8 +2,8 @@
 use crate::rules::Rules;
 use lint_fix::{SIZE_MAX, fix};
 use lint_rules::RuleSet;
+use markdown_compile_options::{CompileOptions, Options};
 use markdown_input::{Fault, Flags};
-use markdown_options::{CompileOptions, Options};
 use std::alloc::Global;
 
 /// Mends what these rules find in a text, by [`fix`]. The pages that are compared keep raw HTML and all URLs,

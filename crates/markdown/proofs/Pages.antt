@@ -1,6 +1,6 @@
 -- The page of a text after its byte order mark is the page of the text, and keeps the laws of pages.
 use Rattle.std.proofs.Common.{◌≡◌, ℕ, List, ap, sym, ◌∙◌, subst}
-use Rattle.markdown_options.specs.declared.configuration.Options.{Options}
+use Rattle.markdown_compile_options.specs.declared.configuration.Options.{Options}
 use Rattle.markdown_options.specs.declared.beside.Kind.{Kind}
 use Rattle.definition_text.specs.Lines.{kind_before_text, without_mark}
 use Rattle.markdown_definition.specs.Html.{html}

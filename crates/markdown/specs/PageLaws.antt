@@ -1,7 +1,7 @@
 -- What the calls promise of a page besides that it is the definition's.
 use Rattle.std.specs.Prelude.{◌≡◌, ◌≢◌, ℕ, true, false, List, [], ◌++◌, codes}
 use Rattle.markdown_options.specs.declared.line_ending.LineEnding.{LineEnding}
-use Rattle.markdown_options.specs.declared.configuration.Options.{Options}
+use Rattle.markdown_compile_options.specs.declared.configuration.Options.{Options}
 use Rattle.definition_text.specs.Encode.{encode}
 use Rattle.definition_text.specs.Lines.{has_mark}
 use Rattle.markdown_definition.specs.Html.{html}

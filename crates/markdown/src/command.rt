@@ -1,7 +1,7 @@
 //! The program, over any reader and writer.
 ghost use Rattle.std.specs.Prelude.{◌≡◌, [], IfErr, is_ok};
 ghost use Rattle.std.specs.Prelude.{option_map, string_bytes, false};
-ghost use Rattle.markdown_options.specs.Mdx.{HasNoMdx};
+ghost use Rattle.markdown_compile_options.specs.Mdx.{HasNoMdx};
 ghost use Rattle.markdown_definition.specs.Html.{html};
 ghost use Rattle.html_contents.specs.Texts.{tables_by};
 ghost use Rattle.markdown_settings.specs.Settings.{faults_of, file_of, options_of, path_of, word_texts};
@@ -11,8 +11,9 @@ ghost use Rattle.markdown_devices.specs.Statuses.{status_of, MayComeOf};
 ghost use Rattle.markdown_devices.specs.Watched.{has_failed};
 
 use crate::transfer::run;
+use markdown_compile_options::Options;
 use markdown_devices::{Fault, RunError, Watched, answer, end, file_rows, flush, open_file};
-use markdown_options::{Options, Tables};
+use markdown_options::Tables;
 use markdown_settings::{Settings, SettingsError, settings};
 use markdown_tables::Builtin;
 use std::alloc::Global;

@@ -3,9 +3,9 @@
 //! The calls promise five laws: safe pages, quoted, listed and escaped texts, other line endings.
 //! docs/LAWS.md explains them. `specs/PageLaws.antt` states the last four, with their premises.
 ghost use Rattle.std.specs.Prelude.{◌≡◌, ◌/◌, ◌*◌, ◌^◌, ◌-◌, ◌≤◌, ◌↔◌, IsTrue, IfOk, IfErr, length, string_bytes};
-ghost use Rattle.markdown_options.specs.Mdx.{HasNoMdx};
+ghost use Rattle.markdown_compile_options.specs.Mdx.{HasNoMdx};
 ghost use Rattle.markdown_options.specs.Messages.{IsOutOfMemory};
-ghost use Rattle.markdown_options.specs.Defaults.{default_options};
+ghost use Rattle.markdown_compile_options.specs.Defaults.{default_options};
 ghost use Rattle.markdown_definition.specs.Html.{html};
 ghost use Rattle.html_contents.specs.Texts.{tables_by};
 ghost use Rattle.html_bytes.specs.Html.{marked_html, text_ending};
@@ -17,8 +17,9 @@ use block_parser::{BlockRows, block_rows};
 use block_targets::{definition_contents, document_definitions, document_footnotes};
 use html_contents::Texts;
 use html_page::print_rows;
+use markdown_compile_options::Options;
 use markdown_devices::SIZE_MAX;
-use markdown_options::{Kind, LineEnding, Message, Options, Tables};
+use markdown_options::{Kind, LineEnding, Message, Tables};
 use markdown_tables::Builtin;
 use std::alloc::{AllocError, Allocator};
 use text_lines::{next_line, without_mark};

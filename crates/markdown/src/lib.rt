@@ -20,10 +20,11 @@ pub use command::program;
 pub use convert::{fits, to_html, to_html_with_options, to_html_with_tables};
 pub use entry::start;
 pub use html_safe_page::is_safe_page;
+pub use markdown_compile_options::{CompileOptions, Options};
 pub use markdown_devices::{RunError, SIZE_MAX, Watched};
 pub use markdown_options::{
-    CompileOptions, Constructs, LineEnding, LineEndingError, Message, Options, ParseOptions, Place,
-    Tables, configuration, constants as constant, line_ending, message, unist,
+    Constructs, LineEnding, LineEndingError, Message, ParseOptions, Place, Tables, configuration,
+    constants as constant, line_ending, message, unist,
 };
 pub use markdown_settings::{Settings, SettingsError, settings};
 pub use markdown_tables::{Builtin, Rows, RowsError};

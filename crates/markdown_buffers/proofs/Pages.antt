@@ -1,6 +1,6 @@
 -- What a call for a page leaves in a buffer, status by status.
 use Rattle.std.proofs.Common.{◌≡◌, ◌≤◌, ◌<◌, ◌++◌, ℕ, List, length, drop, refl, sym, subst, arith}
-use Rattle.markdown_options.specs.declared.configuration.Options.{Options}
+use Rattle.markdown_compile_options.specs.declared.configuration.Options.{Options}
 use Rattle.markdown_definition.specs.Html.{html}
 use Rattle.markdown_tables.specs.Builtin.{builtin_tables}
 use Rattle.markdown_buffers.specs.Pages.{HoldsPage, OfPage, StoresPage}

@@ -1,6 +1,6 @@
 -- What a call for sanitized HTML leaves in a buffer, status by status.
 use Rattle.std.proofs.Common.{◌≡◌, ◌≤◌, ◌<◌, ℕ, List, length, arith}
-use Rattle.markdown_options.specs.declared.configuration.CompileOptions.{CompileOptions}
+use Rattle.markdown_compile_options.specs.declared.configuration.CompileOptions.{CompileOptions}
 use Rattle.markdown_buffers.specs.Pages.{HoldsPage}
 use Rattle.markdown_buffers.specs.Sanitized.{kept, StoresSanitized}
 

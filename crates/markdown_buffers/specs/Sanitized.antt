@@ -1,6 +1,6 @@
 -- What a call for sanitized HTML leaves in the caller's buffer.
 use Rattle.std.specs.Prelude.{◌≡◌, ◌≤◌, ◌<◌, ◌↔◌, ℕ, List, length}
-use Rattle.markdown_options.specs.declared.configuration.CompileOptions.{CompileOptions}
+use Rattle.markdown_compile_options.specs.declared.configuration.CompileOptions.{CompileOptions}
 use Rattle.markdown_tables.specs.Builtin.{builtin_tables}
 use Rattle.html_listed.specs.Listed.{sanitized}
 use Rattle.markdown_c_options.specs.declared.flat_options.FlatOptions.{FlatOptions}

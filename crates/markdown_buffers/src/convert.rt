@@ -1,6 +1,6 @@
 //! From a text to HTML in the caller's buffer.
 ghost use Rattle.std.specs.Prelude.{◌≡◌, ◌≤◌, ◌<◌, IfOk, length, string_bytes};
-ghost use Rattle.markdown_options.specs.Mdx.{HasNoMdx};
+ghost use Rattle.markdown_compile_options.specs.Mdx.{HasNoMdx};
 ghost use Rattle.markdown_definition.specs.Html.{html};
 ghost use Rattle.markdown_tables.specs.Builtin.{builtin_tables};
 ghost use Rattle.markdown_c_options.specs.Flags.{AreFlags, MeanFlags};

@@ -1,6 +1,6 @@
 -- The HTML of events that spell the page of a text is the HTML of the text.
 use Rattle.std.proofs.Common.{◌≡◌, ℕ, List}
-use Rattle.markdown_options.specs.declared.configuration.Options.{Options}
+use Rattle.markdown_compile_options.specs.declared.configuration.Options.{Options}
 use Rattle.definition_page.specs.Html.{html}
 use Rattle.definition_page.specs.TextTables.{TextTables}
 use Rattle.engine_events.specs.declared.event.Event.{Event}

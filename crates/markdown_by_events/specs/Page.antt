@@ -1,7 +1,7 @@
 -- The page of a text by way of its events.
 use Rattle.std.specs.Prelude.{◌≡◌, ℕ, List, Option}
 use Rattle.engine_events.specs.declared.event.Event.{Event}
-use Rattle.markdown_options.specs.declared.configuration.CompileOptions.{CompileOptions}
+use Rattle.markdown_compile_options.specs.declared.configuration.CompileOptions.{CompileOptions}
 use Rattle.event_check.specs.Matches.{MatchesGrammar}
 use Rattle.event_meaning.specs.Spelled.{html_of_events}
 use Rattle.parse_output.specs.Placed.{ArePlaced}

@@ -9,7 +9,8 @@ ghost use Rattle.laws_safe_page.specs.SafeHtml.{AreSafe, HasOneReading};
 
 use compile_html::compile_checked;
 use event_check::{Checked, CompileError};
-use markdown_options::{Options, Tables};
+use markdown_compile_options::Options;
+use markdown_options::Tables;
 use parse_events::{SIZE_MAX, parse};
 use std::alloc::Allocator;
 

@@ -1,7 +1,7 @@
 -- The options that a struct of C stands for.
 use Rattle.std.proofs.Common.{◌≡◌, ap, ◌∙◌, option_map}
 use Rattle.std.specs.Prelude.{codes, string_bytes}
-use Rattle.markdown_options.specs.declared.configuration.Options.{Options}
+use Rattle.markdown_compile_options.specs.declared.configuration.Options.{Options}
 use Rattle.markdown_c_options.specs.declared.flat_options.FlatOptions.{FlatOptions}
 use Rattle.markdown_c_options.specs.FlatOptions.{given_text, without_texts, StandsFor}
 use Rattle.markdown_c_options.specs.Switches.{options_of_numbers}

@@ -1,9 +1,10 @@
 -- The options that a sum of flags asks for.
 use Rattle.std.specs.Prelude.{ℕ, Bool, ◌≡◌, ◌<◌, ◌==◌, ◌/◌, ◌%◌, if◌then◌else◌}
 use Rattle.markdown_options.specs.declared.configuration.Constructs.{Constructs}
-use Rattle.markdown_options.specs.declared.configuration.Options.{Options}
+use Rattle.markdown_compile_options.specs.declared.configuration.Options.{Options}
 use Rattle.markdown_options.specs.declared.configuration.ParseOptions.{ParseOptions}
-use Rattle.markdown_options.specs.Defaults.{no_constructs, default_constructs, default_parse_options, default_compile_options, default_options}
+use Rattle.markdown_options.specs.Defaults.{no_constructs, default_constructs, default_parse_options}
+use Rattle.markdown_compile_options.specs.Defaults.{default_compile_options, default_options}
 
 -- whether a flag, which is a power of two, is in a sum of flags
 abbrev pub has_flag : ℕ → ℕ → Bool

@@ -1,7 +1,7 @@
 -- Options as C passes them, and what they stand for.
 use Rattle.std.specs.Prelude.{◌≡◌, ◌<◌, ◌^◌, ℕ, List, codes, if◌then◌else◌, Option, Some, None, option_map, string_bytes, bytes_eq}
 use Rattle.std.specs.Str.{IsUtf8}
-use Rattle.markdown_options.specs.declared.configuration.Options.{Options}
+use Rattle.markdown_compile_options.specs.declared.configuration.Options.{Options}
 use Rattle.markdown_options.specs.declared.configuration.ParseOptions.{ParseOptions}
 use Rattle.markdown_c_options.specs.declared.flat_options.FlatOptions.{FlatOptions}
 use Rattle.markdown_c_options.specs.Switches.{options_of_numbers, parse_options_of}

@@ -1,10 +1,10 @@
 -- The options of numbers: constructs, switches and a line ending.
 use Rattle.std.specs.Prelude.{◌≡◌, ◌<◌, ◌^◌, ℕ, if◌then◌else◌, ◌==◌}
-use Rattle.markdown_options.specs.declared.configuration.Options.{Options}
+use Rattle.markdown_compile_options.specs.declared.configuration.Options.{Options}
 use Rattle.markdown_options.specs.declared.configuration.ParseOptions.{ParseOptions}
 use Rattle.markdown_options.specs.declared.line_ending.LineEnding.{LineEnding}
 use Rattle.markdown_options.specs.declared.line_ending.LineEnding.TheVariants.{CarriageReturn, CarriageReturnLineFeed, LineFeed}
-use Rattle.markdown_options.specs.Defaults.{default_compile_options}
+use Rattle.markdown_compile_options.specs.Defaults.{default_compile_options}
 use Rattle.markdown_c_options.specs.Constructs.{constructs_of}
 use Rattle.markdown_c_options.specs.Flags.{has_flag}
 

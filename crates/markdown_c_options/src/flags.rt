@@ -1,9 +1,11 @@
 //! The options of a sum of flags.
 ghost use Rattle.std.specs.Prelude.{◌≡◌, ◌<◌, false};
-ghost use Rattle.markdown_options.specs.Mdx.{has_mdx, HasNoMdx};
+ghost use Rattle.markdown_options.specs.Mdx.{has_mdx};
+ghost use Rattle.markdown_compile_options.specs.Mdx.{HasNoMdx};
 ghost use Rattle.markdown_c_options.specs.Flags.{flagged_constructs, flagged_options, has_flag};
 
-use markdown_options::{CompileOptions, Constructs, Options, ParseOptions};
+use markdown_compile_options::{CompileOptions, Options};
+use markdown_options::{Constructs, ParseOptions};
 
 /// HTML of the text is printed as it is, and URLs may have any protocol.
 const DANGEROUS: u64 = 1;

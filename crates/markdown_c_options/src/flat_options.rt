@@ -1,12 +1,12 @@
 //! Options as C passes them.
 ghost use Rattle.std.specs.Prelude.{◌≡◌, ◌↔◌, IfOk, IsTrue, option_map, string_bytes};
 ghost use Rattle.std.specs.Str.{IsUtf8};
-ghost use Rattle.markdown_options.specs.Mdx.{HasNoMdx};
+ghost use Rattle.markdown_compile_options.specs.Mdx.{HasNoMdx};
 ghost use Rattle.markdown_c_options.specs.FlatOptions.{given_text, IsKnown, StandsFor};
 
 use crate::constructs;
 use crate::switches::{self, LAST_ENDING, options_of_numbers};
-use markdown_options::Options;
+use markdown_compile_options::Options;
 use std::alloc::{AllocError, Global};
 
 /// Options, as C passes them. Its fields are those of the struct in the header.

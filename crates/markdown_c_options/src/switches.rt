@@ -1,11 +1,13 @@
 //! The options of numbers: constructs, switches and a line ending.
 ghost use Rattle.std.specs.Prelude.{◌≡◌, ◌<◌, ◌↔◌, IsTrue, false};
-ghost use Rattle.markdown_options.specs.Mdx.{has_mdx, HasNoMdx};
+ghost use Rattle.markdown_options.specs.Mdx.{has_mdx};
+ghost use Rattle.markdown_compile_options.specs.Mdx.{HasNoMdx};
 ghost use Rattle.markdown_c_options.specs.Switches.{ending_of, options_of_numbers, parse_options_of, AreNumbers};
 
 use crate::constructs::{self, constructs_of};
 use crate::flags::has_flag;
-use markdown_options::{CompileOptions, LineEnding, Options, ParseOptions};
+use markdown_compile_options::{CompileOptions, Options};
+use markdown_options::{LineEnding, ParseOptions};
 
 /// An image may have any protocol.
 const ALLOW_ANY_IMG_SRC: u64 = 1;

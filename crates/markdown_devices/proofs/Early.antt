@@ -1,7 +1,7 @@
 -- Conversions that end before anything was read.
 use Rattle.std.proofs.Common.{◌≡◌, ℕ, Bool, true, false, not, ◌&&◌, List, [], Option, None, Some, inl, refl, sym, arith}
 use Rattle.std.proofs.KnownBytes.{Keeps-refl}
-use Rattle.markdown_options.specs.declared.configuration.Options.{Options}
+use Rattle.markdown_compile_options.specs.declared.configuration.Options.{Options}
 use Rattle.markdown_definition.specs.Html.{html}
 use Rattle.markdown_tables.specs.Builtin.{builtin_tables}
 use Rattle.markdown_devices.specs.declared.read.TheConstants.{SIZE_MAX}

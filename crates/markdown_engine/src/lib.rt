@@ -20,7 +20,6 @@ pub use engine_states::{container, label, resolve, state, subresult};
 pub use engine_text::{char, location, skip, slice};
 pub use fitting::{are_apart, are_places};
 pub use markdown_options::{
-    CompileOptions, Constructs, LineEnding, LineEndingError, Message, Options, ParseOptions, Place,
-    Tables, constants, unist,
+    Constructs, LineEnding, LineEndingError, Message, ParseOptions, Place, Tables, constants, unist,
 };
 pub use parse_state::ParseState;

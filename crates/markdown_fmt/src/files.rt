@@ -2,9 +2,9 @@
 use crate::diff::diff;
 use crate::outcome::Outcome;
 use format_settings::Command;
+use markdown_compile_options::{CompileOptions, Options};
 use markdown_format::{SIZE_MAX, format};
 use markdown_input::{Fault, STANDARD_INPUT, markdown_files, replace, text};
-use markdown_options::{CompileOptions, Options};
 use std::path::Path;
 
 /// Formats or checks files, and those below folders. One that can't be is named on standard error, and the

@@ -1,6 +1,6 @@
 //! From a text to the same text in another form.
 ghost use Rattle.std.specs.Prelude.{◌≡◌, ◌≤◌, IfOk, IfErr, length, string_bytes};
-ghost use Rattle.markdown_options.specs.Mdx.{HasNoMdx};
+ghost use Rattle.markdown_compile_options.specs.Mdx.{HasNoMdx};
 ghost use Rattle.markdown_options.specs.Messages.{IsOutOfMemory};
 ghost use Rattle.markdown_definition.specs.Html.{html};
 ghost use Rattle.markdown_tables.specs.Builtin.{builtin_tables};
@@ -10,7 +10,8 @@ use format_pages::{ByOptions, Known, read_by};
 use format_passes::{first_edits, formatted};
 use format_rules::Style;
 use markdown::{SIZE_MAX, fits};
-use markdown_options::{Message, Options};
+use markdown_compile_options::Options;
+use markdown_options::Message;
 use std::alloc::Global;
 
 /// Formats a text. The result is the same document: its page is the page of the text, with the same options,

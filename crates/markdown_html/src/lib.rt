@@ -16,7 +16,8 @@ pub use event_grammar::{EventFault, FaultKind};
 pub use html_escape::encode::encode;
 pub use html_escape::{gfm_tagfilter, sanitize, sanitize_with_protocols};
 pub use markdown_by_events::{SIZE_MAX, to_html_by_events};
-pub use markdown_options::{AlignKind, CompileOptions, LineEnding, Message, Options, Tables};
+pub use markdown_compile_options::{CompileOptions, Options};
+pub use markdown_options::{AlignKind, LineEnding, Message, Tables};
 pub use markdown_tables::Builtin;
 
 /// A list of events to HTML, and lists that are refused.

@@ -1,4 +1,4 @@
-//! The plain data of all crates: options, line endings, places, messages, limits, tables,
+//! The plain data of all crates: options of reading, line endings, places, messages, limits, tables,
 //! containers, and the neighbours of a line.
 //!
 //! Sizes and offsets are in bytes. Lines and columns count from 1.
@@ -16,7 +16,7 @@ pub mod unist;
 
 pub use align_kind::AlignKind;
 pub use beside::{Beside, Kind};
-pub use configuration::{CompileOptions, Constructs, Options, ParseOptions};
+pub use configuration::{Constructs, ParseOptions};
 pub use container::{Container, Item};
 pub use line_ending::{LineEnding, LineEndingError};
 pub use message::{Message, Place};

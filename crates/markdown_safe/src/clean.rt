@@ -1,8 +1,8 @@
 //! HTML of any origin, and what is kept of it.
 use crate::outcome::Outcome;
 use html_sanitizer::sanitized_html;
+use markdown_compile_options::CompileOptions;
 use markdown_input::{Fault, text};
-use markdown_options::CompileOptions;
 use markdown_tables::Builtin;
 
 /// Prints what is kept of the HTML of files, one after another. A file whose page can't be printed is named on

@@ -3,11 +3,12 @@ use Rattle.std.specs.Prelude.{Bool, false, if◌then◌else◌, List, Option, co
 use Rattle.std.specs.Option.{option_map_or}
 use Rattle.std.specs.Str.{bytes_eq}
 use Rattle.clap.specs.Words.{Row, Text, first_of}
-use Rattle.markdown_options.specs.declared.configuration.CompileOptions.{CompileOptions}
+use Rattle.markdown_compile_options.specs.declared.configuration.CompileOptions.{CompileOptions}
 use Rattle.markdown_options.specs.declared.configuration.Constructs.{Constructs}
-use Rattle.markdown_options.specs.declared.configuration.Options.{Options}
+use Rattle.markdown_compile_options.specs.declared.configuration.Options.{Options}
 use Rattle.markdown_options.specs.declared.configuration.ParseOptions.{ParseOptions}
-use Rattle.markdown_options.specs.Defaults.{default_compile_options, default_constructs, default_parse_options, gfm_compile_options, gfm_constructs, no_constructs}
+use Rattle.markdown_options.specs.Defaults.{default_constructs, default_parse_options, gfm_constructs, no_constructs}
+use Rattle.markdown_compile_options.specs.Defaults.{default_compile_options, gfm_compile_options}
 use Rattle.markdown_settings.specs.declared.flags.Flags.{Flags}
 
 -- the value of a flag that is set

@@ -5,7 +5,7 @@ use Rattle.std.specs.declared.string.String.{String}
 use Rattle.clap.specs.Words.{Kinds, IsAmong, Row, Text, fault_of, first_of, matches_of, takes}
 use Rattle.clap.specs.declared.error.kind.ErrorKind.{ErrorKind}
 use Rattle.clap.specs.declared.error.kind.ErrorKind.TheVariants.{DisplayHelp, DisplayVersion}
-use Rattle.markdown_options.specs.declared.configuration.Options.{Options}
+use Rattle.markdown_compile_options.specs.declared.configuration.Options.{Options}
 use Rattle.markdown_settings.specs.declared.help.TheConstants.{HELP, VERSION}
 use Rattle.markdown_settings.specs.declared.settings_error.SettingsError.{SettingsError}
 use Rattle.markdown_settings.specs.declared.settings_error.SettingsError.TheVariants.{Help, Words, Memory}

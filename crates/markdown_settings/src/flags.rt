@@ -1,9 +1,10 @@
 //! The options of the flags.
 ghost use Rattle.std.specs.Prelude.{◌≡◌};
-ghost use Rattle.markdown_options.specs.Mdx.{HasNoMdx};
+ghost use Rattle.markdown_compile_options.specs.Mdx.{HasNoMdx};
 ghost use Rattle.markdown_settings.specs.Flags.{constructs_of, flag_options, parse_of, printed_as};
 
-use markdown_options::{CompileOptions, Constructs, Options, ParseOptions};
+use markdown_compile_options::{CompileOptions, Options};
+use markdown_options::{Constructs, ParseOptions};
 
 /// What a command line asks for.
 #[derive(Debug, Drop)]

@@ -1,7 +1,7 @@
 //! Reads the command line.
 ghost use Rattle.std.specs.Prelude.{◌≡◌, IfOk, IfErr, OnOk, [], true, codes, option_map, string_bytes};
 ghost use Rattle.clap.specs.Words.{first_of, found_of, kind_of, rows_of, Kinds, IsAmong};
-ghost use Rattle.markdown_options.specs.Mdx.{HasNoMdx};
+ghost use Rattle.markdown_compile_options.specs.Mdx.{HasNoMdx};
 ghost use Rattle.markdown_settings.specs.Flags.{flag_options, flags_in, is_true_text};
 ghost use Rattle.markdown_settings.specs.Settings.{faults_of, file_of, options_of, path_of, takes_words};
 ghost use Rattle.markdown_settings.specs.Settings.{named_file, HasFault, Refuses, word_texts};

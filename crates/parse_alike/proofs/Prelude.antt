@@ -26,7 +26,7 @@ pub use Rattle.definition_text.specs.Content.{line_text}
 pub use Rattle.definition_text.specs.Lines.{ending_text, without_mark}
 pub use Rattle.event_meaning.specs.Texts.{append, leaves}
 pub use Rattle.markdown_options.specs.LineEndings.{ending_bytes}
-pub use Rattle.markdown_options.specs.declared.configuration.CompileOptions.{CompileOptions}
+pub use Rattle.markdown_compile_options.specs.declared.configuration.CompileOptions.{CompileOptions}
 pub use Rattle.markdown_options.specs.declared.line_ending.LineEnding.{LineEnding}
 pub use Rattle.parse_alike.specs.BlockLines.{AreCodeLinesAlike, AreHtmlLinesAlike, has_lines, html_end, html_parts, html_text, HtmlPart}
 pub use Rattle.parse_alike.specs.HtmlText.{html_leaves}

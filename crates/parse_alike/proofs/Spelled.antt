@@ -1,6 +1,6 @@
 -- A page that is alike to that of a text prints the HTML of the text.
 use Rattle.std.proofs.Common.{◌≡◌, ℕ, List, map, refl, sym, ap, ◌∙◌}
-use Rattle.markdown_options.specs.declared.configuration.Options.{Options}
+use Rattle.markdown_compile_options.specs.declared.configuration.Options.{Options}
 use Rattle.parse_alike.proofs.Prelude.{AreFootnotesAlike, ArePagesAlike, Meaning, normal_label, Page, read, TextTables, without_mark}
 use Rattle.definition_page.specs.DocumentPieces as document
 use Rattle.definition_page.specs.Html.{html}

@@ -1,6 +1,7 @@
 -- Pages that are alike, and pages that aren't, since they differ in one thing that is printed.
 use Rattle.std.specs.Prelude.{ℕ, Bool, true, false, List, [], ◌∷◌, Option, None, Some, codes, map}
-use Rattle.markdown_options.specs.Defaults.{default_constructs, default_compile_options}
+use Rattle.markdown_options.specs.Defaults.{default_constructs}
+use Rattle.markdown_compile_options.specs.Defaults.{default_compile_options}
 use Rattle.markdown_options.specs.declared.line_ending.LineEnding.TheVariants.{LineFeed, CarriageReturn}
 use Rattle.definition_text.specs.BlockLines.{BlockLine, spaced_line}
 use Rattle.definition_text.specs.Columns.{Code, tab_column}

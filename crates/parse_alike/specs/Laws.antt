@@ -1,6 +1,6 @@
 -- Pages that are alike print the same.
 use Rattle.std.specs.Prelude.{◌≡◌, ℕ, List}
-use Rattle.markdown_options.specs.declared.configuration.CompileOptions.{CompileOptions}
+use Rattle.markdown_compile_options.specs.declared.configuration.CompileOptions.{CompileOptions}
 use Rattle.definition_inline.specs.Definition.{Definition}
 use Rattle.definition_inline.specs.Targets.{linked_by}
 use Rattle.definition_page.specs.BlockPieces.{document_pieces}

@@ -1,7 +1,7 @@
 -- A page that events spell, and the page that is read from their text.
 use Rattle.std.specs.Prelude.{◌≡◌, ◌⊎◌, ℕ, List}
-use Rattle.markdown_options.specs.Defaults.{default_compile_options}
-use Rattle.markdown_options.specs.declared.configuration.Options.{Options}
+use Rattle.markdown_compile_options.specs.Defaults.{default_compile_options}
+use Rattle.markdown_compile_options.specs.declared.configuration.Options.{Options}
 use Rattle.markdown_options.specs.declared.configuration.ParseOptions.{ParseOptions}
 use Rattle.definition_page.specs.DocumentPieces as document
 use Rattle.definition_page.specs.Html.{html}

@@ -3,7 +3,7 @@ use compile_html::compile;
 use engine_events::event::{Event, Kind, Name};
 use engine_events::place::Point;
 use event_check::CompileError;
-use markdown_options::CompileOptions;
+use markdown_compile_options::CompileOptions;
 use markdown_tables::Builtin;
 use std::alloc::{AllocError, Global};
 use std::io::{self, ErrorKind};

@@ -1,5 +1,6 @@
 //! Options of printing by letters.
-use markdown_options::{CompileOptions, LineEnding};
+use markdown_compile_options::CompileOptions;
+use markdown_options::LineEnding;
 
 /// The options that letters stand for, which the README lists.
 pub fn options_of(letters: &str) -> CompileOptions {

@@ -1,8 +1,10 @@
 //! The options that texts are read and printed with.
 ghost use Rattle.std.specs.Prelude.{◌≡◌, false};
-ghost use Rattle.markdown_options.specs.Mdx.{HasNoMdx, has_mdx};
+ghost use Rattle.markdown_options.specs.Mdx.{has_mdx};
+ghost use Rattle.markdown_compile_options.specs.Mdx.{HasNoMdx};
 
-use markdown_options::{CompileOptions, Constructs, Options, ParseOptions};
+use markdown_compile_options::{CompileOptions, Options};
+use markdown_options::{Constructs, ParseOptions};
 use std::alloc::Global;
 
 /// Options by name: a constant has no `Options`, some of which own texts.

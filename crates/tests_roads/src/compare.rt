@@ -1,10 +1,11 @@
 //! The events of a text by both roads, compared.
 ghost use Rattle.std.specs.Prelude.{◌<◌, length};
-ghost use Rattle.markdown_options.specs.Mdx.{HasNoMdx};
+ghost use Rattle.markdown_compile_options.specs.Mdx.{HasNoMdx};
 
 use engine_events::event::Name;
 use engine_events::{Event, Kind};
-use markdown_options::{Message, Options};
+use markdown_compile_options::Options;
+use markdown_options::Message;
 use markdown_tables::Builtin;
 use parse_events::{SIZE_MAX, parse};
 use state_parser::{parse_by_machines, parse_in_ranges};

@@ -8,8 +8,9 @@ ghost use Rattle.html_escape.specs.Prints.{Prints};
 
 use html_escape::{push_raw, push_sanitized, push_sanitized_with_protocols};
 use html_inline::push_string;
+use markdown_compile_options::CompileOptions;
 use markdown_options::constants::SAFE_PROTOCOL_HREF;
-use markdown_options::{CompileOptions, Constructs, Tables};
+use markdown_options::{Constructs, Tables};
 use std::alloc::{AllocError, Allocator};
 
 /// Prints the URL of a link as `html_inline` does: its protocol is tested once escapes and

@@ -2,7 +2,7 @@
 ghost use Rattle.std.specs.Prelude.{◌≡◌, ◌≤◌, ◌||◌};
 ghost use Rattle.std.specs.Prelude.{IfOk, IfErr, OnOk, IfSome, IsTrue, true, false, length, string_bytes};
 ghost use Rattle.std.specs.Io.KnownBytes.{Appends, Keeps};
-ghost use Rattle.markdown_options.specs.Mdx.{HasNoMdx};
+ghost use Rattle.markdown_compile_options.specs.Mdx.{HasNoMdx};
 ghost use Rattle.markdown_definition.specs.Html.{html};
 ghost use Rattle.html_contents.specs.Texts.{tables_by};
 ghost use Rattle.markdown_devices.specs.Watched.{device, has_failed, has_stopped, has_ended, has_flushed, has_flush_failed, came_to_end};
@@ -11,7 +11,8 @@ ghost use Rattle.markdown_devices.specs.Faults.{read_failed, write_failed, write
 ghost use Rattle.markdown_devices.specs.Transfer.{AppendsBeginning, RefusesPast, RefusesUtf8};
 
 use markdown::{RunError, SIZE_MAX, Watched};
-use markdown_options::{Options, Tables};
+use markdown_compile_options::Options;
+use markdown_options::Tables;
 use std::alloc::Allocator;
 use std::io::{Read, Write};
 

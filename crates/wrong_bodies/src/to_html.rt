@@ -9,7 +9,8 @@ ghost use Rattle.event_check.specs.declared.error.CompileError.TheVariants.{Memo
 
 use engine_events::Event;
 use event_check::CompileError;
-use markdown_options::{CompileOptions, Tables};
+use markdown_compile_options::CompileOptions;
+use markdown_options::Tables;
 use std::alloc::Allocator;
 
 /// `compile_html::compile`: a list that is refused has no page.

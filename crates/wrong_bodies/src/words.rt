@@ -1,6 +1,6 @@
 //! The command line of the program `markdown`.
 ghost use Rattle.std.specs.Prelude.{◌≡◌, IfOk, IfErr, OnOk, [], true, option_map, string_bytes};
-ghost use Rattle.markdown_options.specs.Mdx.{HasNoMdx};
+ghost use Rattle.markdown_compile_options.specs.Mdx.{HasNoMdx};
 ghost use Rattle.markdown_settings.specs.Settings.{faults_of, file_of, options_of, path_of, takes_words};
 ghost use Rattle.markdown_settings.specs.Settings.{Refuses, word_texts};
 

@@ -4,7 +4,7 @@ use Rattle.compile_html.proofs.Prelude.{blocks_of, children_pieces, ending_bytes
 use Rattle.compile_html.proofs.Prelude.{layout_after, LayoutState, left_pieces, LineEnding, loose_lists, page_after, page_of, page_view, Piece, Printer, Vec}
 use Rattle.compile_html.proofs.Prelude.{without_mark}
 use Rattle.std.proofs.lemmas.List.{append-nil}
-use Rattle.markdown_options.specs.declared.configuration.CompileOptions.{CompileOptions}
+use Rattle.markdown_compile_options.specs.declared.configuration.CompileOptions.{CompileOptions}
 use Rattle.definition_page.specs.BlockPieces.{at_top, document_pieces}
 use Rattle.html_bytes.specs.Layout.{lay, nothing_laid, with_footnotes}
 use Rattle.html_bytes.proofs.SamePage.{page_same}

@@ -2,7 +2,7 @@ use Rattle.std.proofs.Common.{◌≡◌, List, [], ap, sym, ◌∙◌, refl, sub
 use Rattle.std.proofs.lemmas.Result.{IfOk-weaker}
 use Rattle.markdown_options.specs.declared.line_ending.LineEnding.{LineEnding}
 use Rattle.markdown_options.specs.LineEndings.{ending_bytes}
-use Rattle.markdown_options.specs.declared.configuration.Options.{Options}
+use Rattle.markdown_compile_options.specs.declared.configuration.Options.{Options}
 use Rattle.block_rows.specs.declared.row.Row.{Row}
 use Rattle.text_pieces.specs.declared.piece.Piece.{Piece}
 use Rattle.html_bytes.specs.Document.{document}

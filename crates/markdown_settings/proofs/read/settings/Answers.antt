@@ -6,7 +6,7 @@ use Rattle.clap.proofs.OnLiterals.{clap_on_literals}
 use Rattle.clap.proofs.WalkLemmas.{first_value-rows}
 use Rattle.clap.specs.Simple.{HasMatchesOf}
 use Rattle.clap.specs.declared.parser.matches.ArgMatches.{ArgMatches}
-use Rattle.markdown_options.specs.declared.configuration.Options.{Options}
+use Rattle.markdown_compile_options.specs.declared.configuration.Options.{Options}
 use Rattle.markdown_settings.specs.Command.{markdown_command}
 use Rattle.markdown_settings.specs.Flags.{flag_options, flags_in}
 use Rattle.markdown_settings.specs.Settings.{Refuses, faults_of, named_file, rows_of_words, takes_words}

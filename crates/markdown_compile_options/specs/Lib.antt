@@ -1,0 +1,2 @@
+pub mod Mdx
+pub mod Defaults
