@@ -12,14 +12,17 @@ use Rattle.definition_inline.specs.Inline.{Link, Image, Inline, Leaf as Part, Sp
 use Rattle.definition_inline.specs.LabelMatch.{normal_label, first_match}
 use Rattle.definition_inline.specs.Targets.{leads_to}
 use Rattle.definition_page.specs.Tags.{PrintedPart, Tag, tag, bare_tag}
-use Rattle.definition_page.specs.Pieces.{Piece, Open, Close, Void, Says, Eol, Fresh, NoteStart, NoteEnd}
+use Rattle.definition_page.specs.Pieces.{Piece, Open, Close, Void, Says, Eol, Fresh, Named, NoteStart, NoteEnd}
 use Rattle.definition_page.specs.InlinePieces.{Meaning, element, html_says, link_tag, span_name, call_at, count_at, part_counts, inline_counts}
 use Rattle.definition_page.specs.InlinePieces.{leaf_pieces, part_pieces, inline_pieces}
+use Rattle.definition_page.specs.HeadingIds.{with_ids, tag_with_id}
+use Rattle.definition_page.specs.HeadingText.{heading_text}
+use Rattle.definition_page.specs.Slug.{next_slug, with_slug}
 use Rattle.definition_page.specs.GfmTable.{TableRow, Table as TableOf, align_attributes, cell_pieces, cells_pieces, row_pieces, ending_piece, endings_pieces}
 use Rattle.definition_page.specs.GfmTable.{body_row_pieces, head_pieces, body_pieces, table_pieces}
 use Rattle.definition_page.specs.Page.{PageLeaf, Paragraph, Heading, Break, IndentedCode, FencedCode, Html, Table, Definition}
 use Rattle.definition_page.specs.Page.{PageContainer, Quote, Item, Footnote, Block, Leaf, Holds, ItemList, Ending, Blank, Blocks, Nil, Cons}
-use Rattle.definition_page.specs.BlockPieces.{Place, at_top, inside, code_line, html_line, says, heading_name, info_attributes, list_tag, is_silent}
+use Rattle.definition_page.specs.BlockPieces.{Place, at_top, inside, code_line, html_line, says, heading_name, heading_start, info_attributes, list_tag, is_silent}
 use Rattle.definition_page.specs.BlockPieces.{last_visible, ends_plainly, fresh_unless, fenced_pieces, leaf_block_pieces, block_pieces, children_pieces}
 
 module _ (good : Piece → Type 0) where
@@ -34,6 +37,7 @@ module _ (good : Piece → Type 0) where
     pub said : (part : PrintedPart) → good (Says part)
     pub eol : good Eol
     pub fresh : good Fresh
+    pub names : (t : Tag) (text : List ℕ) → good (Named t text)
     pub calls : (label : List ContentCode) → PiecesGood (call_at (first_match label m.footnotes) (normal_label label))
     pub counts : (label : List ContentCode) → PiecesGood (count_at (first_match label m.footnotes) (normal_label label))
 
@@ -158,12 +162,19 @@ module _ (good : Piece → Type 0) where
         ended_good (says code ++ last)
         (both_good (says code) last (says_good code) (cond_both (place.top || is_closed) [] (Eol ∷ []) PiecesGood (λ _. tt) (λ _. (prints.eol, tt))))
 
+    start_good : (rank : ℕ) (is : Inlines) → good (heading_start m rank is)
+    start_good rank is =
+        let t = bare_tag (heading_name rank) in
+        cond_both m.compile.heading_ids (Named t (heading_text is)) (Open t) good (λ _. prints.names t (heading_text is)) (λ _. prints.opens t)
+
     leaf_block_good : (place : Place) (leaf : PageLeaf) → PiecesGood (leaf_block_pieces m place leaf)
     leaf_block_good place (Paragraph is) =
         let text = inline_pieces m is in
         cond_both place.tight text (Fresh ∷ element (bare_tag (codes "p")) text) PiecesGood (λ _. inlines_good is)
         (λ _. (prints.fresh, element_good (bare_tag (codes "p")) text (inlines_good is)))
-    leaf_block_good place (Heading rank is) = (prints.fresh, element_good (bare_tag (heading_name rank)) (inline_pieces m is) (inlines_good is))
+    leaf_block_good place (Heading rank is) =
+        let name = heading_name rank in
+        (prints.fresh, (start_good rank is, both_good (inline_pieces m is) (Close name ∷ []) (inlines_good is) (prints.closes name, tt)))
     leaf_block_good place Break = (prints.fresh, (prints.voids _, tt))
     leaf_block_good place (IndentedCode ls) =
         let lines = says (flat_map code_line ls) ++ Fresh ∷ [] in
@@ -177,6 +188,14 @@ module _ (good : Piece → Type 0) where
     leaf_block_good place (Html ls) = (prints.fresh, says_good (flat_map (html_line m.compile) ls))
     leaf_block_good place (Table t) = table_good t
     leaf_block_good place Definition = tt
+
+    -- ---- ids
+
+    ids_good : (taken : List (List ℕ)) (ps : List Piece) → PiecesGood ps → PiecesGood (with_ids m.compile taken ps)
+    ids_good taken [] h = tt
+    ids_good taken (Named t text ∷ ps) h =
+        (prints.opens (tag_with_id m.compile (next_slug taken text) t), ids_good (with_slug taken text) ps h.1)
+    ids_good taken (p ∷ ps) h = (h.0, ids_good taken ps h.1)
 
     -- ---- blocks
 
@@ -215,6 +234,9 @@ module _ (good : Piece → Type 0) where
             both_good (block_pieces m place before b) (children_pieces m place (Some b) bs) (block_good place before b bs h)
             (children_good place (Some b) bs (holding.others b bs h))
 
-      -- blocks that end on a line of their own or not, such as those of a document
-      pub page_good : (bs : Blocks) (said : Bool) → There bs → PiecesGood (children_pieces m at_top None bs ++ fresh_unless said)
-      page_good bs said h = both_good (children_pieces m at_top None bs) (fresh_unless said) (children_good at_top None bs h) (fresh_good said)
+      -- blocks that end on a line of their own or not, such as those of a document, with the ids of their headings
+      pub page_good : (bs : Blocks) (said : Bool) → There bs
+          → PiecesGood (with_ids m.compile [] (children_pieces m at_top None bs ++ fresh_unless said))
+      page_good bs said h =
+          let all = children_pieces m at_top None bs in
+          ids_good [] (all ++ fresh_unless said) (both_good all (fresh_unless said) (children_good at_top None bs h) (fresh_good said))

@@ -6,9 +6,12 @@ use Rattle.markdown_options.specs.LineEndings.{ending_bytes}
 use Rattle.definition_text.specs.BlockLines.{BlockLine}
 use Rattle.definition_text.specs.Lines.{ending_text}
 use Rattle.definition_text.specs.Columns.{code_byte, bytes_of}
+use Rattle.definition_inline.specs.Inline.{Inlines}
 use Rattle.definition_page.specs.Tags.{PrintedPart, Words, Number, Attribute, attribute, Tag, tag, bare_tag}
-use Rattle.definition_page.specs.Pieces.{Piece, Void, Says, Eol, Fresh, NoteStart, NoteEnd}
+use Rattle.definition_page.specs.Pieces.{Piece, Open, Close, Void, Says, Eol, Fresh, Named, NoteStart, NoteEnd}
 use Rattle.definition_page.specs.InlinePieces.{Meaning, raw_html, element, inline_pieces}
+use Rattle.definition_page.specs.HeadingText.{heading_text}
+use Rattle.definition_page.specs.HeadingIds.{with_ids}
 use Rattle.definition_page.specs.GfmTable.{table_pieces}
 use Rattle.definition_page.specs.Page.{Page, PageLeaf, Paragraph, Heading, Break, IndentedCode, FencedCode, Html, Table, Definition}
 use Rattle.definition_page.specs.Page.{PageContainer, Quote, Item, Footnote, Block, Leaf, Holds, ItemList, Ending, Blank, Blocks, Nil, Cons}
@@ -42,6 +45,11 @@ says parts = map Says parts
 -- `h1` to `h6`, where 48 is the digit 0
 abbrev pub heading_name : ℕ → List ℕ
 heading_name rank = codes "h" ++ (48 + rank) ∷ []
+
+-- the start of a heading: where headings have ids, it is named by what the heading says
+abbrev pub heading_start : Meaning → ℕ → Inlines → Piece
+heading_start m rank is =
+    if m.compile.heading_ids then Named (bare_tag (heading_name rank)) (heading_text is) else Open (bare_tag (heading_name rank))
 
 -- the class of fenced code with an info (CommonMark 4.5)
 abbrev pub info_attributes : Option (List ℕ) → List Attribute
@@ -109,7 +117,7 @@ fenced_pieces place is_closed (line ∷ others) =
 abbrev pub leaf_block_pieces : Meaning → Place → PageLeaf → List Piece
 leaf_block_pieces m place (Paragraph is) =
     if place.tight then inline_pieces m is else Fresh ∷ element (bare_tag (codes "p")) (inline_pieces m is)
-leaf_block_pieces m place (Heading rank is) = Fresh ∷ element (bare_tag (heading_name rank)) (inline_pieces m is)
+leaf_block_pieces m place (Heading rank is) = Fresh ∷ heading_start m rank is ∷ inline_pieces m is ++ Close (heading_name rank) ∷ []
 leaf_block_pieces m place Break = Fresh ∷ Void (bare_tag (codes "hr")) ∷ []
 leaf_block_pieces m place (IndentedCode ls) =
     Fresh ∷ element (bare_tag (codes "pre")) (element (bare_tag (codes "code")) (says (flat_map code_line ls) ++ Fresh ∷ []))
@@ -140,6 +148,6 @@ abbrev mutual
   children_pieces m place before Nil = []
   children_pieces m place before (Cons b bs) = block_pieces m place before b ++ children_pieces m place (Some b) bs
 
--- the blocks of a document; the ending of a blank line asks for a fresh line where it is the very last
+-- the blocks of a document, its headings with their ids; the ending of a blank line asks for a fresh line where it is the very last
 abbrev pub document_pieces : Meaning → Page → List Piece
-document_pieces m page = children_pieces m at_top None page.blocks ++ fresh_unless (not page.ends_blank)
+document_pieces m page = with_ids m.compile [] (children_pieces m at_top None page.blocks ++ fresh_unless (not page.ends_blank))

@@ -6,10 +6,11 @@ use Rattle.markdown_compile_options.specs.declared.configuration.CompileOptions.
 use Rattle.definition_text.specs.Encode.{encode}
 use Rattle.definition_text.specs.Lines.{ends_line}
 use Rattle.definition_inline.specs.GfmAutolinkLiteral.{ends_with}
+use Rattle.definition_page.specs.OptionTexts.{text_or}
 use Rattle.definition_page.specs.Tags.{Words, AsItIs, Number, Tag, attribute, tag, bare_tag}
 use Rattle.definition_page.specs.Pieces.{Piece, Open, Close, Says, Fresh}
 use Rattle.definition_page.specs.InlinePieces.{element}
-use Rattle.definition_page.specs.GfmLabelStartFootnote.{text_or, footnote_id, call_id, leads_to_id}
+use Rattle.definition_page.specs.GfmLabelStartFootnote.{footnote_id, call_id, leads_to_id}
 
 -- a footnote that is called: its label as labels are matched, how many calls it has, and the HTML of its blocks, which is laid out by itself
 pub record Footnote : Type 0 where

@@ -1,6 +1,7 @@
 -- Calls of footnotes, and what they print (in no standard; as GitHub prints them).
-use Rattle.std.specs.Prelude.{ℕ, if◌then◌else◌, nat_le, List, [], ◌∷◌, Option, None, Some, String, string_bytes, codes}
+use Rattle.std.specs.Prelude.{ℕ, if◌then◌else◌, nat_le, List, [], ◌∷◌, codes}
 use Rattle.markdown_compile_options.specs.declared.configuration.CompileOptions.{CompileOptions}
+use Rattle.definition_page.specs.OptionTexts.{text_or}
 use Rattle.definition_page.specs.Urls.{percent}
 use Rattle.definition_page.specs.Tags.{PrintedPart, Words, Number, Attribute, attribute, Tag, tag, bare_tag}
 use Rattle.definition_page.specs.Pieces.{Piece, Says}
@@ -11,11 +12,6 @@ pub record Call : Type 0 where
   pub label : List ℕ
   pub number : ℕ
   pub count : ℕ
-
--- a text of the options, or this one
-abbrev pub text_or : {A : Type 0} → Option (String A) → List ℕ → List ℕ
-text_or None default = default
-text_or (Some text) default = string_bytes text
 
 -- what the ids of footnotes begin with
 abbrev pub id_prefix : CompileOptions → List ℕ

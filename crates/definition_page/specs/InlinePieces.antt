@@ -1,5 +1,5 @@
 -- What the inline structure of a content prints (CommonMark 6).
-use Rattle.std.specs.Prelude.{ℕ, Bool, true, false, if◌then◌else◌, ◌||◌, List, [], ◌∷◌, ◌++◌, Option, None, Some, codes, map}
+use Rattle.std.specs.Prelude.{ℕ, Bool, true, false, if◌then◌else◌, ◌||◌, List, [], ◌∷◌, ◌++◌, Option, None, Some, String, string_bytes, codes, map}
 use Rattle.std.specs.List.{flat_map}
 use Rattle.markdown_options.specs.declared.configuration.Constructs.{Constructs}
 use Rattle.markdown_compile_options.specs.declared.configuration.CompileOptions.{CompileOptions}
@@ -14,6 +14,7 @@ use Rattle.definition_inline.specs.Targets.{leads_to}
 use Rattle.definition_inline.specs.Strings.{string_text}
 use Rattle.definition_page.specs.GfmTagfilter.{filter_if}
 use Rattle.definition_page.specs.GfmTaskListItem.{check_tag}
+use Rattle.definition_page.specs.Destinations.{link_destination, image_source}
 use Rattle.definition_page.specs.Urls.{percent, sanitize, permits, href_protocols, src_protocols}
 use Rattle.definition_page.specs.Tags.{PrintedPart, Words, AsItIs, EndOfLine, Attribute, attribute, Tag, tag, bare_tag}
 use Rattle.definition_page.specs.Pieces.{Piece, Open, Close, Void, Says, CallOf, CountOf}
@@ -89,17 +90,29 @@ abbrev pub title_attribute : Meaning → Option (List ℕ) → List Attribute
 title_attribute m None = []
 title_attribute m (Some title) = title_attributes (string_text m.on m.names title)
 
+-- the attribute of links that the options ask for
+abbrev pub rel_attributes : {A : Type 0} → Option (String A) → List Attribute
+rel_attributes None = []
+rel_attributes (Some rel) = attribute (codes "rel") (string_bytes rel) ∷ []
+
+-- and that of images
+abbrev pub loading_attributes : Bool → List Attribute
+loading_attributes lazy = if lazy then attribute (codes "loading") (codes "lazy") ∷ [] else []
+
 -- the start tag of a link (CommonMark 6.3)
 abbrev pub link_tag : Meaning → LinkTexts → Tag
-link_tag m target = tag (codes "a") (attribute (codes "href") (link_url m.compile (url_of m target)) ∷ title_attribute m target.title)
+link_tag m target =
+    tag (codes "a")
+    (attribute (codes "href") (link_url m.compile (link_destination m.compile (url_of m target)))
+    ∷ title_attribute m target.title ++ rel_attributes m.compile.link_rel)
 
 -- the tag of an image, with what its description says (CommonMark 6.4)
 abbrev pub image_tag : Meaning → LinkTexts → List PrintedPart → Tag
 image_tag m target description =
     tag (codes "img")
-    (attribute (codes "src") (image_url m.compile (url_of m target))
+    (attribute (codes "src") (image_url m.compile (image_source m.compile (url_of m target)))
     ∷ record { name = codes "alt"; value = description }
-    ∷ title_attribute m target.title)
+    ∷ title_attribute m target.title ++ loading_attributes m.compile.lazy_images)
 
 -- the address that an autolink leads to (CommonMark 6.5)
 abbrev pub address : Bool → List ℕ → List ℕ
@@ -139,7 +152,7 @@ element t inside = Open t ∷ inside ++ Close t.name ∷ []
 
 -- the start tag of a link to an address
 abbrev pub address_tag : CompileOptions → List ℕ → Tag
-address_tag options url = tag (codes "a") (attribute (codes "href") (link_url options url) ∷ [])
+address_tag options url = tag (codes "a") (attribute (codes "href") (link_url options url) ∷ rel_attributes options.link_rel)
 
 -- what a leaf prints in a text: its tags, if it has any, around what it says (CommonMark 6)
 abbrev pub leaf_pieces : CompileOptions → InlineLeaf → List Piece

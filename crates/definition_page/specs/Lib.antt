@@ -1,6 +1,10 @@
 pub mod GfmTagfilter
 pub mod GfmTaskListItem
 pub mod Urls
+pub mod OptionTexts
+pub mod Destinations
+pub mod Slug
+pub mod HeadingText
 pub mod TextTables
 pub mod Tags
 pub mod Pieces
@@ -11,6 +15,7 @@ pub mod Read
 pub mod BlockPieces
 pub mod DocumentPieces
 pub mod GfmLabelStartFootnote
+pub mod HeadingIds
 pub mod GfmFootnoteDefinition
 pub mod Layout
 pub mod Html

@@ -4,7 +4,7 @@ use Rattle.definition_text.specs.Ascii.{line_feed, carriage_return}
 use Rattle.definition_page.specs.Tags.{PrintedPart, said_bytes, Tag, start_tag, end_tag, void_tag}
 
 -- a start tag, an end tag by its name, the tag of an element that holds nothing, a part of a text or of raw HTML, the default ending, or that ending unless
--- nothing, CR or LF stands before; and what footnotes need: a call, and one that isn't printed but counts, each with the place of its footnote, in the order in
+-- nothing, CR or LF stands before; the start tag of a heading that gets an id, with what the heading says; and what footnotes need: a call, and one that isn't printed but counts, each with the place of its footnote, in the order in
 -- which these end, and with its label as labels are matched; the start and the end of a footnote definition
 pub data Piece : Type 0 where
   Open : Tag → Piece
@@ -13,6 +13,7 @@ pub data Piece : Type 0 where
   Says : PrintedPart → Piece
   Eol : Piece
   Fresh : Piece
+  Named : Tag → List ℕ → Piece
   CallOf : ℕ → List ℕ → Piece
   CountOf : ℕ → List ℕ → Piece
   NoteStart : Piece
@@ -35,4 +36,5 @@ print default out (Void t) = out ++ void_tag t
 print default out (Says said) = out ++ said_bytes said
 print default out Eol = out ++ default
 print default out Fresh = if is_fresh out then out else out ++ default
+print default out (Named t text) = out ++ start_tag t
 print default out piece = out

@@ -7,7 +7,8 @@ pub use Rattle.std.specs.List.{fold}
 pub use Rattle.std.specs.Prelude.{OnOk}
 pub use Rattle.definition_page.specs.GfmFootnoteDefinition.{arrow, back_pieces, back_tag, backs_pieces, count_pieces, footnotes_pieces, heading_pieces}
 pub use Rattle.definition_page.specs.GfmFootnoteDefinition.{section_heading_name, section_heading_tag, space_after, with_backs}
-pub use Rattle.definition_page.specs.GfmLabelStartFootnote.{Call, call_id, footnote_id, text_or}
+pub use Rattle.definition_page.specs.GfmLabelStartFootnote.{Call, call_id, footnote_id}
+pub use Rattle.definition_page.specs.OptionTexts.{text_or}
 pub use Rattle.definition_page.specs.Pieces.{Close, Fresh, print}
 pub use Rattle.definition_page.specs.Tags.{bare_tag, start_tag}
 pub use Rattle.definition_text.specs.Encode.{encode, plain}

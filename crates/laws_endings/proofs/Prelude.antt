@@ -64,7 +64,8 @@ pub use Rattle.definition_inline.specs.Title.{ends_blank_line, title_at, title_c
 pub use Rattle.definition_page.proofs.PlainLayout.{ArePlain}
 pub use Rattle.definition_page.specs.BlockPieces.{children_pieces, fresh_unless}
 pub use Rattle.definition_page.specs.GfmFootnoteDefinition.{ended_size, section_pieces}
-pub use Rattle.definition_page.specs.GfmLabelStartFootnote.{call_id, footnote_id, leads_to_id, text_or}
+pub use Rattle.definition_page.specs.GfmLabelStartFootnote.{call_id, footnote_id, leads_to_id}
+pub use Rattle.definition_page.specs.OptionTexts.{text_or}
 pub use Rattle.definition_page.specs.GfmTable.{delimiter_line, head_line, in_cell, Table, TableRow}
 pub use Rattle.definition_page.specs.GfmTagfilter.{filter_if}
 pub use Rattle.definition_page.specs.InlinePieces.{element, inline_counts, inline_pieces, link_url, Meaning, raw_html}

@@ -5,7 +5,7 @@ use Rattle.markdown_compile_options.specs.declared.configuration.CompileOptions.
 use Rattle.markdown_compile_options.specs.declared.configuration.Options.{Options}
 use Rattle.definition_text.specs.Ascii.{line_feed, ampersand}
 use Rattle.definition_page.specs.TextTables.{TextTables}
-use Rattle.definition_page.specs.GfmLabelStartFootnote.{text_or}
+use Rattle.definition_page.specs.OptionTexts.{text_or}
 use Rattle.definition_page.specs.Html.{html}
 use Rattle.laws_endings.specs.Endings.{with_ending}
 use Rattle.laws_endings.specs.Laws.{HasNoReturn}

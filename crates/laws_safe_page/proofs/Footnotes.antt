@@ -12,7 +12,8 @@ use Rattle.definition_inline.specs.GfmAutolinkLiteral.{ends_with}
 use Rattle.definition_page.specs.Tags.{PrintedPart, Words, AsItIs, Number, said_bytes, Tag, attribute, tag, bare_tag}
 use Rattle.definition_page.specs.Pieces.{Piece, Open, Close, Says, Fresh, print}
 use Rattle.definition_page.specs.InlinePieces.{element}
-use Rattle.definition_page.specs.GfmLabelStartFootnote.{Call, text_or, footnote_id, count_says, call_id, call_tag, call_pieces}
+use Rattle.definition_page.specs.OptionTexts.{text_or}
+use Rattle.definition_page.specs.GfmLabelStartFootnote.{Call, footnote_id, count_says, call_id, call_tag, call_pieces}
 use Rattle.definition_page.specs.GfmFootnoteDefinition.{Footnote, back_tag, arrow, count_pieces, back_pieces, space_after, backs_pieces, ended_size, with_backs}
 use Rattle.definition_page.specs.GfmFootnoteDefinition.{content_pieces, item_tag, footnote_pieces, footnotes_pieces, section_heading_tag, heading_pieces}
 use Rattle.definition_page.specs.GfmFootnoteDefinition.{section_tag}

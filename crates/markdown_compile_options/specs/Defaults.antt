@@ -19,6 +19,12 @@ default_compile_options = record {
   gfm_footnote_label_tag_name = None;
   gfm_tagfilter = false;
   gfm_task_list_item_checkable = false;
+  heading_ids = false;
+  heading_id_prefix = None;
+  image_base = None;
+  lazy_images = false;
+  link_base = None;
+  link_rel = None;
 }
 
 -- the same with the tag filter

@@ -35,6 +35,20 @@ pub struct CompileOptions {
     pub gfm_tagfilter: bool,
     /// Whether check boxes of items aren't `disabled` (GFM 5.3).
     pub gfm_task_list_item_checkable: bool,
+    /// Whether headings have ids, as GitHub makes them.
+    pub heading_ids: bool,
+    /// The prefix of these ids, and of links to fragments of the page, if headings have ids. The
+    /// default is empty.
+    pub heading_id_prefix: Option<String>,
+    /// What is printed before the URLs of images that are relative paths. The default is
+    /// `link_base`.
+    pub image_base: Option<String>,
+    /// Whether images have `loading="lazy"`.
+    pub lazy_images: bool,
+    /// What is printed before destinations of links that are relative paths. The default is empty.
+    pub link_base: Option<String>,
+    /// The `rel` of links, except those of footnotes. By default they have none.
+    pub link_rel: Option<String>,
 }
 
 impl CompileOptions {
@@ -66,6 +80,12 @@ impl Default for CompileOptions {
             gfm_footnote_label_tag_name: None,
             gfm_tagfilter: false,
             gfm_task_list_item_checkable: false,
+            heading_ids: false,
+            heading_id_prefix: None,
+            image_base: None,
+            lazy_images: false,
+            link_base: None,
+            link_rel: None,
         }
     }
 }
