@@ -1,7 +1,8 @@
 //! Texts of files, mended.
+use crate::entry::fix;
 use crate::rules::Rules;
-use lint_fix::{SIZE_MAX, fix};
 use lint_rules::RuleSet;
+use markdown::SIZE_MAX;
 use markdown_compile_options::{CompileOptions, Options};
 use markdown_input::{Fault, Flags};
 use std::alloc::Global;

@@ -10,7 +10,7 @@ use Rattle.parse_output.specs.Forest.{bytewise, drafts_events}
 use Rattle.parse_pieces.specs.Drafts.{HoldInOthers, drafts}
 use Rattle.parse_pieces.specs.Nodes.{nodes}
 use Rattle.parse_pieces.specs.Sizes.{columns, end_of}
-use Rattle.parse_places.specs.Coming.{PiecesCome}
+use Rattle.parse_pieces.specs.Coming.{PiecesCome}
 
 -- From any place on, where their codes come, the events of pieces are those of their drafts: each has the point that the text gives it.
 abbrev pub EventsAreDrafted : Type 0

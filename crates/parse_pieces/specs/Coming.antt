@@ -4,7 +4,7 @@ use Rattle.engine_events.specs.Names.{same_name}
 use Rattle.engine_events.specs.declared.event.Name.TheVariants as n
 use Rattle.event_definition.specs.Pieces.{Piece, Token, Around, Pieces, Nil, Cons}
 use Rattle.parse_pieces.specs.Sizes.{columns, piece_size}
-use Rattle.parse_places.specs.Codes.{AllCome}
+use Rattle.parse_pieces.specs.Codes.{AllCome}
 
 -- The codes of pieces come after so many bytes of a text, where so many columns of a tab follow them. Each token has a code; none is a byte order mark.
 abbrev mutual

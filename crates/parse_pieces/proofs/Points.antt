@@ -16,7 +16,7 @@ use Rattle.parse_output.specs.Ends.{columns_before, end_at, end_point, index_spo
 use Rattle.parse_output.specs.Spots.{next_spot, spot, start}
 use Rattle.parse_output.proofs.Ends.{spot_index}
 use Rattle.parse_pieces.specs.Sizes.{code_size, codes_size, columns_of, end_of}
-use Rattle.parse_places.specs.Codes.{AllCome, Comes}
+use Rattle.parse_pieces.specs.Codes.{AllCome, Comes}
 
 -- whether a column of a tab follows
 abbrev pub goes_on : ℕ → Bool

@@ -20,9 +20,9 @@ use Rattle.parse_output.specs.Forest.{append, byte_node, byte_nodes, one, void_n
 use Rattle.parse_output.proofs.Forests.{append-assoc, data_forest}
 use Rattle.parse_pieces.specs.Nodes.{nodes, piece_nodes}
 use Rattle.parse_pieces.specs.Sizes.{code_size, codes_size, columns, columns_of, end_of, piece_columns, piece_size, pieces_size}
-use Rattle.parse_places.specs.Codes.{AllCome, Comes}
-use Rattle.parse_places.specs.Coming.{PieceComes, PiecesCome}
-use Rattle.parse_places.proofs.Points.{columns_some, end_some}
+use Rattle.parse_pieces.specs.Codes.{AllCome, Comes}
+use Rattle.parse_pieces.specs.Coming.{PieceComes, PiecesCome}
+use Rattle.parse_pieces.proofs.Points.{columns_some, end_some}
 
 the_name : (name other : Name) → same_name name other ≡ true → name ≡ other
 the_name name other h = same_true the_type tt name other h

@@ -6,8 +6,8 @@ use Rattle.event_meaning.specs.Spelled.{html_of_events, spelled}
 use Rattle.parse_output.specs.Placed.{ArePlaced}
 use Rattle.parse_alike.specs.Spelled.{IsPageOfText}
 use Rattle.compile_html.proofs.SameList.{same_html, same_list}
-use Rattle.markdown_by_events.proofs.SamePage.{same_page}
-use Rattle.markdown_by_events.proofs.page.to_html_by_events.Goals as goal
+use Rattle.markdown_html.proofs.SamePage.{same_page}
+use Rattle.markdown_html.proofs.page.to_html_by_events.Goals as goal
 
 -- the list that `parse` returned is in the grammar
 pub new-checked-requires : goal.new-checked-requires

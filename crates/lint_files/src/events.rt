@@ -1,6 +1,4 @@
 //! The events of a text, as the linter reads them.
-#![tactic(auto)]
-
 ghost use Rattle.std.specs.Prelude.{◌≡◌, false};
 ghost use Rattle.markdown_options.specs.Mdx.{has_mdx};
 

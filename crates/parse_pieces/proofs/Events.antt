@@ -24,9 +24,9 @@ use Rattle.parse_pieces.specs.Drafts.{HoldInOthers, drafts, piece_drafts, void_d
 use Rattle.parse_pieces.specs.Nodes.{nodes}
 use Rattle.parse_pieces.specs.Sizes.{code_size, codes_size, columns, columns_of, end_of, piece_columns, piece_size, pieces_size}
 use Rattle.parse_pieces.proofs.Drafts.{pieces_end, pieces_tree}
-use Rattle.parse_places.specs.Codes.{AllCome}
-use Rattle.parse_places.specs.Coming.{PieceComes, PiecesCome}
-use Rattle.parse_places.proofs.Points.{begins, codes_point, end_some, goes_on}
+use Rattle.parse_pieces.specs.Codes.{AllCome}
+use Rattle.parse_pieces.specs.Coming.{PieceComes, PiecesCome}
+use Rattle.parse_pieces.proofs.Points.{begins, codes_point, end_some, goes_on}
 
 -- ---- a token ends elsewhere than it begins
 

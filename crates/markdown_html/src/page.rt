@@ -4,7 +4,7 @@ ghost use Rattle.markdown_options.specs.Mdx.{has_mdx};
 ghost use Rattle.definition_page.specs.Html.{html};
 ghost use Rattle.definition_page.specs.TextTables.{text_tables};
 ghost use Rattle.event_check.specs.declared.error.CompileError.TheVariants.{Memory};
-ghost use Rattle.markdown_by_events.specs.Page.{IsPageOfEvents};
+ghost use Rattle.markdown_html.specs.Page.{IsPageOfEvents};
 ghost use Rattle.laws_safe_page.specs.SafeHtml.{AreSafe, HasOneReading};
 
 use compile_html::compile_checked;
