@@ -5,3 +5,5 @@ pub mod LastByte
 pub mod LineReads
 pub mod PagePieces
 pub mod PageReads
+pub mod HeadingIds
+pub mod FreeSlugs
