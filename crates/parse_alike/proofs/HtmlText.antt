@@ -6,6 +6,7 @@ use Rattle.definition_text.specs.Columns.{indent, bare}
 use Rattle.definition_text.specs.Content.{is_eol}
 use Rattle.definition_text.proofs.Each.{each_map}
 use Rattle.definition_page.specs.GfmTagfilter.{filter_tags}
+use Rattle.definition_page.specs.HeadingText.{leaf_text}
 use Rattle.definition_page.specs.InlinePieces.{HtmlLine, html_text_line, in_first_line, html_lines, html_line_says, later_line_says, html_lines_say}
 use Rattle.definition_page.specs.Tags.{AsItIs, EndOfLine}
 use Rattle.parse_alike.specs.HtmlText.{html_leaf, line_leaves, later_leaves, lines_leaves}
@@ -127,3 +128,10 @@ HasNoTags options l = leaf_pieces options l ≡ map Says (leaf_says options l)
 
 pub html_plain : (options : CompileOptions) (html : List Code) → Each (HasNoTags options) (html_leaves html)
 html_plain options html = each_piece (HasNoTags options) (λ own. refl) (λ c. refl) html
+
+-- and say nothing in a heading
+abbrev pub SaysNothing : InlineLeaf → Type 0
+SaysNothing l = leaf_text l ≡ []
+
+pub html_silent : (html : List Code) → Each SaysNothing (html_leaves html)
+html_silent html = each_piece SaysNothing (λ own. refl) (λ c. refl) html

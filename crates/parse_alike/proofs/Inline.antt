@@ -5,9 +5,10 @@ use Rattle.parse_alike.proofs.Prelude.{html_leaves, html_says, image_tag, Inline
 use Rattle.parse_alike.proofs.Prelude.{Leaf, leaf_parts, leaf_pieces, leaf_says, leaves, Link, link_tag, Linked, map-append, Meaning, Nil, Piece, Says, Span}
 use Rattle.parse_alike.proofs.Prelude.{void_tag}
 use Rattle.definition_inline.specs.Inline.{Image}
+use Rattle.definition_page.specs.HeadingText.{leaf_text, part_text, heading_text}
 use Rattle.definition_page.specs.InlinePieces.{span_name, part_says, description}
 use Rattle.definition_page.specs.InlinePieces.{part_counts, part_pieces}
-use Rattle.parse_alike.proofs.HtmlText.{HasNoTags, html-said, html_plain}
+use Rattle.parse_alike.proofs.HtmlText.{HasNoTags, SaysNothing, html-said, html_plain, html_silent}
 use Rattle.parse_alike.proofs.Printed.{of_bytes, printed}
 use Rattle.parse_alike.proofs.Said.{said, said-append, said-printed, both, both-printed, element-printed}
 use Rattle.parse_alike.proofs.Targets.{link_tag-same, image_tag-same, leads_alike, call-same, count-same}
@@ -59,6 +60,24 @@ module _ (options : CompileOptions) where
   leaf-described (Html html) = sym (html-said options html) ∙ ap said (sym (leaves-described (html_leaves html)))
   leaf-described other = ap said (sym (append-nil (leaf_says options other)))
 
+-- ---- what a heading says
+
+text-append : (is js : Inlines) → heading_text (append is js) ≡ heading_text is ++ heading_text js
+text-append Nil js = refl
+text-append (Cons i is) js = ap (λ bs. part_text i ++ bs) (text-append is js) ∙ sym (append_assoc (part_text i) (heading_text is) (heading_text js))
+
+leaves-text : (ls : List InlineLeaf) → heading_text (leaves ls) ≡ flat_map leaf_text ls
+leaves-text [] = refl
+leaves-text (l ∷ ls) = ap (λ bs. leaf_text l ++ bs) (leaves-text ls)
+
+none-said : (ls : List InlineLeaf) → Each SaysNothing ls → flat_map leaf_text ls ≡ []
+none-said [] p = refl
+none-said (l ∷ ls) p = both (leaf_text l) (flat_map leaf_text ls) [] [] p.0 (none-said ls p.1)
+
+leaf-text : (l : InlineLeaf) → leaf_text l ≡ heading_text (leaf_parts l)
+leaf-text (Html html) = sym (leaves-text (html_leaves html) ∙ none-said (html_leaves html) (html_silent html))
+leaf-text other = sym (append-nil (leaf_text other))
+
 module _ (m m' : Meaning) (alike : AreMeaningsAlike m m') where
   leaf-printed : (l : InlineLeaf) → printed (leaf_pieces m'.compile l) ≡ printed (inline_pieces m' (leaf_parts l))
   leaf-printed (Html html) =
@@ -99,6 +118,24 @@ module _ (m m' : Meaning) (alike : AreMeaningsAlike m m') where
         ∙ sym (said-append front others)
         ∙ ap said (sym (description-append m'.compile p.0 p.1))
         ∙ ap (λ is. said (description m'.compile is)) (sym p.2)
+
+  -- ---- what a heading says
+
+  mutual
+    part-text : (i : Inline) (js : Inlines) → IsPartAlike m m' i js → part_text i ≡ heading_text js
+    part-text (Leaf l) js p = leaf-text l ∙ ap heading_text (sym p)
+    part-text (Span kind kids) js p = parts-text kids p.0 p.2 ∙ sym (append-nil (heading_text p.0)) ∙ ap heading_text (sym p.1)
+    part-text (Linked Link target kids) js p = parts-text kids p.1 p.4 ∙ sym (append-nil (heading_text p.1)) ∙ ap heading_text (sym p.2)
+    part-text (Linked Image target kids) js p = ap heading_text (sym p.2)
+    part-text (Call label) js p = ap heading_text (sym p.1)
+
+    -- inline structures that are alike say the same as headings
+    pub parts-text : (is js : Inlines) → ArePartsAlike m m' is js → heading_text is ≡ heading_text js
+    parts-text Nil js p = ap heading_text (sym p)
+    parts-text (Cons i is) js p =
+        both (part_text i) (heading_text is) (heading_text p.0) (heading_text p.1) (part-text i p.0 p.3) (parts-text is p.1 p.4)
+        ∙ sym (text-append p.0 p.1)
+        ∙ ap heading_text (sym p.2)
 
   -- ---- the calls that count
 

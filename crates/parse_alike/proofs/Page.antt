@@ -1,21 +1,23 @@
 -- Pages that are alike print the same.
 use Rattle.std.proofs.Common.{◌≡◌, ◌⊎◌, inl, inr, ℕ, Bool, true, false, ◌&&◌, ◌||◌, not, if◌then◌else◌, List, [], ◌∷◌, ◌++◌, Option, None, Some, codes}
-use Rattle.std.proofs.Common.{flat_map, refl, ap, ◌∙◌}
+use Rattle.std.proofs.Common.{flat_map, refl, sym, ap, ◌∙◌}
 use Rattle.parse_alike.proofs.Prelude.{AreAlikeAfterFront, AreBlocksAlike, AreCodeLinesAlike, AreContainersAlike, AreMeaningsAlike, ArePagesAlike, bare_tag}
-use Rattle.parse_alike.proofs.Prelude.{BlockLine, Blocks, code_line, CompileOptions, element, ending_bytes, false≢true, Fresh, has_lines, html_line}
+use Rattle.parse_alike.proofs.Prelude.{ArePartsAlike, BlockLine, Blocks, Close, code_line, CompileOptions, element, ending_bytes, false≢true, Fresh, has_lines, html_line}
 use Rattle.parse_alike.proofs.Prelude.{inline_pieces, IsBlockAlike, LineEnding, Meaning, NoteEnd, NoteStart, Page, Piece, says, Says, tag, true≢false, Words}
-use Rattle.definition_page.specs.BlockPieces.{Place, at_top, inside, heading_name, info_attributes, list_tag, is_paragraph}
+use Rattle.definition_page.specs.BlockPieces.{Place, at_top, inside, heading_name, heading_start, info_attributes, list_tag, is_paragraph}
 use Rattle.definition_page.specs.BlockPieces.{is_definition, is_footnote, is_silent, is_visible, last_visible, ends_plainly, fresh_unless, fenced_pieces}
 use Rattle.definition_page.specs.BlockPieces.{leaf_block_pieces, block_pieces, children_pieces, document_pieces}
 use Rattle.definition_page.specs.Page.{PageLeaf, Paragraph, Heading, Break, IndentedCode, FencedCode, Html, Table, Definition}
 use Rattle.definition_page.specs.Page.{PageContainer, Quote, Item, Footnote, Block, Leaf, Holds, ItemList, Ending, Blank, Nil, Cons}
-use Rattle.definition_page.specs.Pieces.{Eol}
+use Rattle.definition_inline.specs.Inline.{Inlines}
+use Rattle.definition_page.specs.HeadingText.{heading_text}
+use Rattle.definition_page.specs.Pieces.{Open, Named, Eol}
 use Rattle.parse_alike.specs.Laws.{AlikePagesPrintTheSame}
 use Rattle.parse_alike.specs.Page.{AreLeavesAlike}
 use Rattle.parse_alike.proofs.BlockLines.{code_lines-printed, html_lines-printed}
 use Rattle.parse_alike.proofs.GfmTable.{fresh-printed, ended-printed, table-printed}
-use Rattle.parse_alike.proofs.Inline.{parts-printed}
-use Rattle.parse_alike.proofs.Printed.{Other, printed, page_same}
+use Rattle.parse_alike.proofs.Inline.{parts-printed, parts-text}
+use Rattle.parse_alike.proofs.Printed.{Other, piece_printed, printed, ids_in, ids-printed, page_same}
 use Rattle.parse_alike.proofs.Said.{both-printed, element-printed}
 
 -- ---- siblings
@@ -112,15 +114,23 @@ module _ (m m' : Meaning) (alike : AreMeaningsAlike m m') where
       (element-printed pre code code'
       (element-printed t (fenced_pieces place is_closed ls) (fenced_pieces place is_closed ls') (fenced-printed place is_closed ls ls' p e))) refl)
 
+  -- headings that say the same have one start
+  heading_start-same : (rank : ℕ) (is js : Inlines) → ArePartsAlike m m' is js → heading_start m rank is ≡ heading_start m' rank js
+  heading_start-same rank is js p =
+      let t = bare_tag (heading_name rank) in
+      ap (λ (options : CompileOptions). if options.heading_ids then Named t (heading_text is) else Open t) alike.compile
+      ∙ ap (λ text. if m'.compile.heading_ids then Named t text else Open t) (parts-text m m' alike is js p)
+
   leaf-printed : (place : Place) (l l' : PageLeaf) → AreLeavesAlike m m' l l'
       → printed (leaf_block_pieces m place l) ≡ printed (leaf_block_pieces m' place l')
   leaf-printed place (Paragraph is) (Paragraph js) p =
       paragraph-printed place.tight (inline_pieces m is) (inline_pieces m' js) (parts-printed m m' alike is js p)
   leaf-printed place (Heading rank is) (Heading rank' js) p =
-      let t = bare_tag (heading_name rank') in
+      let end = Close (heading_name rank') ∷ [] in
       ap (λ r. printed (leaf_block_pieces m place (Heading r is))) p.0
-      ∙ fresh-printed (element t (inline_pieces m is)) (element t (inline_pieces m' js))
-      (element-printed t (inline_pieces m is) (inline_pieces m' js) (parts-printed m m' alike is js p.1))
+      ∙ ap (λ first. printed (Fresh ∷ first ∷ inline_pieces m is ++ end)) (heading_start-same rank' is js p.1)
+      ∙ ap (λ xs. Other Fresh ∷ (piece_printed (heading_start m' rank' js) ++ xs))
+      (both-printed (inline_pieces m is) end (inline_pieces m' js) end (parts-printed m m' alike is js p.1) refl)
   leaf-printed place Break Break p = refl
   leaf-printed place (IndentedCode ls) (IndentedCode ls') p =
       let pre = bare_tag (codes "pre") in
@@ -231,9 +241,16 @@ module _ (m m' : Meaning) (alike : AreMeaningsAlike m m') where
 
 document-printed : (m m' : Meaning) (p p' : Page) → ArePagesAlike m m' p p' → printed (document_pieces m p) ≡ printed (document_pieces m' p')
 document-printed m m' p p' alike =
+    let ps = children_pieces m at_top None p.blocks ++ fresh_unless (not p.ends_blank) in
+    let qs = children_pieces m' at_top None p'.blocks ++ fresh_unless (not p'.ends_blank) in
+    let same : printed ps ≡ printed qs =
     both-printed (children_pieces m at_top None p.blocks) (fresh_unless (not p.ends_blank)) (children_pieces m' at_top None p'.blocks)
     (fresh_unless (not p'.ends_blank)) (top-printed m m' alike.meanings p.blocks p'.blocks alike.blocks)
-    (ap (λ ends_blank. printed (fresh_unless (not ends_blank))) alike.ends_blank)
+    (ap (λ ends_blank. printed (fresh_unless (not ends_blank))) alike.ends_blank) in
+    ids-printed m.compile [] ps
+    ∙ ap (λ options. ids_in options [] (printed ps)) alike.meanings.compile
+    ∙ ap (ids_in m'.compile []) same
+    ∙ sym (ids-printed m'.compile [] qs)
 
 pub alike_pages_print_the_same : AlikePagesPrintTheSame
 alike_pages_print_the_same =

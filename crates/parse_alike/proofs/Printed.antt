@@ -6,8 +6,10 @@ use Rattle.std.proofs.lemmas.List.Sums.{fold-append}
 use Rattle.definition_page.specs.GfmFootnoteDefinition.{section_pieces}
 use Rattle.definition_page.specs.GfmLabelStartFootnote.{call_pieces}
 use Rattle.definition_page.specs.Layout.{NamedCall, named_call, named_calls, first_calls, times, call_of, with_calls, content, contents, layout}
+use Rattle.definition_page.specs.HeadingIds.{tag_with_id, with_ids}
 use Rattle.definition_page.specs.Layout.{called_footnotes, page_layout}
-use Rattle.definition_page.specs.Pieces.{Open, Void, CallOf, CountOf, print}
+use Rattle.definition_page.specs.Pieces.{Open, Void, Named, CallOf, CountOf, print}
+use Rattle.definition_page.specs.Slug.{next_slug, with_slug}
 use Rattle.definition_page.specs.Tags.{end_tag}
 
 -- a byte, or a piece that isn't bytes
@@ -30,6 +32,34 @@ printed ps = flat_map piece_printed ps
 
 pub printed-append : (ps qs : List Piece) → printed (ps ++ qs) ≡ printed ps ++ printed qs
 printed-append ps qs = flat_map-append piece_printed ps qs
+
+-- ---- ids of headings
+
+module _ (options : CompileOptions) where
+  abbrev pub ids_in : List (List ℕ) → List Printed → List Printed
+  ids_in taken [] = []
+  ids_in taken (Other (Named t text) ∷ xs) =
+      of_bytes (start_tag (tag_with_id options (next_slug taken text) t)) ++ ids_in (with_slug taken text) xs
+  ids_in taken (x ∷ xs) = x ∷ ids_in taken xs
+
+  ids-bytes : (taken : List (List ℕ)) (bytes : List ℕ) (xs : List Printed) → of_bytes bytes ++ ids_in taken xs ≡ ids_in taken (of_bytes bytes ++ xs)
+  ids-bytes taken [] xs = refl
+  ids-bytes taken (b ∷ bs) xs = ap (λ ys. Byte b ∷ ys) (ids-bytes taken bs xs)
+
+  more_with_ids : (taken : List (List ℕ)) (bytes : List ℕ) (ps : List Piece) → printed (with_ids options taken ps) ≡ ids_in taken (printed ps)
+      → of_bytes bytes ++ printed (with_ids options taken ps) ≡ ids_in taken (of_bytes bytes ++ printed ps)
+  more_with_ids taken bytes ps p = ap (λ xs. of_bytes bytes ++ xs) p ∙ ids-bytes taken bytes (printed ps)
+
+  -- headings get their ids by what is printed
+  pub ids-printed : (taken : List (List ℕ)) (ps : List Piece) → printed (with_ids options taken ps) ≡ ids_in taken (printed ps)
+  ids-printed taken [] = refl
+  ids-printed taken (Open t ∷ ps) = more_with_ids taken (start_tag t) ps (ids-printed taken ps)
+  ids-printed taken (Close name ∷ ps) = more_with_ids taken (end_tag name) ps (ids-printed taken ps)
+  ids-printed taken (Void t ∷ ps) = more_with_ids taken (void_tag t) ps (ids-printed taken ps)
+  ids-printed taken (Says said ∷ ps) = more_with_ids taken (said_bytes said) ps (ids-printed taken ps)
+  ids-printed taken (Named t text ∷ ps) =
+      ap (λ xs. of_bytes (start_tag (tag_with_id options (next_slug taken text) t)) ++ xs) (ids-printed (with_slug taken text) ps)
+  ids-printed taken (p ∷ ps) = ap (λ xs. Other p ∷ xs) (ids-printed taken ps)
 
 -- ---- calls
 

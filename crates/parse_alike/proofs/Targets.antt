@@ -4,7 +4,8 @@ use Rattle.parse_alike.proofs.Prelude.{AreLabelsAlike, AreLinksAlike, AreMeaning
 use Rattle.parse_alike.proofs.Prelude.{leads_to, link_tag, LinkTexts, Meaning, normal_label, Piece, place_of, PrintedPart, Reference, Resource, string_text}
 use Rattle.parse_alike.proofs.Prelude.{Tag, tag, Target, title_text, void_tag}
 use Rattle.definition_text.specs.Encode.{plain}
-use Rattle.definition_page.specs.InlinePieces.{link_url, image_url, url_of, title_attributes, title_attribute, call_at, count_at}
+use Rattle.definition_page.specs.Destinations.{link_destination, image_source}
+use Rattle.definition_page.specs.InlinePieces.{link_url, image_url, url_of, title_attributes, title_attribute, rel_attributes, loading_attributes, call_at, count_at}
 use Rattle.definition_page.specs.Tags.{Attribute, attribute, attribute_bytes}
 use Rattle.parse_alike.proofs.Said.{said}
 
@@ -26,20 +27,22 @@ module _ (m m' : Meaning) (alike : AreMeaningsAlike m m') where
 
   pub link_tag-same : (a b : LinkTexts) → AreLinksAlike m m' a b → link_tag m a ≡ link_tag m' b
   link_tag-same a b p =
-      let tag_with : CompileOptions → List ℕ → List Attribute → Tag = λ options text others.
-      tag (codes "a") (attribute (codes "href") (link_url options (plain text)) ∷ others) in
-      ap (λ (options : CompileOptions). tag (codes "a") (attribute (codes "href") (link_url options (url_of m a)) ∷ title_attribute m a.title)) alike.compile
+      let tag_with : CompileOptions → List ℕ → List Attribute → Tag = λ options text titles.
+      tag (codes "a") (attribute (codes "href") (link_url options (link_destination options (plain text))) ∷ titles ++ rel_attributes options.link_rel) in
+      ap (λ options. tag_with options (string_text m.on m.names a.destination) (title_attribute m a.title)) alike.compile
       ∙ ap (λ text. tag_with m'.compile text (title_attribute m a.title)) p.0
-      ∙ ap (λ others. tag (codes "a") (attribute (codes "href") (link_url m'.compile (url_of m' b)) ∷ others)) (titles-same a b p)
+      ∙ ap (tag_with m'.compile (string_text m'.on m'.names b.destination)) (titles-same a b p)
 
   pub image_tag-same : (a b : LinkTexts) (alt alt' : List PrintedPart) → AreLinksAlike m m' a b → said alt ≡ said alt'
       → void_tag (image_tag m a alt) ≡ void_tag (image_tag m' b alt')
   image_tag-same a b alt alt' p same =
-      let src : CompileOptions → List ℕ → Attribute = λ options text. attribute (codes "src") (image_url options (plain text)) in
-      ap (λ options. image_bytes (src options (string_text m.on m.names a.destination)) (said alt) (title_attribute m a.title)) alike.compile
-      ∙ ap (λ text. image_bytes (src m'.compile text) (said alt) (title_attribute m a.title)) p.0
-      ∙ ap (λ bytes. image_bytes (attribute (codes "src") (image_url m'.compile (url_of m' b))) bytes (title_attribute m a.title)) same
-      ∙ ap (image_bytes (attribute (codes "src") (image_url m'.compile (url_of m' b))) (said alt')) (titles-same a b p)
+      let bytes_with : CompileOptions → List ℕ → List ℕ → List Attribute → List ℕ = λ options text alt_bytes titles.
+      image_bytes (attribute (codes "src") (image_url options (image_source options (plain text)))) alt_bytes
+      (titles ++ loading_attributes options.lazy_images) in
+      ap (λ options. bytes_with options (string_text m.on m.names a.destination) (said alt) (title_attribute m a.title)) alike.compile
+      ∙ ap (λ text. bytes_with m'.compile text (said alt) (title_attribute m a.title)) p.0
+      ∙ ap (λ alt_bytes. bytes_with m'.compile (string_text m'.on m'.names b.destination) alt_bytes (title_attribute m a.title)) same
+      ∙ ap (bytes_with m'.compile (string_text m'.on m'.names b.destination) (said alt')) (titles-same a b p)
 
   -- targets that are alike lead to links that are
   pub leads_alike : (t t' : Target) → AreTargetsAlike m m' t t' → AreLinksAlike m m' (leads_to m.definition t) (leads_to m'.definition t')
