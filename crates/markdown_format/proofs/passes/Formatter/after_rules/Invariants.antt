@@ -1,5 +1,5 @@
 use Rattle.std.proofs.Common.{IfSome, string_bytes}
-use Rattle.format_passes.proofs.passes.Formatter.after_rules.Given as goal
+use Rattle.markdown_format.proofs.passes.Formatter.after_rules.Given as goal
 
 -- the last text was found to be the same document
 abbrev pub invariant-loop : goal.invariant-loop
