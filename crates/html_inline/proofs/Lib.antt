@@ -13,3 +13,4 @@ pub mod BarEscapes
 pub mod CellRows
 pub mod FootnoteCalls
 pub mod Counts
+pub mod Fragments

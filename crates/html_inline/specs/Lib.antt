@@ -7,3 +7,4 @@ pub mod Printed
 pub mod Prints
 pub mod GfmTable
 pub mod Counts
+pub mod Fragments
