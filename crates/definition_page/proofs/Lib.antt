@@ -7,3 +7,4 @@ pub mod PagePieces
 pub mod PageReads
 pub mod HeadingIds
 pub mod FreeSlugs
+pub mod SlugBytes
