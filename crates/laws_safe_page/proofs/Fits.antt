@@ -3,6 +3,7 @@ use Rattle.std.proofs.Common.{◌≡◌, true, ◌||◌, refl}
 use Rattle.std.specs.Option.{is_some}
 use Rattle.std.proofs.lemmas.Bool.{cond-true, or_left, or_right}
 use Rattle.markdown_compile_options.specs.declared.configuration.CompileOptions.{CompileOptions}
+use Rattle.markdown_compile_options.specs.Defaults.{default_compile_options, gfm_compile_options}
 use Rattle.html_safe_page.specs.declared.table.TagTable.{TagTable}
 use Rattle.html_safe_page.specs.declared.table.TagTable.TheVariants.{Basic, Extended}
 use Rattle.laws_safe_page.specs.SafeHtml.{table_of}
@@ -25,3 +26,10 @@ own_fits options =
 
 pub extended_fits : (options : CompileOptions) → Fits options Extended
 extended_fits options = record { ids = λ h. refl; rel = λ h. refl; lazy = λ h. refl }
+
+-- pages under default options have basic tags
+pub default_table : table_of default_compile_options ≡ Basic
+default_table = refl
+
+pub gfm_table : table_of gfm_compile_options ≡ Basic
+gfm_table = refl
