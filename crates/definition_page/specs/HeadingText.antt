@@ -1,11 +1,10 @@
--- What a heading says: its text without tags, images, raw HTML, hard line breaks, boxes of tasks and calls of footnotes.
+-- What a heading says: its text without tags, images, raw HTML, line endings, boxes of tasks and calls of footnotes.
 use Rattle.std.specs.Prelude.{ℕ, List, [], ◌++◌}
 use Rattle.definition_text.specs.Encode.{plain_byte, plain}
 use Rattle.definition_inline.specs.Inline.{InlineLeaf, Data, Escape, Character, Code, Math, Autolink, Literal, Html, EscapedBreak, TrailingBreak, LineEnd}
 use Rattle.definition_inline.specs.Inline.{TaskCheck, Link, Image, Inline, Leaf, Span, Linked, Call, Inlines, Nil, Cons}
-use Rattle.definition_inline.specs.Strings.{eol_bytes}
 
--- what a construct says that holds no other: its text as on the page, where NUL is U+FFFD; nothing for raw HTML, a hard line break and a box
+-- what a construct says that holds no other: its text as on the page, where NUL is U+FFFD; nothing for raw HTML, a line ending, a hard line break and a box
 abbrev pub leaf_text : InlineLeaf → List ℕ
 leaf_text (Data b) = plain_byte b
 leaf_text (Escape b) = plain_byte b
@@ -17,7 +16,7 @@ leaf_text (Literal kind text) = plain text
 leaf_text (Html html) = []
 leaf_text EscapedBreak = []
 leaf_text TrailingBreak = []
-leaf_text (LineEnd code) = eol_bytes code
+leaf_text (LineEnd code) = []
 leaf_text (TaskCheck done) = []
 
 abbrev mutual

@@ -203,7 +203,7 @@ module _ (default : List ℕ) (options : Options) (tables : TextTables) (ds : Ta
       (sym (append_assoc shown last (bytes.Bytes (codes "</li>") ∷ [])))
   holds_same (Footnote label) s tight silent before kids same l =
       joined options.compile default (children_pieces m (place_in in_container false) None (read_blocks r in_container kids)) (NoteEnd ∷ [])
-      (old.children_bytes d in_container false false kids) (bytes.NoteEnd ∷ []) same (λ o. refl) (layout_state [] (l.text ∷ l.outer) l.notes l.called)
+      (old.children_bytes d in_container false false kids) (bytes.NoteEnd ∷ []) same (λ o. refl) (layout_state [] (l.text ∷ l.outer) l.notes l.called l.taken)
 
   list_same : (s : Standing) (tight silent : Bool) (before : Option page.Block) (items : tree.Blocks)
       → Alike (children_pieces m (place_in in_container (not (is_loose items))) None (read_blocks r in_container items))

@@ -23,10 +23,10 @@ abbrev pub fresh : List ℕ → LayoutState → LayoutState
 fresh default l = with_text l (bytes.print default l.text bytes.Fresh)
 
 pub add_nil : (l : LayoutState) → add l [] ≡ l
-add_nil l = ap (λ t. layout_state t l.outer l.notes l.called) (append-nil l.text)
+add_nil l = ap (λ t. layout_state t l.outer l.notes l.called l.taken) (append-nil l.text)
 
 pub add_add : (l : LayoutState) (a b : List ℕ) → add (add l a) b ≡ add l (a ++ b)
-add_add l a b = ap (λ t. layout_state t l.outer l.notes l.called) (append_assoc l.text a b)
+add_add l a b = ap (λ t. layout_state t l.outer l.notes l.called l.taken) (append_assoc l.text a b)
 
 -- ---- pieces that lay out the same
 

@@ -1,5 +1,5 @@
 -- The page that is printed in bytes is the page of the definition.
-use Rattle.std.proofs.Common.{◌≡◌, ℕ, Bool, true, false, not, List, ◌++◌, None, refl, ap, ◌∙◌}
+use Rattle.std.proofs.Common.{◌≡◌, ℕ, Bool, true, false, not, List, [], ◌++◌, None, refl, ap, ◌∙◌}
 use Rattle.markdown_compile_options.specs.declared.configuration.CompileOptions.{CompileOptions}
 use Rattle.markdown_compile_options.specs.declared.configuration.Options.{Options}
 use Rattle.definition_text.specs.Lines.{without_mark, kind_before_text}
@@ -12,6 +12,7 @@ use Rattle.definition_page.specs.Layout.{page_layout}
 use Rattle.definition_page.specs.BlockPieces.{at_top, children_pieces, fresh_unless}
 use Rattle.definition_page.specs.DocumentPieces.{default_ending}
 use Rattle.definition_page.specs.Read.{on_page, read_blocks, ends_blank}
+use Rattle.definition_page.specs.HeadingIds.{with_ids}
 use Rattle.definition_page.specs.Html.{html}
 use Rattle.html_bytes.specs.Document.{document}
 use Rattle.html_bytes.specs.Pieces as bytes
@@ -27,9 +28,9 @@ last_same : (options : CompileOptions) (default : List ℕ) (blank : Bool) → S
 last_same options default true l = refl
 last_same options default false l = refl
 
--- pieces that lay out the same make the same page
+-- pieces that lay out the same make the same page, where headings get their ids
 pub page_same : (options : CompileOptions) (default : List ℕ) (ps : List Piece) (bs : List bytes.Piece) → Same options default ps bs
-    → page_layout options default ps ≡ bytes_layout.page_layout options default bs
+    → page_layout options default (with_ids options [] ps) ≡ bytes_layout.page_layout options default bs
 page_same options default ps bs same =
     steps_same options default ps ∙ ap (with_footnotes options default) (same nothing_laid)
 

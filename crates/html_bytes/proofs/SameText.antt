@@ -9,7 +9,7 @@ use Rattle.html_bytes.proofs.LayoutSteps.{lay}
 use Rattle.definition_page.specs.Tags.{Tag, start_tag, end_tag}
 use Rattle.definition_page.specs.GfmLabelStartFootnote.{call_pieces}
 use Rattle.definition_page.specs.InlinePieces.{element}
-use Rattle.definition_page.specs.Pieces.{Piece, Open, Close, Void, Says, Eol, Fresh, CallOf, CountOf, NoteStart, NoteEnd}
+use Rattle.definition_page.specs.Pieces.{Piece, Open, Close, Void, Says, Eol, Fresh, Named, CallOf, CountOf, NoteStart, NoteEnd}
 use Rattle.html_bytes.specs.Layout as bytes_layout
 use Rattle.html_bytes.specs.Pieces.{Bytes, piece_bytes, in_bytes}
 use Rattle.html_bytes.proofs.Printed.{added}
@@ -27,9 +27,10 @@ module _ (options : CompileOptions) (default : List ℕ) where
   piece_same l (Says said) = refl
   piece_same l Eol = refl
   piece_same l Fresh = refl
+  piece_same l (Named t text) = refl
   piece_same l (CallOf place label) =
       let called = once_more place label l.called in
-      ap (λ t. layout_state t l.outer l.notes called) (added default (call_pieces options (latest_call place 1 called)) (tt, (tt, (tt, (tt, (tt, tt))))) l.text)
+      ap (λ t. layout_state t l.outer l.notes called l.taken) (added default (call_pieces options (latest_call place 1 called)) (tt, (tt, (tt, (tt, (tt, tt))))) l.text)
   piece_same l (CountOf place label) = refl
   piece_same l NoteStart = refl
   piece_same l NoteEnd = refl

@@ -14,5 +14,6 @@ pub use encode::push_encoded;
 pub use filter::{gfm_tagfilter, push_filtered, push_raw};
 pub use html::push_html;
 pub use url::{
-    is_permitted, push_sanitized, push_sanitized_with_protocols, sanitize, sanitize_with_protocols,
+    is_permitted, is_relative, push_sanitized, push_sanitized_with_protocols, sanitize,
+    sanitize_with_protocols,
 };

@@ -10,6 +10,7 @@ ghost use Rattle.std.specs.Option.{option_copied};
 ghost use Rattle.std.specs.Str.{IsCharBoundary, bytes_eq};
 ghost use Rattle.markdown_options.specs.Messages.{IsOutOfMemory};
 ghost use Rattle.definition_text.specs.Bytes.{lower};
+ghost use Rattle.definition_page.specs.Destinations.{is_relative, is_rooted};
 ghost use Rattle.definition_page.specs.Urls.{is_kept, is_url_byte, ends_escape, sanitize, sanitized_with, in_protocol, ends_protocol, protocol, permits};
 ghost use Rattle.html_escape.specs.Tools.{is_plain_byte, url_byte};
 
@@ -79,6 +80,23 @@ pub fn is_permitted(protocols: &[&str], url: &[u8]) -> bool
         None => true,
         Some(name) => is_one_of(protocols, name),
     }
+}
+
+/// Returns whether a URL is a relative path: not empty, without a protocol, and not begun by `/`,
+/// `#` or `?`.
+pub fn is_relative(url: &[u8]) -> bool
+    ensures { result ≡ is_relative url.now }
+{
+    match url {
+        [] => false,
+        [first, ..] => !is_rooted(*first) && protocol(url).is_none(),
+    }
+}
+
+fn is_rooted(byte: u8) -> bool
+    ensures { result ≡ is_rooted byte }
+{
+    matches!(byte, b'/' | b'#' | b'?')
 }
 
 /// The bytes before the first `:` of a URL, if no `?`, `#` or `/` is among them.

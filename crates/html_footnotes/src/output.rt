@@ -3,17 +3,21 @@ ghost use Rattle.std.specs.Prelude.{◌≡◌, ℕ, List, IfOk, string_bytes};
 ghost use Rattle.markdown_compile_options.specs.declared.configuration.CompileOptions.{CompileOptions};
 ghost use Rattle.markdown_options.specs.LineEndings.{ending_bytes};
 ghost use Rattle.html_bytes.specs.Layout.{with_footnotes, nothing_laid};
-ghost use Rattle.html_bytes.specs.Pieces.{CallOf, CountOf, NoteEnd, NoteStart};
+ghost use Rattle.definition_page.specs.Tags.{bare_tag};
+ghost use Rattle.html_bytes.specs.Pieces.{CallOf, CountOf, Named, NoteEnd, NoteStart};
 ghost use Rattle.html_footnotes.specs.Output.{Lays, output_view};
 
 use crate::calls::Calls;
 use crate::gfm_footnote_definition::push_section;
 use crate::gfm_label_start_footnote::push_call;
+use crate::ids::{heading_prefix, push_named_tag};
 use markdown_compile_options::CompileOptions;
 use markdown_options::LineEnding;
 use std::alloc::{AllocError, Allocator};
+use text_slugs::Slugs;
 
-/// Where a page is printed to: its text, the footnotes that have ended, and those that are called.
+/// Where a page is printed to: its text, the footnotes that have ended, those that are called, and the slugs
+/// of its headings.
 #[derive(Drop)]
 pub struct Output<A: Allocator + Clone> {
     /// The innermost text that is open: the page, or the content of a footnote.
@@ -23,6 +27,8 @@ pub struct Output<A: Allocator + Clone> {
     // The contents of the footnotes that have ended.
     notes: Vec<String<A>, A>,
     calls: Calls<A>,
+    // The slugs of the headings that get an id, in order.
+    slugs: Slugs<A>,
     alloc: A,
 }
 
@@ -36,6 +42,7 @@ impl<A: Allocator + Clone> Output<A> {
             outer: Vec::new(alloc.clone()?),
             notes: Vec::new(alloc.clone()?),
             calls: Calls::new(alloc.clone()?)?,
+            slugs: Slugs::new(alloc.clone()?)?,
             alloc,
         })
     }
@@ -58,6 +65,21 @@ impl<A: Allocator + Clone> Output<A> {
         ensures { (options : CompileOptions) (default : List ℕ) → Lays options default result self.old self.new (CountOf place label.now) }
     {
         self.calls.count(place, label)
+    }
+
+    /// Prints the start tag of a heading, `h1` to `h6`, with the id that is made of what the heading says. No
+    /// heading before has the same. There is none if the slug is empty, or if a footnote may have it.
+    pub fn start_heading(
+        &mut self,
+        compile: &CompileOptions,
+        name: &str,
+        text: &str,
+    ) -> Result<(), AllocError>
+        ensures { (default : List ℕ) → Lays compile.now default result self.old self.new (Named (bare_tag name.now) text.now) }
+    {
+        let mut id = String::from_str(self.alloc.clone()?, heading_prefix(compile))?;
+        self.slugs.add(&mut id, text)?;
+        push_named_tag(&mut self.html, compile, name, id.as_str())
     }
 
     /// Starts the content of a footnote: what is printed from now on belongs to it.

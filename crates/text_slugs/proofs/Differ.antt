@@ -6,8 +6,8 @@ use Rattle.std.proofs.lemmas.Map.Keys.{IsDistinct-push}
 use Rattle.std.specs.List.{fold, IsDistinct}
 use Rattle.std.specs.Str.{bytes_eq}
 use Rattle.text_slugs.specs.Laws.{SlugsDifferLaw}
-use Rattle.text_slugs.specs.Slug.{slug_of}
-use Rattle.text_slugs.specs.Slugs.{first_free, with_slug}
+use Rattle.definition_page.specs.Slug.{slug_of}
+use Rattle.definition_page.specs.Slug.{first_free, with_slug}
 use Rattle.text_slugs.proofs.Numbers.{first_free_new}
 
 differ : (taken texts : List (List ℕ)) → length taken + length texts < 2 ^ 64 → IsDistinct bytes_eq taken → IsDistinct bytes_eq (fold with_slug taken texts)

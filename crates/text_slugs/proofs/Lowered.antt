@@ -8,7 +8,7 @@ use Rattle.std.specs.Char.Iter.{case_mapping_first, case_mapping_second, case_ma
 use Rattle.std.specs.Char.Unicode.ToLowercase.{to_lowercase}
 use Rattle.std.specs.List.{flat_map}
 use Rattle.std.specs.declared.char.ToLowercase.{CaseChanged}
-use Rattle.text_slugs.specs.Slug.{slug_char, lowered, slug_of}
+use Rattle.definition_page.specs.Slug.{slug_char, lowered, slug_of}
 
 -- what a character is in a slug, and what follows it
 pub slug_step : (text rest : List ℕ) (c : ℕ) → IsUtf8 text → text ≡ encode_utf8 c ++ rest

@@ -12,7 +12,8 @@ use Rattle.std.specs.Fmt.{decimal}
 use Rattle.std.specs.List.{find, list_any, IsDistinct, range_with_len}
 use Rattle.std.specs.Str.{bytes_eq}
 use Rattle.definition_text.specs.Ascii.{hyphen}
-use Rattle.text_slugs.specs.Slugs.{numbered, is_taken, first_numbered, first_free, AreTaken, IsFree}
+use Rattle.definition_page.specs.Slug.{numbered, is_taken, first_numbered, first_free}
+use Rattle.text_slugs.specs.Slugs.{AreTaken, IsFree}
 
 longer : (xs ys : List ℕ) (y : ℕ) → xs ≡ xs ++ y ∷ ys → ⊥
 longer xs ys y same =

@@ -1,16 +1,18 @@
 -- The slugs that are taken, with one slug more, and with another number beside a slug.
-use Rattle.std.proofs.Common.{◌≡◌, ◌+◌, ℕ, Bool, true, false, ◌||◌, cond, List, [], ◌∷◌, ◌++◌, length, Option, Some, inl, inr, refl, sym, ap, subst, ◌∙◌, add-zero, arith}
+use Rattle.std.proofs.Common.{◌≡◌, ◌+◌, ℕ, Bool, true, false, ◌||◌, cond, List, [], ◌∷◌, ◌++◌, length, Option, Some, String, string_bytes, inl, inr, refl, sym, ap, subst, ◌∙◌, add-zero, arith}
 use Rattle.std.proofs.lemmas.Bool.{cases_Bool, cond-true, cond-false, or_left, or_right}
 use Rattle.std.proofs.lemmas.Cmp.{nat_list_eq_equiv}
 use Rattle.std.proofs.lemmas.List.{length-append}
 use Rattle.std.proofs.lemmas.List.Folds.{list_any-append}
 use Rattle.std.proofs.lemmas.Slice.Eq.{bytes_eq-Decides}
-use Rattle.std.specs.BTreeMap.{btree_map_len, get_by_text}
-use Rattle.std.specs.Map.{update}
+use Rattle.std.specs.BTreeMap.{BTreeMap, btree_map_len, get_by_text, is_at}
+use Rattle.std.specs.Cmp.Lexicographic.{slice_cmp}
+use Rattle.std.specs.Ordering.{nat_cmp}
+use Rattle.std.specs.Map.{lookup, update}
 use Rattle.std.specs.Option.{is_some}
 use Rattle.std.specs.Str.{bytes_eq}
-use Rattle.text_slugs.specs.Slugs.{AreTaken, HasSlugs, IsFree, is_taken, numbered}
-use Rattle.text_slugs.specs.declared.slugs.Slugs.{Slugs}
+use Rattle.definition_page.specs.Slug.{is_taken, numbered}
+use Rattle.text_slugs.specs.Slugs.{AreTaken, HasSlugs, IsFree}
 use Rattle.text_slugs.proofs.Numbers.{taken_more}
 
 or_false : (b : Bool) → (b || false) ≡ b
@@ -80,15 +82,15 @@ count_kept : (old new count : ℕ) (is_old : Bool) → is_old ≡ true → new �
 count_kept old new count is_old there size same = size ∙ ap (λ n. old + n) (cond-true is_old 0 1 there) ∙ add-zero old ∙ same
 
 -- a slug more
-pub slugs_added : {A : Type 0} (old new : Slugs A) (taken : List (List ℕ)) (free : List ℕ) → HasSlugs old taken → is_taken taken free ≡ false
-    → ((q : List ℕ) → get_by_text new.numbers q ≡ update bytes_eq (get_by_text old.numbers) free (Some 0) q)
-    → btree_map_len new.numbers ≡ btree_map_len old.numbers + cond (is_some (get_by_text old.numbers free)) 0 1
+pub slugs_added : {A : Type 0} (old new : BTreeMap (String A) ℕ) (taken : List (List ℕ)) (free : List ℕ) → HasSlugs old taken → is_taken taken free ≡ false
+    → ((q : List ℕ) → get_by_text new q ≡ update bytes_eq (get_by_text old) free (Some 0) q)
+    → btree_map_len new ≡ btree_map_len old + cond (is_some (get_by_text old free)) 0 1
     → HasSlugs new (taken ++ free ∷ [])
 slugs_added old new taken free held is_new step size = record {
-  keys = keys_added (get_by_text old.numbers) (get_by_text new.numbers) taken free 0 step held.keys;
-  numbers = numbers_added (get_by_text old.numbers) (get_by_text new.numbers) taken free 0 step refl held.numbers;
+  keys = keys_added (get_by_text old) (get_by_text new) taken free 0 step held.keys;
+  numbers = numbers_added (get_by_text old) (get_by_text new) taken free 0 step refl held.numbers;
   count =
-      count_added (btree_map_len old.numbers) (btree_map_len new.numbers) (length taken) (is_some (get_by_text old.numbers free))
+      count_added (btree_map_len old) (btree_map_len new) (length taken) (is_some (get_by_text old free))
       (held.keys free ∙ is_new) size held.count
       ∙ sym (length-append taken (free ∷ []));
 }
@@ -102,17 +104,37 @@ all_taken taken slug number free found =
     (ap (is_taken (taken ++ free ∷ [])) (sym found.named) ∙ taken_here taken free free (nat_list_eq_equiv.refl free))
 
 -- another number beside a slug that is taken with each number up to it
-pub slugs_kept : {A : Type 0} (old new : Slugs A) (taken wanted : List (List ℕ)) (slug : List ℕ) (number : ℕ) → HasSlugs old taken
+pub slugs_kept : {A : Type 0} (old new : BTreeMap (String A) ℕ) (taken wanted : List (List ℕ)) (slug : List ℕ) (number : ℕ) → HasSlugs old taken
     → AreTaken taken slug (number + 1)
-    → ((q : List ℕ) → get_by_text new.numbers q ≡ update bytes_eq (get_by_text old.numbers) slug (Some number) q)
-    → btree_map_len new.numbers ≡ btree_map_len old.numbers + cond (is_some (get_by_text old.numbers slug)) 0 1
+    → ((q : List ℕ) → get_by_text new q ≡ update bytes_eq (get_by_text old) slug (Some number) q)
+    → btree_map_len new ≡ btree_map_len old + cond (is_some (get_by_text old slug)) 0 1
     → taken ≡ wanted → HasSlugs new wanted
 slugs_kept old new taken wanted slug number held all step size same =
     let is : is_taken taken slug ≡ true = all 0 (omega arith) in
     subst (HasSlugs new) same (record {
-      keys = keys_kept (get_by_text old.numbers) (get_by_text new.numbers) taken slug number step is held.keys;
-      numbers = numbers_kept (get_by_text old.numbers) (get_by_text new.numbers) taken slug number step all held.numbers;
+      keys = keys_kept (get_by_text old) (get_by_text new) taken slug number step is held.keys;
+      numbers = numbers_kept (get_by_text old) (get_by_text new) taken slug number step all held.numbers;
       count =
-          count_kept (btree_map_len old.numbers) (btree_map_len new.numbers) (length taken) (is_some (get_by_text old.numbers slug))
+          count_kept (btree_map_len old) (btree_map_len new) (length taken) (is_some (get_by_text old slug))
           (held.keys slug ∙ is) size held.count;
     })
+
+-- the value at a key by its bytes, among entries
+abbrev value_of : {A : Type 0} → List ℕ → List (String A × ℕ) → Option ℕ
+value_of slug es = lookup (is_at (λ k. slice_cmp nat_cmp slug (string_bytes k))) es
+
+-- a map with the same entries
+pub slugs_same : {A : Type 0} (old new : BTreeMap (String A) ℕ) (taken : List (List ℕ)) → new.entries ≡ old.entries → HasSlugs old taken → HasSlugs new taken
+slugs_same old new taken same held = record {
+  keys = λ slug. ap (λ es. is_some (value_of slug es)) same ∙ held.keys slug;
+  numbers = λ slug last found. held.numbers slug last (sym (ap (value_of slug) same) ∙ found);
+  count = ap length same ∙ held.count;
+}
+
+-- a slug that is taken is free with the number that was looked for, if it is looked for after the last one
+pub found_free : {A : Type 0} (table : BTreeMap (String A) ℕ) (taken : List (List ℕ)) (known asked slug : List ℕ) (last number : ℕ) (free : List ℕ)
+    → HasSlugs table taken → known ≡ slug → asked ≡ slug → get_by_text table known ≡ Some last
+    → (AreTaken taken asked (last + 1) → IsFree taken asked number free) → IsFree taken slug number free
+found_free table taken known asked slug last number free held e f stored found =
+    subst (λ s. IsFree taken s number free) f
+    (found (subst (λ s. AreTaken taken s (last + 1)) (e ∙ sym f) (held.numbers known last stored)))

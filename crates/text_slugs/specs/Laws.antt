@@ -2,7 +2,7 @@
 use Rattle.std.specs.Prelude.{◌<◌, ◌^◌, ℕ, List, length}
 use Rattle.std.specs.List.{IsDistinct}
 use Rattle.std.specs.Str.{bytes_eq}
-use Rattle.text_slugs.specs.Slugs.{slugs_of}
+use Rattle.definition_page.specs.Slug.{slugs_of}
 
 -- the slugs of texts differ from one another; beyond so many, numbers as they are printed need not differ
 abbrev pub SlugsDifferLaw : Type 0

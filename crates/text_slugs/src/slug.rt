@@ -2,7 +2,7 @@
 ghost use Rattle.std.specs.Prelude.{◌≡◌, ◌++◌, OnOk, string_bytes, encode_utf8_all};
 ghost use Rattle.std.specs.List.{flat_map};
 ghost use Rattle.std.specs.Char.Unicode.ToLowercase.{to_lowercase};
-ghost use Rattle.text_slugs.specs.Slug.{is_kept, slug_char, slug_of};
+ghost use Rattle.definition_page.specs.Slug.{is_kept, slug_char, slug_of};
 
 use std::alloc::{AllocError, Allocator};
 use ucd_perl::is_word_character;

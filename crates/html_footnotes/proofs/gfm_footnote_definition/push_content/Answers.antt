@@ -1,4 +1,4 @@
-use Rattle.std.proofs.Common.{◌≡◌, ◌++◌, ℕ, List, Option, None, Some, string_bytes, codes, take, drop, sym, ap, ◌∙◌, subst}
+use Rattle.std.proofs.Common.{◌≡◌, ◌++◌, None, Some, string_bytes, codes, take, drop, sym, ap, ◌∙◌, subst}
 use Rattle.html_footnotes.proofs.Prelude.{backs_pieces, ending_bytes, fold, Fresh, on_ok_weaker, OnOk, pieces_html, plain, print, with_backs}
 use Rattle.definition_page.specs.GfmFootnoteDefinition.{paragraph_end}
 use Rattle.html_footnotes.proofs.Printed.{backs_added, in_paragraph}

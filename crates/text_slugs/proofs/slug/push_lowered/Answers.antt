@@ -2,7 +2,7 @@ use Rattle.std.proofs.Common.{◌++◌, string_bytes, encode_utf8_all, sym, ap, 
 use Rattle.std.proofs.lemmas.List.{append-nil}
 use Rattle.std.specs.Char.Iter.{case_mapping_chars}
 use Rattle.std.specs.List.{flat_map}
-use Rattle.text_slugs.specs.Slug.{slug_char}
+use Rattle.definition_page.specs.Slug.{slug_char}
 use Rattle.text_slugs.proofs.Lowered.{packed_first, packed_next, small_step, small_end}
 use Rattle.text_slugs.proofs.slug.push_lowered.Goals as goal
 

@@ -2,7 +2,7 @@ use Rattle.std.proofs.Common.{◌++◌, string_bytes, sym, ap, ◌∙◌, append
 use Rattle.std.proofs.lemmas.List.{append-nil}
 use Rattle.std.proofs.lemmas.Str.{IsUtf8-past_char}
 use Rattle.std.specs.Str.Iter.{chars_rest}
-use Rattle.text_slugs.specs.Slug.{slug_of}
+use Rattle.definition_page.specs.Slug.{slug_of}
 use Rattle.text_slugs.proofs.Lowered.{slug_step, slug_empty}
 use Rattle.text_slugs.proofs.slug.push_slug.Goals as goal
 

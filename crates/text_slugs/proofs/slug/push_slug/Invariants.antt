@@ -1,6 +1,6 @@
 use Rattle.std.proofs.Common.{◌≡◌, ◌++◌, IsUtf8, string_bytes}
 use Rattle.std.specs.Str.Iter.{chars_rest}
-use Rattle.text_slugs.specs.Slug.{slug_of}
+use Rattle.definition_page.specs.Slug.{slug_of}
 use Rattle.text_slugs.proofs.slug.push_slug.Given as goal
 
 abbrev pub invariant-loop-character : goal.invariant-loop-character

@@ -11,7 +11,7 @@ returns g c = λ default.
     let outer = reverse (map string_bytes page.outer.items) in
     let notes = map string_bytes page.notes.items in
     let text : Call → List ℕ = λ call. string_bytes page.html ++ pieces_html (call_pieces options call) in
-    let laid : List NoteCalls → LayoutState = λ called. layout_state (text (latest_call c.args.place 1 called)) outer notes called in
+    let laid : List NoteCalls → LayoutState = λ called. layout_state (text (latest_call c.args.place 1 called)) outer notes called page.slugs in
     on_ok_weaker c.push_call.result (λ (e : string_bytes c.push_call.new.out ≡ text (call_view c.latest.result)).
-    ap (λ t. layout_state t outer notes c.count.new.self) (e ∙ ap text c.latest.ensures) ∙ ap laid c.in_ok-count.ensures.called)
+    ap (λ t. layout_state t outer notes c.count.new.self page.slugs) (e ∙ ap text c.latest.ensures) ∙ ap laid c.in_ok-count.ensures.called)
     c.push_call.ensures
