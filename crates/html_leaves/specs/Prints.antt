@@ -26,10 +26,10 @@ with_tag default tag l = with_bytes tag (with_fresh default l)
 
 -- where the content of a footnote starts, in a text of its own, and where it ends
 abbrev pub footnote_text_started : LayoutState → LayoutState
-footnote_text_started l = layout_state [] (l.text ∷ l.outer) l.notes l.called
+footnote_text_started l = layout_state [] (l.text ∷ l.outer) l.notes l.called l.taken
 
 abbrev pub footnote_text_left : LayoutState → LayoutState
-footnote_text_left l = note_end l.text l.outer l.notes l.called
+footnote_text_left l = note_end l.text l.outer l.notes l.called l.taken
 
 -- a page after more pieces
 abbrev pub layout_after : CompileOptions → LineEnding → LayoutState → List Piece → LayoutState

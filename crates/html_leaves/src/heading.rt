@@ -1,5 +1,6 @@
 //! The tags of headings (CommonMark 4.2 and 4.3).
 ghost use Rattle.std.specs.Prelude.{◌≡◌, ◌≤◌, ◌+◌, ◌++◌, ◌∷◌, [], OnOk, codes};
+ghost use Rattle.definition_page.specs.BlockPieces.{heading_name};
 ghost use Rattle.html_escape.specs.Prints as escape;
 ghost use Rattle.html_leaves.specs.Prints.{Prints, KeepsEnding};
 
@@ -43,5 +44,20 @@ fn digit(rank: u8) -> &'static str
         4 => "4",
         5 => "5",
         _ => "6",
+    }
+}
+
+/// The name of a heading's element, `h1` to `h6`.
+pub fn heading_name(rank: u8) -> &'static str
+    requires { (1 ≤ rank) × (rank ≤ 6) }
+    ensures { result.now ≡ heading_name rank }
+{
+    match rank {
+        1 => "h1",
+        2 => "h2",
+        3 => "h3",
+        4 => "h4",
+        5 => "h5",
+        _ => "h6",
     }
 }
