@@ -66,6 +66,10 @@ texts : GiveTexts (codes "--heading-id-prefix=a-" ∷ codes "--link-base" ∷ co
 unfolding faults_of rows_of_words clap_on_literals
 texts = (refl, refl, refl, refl, refl)
 
+a_flag_as_text : GiveTexts (codes "--link-base=--gfm" ∷ []) None (Some (codes "--gfm")) None None
+unfolding faults_of rows_of_words clap_on_literals
+a_flag_as_text = (refl, refl, refl, refl, refl)
+
 no_texts : GiveTexts (codes "--heading-ids" ∷ codes "link-rel" ∷ []) None None None None
 unfolding faults_of rows_of_words clap_on_literals
 no_texts = (refl, refl, refl, refl, refl)
@@ -73,6 +77,18 @@ no_texts = (refl, refl, refl, refl, refl)
 an_attached_value : faults_of (codes "--heading-ids=a" ∷ []) ≡ TooManyValues ∷ []
 unfolding faults_of clap_on_literals
 an_attached_value = refl
+
+a_value_of_a_flag : faults_of (codes "--lazy-images=" ∷ []) ≡ TooManyValues ∷ []
+unfolding faults_of clap_on_literals
+a_value_of_a_flag = refl
+
+no_base : faults_of (codes "--link-base" ∷ codes "--gfm" ∷ []) ≡ InvalidValue ∷ []
+unfolding faults_of clap_on_literals
+no_base = refl
+
+a_base_twice : faults_of (codes "--link-base=a" ∷ codes "--link-base=b" ∷ []) ≡ ArgumentConflict ∷ []
+unfolding faults_of clap_on_literals
+a_base_twice = refl
 
 two_files : faults_of (codes "a" ∷ codes "-" ∷ []) ≡ UnknownArgument ∷ []
 unfolding faults_of clap_on_literals
