@@ -1,5 +1,5 @@
 -- Links and images with a base, `rel` and lazy loading.
-use Rattle.std.specs.Prelude.{◌≡◌, true, codes}
+use Rattle.std.specs.Prelude.{◌≡◌, ◌++◌, true, codes}
 use Rattle.std.proofs.Common.{Global, refl, lit<}
 use Rattle.markdown_compile_options.specs.declared.configuration.Options.{Options}
 use Rattle.markdown_compile_options.specs.Defaults.{default_compile_options, gfm_options}
@@ -22,7 +22,8 @@ module _ (alloc : Global) where
   relative_links = refl
 
   other_links : page_with based (codes "[a](/b) [c](//d) [e](#f) [g](?h) [i]() [j](http://k) <l@m.n>")
-      ≡ codes "<p><a href=\"/b\">a</a> <a href=\"//d\">c</a> <a href=\"#f\">e</a> <a href=\"?h\">g</a> <a href=\"\">i</a> <a href=\"http://k\">j</a> <a href=\"mailto:l@m.n\">l@m.n</a></p>"
+      ≡ codes "<p><a href=\"/b\">a</a> <a href=\"//d\">c</a> <a href=\"#f\">e</a> <a href=\"?h\">g</a>"
+      ++ codes " <a href=\"\">i</a> <a href=\"http://k\">j</a> <a href=\"mailto:l@m.n\">l@m.n</a></p>"
   unfolding pages
   other_links = refl
 
@@ -31,7 +32,8 @@ module _ (alloc : Global) where
   unfolding pages
   protocols_behind_base = refl
 
-  base_with_protocol : page_with (with_compile (record default_compile_options { link_base = given alloc (codes "javascript:") (lit< tt) script_is_text })) (codes "[a](b)")
+  base_with_protocol : page_with (with_compile (record default_compile_options { link_base = given alloc (codes "javascript:") (lit< tt) script_is_text }))
+      (codes "[a](b)")
       ≡ codes "<p><a href=\"\">a</a></p>"
   unfolding pages
   base_with_protocol = refl
@@ -41,7 +43,9 @@ module _ (alloc : Global) where
   unfolding pages
   base_of_links = refl
 
-  base_of_images : page_with (with_compile (record default_compile_options { image_base = given alloc (codes "https://x.y/raw/") (lit< tt) image_base_is_text })) (codes "[a](b) ![c](d)")
+  base_of_images : page_with
+      (with_compile (record default_compile_options { image_base = given alloc (codes "https://x.y/raw/") (lit< tt) image_base_is_text }))
+      (codes "[a](b) ![c](d)")
       ≡ codes "<p><a href=\"b\">a</a> <img src=\"https://x.y/raw/d\" alt=\"c\" /></p>"
   unfolding pages
   base_of_images = refl
@@ -52,7 +56,8 @@ module _ (alloc : Global) where
   with_rel = record gfm_options { compile = record default_compile_options { link_rel = given alloc (codes "nofollow noopener") (lit< tt) rel_is_text } }
 
   rel_of_links : page_with with_rel (codes "[a](b) [c](d 't') [![e](f)](g)")
-      ≡ codes "<p><a href=\"b\" rel=\"nofollow noopener\">a</a> <a href=\"d\" title=\"t\" rel=\"nofollow noopener\">c</a> <a href=\"g\" rel=\"nofollow noopener\"><img src=\"f\" alt=\"e\" /></a></p>"
+      ≡ codes "<p><a href=\"b\" rel=\"nofollow noopener\">a</a> <a href=\"d\" title=\"t\" rel=\"nofollow noopener\">c</a>"
+      ++ codes " <a href=\"g\" rel=\"nofollow noopener\"><img src=\"f\" alt=\"e\" /></a></p>"
   unfolding pages
   rel_of_links = refl
 

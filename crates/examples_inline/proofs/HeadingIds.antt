@@ -14,7 +14,8 @@ ids_off : page_with default_options (codes "# a\n# A") ≡ codes "<h1>a</h1>\n<h
 unfolding pages
 ids_off = refl
 
-without_tags : page_with with_ids (codes "# *a* `b c` ![d](e) <i>") ≡ codes "<h1 id=\"a-b-c--\"><em>a</em> <code>b c</code> <img src=\"e\" alt=\"d\" /> &lt;i&gt;</h1>"
+without_tags : page_with with_ids (codes "# *a* `b c` ![d](e) <i>")
+    ≡ codes "<h1 id=\"a-b-c--\"><em>a</em> <code>b c</code> <img src=\"e\" alt=\"d\" /> &lt;i&gt;</h1>"
 unfolding page_ids
 without_tags = refl
 
@@ -35,7 +36,8 @@ module _ (alloc : Global) where
   unfolding pages
   prefix_alone = refl
 
-  prefix_encoded : page_with (with_compile (record default_compile_options { heading_ids = true; heading_id_prefix = given alloc (codes "\"<&") (lit< tt) marks_are_text }))
+  prefix_encoded : page_with
+      (with_compile (record default_compile_options { heading_ids = true; heading_id_prefix = given alloc (codes "\"<&") (lit< tt) marks_are_text }))
       (codes "# a")
       ≡ codes "<h1 id=\"&quot;&lt;&amp;a\">a</h1>"
   unfolding page_ids
