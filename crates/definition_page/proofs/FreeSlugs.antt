@@ -1,5 +1,6 @@
 -- Of more numbers of a slug than there are slugs, one is free.
-use Rattle.std.proofs.Common.{◌≡◌, ◌<◌, ◌≤◌, ◌+◌, ◌^◌, ℕ, zero, suc, true, false, not, List, ◌∷◌, ◌++◌, length, map, get_or, Some, ◌⊎◌, inl, inr, refl, sym, ap, subst, ◌∙◌, unwrap_or, arith}
+use Rattle.std.proofs.Common.{◌≡◌, ◌<◌, ◌≤◌, ◌+◌, ◌^◌, ℕ, zero, suc, true, false, not, List, ◌∷◌, ◌++◌, length, map, get_or, Some, ◌⊎◌, inl, inr, refl, sym}
+use Rattle.std.proofs.Common.{ap, subst, ◌∙◌, unwrap_or, arith}
 use Rattle.std.proofs.lemmas.Bool.{cases_Bool, cases_lt, cond-true, cond-false, false_from_ne_true, not_from_true, not_from_false}
 use Rattle.std.proofs.lemmas.Fmt.{decimal_injective}
 use Rattle.std.proofs.lemmas.List.{append_cancel_left, length-append}
@@ -48,7 +49,8 @@ numbers_apart slug count small i j d before within = false_from_ne_true _ (λ sa
 numbers_distinct : (slug : List ℕ) (count : ℕ) → count ≤ 2 ^ 64 → IsDistinct bytes_eq (first_numbered count slug)
 numbers_distinct slug count small =
     let size : length (first_numbered count slug) ≡ count = length-map-range_with_len (numbered slug) 0 count in
-    IsDistinct-from_apart bytes_eq (first_numbered count slug) (λ i j d before within. numbers_apart slug count small i j d before (subst (λ n. j < n) size within))
+    IsDistinct-from_apart bytes_eq (first_numbered count slug)
+    (λ i j d before within. numbers_apart slug count small i j d before (subst (λ n. j < n) size within))
 
 numbered_among : (slug q : List ℕ) (a count : ℕ) → list_any (bytes_eq q) (map (numbered slug) (range_with_len a count)) ≡ true
     → (n : ℕ) × (n < a + count) × (q ≡ numbered slug n)

@@ -17,7 +17,8 @@ use Rattle.markdown_compile_options.specs.declared.configuration.CompileOptions.
 use Rattle.definition_page.specs.GfmTaskListItem.{checkable_attributes, done_attributes, check_tag}
 use Rattle.definition_page.specs.Tags.{PrintedPart, Words, Attribute, attribute, Tag, tag, bare_tag}
 use Rattle.definition_page.specs.Pieces.{Piece, Open, Close, Void, Says, Eol, Fresh, Named, NoteStart, NoteEnd}
-use Rattle.definition_page.specs.InlinePieces.{Meaning, element, html_says, title_attributes, title_attribute, rel_attributes, loading_attributes, link_tag, image_tag}
+use Rattle.definition_page.specs.InlinePieces.{Meaning, element, html_says, title_attributes, title_attribute, rel_attributes, loading_attributes, link_tag}
+use Rattle.definition_page.specs.InlinePieces.{image_tag}
 use Rattle.definition_page.specs.InlinePieces.{address, literal_address, address_tag, description, span_name, call_at, count_at, part_counts, inline_counts}
 use Rattle.definition_inline.specs.Strings.{string_text}
 use Rattle.definition_page.specs.InlinePieces.{leaf_pieces, part_pieces, inline_pieces}
@@ -28,7 +29,8 @@ use Rattle.definition_page.specs.GfmTable.{TableRow, Table as TableOf, align_att
 use Rattle.definition_page.specs.GfmTable.{body_row_pieces, head_pieces, body_pieces, table_pieces}
 use Rattle.definition_page.specs.Page.{PageLeaf, Paragraph, Heading, Break, IndentedCode, FencedCode, Html, Table, Definition}
 use Rattle.definition_page.specs.Page.{PageContainer, Quote, Item, Footnote, Block, Leaf, Holds, ItemList, Ending, Blank, Blocks, Nil, Cons}
-use Rattle.definition_page.specs.BlockPieces.{Place, at_top, inside, code_line, html_line, says, heading_name, heading_start, info_attributes, list_tag, is_silent}
+use Rattle.definition_page.specs.BlockPieces.{Place, at_top, inside, code_line, html_line, says, heading_name, heading_start, info_attributes, list_tag}
+use Rattle.definition_page.specs.BlockPieces.{is_silent}
 use Rattle.definition_page.specs.BlockPieces.{last_visible, ends_plainly, fresh_unless, fenced_pieces, leaf_block_pieces, block_pieces, children_pieces}
 
 -- ---- attributes without ids

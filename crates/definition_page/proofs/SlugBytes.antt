@@ -25,7 +25,8 @@ or_good P None other h k = k
 or_good P (Some x) other h k = h
 
 -- if these bytes are good, so are those of a slug
-module _ (P : ℕ → Type 0) (at_hyphen : P hyphen) (at_kept : (c : ℕ) → is_kept c ≡ true → Each P (encode_utf8 c)) (at_number : (n : ℕ) → Each P (decimal n)) where
+module _ (P : ℕ → Type 0) (at_hyphen : P hyphen) (at_kept : (c : ℕ) → is_kept c ≡ true → Each P (encode_utf8 c))
+    (at_number : (n : ℕ) → Each P (decimal n)) where
   abbrev CharacterGood : ℕ → Type 0
   CharacterGood c = Each P (encode_utf8 c)
 

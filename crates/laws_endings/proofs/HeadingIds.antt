@@ -1,10 +1,13 @@
 -- Ids of headings and other attributes that the options ask for, with another line ending in place of each LF: none is in them.
 use Rattle.std.proofs.Common.{◌≡◌, ℕ, zero, suc, Bool, true, List, [], ◌∷◌, ◌++◌, Option, None, Some, String, string_bytes, refl, sym, ap, ◌∙◌, arith, eqb, ltb}
-use Rattle.laws_endings.proofs.Prelude.{attribute, Attribute, Autolink, bare_tag, codes, CompileOptions, Cons, cond_both, element, eqb-true, Fresh, HasNoFeed, Image, Inline, inline_with}
-use Rattle.laws_endings.proofs.Prelude.{Inlines, inlines_with, InlineLeaf, Leaf, leaf_with, LineEnding, Link, Linked, ne_eqb, Nil, false_from_ne_true, nat_le, Piece, plain, Says, section_pieces, Span, text_or, true≢false, Words, Call, Close}
+use Rattle.laws_endings.proofs.Prelude.{attribute, Attribute, Autolink, bare_tag, codes, CompileOptions, Cons, cond_both, element, eqb-true, Fresh}
+use Rattle.laws_endings.proofs.Prelude.{HasNoFeed, Image, Inline, inline_with}
+use Rattle.laws_endings.proofs.Prelude.{Inlines, inlines_with, InlineLeaf, Leaf, leaf_with, LineEnding, Link, Linked, ne_eqb, Nil, false_from_ne_true}
+use Rattle.laws_endings.proofs.Prelude.{nat_le, Piece, plain, Says, section_pieces, Span, text_or, true≢false, Words, Call, Close}
 use Rattle.std.specs.Char.{encode_utf8}
 use Rattle.definition_page.specs.Destinations.{heading_prefix}
-use Rattle.definition_page.specs.GfmFootnoteDefinition.{Footnote, back_tag, arrow, count_pieces, back_pieces, space_after, backs_pieces, with_backs, content_pieces, paragraph_end, item_tag}
+use Rattle.definition_page.specs.GfmFootnoteDefinition.{Footnote, back_tag, arrow, count_pieces, back_pieces, space_after, backs_pieces, with_backs}
+use Rattle.definition_page.specs.GfmFootnoteDefinition.{content_pieces, paragraph_end, item_tag}
 use Rattle.definition_page.specs.GfmFootnoteDefinition.{footnote_pieces, footnotes_pieces, heading_pieces, section_tag}
 use Rattle.definition_page.specs.HeadingIds.{is_note_id, id_attributes}
 use Rattle.definition_page.specs.HeadingText.{leaf_text, part_text, heading_text}

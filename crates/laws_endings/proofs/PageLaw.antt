@@ -5,7 +5,8 @@ use Rattle.laws_endings.proofs.Prelude.{after_return, All-tail, and_parts, block
 use Rattle.laws_endings.proofs.Prelude.{codes_with, CompileOptions, cond_both, Definition, definition_with, definitions, document_definitions, ending_bytes}
 use Rattle.laws_endings.proofs.Prelude.{ends_blank, eq-eqb, eqb-true, first_calls, first_match, first_of, fold, fold-append, footnotes, fresh_unless}
 use Rattle.laws_endings.proofs.Prelude.{get_or-map, group_items, has_mark, HaveNoFeeds, if_ending_with, in_first_line, is_some, Kind, kind_before_text, layout}
-use Rattle.laws_endings.proofs.Prelude.{leaf_definitions, LineEnding, lines, link_texts, Meaning, named_calls, NamedCall, ne_eqb, normal_label, option_map, or_left}
+use Rattle.laws_endings.proofs.Prelude.{leaf_definitions, LineEnding, lines, link_texts, Meaning, named_calls, NamedCall, ne_eqb, normal_label, option_map}
+use Rattle.laws_endings.proofs.Prelude.{or_left}
 use Rattle.laws_endings.proofs.Prelude.{or_right, Piece, place_of, print, read_blocks, section_pieces, text_line, text_line_with, TextLine, true≢false}
 use Rattle.laws_endings.proofs.Prelude.{unwrap_or, with_calls, with_ending, with_spaces, without_mark, ◌≢◌}
 use Rattle.std.proofs.lemmas.List.Elements.{All-drop}

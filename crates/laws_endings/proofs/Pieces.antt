@@ -1,7 +1,8 @@
 -- Pieces of a page with another line ending in place of each LF.
 use Rattle.std.proofs.Common.{◌≡◌, ℕ, Bool, true, false, cond, List, [], ◌∷◌, ◌++◌, refl, sym, ap, ◌∙◌, map, fold, append_assoc, append-nil, flat_map, subst}
 use Rattle.std.proofs.Common.{◌⊎◌, inl, inr}
-use Rattle.laws_endings.proofs.Prelude.{ArePlain, Attribute, attribute_bytes, bare_tag, Close, flat_map-append, codes, CompileOptions, element, ending_bytes, Eol, fold-append, Fresh}
+use Rattle.laws_endings.proofs.Prelude.{ArePlain, Attribute, attribute_bytes, bare_tag, Close, flat_map-append, codes, CompileOptions, element}
+use Rattle.laws_endings.proofs.Prelude.{ending_bytes, Eol, fold-append, Fresh}
 use Rattle.laws_endings.proofs.Prelude.{HaveNoFeeds, is_fresh, layout, LineEnding, map-append, named_calls, NamedCall, Open, Piece, print, PrintedPart}
 use Rattle.laws_endings.proofs.Prelude.{said_bytes, Says, tag, Void, with_calls, with_ending}
 use Rattle.markdown_options.specs.declared.line_ending.LineEnding.TheVariants.{LineFeed}
@@ -368,7 +369,8 @@ module _ (e : LineEnding) where
         let other = with_ids options taken others in
         let one = with_ids options taken ones in (
           subst (λ ps. ShownWith (NoteStart ∷ ps) (NoteStart ∷ with_ids options taken (ones ++ end))) (sym (ids_append options taken others end))
-              (subst (λ ps. ShownWith (NoteStart ∷ (other ++ end)) (NoteStart ∷ ps)) (sym (ids_append options taken ones end)) (note_shown other one (p taken).0)),
+              (subst (λ ps. ShownWith (NoteStart ∷ (other ++ end)) (NoteStart ∷ ps)) (sym (ids_append options taken ones end))
+              (note_shown other one (p taken).0)),
           taken_append taken others end ∙ (p taken).1 ∙ sym (taken_append taken ones end),
         )
 

@@ -9,7 +9,8 @@ use Rattle.laws_endings.proofs.Prelude.{unwrap_or, Void, with_ending, Words}
 use Rattle.markdown_options.specs.declared.line_ending.LineEnding.TheVariants.{CarriageReturnLineFeed, CarriageReturn, LineFeed}
 use Rattle.definition_inline.specs.Inline.{SpanKind, Emphasis}
 use Rattle.definition_page.specs.Urls.{src_protocols}
-use Rattle.definition_page.specs.InlinePieces.{image_url, url_of, rel_attributes, loading_attributes, title_attributes, title_attribute, link_tag, image_tag, span_name}
+use Rattle.definition_page.specs.InlinePieces.{image_url, url_of, rel_attributes, loading_attributes, title_attributes, title_attribute, link_tag}
+use Rattle.definition_page.specs.InlinePieces.{image_tag, span_name}
 use Rattle.definition_page.specs.InlinePieces.{part_says}
 use Rattle.definition_inline.specs.Targets.{leads_to}
 use Rattle.definition_page.specs.InlinePieces.{description, call_at, count_at, part_counts, part_pieces}
@@ -157,7 +158,8 @@ module _ (e : LineEnding) where
         let alt : Attribute = record { name = codes "alt"; value = said } in
         let url = image_source m.compile (url_of m l) in
         let src = attribute (codes "src") (image_url m.compile url) in
-        ap (λ url. flat_map attribute_bytes (attribute (codes "src") (image_url m.compile (image_source m.compile url)) ∷ alt' ∷ title' ++ loading)) (url-with l p)
+        ap (λ url. flat_map attribute_bytes (attribute (codes "src") (image_url m.compile (image_source m.compile url)) ∷ alt' ∷ title' ++ loading))
+        (url-with l p)
         ∙ more_attributes e src src (alt' ∷ title' ++ loading) (alt ∷ title ++ loading)
         (url_attribute-with e (codes "src") refl (m.compile.allow_any_img_src || m.compile.allow_dangerous_protocol) src_protocols url)
         (more_attributes e alt' alt (title' ++ loading) (title ++ loading) (attribute-with e (codes "alt") said' said refl q)

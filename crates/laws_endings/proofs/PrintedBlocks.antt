@@ -9,7 +9,8 @@ use Rattle.markdown_options.specs.declared.line_ending.LineEnding.TheVariants.{C
 use Rattle.definition_text.specs.Lines.{ending_text}
 use Rattle.definition_inline.specs.Inline.{Nil as NoText}
 use Rattle.markdown_options.specs.declared.align_kind.AlignKind.TheVariants as kind
-use Rattle.definition_page.specs.GfmTable.{Table as TableOf, align_attributes, cell_pieces, cells_pieces, row_pieces, ending_piece, endings_pieces, body_row_pieces}
+use Rattle.definition_page.specs.GfmTable.{Table as TableOf, align_attributes, cell_pieces, cells_pieces, row_pieces, ending_piece, endings_pieces}
+use Rattle.definition_page.specs.GfmTable.{body_row_pieces}
 use Rattle.definition_page.specs.GfmTable.{head_pieces, body_pieces, table_pieces}
 use Rattle.definition_page.specs.Page.{PageLeaf, Paragraph, Heading, Break, IndentedCode, FencedCode, Html, Table, Definition, Quote, Item, Footnote}
 use Rattle.definition_page.specs.Page.{Block, Leaf, Holds, ItemList, Ending, Blank, Blocks, Nil, Cons}
@@ -28,7 +29,8 @@ use Rattle.laws_endings.proofs.BlockReads.{IsFed, LineFits, LinesFit}
 use Rattle.laws_endings.proofs.Bytes.{IsNoFeed, decimal_no_feed, with-append, kept, encode-with}
 use Rattle.laws_endings.proofs.Saids.{plains_no_feed, codes-kept, SaidWith, SaidsWith, says_more, says_one, says_append, words-kept, raw-kept}
 use Rattle.laws_endings.proofs.Pieces.{BytesWith, AttributesWith, attribute-with, more_attributes, PiecesWith, no_pieces, append-with, more-with}
-use Rattle.laws_endings.proofs.Pieces.{said-with, void_piece-with, eol_piece-with, fresh_piece-with, element-with, saids-with, note-with, named-with, open-with, close-with}
+use Rattle.laws_endings.proofs.Pieces.{said-with, void_piece-with, eol_piece-with, fresh_piece-with, element-with, saids-with, note-with, named-with}
+use Rattle.laws_endings.proofs.Pieces.{open-with, close-with}
 use Rattle.laws_endings.proofs.Printed.{LinkedFits, linked_with, counts-with, inlines-with}
 use Rattle.laws_endings.proofs.PrintedTable.{AreFed, RowFits, TableFits, row_with, table_with}
 use Rattle.laws_endings.proofs.Pages.{page_leaf_with, page_block_with, page_blocks_with, InfoFits, PageLeafFits, PageBlockFits, PageFits}

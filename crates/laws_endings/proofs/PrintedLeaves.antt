@@ -94,7 +94,8 @@ module _ (e : LineEnding) where
     box_kept false true = refl
     box_kept false false = refl
 
-    pub leaf_pieces-with : LinksHoldNoFeed options → (part : InlineLeaf) → IsFitLeaf part → PiecesWith e options (leaf_pieces options (leaf_with e part)) (leaf_pieces options part)
+    pub leaf_pieces-with : LinksHoldNoFeed options → (part : InlineLeaf) → IsFitLeaf part
+        → PiecesWith e options (leaf_pieces options (leaf_with e part)) (leaf_pieces options part)
     leaf_pieces-with texts (Code text) p = text_in (codes "code") [] text refl refl p
     leaf_pieces-with texts (Math text) p = text_in (codes "code") math_tag.attributes text refl refl p
     leaf_pieces-with texts (Autolink is_email text) p =

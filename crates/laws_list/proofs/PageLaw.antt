@@ -112,7 +112,8 @@ module _ (tables : TextTables) (options : Options) (default : LineEnding) (ds : 
       ap (λ u. u.squeezed.kept) (fold-append f s whole [])
       ∙ ap (λ u. u.squeezed.kept) (fold-append f s in_list (Close (codes "ul") ∷ []))
       ∙ ap (λ u. (with_pieces options.compile default u (Close (codes "ul") ∷ [])).squeezed.kept) (fold-append f s (item ++ []) (Eol ∷ []))
-      ∙ ap (λ u. (with_pieces options.compile default u (Eol ∷ Close (codes "ul") ∷ [])).squeezed.kept) (fold-append f s item [] ∙ fold-append f s inside_item (Close (codes "li") ∷ []))
+      ∙ ap (λ u. (with_pieces options.compile default u (Eol ∷ Close (codes "ul") ∷ [])).squeezed.kept)
+      (fold-append f s item [] ∙ fold-append f s inside_item (Close (codes "li") ∷ []))
       ∙ ends_list (with_pieces options.compile default s inside_item) t kept
 
   squeeze_item : options.parse.constructs.gfm_task_list_item ≡ false → (kids : tree.Blocks) → has_gap (group_items kids) ≡ true
@@ -121,8 +122,10 @@ module _ (tables : TextTables) (options : Options) (default : LineEnding) (ds : 
       let all = group_items kids in
       let r = reading tables options default ds in
       let loose : is_loose (tree.one (tree.Holds plus_item all)) ≡ true = ap (λ gap. gap || false) h in
-      ap (λ is. (with_pieces options.compile default nothing_printed (pieces_here is (page.Cons (page.Holds page.Item (read_blocks r in_item all)) page.Nil))).squeezed.kept) loose
-      ∙ ap (λ inner. (with_pieces options.compile default nothing_printed (pieces_here true (page.Cons (page.Holds page.Item inner) page.Nil))).squeezed.kept) (read_in_item r off true all)
+      let list : Bool → page.Blocks → List ℕ = λ is inner.
+      (with_pieces options.compile default nothing_printed (pieces_here is (page.Cons (page.Holds page.Item inner) page.Nil))).squeezed.kept in
+      ap (λ is. list is (read_blocks r in_item all)) loose
+      ∙ ap (list true) (read_in_item r off true all)
       ∙ item_kept (read_here all)
 
   -- children in a list, with the endings at their end after it, and alone

@@ -15,13 +15,15 @@ use Rattle.definition_page.specs.Destinations.{link_destination, image_source}
 use Rattle.definition_page.specs.HeadingIds.{id_attributes, with_ids}
 use Rattle.definition_page.specs.HeadingText.{heading_text}
 use Rattle.definition_page.specs.Slug.{next_slug, with_slug}
-use Rattle.definition_page.specs.InlinePieces.{Meaning, link_url, image_url, url_of, title_attribute, rel_attributes, loading_attributes, address, literal_address, raw_html, HtmlLine, html_lines}
+use Rattle.definition_page.specs.InlinePieces.{Meaning, link_url, image_url, url_of, title_attribute, rel_attributes, loading_attributes, address}
+use Rattle.definition_page.specs.InlinePieces.{literal_address, raw_html, HtmlLine, html_lines}
 use Rattle.definition_page.specs.InlinePieces.{html_line_says, later_line_says, html_lines_say, link_tag, image_tag, leaf_says, part_says, description}
 use Rattle.definition_inline.specs.Targets.{leads_to}
 use Rattle.definition_page.specs.InlinePieces.{part_counts, inline_counts, element, address_tag, leaf_pieces, span_name, part_pieces, inline_pieces}
 use Rattle.definition_page.specs.GfmTaskListItem.{checkable_attributes, done_attributes}
 use Rattle.markdown_options.specs.declared.align_kind.AlignKind.{AlignKind}
-use Rattle.definition_page.specs.GfmTable.{Table, TableRow, align_attributes, cell_pieces, cells_pieces, row_pieces, endings_pieces, body_row_pieces, head_pieces}
+use Rattle.definition_page.specs.GfmTable.{Table, TableRow, align_attributes, cell_pieces, cells_pieces, row_pieces, endings_pieces, body_row_pieces}
+use Rattle.definition_page.specs.GfmTable.{head_pieces}
 use Rattle.definition_page.specs.GfmTable.{body_pieces, table_pieces}
 use Rattle.definition_page.specs.Page as page
 use Rattle.definition_page.specs.Page.{Page}
@@ -115,7 +117,8 @@ module _ (m : Meaning) (compile : CompileOptions) (alike : Alike compile m.compi
   same_address : (url text : List ℕ)
       → element (address_tag compile url) (Says (Words text) ∷ []) ≡ element (address_tag m.compile url) (Says (Words text) ∷ [])
   same_address url text =
-      let link : List ℕ → List Attribute → List Piece = λ printed rel. element (tag (codes "a") (attribute (codes "href") printed ∷ rel)) (Says (Words text) ∷ []) in
+      let link : List ℕ → List Attribute → List Piece = λ printed rel.
+      element (tag (codes "a") (attribute (codes "href") printed ∷ rel)) (Says (Words text) ∷ []) in
       ap (λ printed. link printed (rel_attributes compile.link_rel)) (alike.link url) ∙ ap (link (link_url m.compile url)) alike.rel
 
   same_leaf : (part : InlineLeaf) → leaf_pieces compile part ≡ leaf_pieces m.compile part

@@ -102,7 +102,8 @@ module _ (tables : TextTables) (options : Options) (default : LineEnding) (ds : 
       at_last (λ last. (squeezed_kids (tree.join bs last)).kept ≡ (squeezed_kids bs).kept) kids
       (ap (λ all. (squeezed_kids all).kept) (join-nil bs))
       (λ last ends.
-      ap (λ all. (print_siblings default meaning (inside false) None (read_blocks reading in_container all) nothing_printed).squeezed.kept) (grouped-join bs last ends)
+      ap (λ all. (print_siblings default meaning (inside false) None (read_blocks reading in_container all) nothing_printed).squeezed.kept)
+      (grouped-join bs last ends)
       ∙ keep_join default meaning reading (group_items bs) last ends None nothing_printed)
 
   -- a quote is what its children are, between its tags

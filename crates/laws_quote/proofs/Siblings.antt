@@ -149,13 +149,15 @@ module _ (default : LineEnding) (m : Meaning) where
       ∙ same (with_pieces m.compile default s ps)
 
   kept_code : (ls : List BlockLine) (s : PrintState)
-      → (with_pieces m.compile default s (fenced_pieces at_top false ls)).squeezed.kept ≡ (with_pieces m.compile default s (fenced_pieces (inside false) false (own_lines ls))).squeezed.kept
+      → (with_pieces m.compile default s (fenced_pieces at_top false ls)).squeezed.kept
+      ≡ (with_pieces m.compile default s (fenced_pieces (inside false) false (own_lines ls))).squeezed.kept
   kept_code [] s = refl
   kept_code (line ∷ others) s =
       let own = says (flat_map code_line (own_lines (line ∷ others))) in
       kept_end (says (flat_map code_line (line ∷ others))) [] s (λ t. refl)
       ∙ kept_lines line others s
-      ∙ sym (ap (λ ps. (with_pieces m.compile default s ps).squeezed.kept) (own_pieces line others) ∙ kept_end own (Eol ∷ []) s (λ t. kept_at_ending t.squeezed default))
+      ∙ sym (ap (λ ps. (with_pieces m.compile default s ps).squeezed.kept) (own_pieces line others)
+      ∙ kept_end own (Eol ∷ []) s (λ t. kept_at_ending t.squeezed default))
 
   -- no heading is in them
   taken_kept : (ps : List Piece) (s : PrintState) → AreUnnamed ps → (with_pieces m.compile default s ps).taken ≡ s.taken
@@ -181,13 +183,15 @@ module _ (default : LineEnding) (m : Meaning) where
   code_end s = with_text (with_text s (end_tag (codes "code"))) (end_tag (codes "pre"))
 
   print-end : (s : PrintState) (ps : List Piece)
-      → with_pieces m.compile default s (((ps ++ Close (codes "code") ∷ []) ++ Close (codes "pre") ∷ []) ++ Fresh ∷ []) ≡ code_end (with_pieces m.compile default s ps)
+      → with_pieces m.compile default s (((ps ++ Close (codes "code") ∷ []) ++ Close (codes "pre") ∷ []) ++ Fresh ∷ [])
+      ≡ code_end (with_pieces m.compile default s ps)
   print-end s ps =
       let code = Close (codes "code") ∷ [] in
       let pre = Close (codes "pre") ∷ [] in
       let f = with_piece m.compile default in
       fold-append f s ((ps ++ code) ++ pre) (Fresh ∷ [])
-      ∙ ap (λ t. with_pieces m.compile default t (Fresh ∷ [])) (fold-append f s (ps ++ code) pre ∙ ap (λ t. with_pieces m.compile default t pre) (fold-append f s ps code))
+      ∙ ap (λ t. with_pieces m.compile default t (Fresh ∷ []))
+      (fold-append f s (ps ++ code) pre ∙ ap (λ t. with_pieces m.compile default t pre) (fold-append f s ps code))
 
   -- what stands before them
   abbrev code_start : Option (List ℕ) → PrintState → PrintState
@@ -204,7 +208,8 @@ module _ (default : LineEnding) (m : Meaning) where
       let code = with_pieces m.compile default (code_start info s) (fenced_pieces at_top false ls) in
       let own = with_pieces m.compile default (code_start info s) (fenced_pieces (inside false) false (own_lines ls)) in
       print-fence at_top before info ls s
-      ∙ ap (λ taken. code_end (print_state taken code.squeezed)) (taken_in_code at_top ls (code_start info s) ∙ sym (taken_in_code (inside false) (own_lines ls) (code_start info s)))
+      ∙ ap (λ taken. code_end (print_state taken code.squeezed))
+      (taken_in_code at_top ls (code_start info s) ∙ sym (taken_in_code (inside false) (own_lines ls) (code_start info s)))
       ∙ ap (λ t. print_state own.taken (with_bytes t (end_tag (codes "pre"))))
       (same_at_tag (codes "/code>") code.squeezed own.squeezed (kept_code ls (code_start info s)))
       ∙ sym (print-fence (inside false) before info (own_lines ls) s)
@@ -253,7 +258,8 @@ module _ (default : LineEnding) (m : Meaning) where
     -- siblings in a quote, of which the same is kept
     abbrev KeepSame : page.Blocks → page.Blocks → Type 0
     KeepSame bs cs =
-        (before : Option page.Block) (s : PrintState) → (print_siblings (inside false) before bs s).squeezed.kept ≡ (print_siblings (inside false) before cs s).squeezed.kept
+        (before : Option page.Block) (s : PrintState)
+        → (print_siblings (inside false) before bs s).squeezed.kept ≡ (print_siblings (inside false) before cs s).squeezed.kept
 
     keep_cons : (b : page.Block) (bs cs : page.Blocks) → KeepSame bs cs → KeepSame (page.Cons b bs) (page.Cons b cs)
     keep_cons b bs cs same before s =
