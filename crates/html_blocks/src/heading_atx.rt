@@ -32,8 +32,7 @@ impl<'t, A: Allocator + Clone> LeafPrinter<'t, A> {
             OnOk result (LaysOut d.options.compile self.old.page self.new.page (leaf_bytes d on_page false (Heading rank ls))) }
     {
         self.page.fresh()?;
-        self.page.heading_tag("<h", rank)?;
-        texts.push_line(&mut self.page.out, &mut self.buffers, line)?;
+        self.heading_front(texts, rank, &[*line])?;
         self.page.heading_tag("</h", rank)
     }
 }

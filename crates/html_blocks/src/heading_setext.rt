@@ -1,6 +1,5 @@
 //! Setext headings (CommonMark 4.3).
 ghost use Rattle.std.specs.Prelude.{◌≤◌, OnOk, false};
-ghost use Rattle.html_bytes.specs.Document.{text_of};
 ghost use Rattle.definition_inline.specs.Targets.{Targets};
 ghost use Rattle.definition_text.specs.BlockLines.{own_lines};
 ghost use Rattle.definition_block.specs.Tree.{Heading};
@@ -33,26 +32,7 @@ impl<'t, A: Allocator + Clone> LeafPrinter<'t, A> {
             OnOk result (LaysOut d.options.compile self.old.page self.new.page (leaf_bytes d on_page false (Heading rank ls))) }
     {
         self.page.fresh()?;
-        self.page.heading_tag("<h", rank)?;
-        self.heading_text(texts, lines)?;
+        self.heading_front(texts, rank, lines)?;
         self.page.heading_tag("</h", rank)
-    }
-
-    /// Prints the text of a heading, which may be one empty line.
-    fn heading_text<T: Tables>(
-        &mut self,
-        texts: &Texts<'t, '_, T, A>,
-        lines: &[Piece<'t>],
-    ) -> Result<(), AllocError>
-        ensures default { KeepsEnding self.old.page self.new.page }
-        ensures printed { (ds : Targets) → KnowsTargets texts.now ds →
-            let ls = own_lines (piece_lines lines.now) in AreHeadingLines ls →
-            let d = document_by T.Tables texts.now ds in OnOk result (LaysOut d.options.compile self.old.page self.new.page (text_of d ls)) }
-    {
-        if lines.len() == 1 {
-            texts.push_line(&mut self.page.out, &mut self.buffers, &lines[0])
-        } else {
-            texts.push_text(&mut self.page.out, &mut self.buffers, lines)
-        }
     }
 }

@@ -6,6 +6,7 @@ pub mod code_fenced;
 pub mod container;
 pub mod gfm_footnote_definition;
 pub mod gfm_table;
+mod heading;
 pub mod heading_atx;
 pub mod heading_setext;
 pub mod list;

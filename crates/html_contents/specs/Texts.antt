@@ -4,6 +4,8 @@ use Rattle.std.specs.List.{fold}
 use Rattle.definition_inline.specs.Inline as inline
 use Rattle.definition_inline.specs.Definition.{Definition}
 use Rattle.definition_inline.specs.Targets.{Targets}
+use Rattle.definition_text.specs.BlockLines.{BlockLine}
+use Rattle.inline_content.specs.Lines.{AreContentLines}
 use Rattle.inline_parser.specs.Scanned.{HasTargets}
 use Rattle.inline_links.specs.View.{link_texts_view}
 use Rattle.markdown_options.specs.declared.tables.Tables as tables
@@ -27,6 +29,10 @@ tables_by g t = text_tables (g.reference_of t) (g.punctuation_of t)
 -- the document whose texts are read by these, with what its labels lead to
 abbrev pub document_by : {T A : Type 0} → tables.Ghosts T → Texts T A → Targets → Document
 document_by g texts ds = document texts.options.now (tables_by g texts.tables.now) ds
+
+-- the lines of a text: one without a line ending in it, or those of a paragraph
+abbrev pub AreTextLines : List BlockLine → Type 0
+AreTextLines ls = AreContentLines ls
 
 -- these pieces and no others of a document are laid out, whatever the default ending, unless memory ran out
 abbrev pub LaysOut : {A B C : Type 0} → Document → Result B C → Output A → Output A → List Piece → Type 0

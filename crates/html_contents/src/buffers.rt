@@ -20,6 +20,8 @@ pub struct TextBuffers<'a, A: Allocator + Clone> {
     pub(crate) content: ContentBuffer<A>,
     /// Room for what is printed.
     pub(crate) scratch: Scratch<A>,
+    /// What a heading that gets an id says.
+    pub(crate) said: String<A>,
 }
 
 impl<'a, A: Allocator + Clone> TextBuffers<'a, A> {
@@ -35,6 +37,7 @@ impl<'a, A: Allocator + Clone> TextBuffers<'a, A> {
             scratch: Scratch::new(alloc.clone()?)?,
             room: Room::new(alloc.clone()?)?,
             rows: RowRoom::new(alloc.clone()?)?,
+            said: String::new(alloc.clone()?),
             alloc,
         })
     }

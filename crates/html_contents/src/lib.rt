@@ -4,6 +4,7 @@
 pub mod buffers;
 pub mod gfm_table;
 mod gfm_task_list_item;
+mod heading;
 pub mod texts;
 
 pub use buffers::TextBuffers;

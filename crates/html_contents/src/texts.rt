@@ -45,7 +45,7 @@ impl<'a, T: Tables, A: Allocator + Clone> Texts<'a, '_, T, A> {
     ghost use Rattle.html_contents.specs.Texts.{KnowsTargets, LaysOut, document_by};
 
     /// The same for contents that live no longer than this.
-    fn reborrow(&self) -> Texts<'_, '_, T, A>
+    pub(crate) fn reborrow(&self) -> Texts<'_, '_, T, A>
         ensures { result ≡ self.now }
     {
         Texts {
