@@ -13,3 +13,5 @@ pub mod BarEscapes
 pub mod CellRows
 pub mod FootnoteCalls
 pub mod Counts
+pub mod HeadingTexts
+pub mod Fragments

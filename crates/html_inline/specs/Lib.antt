@@ -7,3 +7,5 @@ pub mod Printed
 pub mod Prints
 pub mod GfmTable
 pub mod Counts
+pub mod HeadingRows
+pub mod Fragments

@@ -8,7 +8,9 @@ use Rattle.definition_inline.specs.LabelMatch.{first_match, normal_label}
 use Rattle.html_bytes.specs.Layout.{LayoutState}
 use Rattle.definition_page.specs.Tags.{attribute_bytes, bare_tag, start_tag, end_tag}
 use Rattle.definition_page.specs.Pieces.{Piece}
-use Rattle.definition_page.specs.InlinePieces.{Meaning, span_name, url_of, image_url, title_attribute, link_tag, call_at, count_at}
+use Rattle.definition_page.specs.Destinations.{image_source}
+use Rattle.definition_page.specs.InlinePieces.{Meaning, span_name, url_of, image_url, title_attribute, rel_attributes, loading_attributes, link_tag}
+use Rattle.definition_page.specs.InlinePieces.{call_at, count_at}
 use Rattle.html_bytes.specs.InlineHtml.{leaf_description, leaf_html}
 use Rattle.html_bytes.specs.Layout.{lay, with_text}
 use Rattle.html_bytes.specs.Pieces.{in_bytes}
@@ -49,12 +51,20 @@ span_end kind = end_tag (span_name kind)
 abbrev pub title_bytes : Meaning → LinkTexts → List ℕ
 title_bytes meaning target = flat_map attribute_bytes (title_attribute meaning target.title)
 
+-- the attribute of links that the options ask for, and that of images
+abbrev pub rel_bytes : CompileOptions → List ℕ
+rel_bytes options = flat_map attribute_bytes (rel_attributes options.link_rel)
+
+abbrev pub loading_bytes : CompileOptions → List ℕ
+loading_bytes options = flat_map attribute_bytes (loading_attributes options.lazy_images)
+
 -- the tag of an image before its description, and after it (CommonMark 6.4)
 abbrev pub image_start : Meaning → LinkTexts → List ℕ
-image_start meaning target = codes "<img src=\"" ++ encode (image_url meaning.compile (url_of meaning target)) ++ codes "\" alt=\""
+image_start meaning target =
+    codes "<img src=\"" ++ encode (image_url meaning.compile (image_source meaning.compile (url_of meaning target))) ++ codes "\" alt=\""
 
 abbrev pub image_end : Meaning → LinkTexts → List ℕ
-image_end meaning target = codes "\"" ++ title_bytes meaning target ++ codes " />"
+image_end meaning target = codes "\"" ++ title_bytes meaning target ++ loading_bytes meaning.compile ++ codes " />"
 
 -- the HTML of a leaf, or what it says in a description
 abbrev pub leaf_bytes : CompileOptions → Bool → InlineLeaf → List ℕ

@@ -5,6 +5,7 @@ ghost use Rattle.definition_page.specs.InlinePieces.{address, address_tag};
 ghost use Rattle.definition_page.specs.Tags.{start_tag, end_tag};
 ghost use Rattle.html_inline.specs.Prints.{Prints};
 
+use crate::label_end::push_rel;
 use crate::url::push_link_url;
 use html_escape::push_encoded;
 use markdown_compile_options::CompileOptions;
@@ -35,7 +36,9 @@ pub(crate) fn push_linked_text<A: Allocator>(
 {
     out.push_str("<a href=\"")?;
     push_link_url(out, compile, address)?;
-    out.push_str("\">")?;
+    out.push_str("\"")?;
+    push_rel(out, compile)?;
+    out.push_str(">")?;
     push_encoded(out, text)?;
     out.push_str("</a>")
 }

@@ -51,7 +51,7 @@ pub(crate) fn push_code<A: Allocator>(
 }
 
 /// Prints a text with a space for each line ending.
-fn push_spaced<A: Allocator>(out: &mut String<A>, code: &str) -> Result<(), AllocError>
+pub(crate) fn push_spaced<A: Allocator>(out: &mut String<A>, code: &str) -> Result<(), AllocError>
     ensures { Prints result out.old out.new (spaces_for_endings code.now) }
 {
     let mut rest = code;

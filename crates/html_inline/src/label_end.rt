@@ -2,7 +2,7 @@
 ghost use Rattle.std.specs.Prelude.{◌≡◌, ℕ, List, OnOk, string_bytes};
 ghost use Rattle.std.specs.List.{flat_map};
 ghost use Rattle.definition_text.specs.Encode.{plain};
-ghost use Rattle.definition_page.specs.InlinePieces.{link_tag, title_attributes};
+ghost use Rattle.definition_page.specs.InlinePieces.{link_tag, loading_attributes, rel_attributes, title_attributes};
 ghost use Rattle.definition_page.specs.Tags.{attribute_bytes, start_tag};
 ghost use Rattle.inline_links.specs.View.{link_texts_view};
 ghost use Rattle.inline_rows.specs.View.{target_texts};
@@ -14,10 +14,11 @@ ghost use Rattle.html_inline.specs.Prints.{meaning_by, Definitions, Prints};
 use crate::form::Form;
 use crate::printing::Printing;
 use crate::string::{push_formed_string, push_string};
-use crate::url::{push_image_url, push_link_url};
+use crate::url::{lead_image, lead_link, push_image_url, push_link_url};
 use html_escape::push_encoded;
 use inline_links::LinkTexts;
 use inline_rows::LinkTarget;
+use markdown_compile_options::CompileOptions;
 use markdown_options::Tables;
 use std::alloc::{AllocError, Allocator};
 
@@ -58,10 +59,12 @@ pub(crate) fn push_link_start<A: Allocator + Clone, T: Tables>(
         Prints result out.old out.new (start_tag (link_tag meaning (link_texts_view linked.entry))) }
 {
     read_url(text, printing, linked.destination)?;
+    lead_link(text, printing.compile)?;
     out.push_str("<a href=\"")?;
     push_link_url(out, printing.compile, text.as_str())?;
     out.push_str("\"")?;
     push_title(out, text, printing, linked)?;
+    push_rel(out, printing.compile)?;
     out.push_str(">")
 }
 
@@ -77,6 +80,7 @@ pub(crate) fn push_image_start<A: Allocator + Clone, T: Tables>(
         Prints result out.old out.new (image_start meaning (link_texts_view linked.entry)) }
 {
     read_url(text, printing, linked.destination)?;
+    lead_image(text, printing.compile)?;
     out.push_str("<img src=\"")?;
     push_image_url(out, printing.compile, text.as_str())?;
     out.push_str("\" alt=\"")
@@ -95,6 +99,7 @@ pub(crate) fn push_image_end<A: Allocator + Clone, T: Tables>(
 {
     out.push_str("\"")?;
     push_title(out, text, printing, linked)?;
+    push_loading(out, printing.compile.lazy_images)?;
     out.push_str(" />")
 }
 
@@ -141,4 +146,32 @@ fn push_titled<A: Allocator>(out: &mut String<A>, title: &str) -> Result<(), All
     out.push_str(" title=\"")?;
     push_encoded(out, title)?;
     out.push_str("\"")
+}
+
+/// Prints the `rel` of links, if the options have one.
+pub(crate) fn push_rel<A: Allocator>(
+    out: &mut String<A>,
+    compile: &CompileOptions,
+) -> Result<(), AllocError>
+    ensures { Prints result out.old out.new (flat_map attribute_bytes (rel_attributes compile.now.link_rel)) }
+{
+    match &compile.link_rel {
+        None => Ok(()),
+        Some(rel) => {
+            out.push_str(" rel=\"")?;
+            push_encoded(out, rel.as_str())?;
+            out.push_str("\"")
+        }
+    }
+}
+
+/// Prints the `loading` of images, if it is lazy.
+fn push_loading<A: Allocator>(out: &mut String<A>, lazy: bool) -> Result<(), AllocError>
+    ensures { Prints result out.old out.new (flat_map attribute_bytes (loading_attributes lazy)) }
+{
+    if lazy {
+        out.push_str(" loading=\"lazy\"")
+    } else {
+        Ok(())
+    }
 }
