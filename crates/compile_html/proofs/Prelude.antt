@@ -43,7 +43,7 @@ pub use Rattle.event_meaning.specs.Spelled.{page_of}
 pub use Rattle.html_bytes.specs.Layout.{LayoutState}
 pub use Rattle.html_bytes.specs.Pieces.{in_bytes}
 pub use Rattle.html_leaves.specs.Prints.{KeepsEnding, layout_after, page_view}
-pub use Rattle.laws_safe_page.specs.SafeHtml.{HasOneReading}
+pub use Rattle.laws_safe_page.specs.SafeHtml.{HasOneReadingBy, table_of}
 pub use Rattle.markdown_options.specs.LineEndings.{ending_bytes}
 pub use Rattle.markdown_options.specs.declared.line_ending.LineEnding.{LineEnding}
 pub use Rattle.text_search.specs.Pairs.{is_of_pair}

@@ -5,7 +5,7 @@ ghost use Rattle.definition_page.specs.Html.{html};
 ghost use Rattle.definition_page.specs.TextTables.{text_tables};
 ghost use Rattle.event_check.specs.declared.error.CompileError.TheVariants.{Memory};
 ghost use Rattle.markdown_by_events.specs.Page.{IsPageOfEvents};
-ghost use Rattle.laws_safe_page.specs.SafeHtml.{AreSafe, HasOneReading};
+ghost use Rattle.laws_safe_page.specs.SafeHtml.{AreSafe, HasOneReadingBy, table_of};
 
 use compile_html::compile_checked;
 use event_check::{Checked, CompileError};
@@ -31,7 +31,7 @@ pub fn to_html_by_events<T: Tables, A: Allocator + Clone>(
     ensures same { IfOk result (λ page.
         string_bytes page ≡ html (text_tables (T.reference_of tables.now) (T.punctuation_of tables.now)) value.now options.now) }
     ensures page { IfOk result (λ page. IsPageOfEvents (T.reference_of tables.now) options.now.compile value.now (string_bytes page)) }
-    ensures safe { AreSafe options.now.compile → IfOk result (λ page. HasOneReading (string_bytes page)) }
+    ensures safe { AreSafe options.now.compile → IfOk result (λ page. HasOneReadingBy (table_of options.now.compile) (string_bytes page)) }
 {
     let Ok((events, _)) = parse(alloc.clone()?, value, &options.parse, tables) else {
         return Err(CompileError::Memory);

@@ -1,7 +1,7 @@
 //! A list of events to HTML.
 ghost use Rattle.std.specs.Prelude.{◌≡◌, IfErr, IfOk, OnOk, string_bytes};
 ghost use Rattle.event_meaning.specs.Spelled.{html_of_events};
-ghost use Rattle.laws_safe_page.specs.SafeHtml.{AreSafe, HasOneReading};
+ghost use Rattle.laws_safe_page.specs.SafeHtml.{AreSafe, HasOneReadingBy, table_of};
 ghost use Rattle.event_grammar.specs.Faults.{fault};
 ghost use Rattle.event_check.specs.Matches.{MatchesGrammar};
 ghost use Rattle.event_check.specs.Checked.{Refuses};
@@ -25,7 +25,7 @@ pub fn compile<T: Tables, A: Allocator + Clone>(
     ensures passes { MatchesGrammar (T.reference_of tables.now) bytes.now events.now → IfErr result (λ error. error ≡ Memory) }
     ensures fault { IfErr result (λ error. Refuses error (fault (T.reference_of tables.now) bytes.now events.now)) }
     ensures page { IfOk result (λ html. string_bytes html ≡ html_of_events (T.reference_of tables.now) options.now bytes.now events.now) }
-    ensures safe { AreSafe options.now → IfOk result (λ html. HasOneReading (string_bytes html)) }
+    ensures safe { AreSafe options.now → IfOk result (λ html. HasOneReadingBy (table_of options.now) (string_bytes html)) }
 {
     compile_html::compile(alloc, events, bytes, options, tables)
 }

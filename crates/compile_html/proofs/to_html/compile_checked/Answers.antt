@@ -1,5 +1,6 @@
 use Rattle.std.proofs.Common.{◌≡◌, ℕ, true, List, map, string_bytes, refl, sym, ap, ◌∙◌, subst}
-use Rattle.compile_html.proofs.Prelude.{blocks_of, checked_nodes, Event, events_of, HasOneReading, MatchesGrammar, Nodes, page_of, PlacesFit, safe_events_law, spot, tree}
+use Rattle.compile_html.proofs.Prelude.{blocks_of, checked_nodes, Event, events_of, HasOneReadingBy, MatchesGrammar, Nodes, page_of, PlacesFit, safe_events_law, spot}
+use Rattle.compile_html.proofs.Prelude.{table_of, tree}
 use Rattle.engine_events.specs.declared.event.Name.TheVariants as n
 use Rattle.inline_labels.specs.Table.{HasLabels}
 use Rattle.inline_links.specs.View.{link_texts_view}
@@ -53,6 +54,6 @@ returns-clause-page g c = λ given.
 pub returns-clause-safe : goal.returns-clause-safe
 returns-clause-safe g c = λ h safe.
     let names = g.T.Tables.reference_of c.args.checked.tables.now in
-    let R : List ℕ → Type 0 = λ html. HasOneReading html in
+    let R : List ℕ → Type 0 = λ html. HasOneReadingBy (table_of c.args.options.now) html in
     subst R (sym (returns-clause-page g c h))
     (safe_events_law names c.args.options.now c.args.checked.bytes.now c.args.checked.events.now safe h)
