@@ -1,5 +1,6 @@
 #!/usr/bin/env python3
-"""Times how long headings with equal texts take to get ids that differ: `outline` of the library for C, beside programs on the PATH.
+"""Times how long headings with equal texts take to get ids that differ: by `outline` and on the page of the library for C, beside
+programs on the PATH.
 
     headings.py [LIBRARY] [--most N] [--limit SECONDS]
 
@@ -103,6 +104,19 @@ def seconds_of_library(library, count):
     return min(found)
 
 
+def seconds_of_page(library, count):
+    """The processor time of a conversion with ids of headings."""
+    text, options, found = text_of(count), OPTIONS["HeadingIds"], []
+    library.page(text, options)  # The buffer has room now.
+    for _ in range(ROUNDS):
+        start = time.process_time()
+        page = library.page(text, options)
+        found.append(time.process_time() - start)
+    if page.count('<h1 id="') != count:
+        sys.exit("a heading has no id")
+    return min(found)
+
+
 def row(name, cells):
     print("| " + " | ".join([name, *cells]) + " |", flush=True)
 
@@ -126,6 +140,7 @@ def main():
         library = Library(given.library.resolve())
         if hasattr(library, "outline_in"):
             row("this library, `outline`", ["", *(cell(seconds_of_library(library, count)) for count in counts)])
+            row("this library, a page with ids", ["", *(cell(seconds_of_page(library, count)) for count in counts)])
         else:
             print("tests/python/library.py calls no outline", file=sys.stderr)
     for program, called in PROGRAMS.items():

@@ -31,7 +31,6 @@ LAYERS = (
     "markdown_inline markdown_states",
     "event_",
     "compile_ parse_",
-    "markdown_by_events",
     "markdown_html markdown_block markdown_links markdown_outline",
     "markdown_input lint_ format_",
     "markdown_format format_settings",

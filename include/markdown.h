@@ -140,7 +140,11 @@ enum {
     /* One tilde strikes text too, as in ~a~. */
     MARKDOWN_SWITCH_GFM_STRIKETHROUGH_SINGLE_TILDE = 32,
     /* One dollar makes math too, as in $a$. */
-    MARKDOWN_SWITCH_MATH_TEXT_SINGLE_DOLLAR = 64
+    MARKDOWN_SWITCH_MATH_TEXT_SINGLE_DOLLAR = 64,
+    /* Headings have ids, as GitHub makes them. */
+    MARKDOWN_SWITCH_HEADING_IDS = 128,
+    /* Images have loading="lazy". */
+    MARKDOWN_SWITCH_LAZY_IMAGES = 256
 };
 
 /* Line endings. */
@@ -173,6 +177,15 @@ typedef struct markdown_options {
     markdown_text gfm_footnote_label_attributes;
     /* The tag name of that heading, printed as it is. By default "h2". Never text of the input's author. */
     markdown_text gfm_footnote_label_tag_name;
+    /* What the ids of headings, and links to fragments of the page, begin with if headings have ids. By default nothing. Give each
+     * input on a page another prefix, and one that no id of your page begins with. */
+    markdown_text heading_id_prefix;
+    /* What is printed before the destinations of links that are relative paths. By default nothing. */
+    markdown_text link_base;
+    /* What is printed before the URLs of images that are relative paths. An empty text, as by default, stands for link_base. */
+    markdown_text image_base;
+    /* The rel of links, except those of footnotes. If it is empty, as by default, they have none. */
+    markdown_text link_rel;
 } markdown_options;
 
 /* The status that a call returns. */
@@ -276,6 +289,10 @@ static inline markdown_options markdown_options_of(uint32_t flags)
     options.gfm_footnote_label = markdown_text_of("Footnotes");
     options.gfm_footnote_label_attributes = markdown_text_of("class=\"sr-only\"");
     options.gfm_footnote_label_tag_name = markdown_text_of("h2");
+    options.heading_id_prefix = markdown_text_of("");
+    options.link_base = markdown_text_of("");
+    options.image_base = markdown_text_of("");
+    options.link_rel = markdown_text_of("");
     return options;
 }
 

@@ -5,7 +5,8 @@ _markdown_proved() {
     mapfile -t COMPREPLY < <(
         case $before:$word in
             --references:*) compgen -f -- "$word" ;;
-            *:-*) compgen -W '--gfm --mark --math --frontmatter --dangerous --plain --references --help --version' -- "$word" ;;
+            --heading-id-prefix:* | --link-base:* | --image-base:* | --link-rel:*) ;;
+            *:-*) compgen -W '--gfm --mark --math --frontmatter --heading-ids --heading-id-prefix --link-base --image-base --link-rel --lazy-images --dangerous --plain --references --help --version' -- "$word" ;;
             *) compgen -f -- "$word" ;;
         esac
     )

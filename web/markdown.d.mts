@@ -108,6 +108,10 @@ export interface Options extends ReadOptions {
     footnoteLabelAttributes?: string;
     /** The label of the link from a footnote to its call. By default `Back to content`. */
     footnoteBackLabel?: string;
+    /** Headings have ids, as GitHub makes them. Throws a `TypeError` beside `prefix`. */
+    headingIds?: boolean;
+    /** Images have `loading="lazy"`. */
+    lazyImages?: boolean;
     /** What ends a line of the HTML if the input has no line ending. By default LF. */
     lineEnding?: "\n" | "\r" | "\r\n";
 }

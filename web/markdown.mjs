@@ -31,9 +31,9 @@ const CONSTRUCTS = {
 // The switches of that struct, in the order of their numbers, and the flags that turn them on; 0 is never, -1 always.
 const SWITCHES = {
     anyImageProtocol: 0, dangerousHtml: DANGEROUS, dangerousProtocol: DANGEROUS, tagfilter: TAGFILTER, checkableTasks: 0,
-    singleTilde: -1, singleDollar: -1,
+    singleTilde: -1, singleDollar: -1, headingIds: 0, lazyImages: 0,
 };
-const DANGEROUS_HTML = 2;
+const DANGEROUS_HTML = 2, HEADING_IDS = 128;
 const LINE_ENDINGS = ["\n", "\r", "\r\n"];
 // The texts of that struct, and what the module prints for them.
 const TEXTS = {
@@ -43,7 +43,7 @@ const TEXTS = {
 const NAMES = new Set(["lineEnding", ...[FLAGS, CONSTRUCTS, SWITCHES, TEXTS].flatMap(Object.keys)]);
 const STRINGS = new Set(["lineEnding", ...Object.keys(TEXTS)]);
 // The sizes of structs.
-const OPTIONS_SIZE = 104, EVENT_SIZE = 32, LINK_SIZE = 88, HEADING_SIZE = 96;
+const OPTIONS_SIZE = 168, EVENT_SIZE = 32, LINK_SIZE = 88, HEADING_SIZE = 96;
 // The options of HTML that is sanitized.
 const SANITIZING = new Set(["anyImageProtocol", "dangerousProtocol"]);
 
@@ -287,6 +287,8 @@ function read(options) {
     const switches = numbers(SWITCHES, flags, given);
     // A tag of raw HTML could be one of a footnote.
     if (Object.keys(texts).length > 0 && (switches & DANGEROUS_HTML) !== 0) throw new TypeError("texts of footnotes need safe HTML");
+    // (The module leaves out the ids that footnotes with the default prefix may have.)
+    if (texts.prefix !== undefined && (switches & HEADING_IDS) !== 0) throw new TypeError("headingIds needs the default prefix of footnotes");
     const core = Object.fromEntries(Object.entries(CONSTRUCTS).map(([name, flag]) => [name, flag || -1]));
     const none = Object.fromEntries(Object.keys(CONSTRUCTS).map(name => [name, 0]));
     return {

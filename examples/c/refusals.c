@@ -286,7 +286,7 @@ static int check_sanitized(void)
 static int check_options(void)
 {
     static unsigned char other[sizeof buffer];
-    CHECK(sizeof(markdown_options) == 104 && sizeof(markdown_event) == 32 && sizeof(markdown_link) == 88 && sizeof(markdown_heading) == 96);
+    CHECK(sizeof(markdown_options) == 168 && sizeof(markdown_event) == 32 && sizeof(markdown_link) == 88 && sizeof(markdown_heading) == 96);
     for (uint32_t flags = 0; flags < 2048; flags++) {
         markdown_options options = markdown_options_of(flags);
         size_t length = 7, other_length = 8;
@@ -317,13 +317,16 @@ static int check_options_refused(void)
     options.constructs |= UINT64_C(1) << 30;
     CHECK(convert_with(&options, &length) == MARKDOWN_FLAGS);
     options = markdown_options_of(0);
-    options.switches |= 128;
+    options.switches |= 512;
     CHECK(convert_with(&options, &length) == MARKDOWN_FLAGS);
     options = markdown_options_of(0);
     options.default_line_ending = 3;
     CHECK(convert_with(&options, &length) == MARKDOWN_FLAGS);
     options = markdown_options_of(0);
     options.gfm_footnote_label = markdown_text_of("\xff");
+    CHECK(convert_with(&options, &length) == MARKDOWN_FLAGS);
+    options = markdown_options_of(0);
+    options.link_base = markdown_text_of("\xff");
     CHECK(convert_with(&options, &length) == MARKDOWN_FLAGS);
     return 0;
 }

@@ -50,6 +50,10 @@ pub(crate) mod calls {
         pub gfm_footnote_label: Text,
         pub gfm_footnote_label_attributes: Text,
         pub gfm_footnote_label_tag_name: Text,
+        pub heading_id_prefix: Text,
+        pub link_base: Text,
+        pub image_base: Text,
+        pub link_rel: Text,
     }
 
     #[link(name = "markdown-proved", kind = "static")]
@@ -237,6 +241,10 @@ pub enum Switch {
     GfmStrikethroughSingleTilde = 32,
     /// One dollar makes math too, as in `$a$`.
     MathTextSingleDollar = 64,
+    /// Headings have ids, as GitHub makes them.
+    HeadingIds = 128,
+    /// Images have `loading="lazy"`.
+    LazyImages = 256,
 }
 
 /// What is printed at a line's end if the text has no line ending.
@@ -259,6 +267,10 @@ pub struct Options<'a> {
     label: &'a str,
     label_attributes: &'a str,
     label_tag_name: &'a str,
+    heading_id_prefix: &'a str,
+    link_base: &'a str,
+    image_base: &'a str,
+    link_rel: &'a str,
 }
 
 impl From<Flags> for Options<'static> {
@@ -272,6 +284,10 @@ impl From<Flags> for Options<'static> {
             label: "Footnotes",
             label_attributes: "class=\"sr-only\"",
             label_tag_name: "h2",
+            heading_id_prefix: "",
+            link_base: "",
+            image_base: "",
+            link_rel: "",
         };
         [
             (flags.strikethrough, Construct::GfmStrikethrough),
@@ -357,6 +373,31 @@ impl<'a> Options<'a> {
         self
     }
 
+    /// What the ids of headings, and links to fragments of the page, begin with if headings have ids. Give each text on a page
+    /// another prefix.
+    pub fn heading_id_prefix(mut self, text: &'a str) -> Self {
+        self.heading_id_prefix = text;
+        self
+    }
+
+    /// What is printed before the destinations of links that are relative paths.
+    pub fn link_base(mut self, text: &'a str) -> Self {
+        self.link_base = text;
+        self
+    }
+
+    /// What is printed before the URLs of images that are relative paths. An empty text stands for `link_base`.
+    pub fn image_base(mut self, text: &'a str) -> Self {
+        self.image_base = text;
+        self
+    }
+
+    /// The `rel` of links, except those of footnotes. If it is empty, they have none.
+    pub fn link_rel(mut self, text: &'a str) -> Self {
+        self.link_rel = text;
+        self
+    }
+
     pub(crate) fn for_c(&self) -> calls::Options {
         calls::Options {
             size: std::mem::size_of::<calls::Options>(),
@@ -368,6 +409,10 @@ impl<'a> Options<'a> {
             gfm_footnote_label: self.label.into(),
             gfm_footnote_label_attributes: self.label_attributes.into(),
             gfm_footnote_label_tag_name: self.label_tag_name.into(),
+            heading_id_prefix: self.heading_id_prefix.into(),
+            link_base: self.link_base.into(),
+            image_base: self.image_base.into(),
+            link_rel: self.link_rel.into(),
         }
     }
 }

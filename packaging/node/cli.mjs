@@ -4,7 +4,7 @@
 import { readFileSync, writeSync } from "node:fs";
 import { load } from "./markdown.mjs";
 
-// The words are those of the program for Debian, but for --references, and of that for Python.
+// The words are those of the program for Debian that have no value.
 const USAGE = `usage: markdown-proved [OPTION..] [FILE]
 
 Converts Markdown to safe HTML on standard output. It reads the file, or standard input, whose name is -.
@@ -13,12 +13,14 @@ Converts Markdown to safe HTML on standard output. It reads the file, or standar
     --mark         read ==text== as marked text
     --math         read $a$, and blocks between lines of $$, as math
     --frontmatter  leave out metadata at the start of the input, between lines of --- or +++
+    --heading-ids  print ids of headings, as GitHub makes them
+    --lazy-images  print loading="lazy" in images
     --dangerous    keep raw HTML and URLs with any protocol; only for input from trusted authors
     --plain        turn every construct off, also with other options
     -h, --help     print this
     -V, --version  print the version
 `;
-const FLAGS = ["gfm", "mark", "math", "frontmatter", "dangerous", "plain"];
+const FLAGS = ["gfm", "mark", "math", "frontmatter", "heading-ids", "lazy-images", "dangerous", "plain"];
 const WRONG = "wrong command line; --help lists the words";
 
 function write(fd, bytes) {
@@ -34,7 +36,7 @@ function read(words) {
     const isOption = (word, place) => word.startsWith("-") && word !== "-" && (end < 0 || place < end);
     const names = words.filter(isOption).map(word => word.slice(2));
     const files = words.filter((word, place) => place !== end && !isOption(word, place));
-    for (const name of names) options[name] = true;
+    for (const name of names) options[name.replace(/-./g, part => part[1].toUpperCase())] = true;
     const isRight = words.filter(isOption).every(word => word.startsWith("--")) && names.every(name => FLAGS.includes(name));
     return isRight && files.length < 2 ? { options, file: files[0] ?? "-" } : null;
 }

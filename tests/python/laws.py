@@ -6,7 +6,58 @@ ENDING = re.compile(r"(\r\n|\n|\r)(?=.)", re.S)
 SQUEEZED = re.compile(r"(^|(?<=>))[\r\n]+|[\r\n]+(?=<|$)")
 ENCODED = str.maketrans({"\0": "\uFFFD", '"': "&quot;", "&": "&amp;", "<": "&lt;", ">": "&gt;"})
 IN_ONE_LINE = str.maketrans("\t\n\r", "   ")
+HEADING_ID = re.compile('(<h[1-6]) id="([^"]*)">')
+LINK_REL = re.compile('(<a href="[^"]*"(?: title="[^"]*")?) rel="[^"]*">')
+# Links and images of a safe page without these attributes. Links of footnotes have others.
+LINK = re.compile('<a href="([^"]*)"((?: title="[^"]*")?)>')
+IMAGE = re.compile('<img src="([^"]*)" alt="([^"]*)"((?: title="[^"]*")?) />')
+IS_ROOTED = re.compile("[/#?]|[^/#?]*:|$")
 PUNCTUATION = re.compile("([" + re.escape(string.punctuation) + "])")
+
+
+def without_attributes(page, options):
+    """A page without what no safe page has: ids of headings, and what the options print at links and images."""
+    if options.has_switch("heading_ids"):
+        page = HEADING_ID.sub(r"\1>", page)
+    if options.rel.length:
+        page = LINK_REL.sub(r"\1>", page)
+    return page.replace(' loading="lazy" />', " />") if options.has_switch("lazy_images") else page
+
+
+def based(base, url):
+    """A URL behind a base, if it is a relative path."""
+    return url if IS_ROOTED.match(url) else base + url
+
+
+def with_attributes(page, options):
+    """A safe page without attributes with those that options print, but for the ids of headings."""
+    prefix = options.text("id_prefix") if options.has_switch("heading_ids") else ""
+    base, rel = options.text("link_base"), options.text("rel")
+    image_base, lazy = options.text("image_base") or base, ' loading="lazy"' if options.has_switch("lazy_images") else ""
+
+    def link(found):
+        url, title = found.groups()
+        url = f"#{prefix}{url[1:]}" if url.startswith("#") and url != "#" else based(base, url)
+        return f'<a href="{url}"{title}' + (f' rel="{rel}">' if rel else ">")
+
+    return IMAGE.sub(lambda found: f'<img src="{based(image_base, found[1])}" alt="{found[2]}"{found[3]}{lazy} />', LINK.sub(link, page))
+
+
+def attributes_fault(library, text, options, more):
+    """What is wrong with the page of a text by more options, which only add attributes to the safe page by other options, or None."""
+    page, found = library.page(text, options), library.page(text, more)
+    ids = [it[1] for it in HEADING_ID.findall(found)]
+    if HEADING_ID.sub(r"\1>", found) != with_attributes(page, more):
+        return f"attributes: {found!r} of {page!r}"
+    if not more.has_switch("heading_ids"):
+        return "ids without the option" if ids else None
+    prefix, notes = more.text("id_prefix"), more.text("prefix")
+    taken = ("footnote-label", notes + "fn-", notes + "fnref-")
+    wanted = [prefix + it for it in library.slugs(text, options) if it]
+    wanted = [it for it in wanted if it != taken[0] and not it.startswith(taken[1:])]
+    # A footnote that isn't called isn't printed; others stand at the end of the page.
+    are_right = set(ids) <= set(wanted) if options.is_on("gfm_footnote_definition") else ids == wanted
+    return None if are_right and len(set(ids)) == len(ids) else f"ids {ids}, not {wanted}"
 
 
 def prefixed(text, first, other):

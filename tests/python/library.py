@@ -101,6 +101,13 @@ class Library:
             lines.append(f"{start} {end} {'#' * it[11]} {title} (#{slug})")
         return "\n".join(lines)
 
+    def slugs(self, text, options):
+        """The slugs of the headings of a text, in order."""
+        data = text.encode()
+        _, room, bytes_room, _, _ = self.outline_in(data, options, 0, 0)
+        _, count, _, array, buffer = self.outline_in(data, options, room, bytes_room)
+        return [buffer[it[9] : it[9] + it[10]].decode() for it in HEADING.iter_unpack(array[: count * HEADING.size])]
+
     def sanitized(self, html, options):
         data, self.buffer = self.filled("markdown_sanitize_with", html.encode(), options, self.buffer, 1)
         return data.decode()

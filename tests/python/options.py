@@ -32,14 +32,30 @@ class Flat(ctypes.Structure):
         ("label", Text),
         ("attributes", Text),
         ("tag", Text),
+        ("id_prefix", Text),
+        ("link_base", Text),
+        ("image_base", Text),
+        ("rel", Text),
     ]
 
     def is_on(self, name):
         return bool(self.constructs & BIT[name])
 
+    def has_switch(self, name):
+        return bool(self.switches & SWITCH[name])
+
     def without(self, *names):
         """The same options without these constructs."""
         return flat(self.constructs & ~of(*names), *self.words)
+
+    def adding(self, names):
+        """The same options with these of ATTRIBUTES, too."""
+        switches, off, texts = self.words
+        more = {name: EACH_TEXT[name] for name in names if name in EACH_TEXT}
+        return flat(self.constructs, (*switches, *(name for name in names if name in SWITCH)), off, {**texts, **more})
+
+    def text(self, name):
+        return self.words[2].get(name, TEXTS[name])
 
 
 def of(*names):
@@ -49,8 +65,19 @@ def of(*names):
 
 # The switches that are on by default, and the texts.
 ON = ("gfm_strikethrough_single_tilde", "math_text_single_dollar")
-TEXTS = {"back": "Back to content", "prefix": "user-content-", "label": "Footnotes", "attributes": 'class="sr-only"', "tag": "h2"}
+TEXTS = {
+    "back": "Back to content",
+    "prefix": "user-content-",
+    "label": "Footnotes",
+    "attributes": 'class="sr-only"',
+    "tag": "h2",
+    "id_prefix": "",
+    "link_base": "",
+    "image_base": "",
+    "rel": "",
+}
 RAW, PROTOCOLS, FILTER = "allow_dangerous_html", "allow_dangerous_protocol", "gfm_tagfilter"
+IDS, LAZY = "heading_ids", "lazy_images"
 
 
 def flat(constructs, switches=(), off=(), texts=None):
@@ -61,6 +88,7 @@ def flat(constructs, switches=(), off=(), texts=None):
         data = texts.get(name, default).encode()
         setattr(given, name, Text(data, len(data)))
     given.may_be_unsafe = bool({*switches, *texts} & {RAW, PROTOCOLS, "tag", "attributes"})
+    given.adds_attributes = bool({*switches, *texts} & {IDS, LAZY, "rel"})
     given.words = switches, off, texts
     return given
 
@@ -79,6 +107,11 @@ GFM = CORE | of(
 MATH = of("math_flow", "math_text")
 EXTENSIONS = CORE | MATH | of("gfm_strikethrough", "gfm_task_list_item", "frontmatter")
 EVERYTHING = GFM | MATH | of("mark", "frontmatter")
+
+REL, BASE, RAW_BASE = "nofollow noopener", "https://x.y/r/", "https://x.y/raw/"
+EACH_TEXT = {"id_prefix": "user-content-", "link_base": BASE, "image_base": RAW_BASE, "rel": REL}
+# The options that change attributes of headings, links and images alone.
+ATTRIBUTES = IDS, LAZY, *EACH_TEXT
 
 OPTIONS = {
     "Plain": flat(0),
@@ -113,7 +146,28 @@ OPTIONS = {
     "FootnotesTagged": flat(GFM, (FILTER,), (), {"tag": "h1"}),
     "FootnotesShown": flat(GFM, (FILTER,), (), {"attributes": 'class="x" hidden'}),
     "FootnotesReturned": flat(GFM, (FILTER,), (), {"back": 'Zurück "oben"'}),
+    "HeadingIds": flat(CORE, (IDS,)),
+    "HeadingIdsPrefixed": flat(CORE, (IDS,), (), {"id_prefix": "user-content-"}),
+    "HeadingIdsEncoded": flat(CORE, (IDS,), (), {"id_prefix": '"<&'}),
+    "GfmAndHeadingIds": flat(GFM, (FILTER, IDS)),
+    "GfmAndHeadingIdsPrefixed": flat(GFM, (FILTER, IDS), (), {"id_prefix": "user-content-"}),
+    "LinkRel": flat(CORE, (), (), {"rel": REL}),
+    "LinkRelEncoded": flat(CORE, (), (), {"rel": 'a"b'}),
+    "GfmAndLinkRel": flat(GFM, (FILTER,), (), {"rel": REL}),
+    "LazyImages": flat(CORE, (LAZY,)),
+    "Bases": flat(CORE, (), (), {"link_base": BASE, "image_base": RAW_BASE}),
+    "LinkBase": flat(CORE, (), (), {"link_base": BASE}),
+    "ImageBase": flat(CORE, (), (), {"image_base": RAW_BASE}),
+    "ScriptBase": flat(CORE, (), (), {"link_base": "javascript:"}),
+    "GfmAndLinkBase": flat(GFM, (FILTER,), (), {"link_base": BASE}),
+    "GfmAndAttributes": flat(GFM, (FILTER, IDS, LAZY), (), {"rel": "x"}),
+    "EachAttribute": flat(CORE, (IDS, LAZY), (), EACH_TEXT),
+    "EverythingAndEachAttribute": flat(EVERYTHING, (FILTER, IDS, LAZY), (), EACH_TEXT),
+    "RawHtmlAndEachAttribute": flat(EVERYTHING, (RAW, FILTER, IDS, LAZY), (), EACH_TEXT),
 }
+EACH_WORD = [
+    "--heading-ids", "--heading-id-prefix=user-content-", f"--link-base={BASE}", f"--image-base={RAW_BASE}", f"--link-rel={REL}", "--lazy-images"
+]  # fmt: skip
 # The words of the program `markdown` that mean the same as options, where there are such.
 WORDS = {
     "CommonMark": [],
@@ -125,4 +179,21 @@ WORDS = {
     "Gfm": ["--gfm"],
     "GfmAndMark": ["--gfm", "--mark"],
     "Everything": ["--gfm", "--math", "--frontmatter", "--mark"],
+    "HeadingIds": ["--heading-ids"],
+    "HeadingIdsPrefixed": ["--heading-ids", "--heading-id-prefix=user-content-"],
+    "HeadingIdsEncoded": ["--heading-ids", '--heading-id-prefix="<&'],
+    "GfmAndHeadingIds": ["--gfm", "--heading-ids"],
+    "GfmAndHeadingIdsPrefixed": ["--gfm", "--heading-id-prefix", "user-content-", "--heading-ids"],
+    "LinkRel": [f"--link-rel={REL}"],
+    "LinkRelEncoded": ['--link-rel=a"b'],
+    "GfmAndLinkRel": ["--gfm", "--link-rel", REL],
+    "LazyImages": ["--lazy-images"],
+    "Bases": [f"--link-base={BASE}", f"--image-base={RAW_BASE}"],
+    "LinkBase": [f"--link-base={BASE}"],
+    "ImageBase": [f"--image-base={RAW_BASE}"],
+    "ScriptBase": ["--link-base=javascript:"],
+    "GfmAndLinkBase": ["--gfm", "--link-base", BASE],
+    "GfmAndAttributes": ["--gfm", "--heading-ids", "--lazy-images", "--link-rel=x"],
+    "EachAttribute": EACH_WORD,
+    "EverythingAndEachAttribute": ["--gfm", "--math", "--frontmatter", "--mark", *EACH_WORD],
 }

@@ -5,3 +5,6 @@ pub mod LastByte
 pub mod LineReads
 pub mod PagePieces
 pub mod PageReads
+pub mod HeadingIds
+pub mod FreeSlugs
+pub mod SlugBytes

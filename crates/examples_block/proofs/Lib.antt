@@ -5,3 +5,4 @@ mod MathFlow
 mod GfmTable
 mod Frontmatter
 mod GfmFootnoteDefinition
+mod HeadingIds

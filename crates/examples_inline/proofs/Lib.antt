@@ -25,3 +25,6 @@ mod Documents
 mod CharacterReferenceTexts
 mod UrlTexts
 mod ToolTexts
+mod Given
+mod HeadingIds
+mod Destinations

@@ -1,5 +1,5 @@
 -- Printed bytes with another line ending in place of each LF.
-use Rattle.std.proofs.Common.{◌≡◌, ℕ, zero, suc, ◌+◌, ◌-◌, ◌/◌, ◌%◌, Bool, true, false, cond, not, eqb, ltb, ◌||◌, ◌&&◌, List, [], ◌∷◌, ◌++◌, Option, None}
+use Rattle.std.proofs.Common.{◌≡◌, ℕ, zero, suc, ◌+◌, ◌/◌, ◌%◌, Bool, true, false, cond, not, eqb, ltb, ◌||◌, ◌&&◌, List, [], ◌∷◌, ◌++◌, Option, None}
 use Rattle.std.proofs.Common.{Some, refl, sym, ap, ◌∙◌, arith, decimal, append-nil, flat_map}
 use Rattle.laws_endings.proofs.Prelude.{and_parts, both_ways, byte_with, code_with, codes, CompileOptions, cond-false, cond_both, encode, ending_bytes}
 use Rattle.laws_endings.proofs.Prelude.{eqb-true, false_from_ne_true, filter_if, flat_map-append, is_fresh, line_ending_code, LineEnding, list_all, ne_eqb}

@@ -82,18 +82,21 @@ module _ (e : LineEnding) (options : CompileOptions) (fit : HaveNoFeeds options)
 
 module _ (e : LineEnding) (options : CompileOptions) (place : ℕ) (label : List ℕ) (fit : HaveNoFeeds options) where
   pub call_piece-with : PiecesWith e options (CallOf place label ∷ []) (CallOf place label ∷ [])
-  call_piece-with = (
-    (λ out. refl),
-    record {
-      calls = refl;
-      may = inr fit;
-      cut = λ firsts earlier.
-          let call : Call = call_of place (suc (times place earlier)) 1 firsts in
-          let ps = call_pieces options call in
-          let are : ArePlain ps = (tt, (tt, (tt, (tt, (tt, tt))))) in
-          subst (λ shown. CutWith e options shown shown) (sym (append-nil ps)) (plain_cut e options ps ps are are (call-with e options fit call).0);
-    },
+  call_piece-with taken = (
+    (
+      (λ out. refl),
+      record {
+        calls = refl;
+        may = inr fit;
+        cut = λ firsts earlier.
+            let call : Call = call_of place (suc (times place earlier)) 1 firsts in
+            let ps = call_pieces options call in
+            let are : ArePlain ps = (tt, (tt, (tt, (tt, (tt, tt))))) in
+            subst (λ shown. CutWith e options shown shown) (sym (append-nil ps)) (plain_cut e options ps ps are are (call-with e options fit call taken).0.0);
+      },
+    ),
+    refl,
   )
 
   pub count_piece-with : PiecesWith e options (CountOf place label ∷ []) (CountOf place label ∷ [])
-  count_piece-with = ((λ out. refl), record { calls = refl; may = inr fit; cut = λ firsts earlier. no_cut e options })
+  count_piece-with taken = (((λ out. refl), record { calls = refl; may = inr fit; cut = λ firsts earlier. no_cut e options }), refl)

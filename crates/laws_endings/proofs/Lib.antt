@@ -34,6 +34,7 @@ mod Saids
 mod Pieces
 mod ParagraphEnds
 mod GfmLabelStartFootnote
+mod HeadingIds
 mod GfmFootnoteDefinition
 mod PrintedLeaves
 mod Printed

@@ -1,11 +1,12 @@
 -- With an ending in place of each LF, a text prints its page with that ending.
 use Rattle.std.proofs.Common.{◌≡◌, ℕ, zero, suc, ◌<◌, Bool, true, false, cond, eqb, ◌||◌, not, List, [], ◌∷◌, ◌++◌, Option, None, Some, refl, sym, ap, ◌∙◌}
-use Rattle.std.proofs.Common.{arith, map, drop, length, slice_index_or, All, inl, inr, ◌⊎◌, reverse}
+use Rattle.std.proofs.Common.{arith, map, drop, length, slice_index_or, All, inl, inr, subst, ◌⊎◌, reverse}
 use Rattle.laws_endings.proofs.Prelude.{after_return, All-tail, and_parts, block_definitions, blocks_with, called_footnotes, children_pieces, code_byte}
 use Rattle.laws_endings.proofs.Prelude.{codes_with, CompileOptions, cond_both, Definition, definition_with, definitions, document_definitions, ending_bytes}
 use Rattle.laws_endings.proofs.Prelude.{ends_blank, eq-eqb, eqb-true, first_calls, first_match, first_of, fold, fold-append, footnotes, fresh_unless}
 use Rattle.laws_endings.proofs.Prelude.{get_or-map, group_items, has_mark, HaveNoFeeds, if_ending_with, in_first_line, is_some, Kind, kind_before_text, layout}
-use Rattle.laws_endings.proofs.Prelude.{leaf_definitions, LineEnding, lines, link_texts, Meaning, named_calls, ne_eqb, normal_label, option_map, or_left}
+use Rattle.laws_endings.proofs.Prelude.{leaf_definitions, LineEnding, lines, link_texts, Meaning, named_calls, NamedCall, ne_eqb, normal_label, option_map}
+use Rattle.laws_endings.proofs.Prelude.{or_left}
 use Rattle.laws_endings.proofs.Prelude.{or_right, Piece, place_of, print, read_blocks, section_pieces, text_line, text_line_with, TextLine, true≢false}
 use Rattle.laws_endings.proofs.Prelude.{unwrap_or, with_calls, with_ending, with_spaces, without_mark, ◌≢◌}
 use Rattle.std.proofs.lemmas.List.Elements.{All-drop}
@@ -26,7 +27,10 @@ use Rattle.laws_endings.specs.Laws.{HasNoReturn}
 use Rattle.laws_endings.proofs.Lines.{ending_lines_law, lines_after-byte}
 use Rattle.laws_endings.proofs.Blocks.{blocks_law}
 use Rattle.laws_endings.proofs.Matching.{normal_label-with, normal_labels-with, labels_law, definitions_law, footnotes_law}
-use Rattle.laws_endings.specs.PageLaws.{FootnotesHoldNoFeed, EndingPageLaw}
+use Rattle.definition_page.specs.HeadingIds.{with_ids}
+use Rattle.definition_page.proofs.HeadingIds.{unnamed_ids}
+use Rattle.laws_endings.specs.PageLaws.{LinksHoldNoFeed, OptionsHoldNoFeed, EndingPageLaw}
+use Rattle.laws_endings.proofs.HeadingIds.{section_unnamed}
 use Rattle.laws_endings.proofs.Each.{Each, each-append, each-drop, each_map, WhereSome}
 use Rattle.laws_endings.proofs.Characters.{AreWhole, whole-drop, IsTextByte, utf8_spelled}
 use Rattle.laws_endings.proofs.Fits.{Single, Plain, TitleFits, space_plain, space_single}
@@ -34,7 +38,7 @@ use Rattle.definition_block.proofs.ListReads.{grouped_good}
 use Rattle.laws_endings.proofs.BlockReads.{fits, LeafBlockFits, BlockFits, BlocksFit, blocks_fit}
 use Rattle.laws_endings.proofs.TextLines.{ByteFits, text_lines_fit}
 use Rattle.laws_endings.proofs.Marks.{without_mark-with, kind_before-with}
-use Rattle.laws_endings.proofs.Pieces.{PiecesWith, append-with}
+use Rattle.laws_endings.proofs.Pieces.{MayCall, PrintWith, ShownWith, append-with}
 use Rattle.laws_endings.proofs.GfmFootnoteDefinition.{section-with}
 use Rattle.laws_endings.proofs.NoFootnotes.{no_footnotes}
 use Rattle.laws_endings.proofs.Printed.{LinkedFits, linked_with}
@@ -118,8 +122,19 @@ module _ (e : LineEnding) (ds : List Definition) where
 
 -- ---- the page of children of a document
 
+-- the section of footnotes has no headings that get ids
+section_printed : (e : LineEnding) (options : CompileOptions) (notes : List (List ℕ)) (calls : List NamedCall) → MayCall e options calls
+    → PrintWith e options (section_pieces options (called_footnotes calls (map (with_ending e) notes))) (section_pieces options (called_footnotes calls notes))
+section_printed e options notes calls may =
+    let others = called_footnotes calls (map (with_ending e) notes) in
+    let ones = called_footnotes calls notes in
+    subst (λ ps. PrintWith e options ps (section_pieces options ones))
+    (unnamed_ids options [] (section_pieces options others) (section_unnamed options others))
+    (subst (PrintWith e options (with_ids options [] (section_pieces options others)))
+    (unnamed_ids options [] (section_pieces options ones) (section_unnamed options ones)) (section-with e options notes calls may []).0.0)
+
 -- pieces that print the same with this ending are a page that is the same with it
-page_layout-with : (e : LineEnding) (options : CompileOptions) (others ones : List Piece) → PiecesWith e options others ones
+page_layout-with : (e : LineEnding) (options : CompileOptions) (others ones : List Piece) → ShownWith e options others ones
     → page_layout options (ending_bytes e) others ≡ with_ending e (page_layout options (ending_bytes LineFeed) ones)
 page_layout-with e options others ones p =
     let calls = named_calls ones in
@@ -139,14 +154,14 @@ page_layout-with e options others ones p =
     ∙ ap (λ notes. layout (ending_bytes e) (cut.other_outside ++ section notes)) cut.insides_with
     ∙ fold-append (print (ending_bytes e)) [] cut.other_outside (section (map (with_ending e) notes))
     ∙ ap (λ out. fold (print (ending_bytes e)) out (section (map (with_ending e) notes))) (cut.outside_with [])
-    ∙ (section-with e options notes calls p.1.may).0 text
+    ∙ section_printed e options notes calls p.1.may text
     ∙ sym (ap (with_ending e)
     (ap (λ outside. page default outside (contents [] one_shown)) (outside_is one_shown cut.one_outside cut.one_insides cut.one_cut)
     ∙ ap (page default cut.one_outside) (insides_are one_shown cut.one_outside cut.one_insides cut.one_cut)
     ∙ fold-append (print default) [] cut.one_outside (section notes)))
 
 module _ (e : LineEnding) (tables : TextTables) (options : Options) (bs : tree.Blocks) (fit : BlocksFit bs)
-    (notes : (footnotes bs ≡ []) ⊎ HaveNoFeeds options.compile) where
+    (notes : (footnotes bs ≡ []) ⊎ HaveNoFeeds options.compile) (texts : LinksHoldNoFeed options.compile) where
   abbrev ds : List Definition
   ds = document_definitions bs
 
@@ -165,8 +180,8 @@ module _ (e : LineEnding) (tables : TextTables) (options : Options) (bs : tree.B
 
   abbrev read_here : tree.Blocks → (List ℕ → Bool) → Bool → List ℕ → List ℕ
   read_here all is_defined blank default =
-      page_layout options.compile default (children_pieces (meaning_by other_ds) at_top None (read_blocks (reading_by is_defined) on_page all)
-      ++ fresh_unless (not blank))
+      page_layout options.compile default (with_ids options.compile []
+      (children_pieces (meaning_by other_ds) at_top None (read_blocks (reading_by is_defined) on_page all) ++ fresh_unless (not blank)))
 
   ds_fit : Each DefinitionIs ds
   ds_fit = each_map DefinitionIs DefinitionIs with_spaces (definitions bs) spaced_fits (definitions_fit bs fit)
@@ -188,14 +203,14 @@ module _ (e : LineEnding) (tables : TextTables) (options : Options) (bs : tree.B
       ap (λ is_defined. read_here (group_items (blocks_with e bs)) is_defined blank' default) (same_labels e ds)
       ∙ ap (λ items. read_here items (is_label_of ds) blank' default) (grouped-with e bs)
       ∙ ap (λ blank. read_here (blocks_with e all) (is_label_of ds) blank default) (ends_blank-with e false bs)
-      ∙ ap (λ blocks. page_layout options.compile default (children_pieces (meaning_by other_ds) at_top None blocks ++ end))
+      ∙ ap (λ blocks. page_layout options.compile default (with_ids options.compile [] (children_pieces (meaning_by other_ds) at_top None blocks ++ end)))
       (read_blocks-with e r (same_label e ds) same_call on_page all fits_grouped)
-      ∙ page_layout-with e options.compile (children_pieces (meaning_by other_ds) at_top None (page_blocks_with e page) ++ end)
-      (children_pieces m at_top None page ++ end)
+      ∙ page_layout-with e options.compile (with_ids options.compile [] (children_pieces (meaning_by other_ds) at_top None (page_blocks_with e page) ++ end))
+      (with_ids options.compile [] (children_pieces m at_top None page ++ end))
       (append-with e options.compile (children_pieces (meaning_by other_ds) at_top None (page_blocks_with e page)) (children_pieces m at_top None page) end end
-      (children-with e m (linked_by other_ds) (leads-with e ds) (leads_fit ds ds_fit) notes at_top None page
+      (children-with e m (linked_by other_ds) (leads-with e ds) (leads_fit ds ds_fit) notes texts at_top None page
       (read_blocks_fit e r (same_label e ds) same_call on_page all fits_grouped))
-      (fresh_unless-with e m (linked_by other_ds) (leads-with e ds) (leads_fit ds ds_fit) notes (not (ends_blank false bs))))
+      (fresh_unless-with e m (linked_by other_ds) (leads-with e ds) (leads_fit ds ds_fit) notes texts (not (ends_blank false bs))) []).0
 
 -- ---- the first ending of a text
 
@@ -259,7 +274,7 @@ unmarked P text p q = cond_both (has_mark text) (drop 3 text) text P (λ _. q) (
 
 -- a text without byte order mark, after a character of this kind
 module _ (e : LineEnding) (tables : TextTables) (options : Options) (kind : Kind) (text : List ℕ) (bytes : Each ByteFits text) (whole : AreWhole text)
-    (no_return : HasNoReturn text) (feed : (first_line text).ending ≡ Some LineFeed) (fit : FootnotesHoldNoFeed options) where
+    (no_return : HasNoReturn text) (feed : (first_line text).ending ≡ Some LineFeed) (fit : OptionsHoldNoFeed options) where
   abbrev printed : List ℕ → Page → List ℕ
   printed default page = page_layout options.compile default (pieces tables options page)
 
@@ -271,7 +286,7 @@ module _ (e : LineEnding) (tables : TextTables) (options : Options) (kind : Kind
 
   -- a page without footnotes, or texts without LF around them
   notes_by : (has : Bool) → options.parse.constructs.gfm_footnote_definition ≡ has → (footnotes bs ≡ []) ⊎ HaveNoFeeds options.compile
-  notes_by true h = inr (fit h)
+  notes_by true h = inr (fit.0 h)
   notes_by false h = inl (no_footnotes options.parse.constructs kind text h)
 
   other_default : default_ending options (with_ending e text) ≡ ending_bytes e
@@ -294,7 +309,7 @@ module _ (e : LineEnding) (tables : TextTables) (options : Options) (kind : Kind
       ∙ ap (λ others. printed default (page_by others (footnotes all) all)) (definitions_law e on kind text no_return)
       ∙ ap (λ labels. printed default (page_by ds' labels all)) (footnotes_law e on kind text no_return)
       ∙ ap (λ blocks. printed default (page_by ds' (footnotes bs) blocks)) (blocks_law e on kind text no_return)
-      ∙ page-with e tables options bs (blocks_fit on kind text (text_lines_fit text bytes whole)) (notes_by on.gfm_footnote_definition refl)
+      ∙ page-with e tables options bs (blocks_fit on kind text (text_lines_fit text bytes whole)) (notes_by on.gfm_footnote_definition refl) fit.1
       ∙ sym (ap (λ other. with_ending e (printed other (page_by ds (footnotes bs) bs))) own_default)
 
 pub ending_page_law : EndingPageLaw

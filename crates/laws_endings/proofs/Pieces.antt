@@ -1,12 +1,17 @@
 -- Pieces of a page with another line ending in place of each LF.
 use Rattle.std.proofs.Common.{◌≡◌, ℕ, Bool, true, false, cond, List, [], ◌∷◌, ◌++◌, refl, sym, ap, ◌∙◌, map, fold, append_assoc, append-nil, flat_map, subst}
 use Rattle.std.proofs.Common.{◌⊎◌, inl, inr}
-use Rattle.laws_endings.proofs.Prelude.{ArePlain, Attribute, attribute_bytes, Close, codes, CompileOptions, element, ending_bytes, Eol, fold-append, Fresh}
+use Rattle.laws_endings.proofs.Prelude.{ArePlain, Attribute, attribute_bytes, bare_tag, Close, flat_map-append, codes, CompileOptions, element}
+use Rattle.laws_endings.proofs.Prelude.{ending_bytes, Eol, fold-append, Fresh}
 use Rattle.laws_endings.proofs.Prelude.{HaveNoFeeds, is_fresh, layout, LineEnding, map-append, named_calls, NamedCall, Open, Piece, print, PrintedPart}
 use Rattle.laws_endings.proofs.Prelude.{said_bytes, Says, tag, Void, with_calls, with_ending}
 use Rattle.markdown_options.specs.declared.line_ending.LineEnding.TheVariants.{LineFeed}
 use Rattle.definition_page.specs.Tags.{tag_bytes, start_tag, end_tag, void_tag}
-use Rattle.definition_page.specs.Pieces.{NoteStart, NoteEnd}
+use Rattle.definition_text.proofs.Each.{each_map}
+use Rattle.definition_page.specs.Pieces.{NoteStart, NoteEnd, Named}
+use Rattle.definition_page.specs.HeadingIds.{with_ids, id_attributes}
+use Rattle.definition_page.specs.Slug.{next_slug}
+use Rattle.definition_page.proofs.HeadingIds.{taken_after, taken_append, ids_append, IsUnnamed, AreUnnamed, unnamed_ids, unnamed_taken}
 use Rattle.definition_page.proofs.PlainLayout.{plain_calls, uncalled_shown}
 use Rattle.definition_page.proofs.Cuts.{calls_append, shown_append, Cut, cut_plain, cut_append, cut_note}
 use Rattle.laws_endings.proofs.Bytes.{fresh-with}
@@ -102,8 +107,14 @@ module _ (e : LineEnding) where
       pub may : MayCall (named_calls ones)
       pub cut : (firsts earlier : List NamedCall) → CutWith (shown firsts earlier others) (shown firsts earlier ones)
 
+    abbrev pub ShownWith : List Piece → List Piece → Type 0
+    ShownWith others ones = PrintWith others ones × CallWith others ones
+
+    -- their headings take the same slugs, whatever slugs are taken before, and with the ids of these they print so
     abbrev pub PiecesWith : List Piece → List Piece → Type 0
-    PiecesWith others ones = PrintWith others ones × CallWith others ones
+    PiecesWith others ones =
+        (taken : List (List ℕ))
+        → ShownWith (with_ids options taken others) (with_ids options taken ones) × (taken_after taken others ≡ taken_after taken ones)
 
     -- pieces that footnotes don't need
     pub plain_cut : (others ones : List Piece) → ArePlain others → ArePlain ones → PrintWith others ones → CutWith others ones
@@ -122,7 +133,7 @@ module _ (e : LineEnding) where
     no_cut = plain_cut [] [] tt tt (λ out. refl)
 
     pub no_pieces : PiecesWith [] []
-    no_pieces = ((λ out. refl), record { calls = refl; may = inl refl; cut = λ firsts earlier. no_cut })
+    no_pieces taken = (((λ out. refl), record { calls = refl; may = inl refl; cut = λ firsts earlier. no_cut }), refl)
 
     print_append : (others ones others' ones' : List Piece) → PrintWith others ones → PrintWith others' ones' → PrintWith (others ++ others') (ones ++ ones')
     print_append others ones others' ones' p q out =
@@ -168,9 +179,9 @@ module _ (e : LineEnding) where
     may_both cs ds (inl none) (inr fit) = inr fit
     may_both cs ds (inr fit) may = inr fit
 
-    pub append-with : (others ones others' ones' : List Piece) → PiecesWith others ones → PiecesWith others' ones'
-        → PiecesWith (others ++ others') (ones ++ ones')
-    append-with others ones others' ones' p q = (
+    shown_after : (others ones others' ones' : List Piece) → ShownWith others ones → ShownWith others' ones'
+        → ShownWith (others ++ others') (ones ++ ones')
+    shown_after others ones others' ones' p q = (
       print_append others ones others' ones' p.0 q.0,
       record {
         calls =
@@ -188,6 +199,23 @@ module _ (e : LineEnding) where
       },
     )
 
+    pub append-with : (others ones others' ones' : List Piece) → PiecesWith others ones → PiecesWith others' ones'
+        → PiecesWith (others ++ others') (ones ++ ones')
+    append-with others ones others' ones' p q taken =
+        let first = p taken in
+        let now = taken_after taken ones in
+        let next = q now in
+        let other = with_ids options taken others in
+        let one = with_ids options taken ones in
+        let other' = with_ids options now others' in
+        let one' = with_ids options now ones' in
+        let all = shown_after other one other' one' first.0 next.0 in (
+          subst (λ ps. ShownWith ps (with_ids options taken (ones ++ ones')))
+              (sym (ids_append options taken others others' ∙ ap (λ later. other ++ with_ids options later others') first.1))
+              (subst (ShownWith (other ++ other')) (sym (ids_append options taken ones ones')) all),
+          taken_append taken others others' ∙ ap (λ later. taken_after later others') first.1 ∙ next.1 ∙ sym (taken_append taken ones ones'),
+        )
+
     pub more-with : (other one : Piece) (others ones : List Piece) → PiecesWith (other ∷ []) (one ∷ []) → PiecesWith others ones
         → PiecesWith (other ∷ others) (one ∷ ones)
     more-with other one others ones p q = append-with (other ∷ []) (one ∷ []) others ones p q
@@ -196,7 +224,7 @@ module _ (e : LineEnding) where
     plain_shown : (ps : List Piece) → ArePlain ps → (firsts earlier : List NamedCall) → shown firsts earlier ps ≡ ps
     plain_shown ps are firsts earlier = uncalled_shown options firsts earlier ps (plain_calls ps are)
 
-    plain-with : (others ones : List Piece) → ArePlain others → ArePlain ones → PrintWith others ones → PiecesWith others ones
+    pub plain-with : (others ones : List Piece) → ArePlain others → ArePlain ones → PrintWith others ones → ShownWith others ones
     plain-with others ones a b p = (
       p,
       record {
@@ -208,34 +236,58 @@ module _ (e : LineEnding) where
       },
     )
 
-    bytes_printed : (out others ones : List ℕ) → BytesWith others ones → with_ending e out ++ others ≡ with_ending e (out ++ ones)
+    -- pieces without headings
+    unnamed-with : (others ones : List Piece) → AreUnnamed others → AreUnnamed ones → ShownWith others ones → PiecesWith others ones
+    unnamed-with others ones a b p taken = (
+      subst (λ ps. ShownWith ps (with_ids options taken ones)) (sym (unnamed_ids options taken others a))
+          (subst (ShownWith others) (sym (unnamed_ids options taken ones b)) p),
+      unnamed_taken taken others a ∙ sym (unnamed_taken taken ones b),
+    )
+
+    pub bytes_printed : (out others ones : List ℕ) → BytesWith others ones → with_ending e out ++ others ≡ with_ending e (out ++ ones)
     bytes_printed out others ones p = then-with e (with_ending e out) out others ones refl p
 
     pub said-with : (other one : PrintedPart) → SaidWith e other one → PiecesWith (Says other ∷ []) (Says one ∷ [])
-    said-with other one p =
-        plain-with (Says other ∷ []) (Says one ∷ []) (tt, tt) (tt, tt) (λ out. bytes_printed out (said_bytes other) (said_bytes one) p)
+    said-with other one p taken =
+        (plain-with (Says other ∷ []) (Says one ∷ []) (tt, tt) (tt, tt) (λ out. bytes_printed out (said_bytes other) (said_bytes one) p), refl)
 
     pub open-with : (name : List ℕ) (others ones : List Attribute) → BytesWith name name → AttributesWith others ones
         → PiecesWith (Open (tag name others) ∷ []) (Open (tag name ones) ∷ [])
-    open-with name others ones p q =
-        plain-with (Open (tag name others) ∷ []) (Open (tag name ones) ∷ []) (tt, tt) (tt, tt)
-        (λ out. bytes_printed out (start_tag (tag name others)) (start_tag (tag name ones)) (start-with name others ones p q))
+    open-with name others ones p q taken = (
+      plain-with (Open (tag name others) ∷ []) (Open (tag name ones) ∷ []) (tt, tt) (tt, tt)
+          (λ out. bytes_printed out (start_tag (tag name others)) (start_tag (tag name ones)) (start-with name others ones p q)),
+      refl,
+    )
+
+    -- the start of a heading that gets an id, where that holds no LF, whatever slug it has
+    pub named-with : (name text : List ℕ) → BytesWith name name
+        → ((taken : List (List ℕ)) → let id = id_attributes options (next_slug taken text) ++ [] in AttributesWith id id)
+        → PiecesWith (Named (bare_tag name) text ∷ []) (Named (bare_tag name) text ∷ [])
+    named-with name text p q taken =
+        let id = id_attributes options (next_slug taken text) ++ [] in
+        let start = Open (tag name id) ∷ [] in (
+          plain-with start start (tt, tt) (tt, tt)
+              (λ out. bytes_printed out (start_tag (tag name id)) (start_tag (tag name id)) (start-with name id id p (q taken))),
+          refl,
+        )
 
     pub close-with : (name : List ℕ) → BytesWith name name → PiecesWith (Close name ∷ []) (Close name ∷ [])
-    close-with name p =
-        plain-with (Close name ∷ []) (Close name ∷ []) (tt, tt) (tt, tt) (λ out. bytes_printed out (end_tag name) (end_tag name) (end-with name p))
+    close-with name p taken =
+        (plain-with (Close name ∷ []) (Close name ∷ []) (tt, tt) (tt, tt) (λ out. bytes_printed out (end_tag name) (end_tag name) (end-with name p)), refl)
 
     pub void_piece-with : (name : List ℕ) (others ones : List Attribute) → BytesWith name name → AttributesWith others ones
         → PiecesWith (Void (tag name others) ∷ []) (Void (tag name ones) ∷ [])
-    void_piece-with name others ones p q =
-        plain-with (Void (tag name others) ∷ []) (Void (tag name ones) ∷ []) (tt, tt) (tt, tt)
-        (λ out. bytes_printed out (void_tag (tag name others)) (void_tag (tag name ones)) (void-with name others ones p q))
+    void_piece-with name others ones p q taken = (
+      plain-with (Void (tag name others) ∷ []) (Void (tag name ones) ∷ []) (tt, tt) (tt, tt)
+          (λ out. bytes_printed out (void_tag (tag name others)) (void_tag (tag name ones)) (void-with name others ones p q)),
+      refl,
+    )
 
     default-with : BytesWith (ending_bytes e) default
     default-with = sym (append-nil (ending_bytes e))
 
     pub eol_piece-with : PiecesWith (Eol ∷ []) (Eol ∷ [])
-    eol_piece-with = plain-with (Eol ∷ []) (Eol ∷ []) (tt, tt) (tt, tt) (λ out. bytes_printed out (ending_bytes e) default default-with)
+    eol_piece-with taken = (plain-with (Eol ∷ []) (Eol ∷ []) (tt, tt) (tt, tt) (λ out. bytes_printed out (ending_bytes e) default default-with), refl)
 
     fresh_by : (out : List ℕ) (fresh : Bool)
         → cond fresh (with_ending e out) (with_ending e out ++ ending_bytes e) ≡ with_ending e (cond fresh out (out ++ default))
@@ -243,9 +295,11 @@ module _ (e : LineEnding) where
     fresh_by out false = bytes_printed out (ending_bytes e) default default-with
 
     pub fresh_piece-with : PiecesWith (Fresh ∷ []) (Fresh ∷ [])
-    fresh_piece-with =
-        plain-with (Fresh ∷ []) (Fresh ∷ []) (tt, tt) (tt, tt)
-        (λ out. ap (λ fresh. cond fresh (with_ending e out) (with_ending e out ++ ending_bytes e)) (fresh-with e out) ∙ fresh_by out (is_fresh out))
+    fresh_piece-with taken = (
+      plain-with (Fresh ∷ []) (Fresh ∷ []) (tt, tt) (tt, tt)
+          (λ out. ap (λ fresh. cond fresh (with_ending e out) (with_ending e out ++ ending_bytes e)) (fresh-with e out) ∙ fresh_by out (is_fresh out)),
+      refl,
+    )
 
     pub fresh-then : (others ones : List Piece) → PiecesWith others ones → PiecesWith (Fresh ∷ others) (Fresh ∷ ones)
     fresh-then others ones p = more-with Fresh Fresh others ones fresh_piece-with p
@@ -271,10 +325,12 @@ module _ (e : LineEnding) where
 
     pub saids-with : (others ones : List PrintedPart) → SaidsWith e others ones → PiecesWith (map Says others) (map Says ones)
     saids-with others ones p =
-        plain-with (map Says others) (map Says ones) (says_plain others) (says_plain ones)
+        let unnamed : (ss : List PrintedPart) → AreUnnamed (map Says ss) = λ ss. each_map IsUnnamed Says ss (λ s. tt) in
+        unnamed-with (map Says others) (map Says ones) (unnamed others) (unnamed ones)
+        (plain-with (map Says others) (map Says ones) (says_plain others) (says_plain ones)
         (λ out. all_printed (ending_bytes e) (with_ending e out) others
         ∙ bytes_printed out (flat_map said_bytes others) (flat_map said_bytes ones) p
-        ∙ sym (ap (with_ending e) (all_printed default out ones)))
+        ∙ sym (ap (with_ending e) (all_printed default out ones))))
 
     -- ---- footnotes
 
@@ -292,9 +348,8 @@ module _ (e : LineEnding) where
           (ap (λ html. html ∷ []) (p.outside_with []));
     }
 
-    -- a footnote around pieces
-    pub note-with : (others ones : List Piece) → PiecesWith others ones → PiecesWith (NoteStart ∷ (others ++ NoteEnd ∷ [])) (NoteStart ∷ (ones ++ NoteEnd ∷ []))
-    note-with others ones p =
+    note_shown : (others ones : List Piece) → ShownWith others ones → ShownWith (NoteStart ∷ (others ++ NoteEnd ∷ [])) (NoteStart ∷ (ones ++ NoteEnd ∷ []))
+    note_shown others ones p =
         let end = NoteEnd ∷ [] in (
           print_append others ones end end p.0 (λ out. refl),
           record {
@@ -306,3 +361,22 @@ module _ (e : LineEnding) where
                 (note_cut (shown firsts earlier others) (shown firsts earlier ones) (p.1.cut firsts earlier)));
           },
         )
+
+    -- a footnote around pieces
+    pub note-with : (others ones : List Piece) → PiecesWith others ones → PiecesWith (NoteStart ∷ (others ++ NoteEnd ∷ [])) (NoteStart ∷ (ones ++ NoteEnd ∷ []))
+    note-with others ones p taken =
+        let end = NoteEnd ∷ [] in
+        let other = with_ids options taken others in
+        let one = with_ids options taken ones in (
+          subst (λ ps. ShownWith (NoteStart ∷ ps) (NoteStart ∷ with_ids options taken (ones ++ end))) (sym (ids_append options taken others end))
+              (subst (λ ps. ShownWith (NoteStart ∷ (other ++ end)) (NoteStart ∷ ps)) (sym (ids_append options taken ones end))
+              (note_shown other one (p taken).0)),
+          taken_append taken others end ∙ (p taken).1 ∙ sym (taken_append taken ones end),
+        )
+
+    -- attributes after others
+    pub attributes_append : (a' a b' b : List Attribute) → AttributesWith a' a → AttributesWith b' b → AttributesWith (a' ++ b') (a ++ b)
+    attributes_append a' a b' b p q =
+        flat_map-append attribute_bytes a' b'
+        ∙ then-with e (flat_map attribute_bytes a') (flat_map attribute_bytes a) (flat_map attribute_bytes b') (flat_map attribute_bytes b) p q
+        ∙ sym (ap (with_ending e) (flat_map-append attribute_bytes a b))

@@ -9,7 +9,8 @@ use Rattle.laws_endings.proofs.Prelude.{unwrap_or, Void, with_ending, Words}
 use Rattle.markdown_options.specs.declared.line_ending.LineEnding.TheVariants.{CarriageReturnLineFeed, CarriageReturn, LineFeed}
 use Rattle.definition_inline.specs.Inline.{SpanKind, Emphasis}
 use Rattle.definition_page.specs.Urls.{src_protocols}
-use Rattle.definition_page.specs.InlinePieces.{image_url, url_of, title_attributes, title_attribute, link_tag, image_tag, span_name}
+use Rattle.definition_page.specs.InlinePieces.{image_url, url_of, rel_attributes, loading_attributes, title_attributes, title_attribute, link_tag}
+use Rattle.definition_page.specs.InlinePieces.{image_tag, span_name}
 use Rattle.definition_page.specs.InlinePieces.{part_says}
 use Rattle.definition_inline.specs.Targets.{leads_to}
 use Rattle.definition_page.specs.InlinePieces.{description, call_at, count_at, part_counts, part_pieces}
@@ -20,7 +21,10 @@ use Rattle.laws_endings.proofs.Parts.{TargetFits, IsFit, AreFit}
 use Rattle.laws_endings.proofs.Bytes.{encode-with}
 use Rattle.laws_endings.proofs.Saids.{plains_no_feed, codes-kept, string_text-with, SaidWith, SaidsWith, says_one, says_append}
 use Rattle.laws_endings.proofs.Pieces.{BytesWith, AttributesWith, attribute-with, more_attributes, PiecesWith, no_pieces, append-with, void_piece-with}
-use Rattle.laws_endings.proofs.Pieces.{element-with}
+use Rattle.laws_endings.proofs.Pieces.{element-with, attributes_append}
+use Rattle.definition_page.specs.Destinations.{link_destination, image_source}
+use Rattle.laws_endings.specs.PageLaws.{LinksHoldNoFeed}
+use Rattle.laws_endings.proofs.HeadingIds.{rel-with, loading-with}
 use Rattle.laws_endings.proofs.PrintedLeaves.{url_attribute-with, leaf_says-with, leaf_pieces-with}
 use Rattle.laws_endings.proofs.GfmLabelStartFootnote.{call_piece-with, count_piece-with}
 
@@ -55,7 +59,8 @@ module _ (e : LineEnding) where
 
   module _ (m : Meaning) (other : List ℕ → Option LinkTexts)
       (leads : (label : List ℕ) → other (codes_with e label) ≡ option_map linked_with (m.definition label))
-      (fits : (label : List ℕ) → WhereSome LinkedFits (m.definition label)) (notes : (m.footnotes ≡ []) ⊎ HaveNoFeeds m.compile) where
+      (fits : (label : List ℕ) → WhereSome LinkedFits (m.definition label)) (notes : (m.footnotes ≡ []) ⊎ HaveNoFeeds m.compile)
+      (texts : LinksHoldNoFeed m.compile) where
     abbrev pub meaning_with : Meaning
     meaning_with = record m { definition = other }
 
@@ -121,32 +126,44 @@ module _ (e : LineEnding) where
     -- ---- tags of links and images
 
     abbrev link_attributes : Meaning → LinkTexts → List Attribute
-    link_attributes n l = attribute (codes "href") (link_url m.compile (url_of n l)) ∷ title_attribute n l.title
+    link_attributes n l =
+        attribute (codes "href") (link_url m.compile (link_destination m.compile (url_of n l)))
+        ∷ title_attribute n l.title ++ rel_attributes m.compile.link_rel
 
     link-with : (l : LinkTexts) → LinkedFits l → AttributesWith e (link_attributes meaning_with (linked_with l)) (link_attributes m l)
     link-with l p =
         let title' = title_attribute meaning_with (option_map (codes_with e) l.title) in
-        let href = attribute (codes "href") (link_url m.compile (url_of m l)) in
-        ap (λ url. flat_map attribute_bytes (attribute (codes "href") (link_url m.compile url) ∷ title')) (url-with l p)
-        ∙ more_attributes e href href title' (title_attribute m l.title)
-        (url_attribute-with e (codes "href") refl m.compile.allow_dangerous_protocol href_protocols (url_of m l)) (title-with l.title p.1)
+        let title = title_attribute m l.title in
+        let rel = rel_attributes m.compile.link_rel in
+        let url = link_destination m.compile (url_of m l) in
+        let href = attribute (codes "href") (link_url m.compile url) in
+        ap (λ url. flat_map attribute_bytes (attribute (codes "href") (link_url m.compile (link_destination m.compile url)) ∷ title' ++ rel)) (url-with l p)
+        ∙ more_attributes e href href (title' ++ rel) (title ++ rel)
+        (url_attribute-with e (codes "href") refl m.compile.allow_dangerous_protocol href_protocols url)
+        (attributes_append e m.compile title' title rel rel (title-with l.title p.1) (rel-with e m.compile texts))
 
     abbrev image_attributes : Meaning → LinkTexts → List PrintedPart → List Attribute
     image_attributes n l said =
-        attribute (codes "src") (image_url m.compile (url_of n l)) ∷ record { name = codes "alt"; value = said } ∷ title_attribute n l.title
+        attribute (codes "src") (image_url m.compile (image_source m.compile (url_of n l)))
+        ∷ record { name = codes "alt"; value = said }
+        ∷ title_attribute n l.title ++ loading_attributes m.compile.lazy_images
 
     image-with : (l : LinkTexts) (said' said : List PrintedPart) → LinkedFits l → SaidsWith e said' said
         → AttributesWith e (image_attributes meaning_with (linked_with l) said') (image_attributes m l said)
     image-with l said' said p q =
+        let loading = loading_attributes m.compile.lazy_images in
         let title' = title_attribute meaning_with (option_map (codes_with e) l.title) in
         let title = title_attribute m l.title in
         let alt' : Attribute = record { name = codes "alt"; value = said' } in
         let alt : Attribute = record { name = codes "alt"; value = said } in
-        let src = attribute (codes "src") (image_url m.compile (url_of m l)) in
-        ap (λ url. flat_map attribute_bytes (attribute (codes "src") (image_url m.compile url) ∷ alt' ∷ title')) (url-with l p)
-        ∙ more_attributes e src src (alt' ∷ title') (alt ∷ title)
-        (url_attribute-with e (codes "src") refl (m.compile.allow_any_img_src || m.compile.allow_dangerous_protocol) src_protocols (url_of m l))
-        (more_attributes e alt' alt title' title (attribute-with e (codes "alt") said' said refl q) (title-with l.title p.1))
+        let url = image_source m.compile (url_of m l) in
+        let src = attribute (codes "src") (image_url m.compile url) in
+        ap (λ url. flat_map attribute_bytes (attribute (codes "src") (image_url m.compile (image_source m.compile url)) ∷ alt' ∷ title' ++ loading))
+        (url-with l p)
+        ∙ more_attributes e src src (alt' ∷ title' ++ loading) (alt ∷ title ++ loading)
+        (url_attribute-with e (codes "src") refl (m.compile.allow_any_img_src || m.compile.allow_dangerous_protocol) src_protocols url)
+        (more_attributes e alt' alt (title' ++ loading) (title ++ loading) (attribute-with e (codes "alt") said' said refl q)
+        (attributes_append e m.compile title' title loading loading (title-with l.title p.1) (loading-with e m.compile.lazy_images)))
 
     -- ---- calls of footnotes
 
@@ -192,7 +209,7 @@ module _ (e : LineEnding) where
 
     mutual
       part-with : (i : Inline) → IsFit i → PiecesWith e m.compile (part_pieces meaning_with (inline_with e i)) (part_pieces m i)
-      part-with (Leaf part) p = leaf_pieces-with e m.compile part p
+      part-with (Leaf part) p = leaf_pieces-with e m.compile texts part p
       part-with (Span kind kids) p =
           element-with e m.compile (span_name kind) [] [] (inline_pieces meaning_with (inlines_with e kids)) (inline_pieces m kids) (span_name-kept kind) refl
           (inlines-with kids p)

@@ -2,18 +2,23 @@
 use Rattle.std.proofs.Common.{◌≡◌, ℕ, ◌+◌, Bool, true, false, true≢false, cond, eqb, not, ◌&&◌, ◌||◌, List, [], ◌∷◌, ◌++◌, Option, None, Some, refl, sym, ap}
 use Rattle.std.proofs.Common.{◌∙◌, subst, arith, map, flat_map, append-nil, ◌⊎◌}
 use Rattle.laws_endings.proofs.Prelude.{AlignKind, attribute, Attribute, bare_tag, BlockLine, bytes_of, children_pieces, code_byte, codes, codes_with}
-use Rattle.laws_endings.proofs.Prelude.{cond_both, element, encode, ending_bytes, ending_with, Eol, Fresh, fresh_unless, HaveNoFeeds, if_ending_with}
+use Rattle.laws_endings.proofs.Prelude.{Close, cond_both, element, encode, ending_bytes, ending_with, Eol, Fresh, fresh_unless, HaveNoFeeds, if_ending_with}
 use Rattle.laws_endings.proofs.Prelude.{inline_counts, inline_pieces, Inlines, inlines_with, is_byte, line_with, LineEnding, lines_with, LinkTexts, Meaning}
 use Rattle.laws_endings.proofs.Prelude.{ne_eqb, Number, option_map, Piece, raw_html, Says, TableRow, tag, Void, with_ending, Words}
 use Rattle.markdown_options.specs.declared.line_ending.LineEnding.TheVariants.{CarriageReturnLineFeed, CarriageReturn, LineFeed}
 use Rattle.definition_text.specs.Lines.{ending_text}
 use Rattle.definition_inline.specs.Inline.{Nil as NoText}
 use Rattle.markdown_options.specs.declared.align_kind.AlignKind.TheVariants as kind
-use Rattle.definition_page.specs.GfmTable.{Table as TableOf, align_attributes, cell_pieces, cells_pieces, row_pieces, ending_piece, endings_pieces, body_row_pieces}
+use Rattle.definition_page.specs.GfmTable.{Table as TableOf, align_attributes, cell_pieces, cells_pieces, row_pieces, ending_piece, endings_pieces}
+use Rattle.definition_page.specs.GfmTable.{body_row_pieces}
 use Rattle.definition_page.specs.GfmTable.{head_pieces, body_pieces, table_pieces}
 use Rattle.definition_page.specs.Page.{PageLeaf, Paragraph, Heading, Break, IndentedCode, FencedCode, Html, Table, Definition, Quote, Item, Footnote}
 use Rattle.definition_page.specs.Page.{Block, Leaf, Holds, ItemList, Ending, Blank, Blocks, Nil, Cons}
-use Rattle.definition_page.specs.BlockPieces.{Place, inside, code_line, html_line, says, heading_name}
+use Rattle.definition_page.specs.BlockPieces.{Place, inside, code_line, html_line, says, heading_name, heading_start}
+use Rattle.definition_page.specs.HeadingText.{heading_text}
+use Rattle.definition_page.specs.Pieces.{Open, Named}
+use Rattle.laws_endings.specs.PageLaws.{LinksHoldNoFeed}
+use Rattle.laws_endings.proofs.HeadingIds.{heading_text-with, id-with}
 use Rattle.definition_page.specs.BlockPieces.{info_attributes, start_attributes, list_tag, is_silent, last_visible, ends_plainly, fenced_pieces}
 use Rattle.definition_page.specs.BlockPieces.{is_paragraph, is_definition, is_visible, leaf_block_pieces, block_pieces}
 use Rattle.laws_endings.proofs.Codes.{cond-under}
@@ -24,7 +29,8 @@ use Rattle.laws_endings.proofs.BlockReads.{IsFed, LineFits, LinesFit}
 use Rattle.laws_endings.proofs.Bytes.{IsNoFeed, decimal_no_feed, with-append, kept, encode-with}
 use Rattle.laws_endings.proofs.Saids.{plains_no_feed, codes-kept, SaidWith, SaidsWith, says_more, says_one, says_append, words-kept, raw-kept}
 use Rattle.laws_endings.proofs.Pieces.{BytesWith, AttributesWith, attribute-with, more_attributes, PiecesWith, no_pieces, append-with, more-with}
-use Rattle.laws_endings.proofs.Pieces.{said-with, void_piece-with, eol_piece-with, fresh_piece-with, element-with, saids-with, note-with}
+use Rattle.laws_endings.proofs.Pieces.{said-with, void_piece-with, eol_piece-with, fresh_piece-with, element-with, saids-with, note-with, named-with}
+use Rattle.laws_endings.proofs.Pieces.{open-with, close-with}
 use Rattle.laws_endings.proofs.Printed.{LinkedFits, linked_with, counts-with, inlines-with}
 use Rattle.laws_endings.proofs.PrintedTable.{AreFed, RowFits, TableFits, row_with, table_with}
 use Rattle.laws_endings.proofs.Pages.{page_leaf_with, page_block_with, page_blocks_with, InfoFits, PageLeafFits, PageBlockFits, PageFits}
@@ -56,7 +62,8 @@ module _ (e : LineEnding) where
 
   module _ (m : Meaning) (other : List ℕ → Option LinkTexts)
       (leads : (label : List ℕ) → other (codes_with e label) ≡ option_map (linked_with e) (m.definition label))
-      (fits : (label : List ℕ) → WhereSome LinkedFits (m.definition label)) (notes : (m.footnotes ≡ []) ⊎ HaveNoFeeds m.compile) where
+      (fits : (label : List ℕ) → WhereSome LinkedFits (m.definition label)) (notes : (m.footnotes ≡ []) ⊎ HaveNoFeeds m.compile)
+      (texts : LinksHoldNoFeed m.compile) where
     abbrev m' : Meaning
     m' = record m { definition = other }
 
@@ -183,7 +190,7 @@ module _ (e : LineEnding) where
     ending-with place before CarriageReturnLineFeed false f = absurd (true≢false f)
 
     text-with : (is : Inlines) → AreFit is → PiecesWith e m.compile (inline_pieces m' (inlines_with e is)) (inline_pieces m is)
-    text-with is p = inlines-with e m other leads fits notes is p
+    text-with is p = inlines-with e m other leads fits notes texts is p
 
     paragraph-with : (tight : Bool) (ps' ps : List Piece) → PiecesWith e m.compile ps' ps
         → PiecesWith e m.compile (cond tight ps' (Fresh ∷ element (bare_tag (codes "p")) ps')) (cond tight ps (Fresh ∷ element (bare_tag (codes "p")) ps))
@@ -221,7 +228,7 @@ module _ (e : LineEnding) where
       more_cells [] = no_pieces e m.compile
       more_cells (c ∷ cs) =
           append-with e m.compile (inline_counts m' (inlines_with e c)) (inline_counts m c) (flat_map (inline_counts m') (map (inlines_with e) cs))
-          (flat_map (inline_counts m) cs) (counts-with e m other leads fits notes c) (more_cells cs)
+          (flat_map (inline_counts m) cs) (counts-with e m other leads fits notes texts c) (more_cells cs)
 
       cells-with : (aligns : List AlignKind) (cells : List Inlines) → Each AreFit cells
           → PiecesWith e m.compile (cells_pieces m' name aligns (map (inlines_with e) cells)) (cells_pieces m name aligns cells)
@@ -291,6 +298,17 @@ module _ (e : LineEnding) where
         (append-with e m.compile head' head body' body (head-with t.aligns t.head p.0) (body-with t.aligns t.endings t.rows p.1 p.2))
         (fresh_piece-with e m.compile))))
 
+    heading_start-with : (rank : ℕ) (is : Inlines) → AreFit is
+        → PiecesWith e m.compile (heading_start m' rank (inlines_with e is) ∷ []) (heading_start m rank is ∷ [])
+    heading_start-with rank is p =
+        let name = heading_name rank in
+        let text = heading_text is in
+        let start : List ℕ → Piece = λ said. cond m.compile.heading_ids (Named (bare_tag name) said) (Open (bare_tag name)) in
+        subst (λ said. PiecesWith e m.compile (start said ∷ []) (start text ∷ [])) (sym (heading_text-with e is p))
+        (cond_both m.compile.heading_ids (Named (bare_tag name) text) (Open (bare_tag name)) (λ s. PiecesWith e m.compile (s ∷ []) (s ∷ []))
+        (λ _. named-with e m.compile name text (heading-kept rank) (λ taken. id-with e m.compile texts taken text))
+        (λ _. open-with e m.compile name [] [] (heading-kept rank) refl))
+
     leaf_block-with : (place : Place) (leaf : PageLeaf) → PageLeafFits e leaf
         → PiecesWith e m.compile (leaf_block_pieces m' place (page_leaf_with e leaf)) (leaf_block_pieces m place leaf)
     leaf_block-with place (Paragraph is) p =
@@ -298,8 +316,12 @@ module _ (e : LineEnding) where
     leaf_block-with place (Heading rank is) p =
         let ps' = inline_pieces m' (inlines_with e is) in
         let ps = inline_pieces m is in
-        fresh-then (element (bare_tag (heading_name rank)) ps') (element (bare_tag (heading_name rank)) ps)
-        (bare-with (heading_name rank) ps' ps (heading-kept rank) (text-with is p))
+        let end = Close (heading_name rank) ∷ [] in
+        let start' = heading_start m' rank (inlines_with e is) in
+        let start = heading_start m rank is in
+        fresh-then (start' ∷ ps' ++ end) (start ∷ ps ++ end)
+        (more-with e m.compile start' start (ps' ++ end) (ps ++ end) (heading_start-with rank is p)
+        (append-with e m.compile ps' ps end end (text-with is p) (close-with e m.compile (heading_name rank) (heading-kept rank))))
     leaf_block-with place Break p =
         let hr = Void (bare_tag (codes "hr")) ∷ [] in fresh-then hr hr (void_piece-with e m.compile (codes "hr") [] [] refl refl)
     leaf_block-with place (IndentedCode ls) p =

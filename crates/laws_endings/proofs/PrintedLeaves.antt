@@ -7,7 +7,9 @@ use Rattle.definition_inline.specs.Inline.{EscapedBreak}
 use Rattle.definition_page.specs.Urls.{permits, sanitize}
 use Rattle.definition_page.specs.GfmTable.{escapes_bar, cell_code, leaf_in_cell}
 use Rattle.definition_page.specs.GfmTaskListItem.{checkable_attributes, done_attributes}
-use Rattle.definition_page.specs.InlinePieces.{permitted_url, address, literal_address, math_tag, leaf_says, address_tag, leaf_pieces}
+use Rattle.definition_page.specs.InlinePieces.{permitted_url, address, literal_address, math_tag, leaf_says, address_tag, leaf_pieces, rel_attributes}
+use Rattle.laws_endings.specs.PageLaws.{LinksHoldNoFeed}
+use Rattle.laws_endings.proofs.HeadingIds.{rel-with}
 use Rattle.laws_endings.proofs.Each.{Each}
 use Rattle.laws_endings.proofs.Fits.{Plain}
 use Rattle.laws_endings.proofs.Parts.{IsFitLeaf}
@@ -74,12 +76,14 @@ module _ (e : LineEnding) where
         element-with e options name attributes attributes (Says (Words text) ∷ []) (Says (Words text) ∷ []) p q
         (said-with e options (Words text) (Words text) (words-kept e text (plains_no_feed text r)))
 
-    address_piece : (url text : List ℕ) → Each Plain text
+    address_piece : LinksHoldNoFeed options → (url text : List ℕ) → Each Plain text
         → PiecesWith e options (element (address_tag options url) (Says (Words text) ∷ [])) (element (address_tag options url) (Says (Words text) ∷ []))
-    address_piece url text p =
+    address_piece texts url text p =
         let href = attribute (codes "href") (link_url options url) in
-        text_in (codes "a") (href ∷ []) text refl
-        (more_attributes e href href [] [] (url_attribute-with (codes "href") refl options.allow_dangerous_protocol href_protocols url) refl) p
+        let rel = rel_attributes options.link_rel in
+        text_in (codes "a") (href ∷ rel) text refl
+        (more_attributes e href href rel rel (url_attribute-with (codes "href") refl options.allow_dangerous_protocol href_protocols url)
+        (rel-with e options texts)) p
 
     abbrev box_attributes : Bool → Bool → List Attribute
     box_attributes checkable done = attribute (codes "type") (codes "checkbox") ∷ checkable_attributes checkable ++ done_attributes done
@@ -90,16 +94,17 @@ module _ (e : LineEnding) where
     box_kept false true = refl
     box_kept false false = refl
 
-    pub leaf_pieces-with : (part : InlineLeaf) → IsFitLeaf part → PiecesWith e options (leaf_pieces options (leaf_with e part)) (leaf_pieces options part)
-    leaf_pieces-with (Code text) p = text_in (codes "code") [] text refl refl p
-    leaf_pieces-with (Math text) p = text_in (codes "code") math_tag.attributes text refl refl p
-    leaf_pieces-with (Autolink is_email text) p =
+    pub leaf_pieces-with : LinksHoldNoFeed options → (part : InlineLeaf) → IsFitLeaf part
+        → PiecesWith e options (leaf_pieces options (leaf_with e part)) (leaf_pieces options part)
+    leaf_pieces-with texts (Code text) p = text_in (codes "code") [] text refl refl p
+    leaf_pieces-with texts (Math text) p = text_in (codes "code") math_tag.attributes text refl refl p
+    leaf_pieces-with texts (Autolink is_email text) p =
         subst (λ t. PiecesWith e options (leaf_pieces options (Autolink is_email t)) (leaf_pieces options (Autolink is_email text)))
-        (sym (codes-kept e text (plains_no_feed text p))) (address_piece (address is_email text) text p)
-    leaf_pieces-with (Literal kind text) p = address_piece (literal_address kind text) text p
-    leaf_pieces-with EscapedBreak p = void_piece-with e options (codes "br") [] [] refl refl
-    leaf_pieces-with TrailingBreak p = void_piece-with e options (codes "br") [] [] refl refl
-    leaf_pieces-with (TaskCheck done) p =
+        (sym (codes-kept e text (plains_no_feed text p))) (address_piece texts (address is_email text) text p)
+    leaf_pieces-with texts (Literal kind text) p = address_piece texts (literal_address kind text) text p
+    leaf_pieces-with texts EscapedBreak p = void_piece-with e options (codes "br") [] [] refl refl
+    leaf_pieces-with texts TrailingBreak p = void_piece-with e options (codes "br") [] [] refl refl
+    leaf_pieces-with texts (TaskCheck done) p =
         let attributes = box_attributes options.gfm_task_list_item_checkable done in
         void_piece-with e options (codes "input") attributes attributes refl (box_kept options.gfm_task_list_item_checkable done)
-    leaf_pieces-with other p = saids-with e options (leaf_says options (leaf_with e other)) (leaf_says options other) (leaf_says-with other p)
+    leaf_pieces-with texts other p = saids-with e options (leaf_says options (leaf_with e other)) (leaf_says options other) (leaf_says-with other p)

@@ -30,8 +30,17 @@ pub record HaveNoFeeds (options : CompileOptions) : Type 0 where
 abbrev pub FootnotesHoldNoFeed : Options → Type 0
 FootnotesHoldNoFeed options = options.parse.constructs.gfm_footnote_definition ≡ true → HaveNoFeeds options.compile
 
+-- what the options say in links and in ids of headings, where these have any, holds no LF
+pub record LinksHoldNoFeed (options : CompileOptions) : Type 0 where
+  pub rel : HasNoFeed options.link_rel
+  pub id_prefix : options.heading_ids ≡ true → HasNoFeed options.heading_id_prefix
+
+-- what the options say on a page holds no LF
+abbrev pub OptionsHoldNoFeed : Options → Type 0
+OptionsHoldNoFeed options = FootnotesHoldNoFeed options × LinksHoldNoFeed options.compile
+
 -- with an ending in place of each LF, a text prints its page with that ending in place of each LF
 abbrev pub EndingPageLaw : Type 0
 EndingPageLaw =
-    (e : LineEnding) (tables : TextTables) (text : List ℕ) (options : Options) → EndsInFeeds text → FootnotesHoldNoFeed options
+    (e : LineEnding) (tables : TextTables) (text : List ℕ) (options : Options) → EndsInFeeds text → OptionsHoldNoFeed options
     → html tables (with_ending e text) options ≡ with_ending e (html tables text options)

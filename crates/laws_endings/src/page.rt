@@ -3,8 +3,7 @@ ghost use Rattle.laws_endings.specs.PageLaws.{EndingPageLaw};
 ghost use Rattle.laws_endings.specs.Refused.{RefusedRows};
 
 /// A text in UTF-8 that has an LF, no CR and no `&`, with an ending in place of each LF, prints its
-/// page with that ending in place of each LF. Where footnotes can be defined, what the options say
-/// around them holds no LF, either.
+/// page with that ending in place of each LF. What the options say on a page holds no LF, either.
 #[tactic(auto, using(crate::proofs::PageLaw::ending_page_law))]
 pub fn ending_page_law()
     ensures { EndingPageLaw }

@@ -36,7 +36,7 @@ paragraph_html tables options ending ls said adds =
     let d = document options tables no_targets in
     let text = text_of d ls in
     ap (λ ps. page_layout options.compile default (ps ++ Bytes [] ∷ [] ++ [])) (paragraph_bytes d ls)
-    ∙ ap (with_footnotes options.compile default) (paragraph_adds options.compile default text said adds (layout_state (codes "<p>") [] [] []))
+    ∙ ap (with_footnotes options.compile default) (paragraph_adds options.compile default text said adds (layout_state (codes "<p>") [] [] [] []))
     ∙ sym (append_assoc (codes "<p>") said (codes "</p>"))
 
 -- what the paragraph of an escaped line says

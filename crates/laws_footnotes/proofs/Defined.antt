@@ -49,12 +49,13 @@ module _ (m : Meaning) where
   lead : Prints Leads m
   lead =
       record {
-        opens = λ t. tt;
+        opens = λ t own. tt;
         closes = λ name. tt;
-        voids = λ t. tt;
+        voids = λ t own. tt;
         said = λ part. tt;
         eol = tt;
         fresh = tt;
+        names = λ on t text own. tt;
         calls = λ label. call_leads label (first_match label m.footnotes) refl;
         counts = λ label. count_leads label (first_match label m.footnotes) refl;
       }
@@ -69,4 +70,4 @@ module _ (m : Meaning) where
 pub call_has_definition_law : CallHasDefinitionLaw
 call_has_definition_law tables options page =
     let m = meaning_of tables options page in
-    all_have m _ (page_good (Leads m) m (lead m) _ (any_blocks (Leads m) tt tt) page.blocks (not page.ends_blank) tt)
+    all_have m _ (page_good (Leads m) m (lead m) _ (any_blocks (Leads m) tt tt) (λ t. tt) page.blocks (not page.ends_blank) tt)

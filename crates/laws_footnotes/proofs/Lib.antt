@@ -4,3 +4,4 @@ mod Numbers
 mod Section
 mod Defined
 mod Printed
+mod Ids

@@ -1,3 +1,4 @@
 pub mod Footnotes
 pub mod Section
 pub mod Defined
+pub mod Ids

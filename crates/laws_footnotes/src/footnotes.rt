@@ -1,6 +1,7 @@
 //! Footnotes of a page (in no standard; as GitHub prints them).
 ghost use Rattle.laws_footnotes.specs.Defined.{CallHasDefinitionLaw};
 ghost use Rattle.laws_footnotes.specs.Footnotes.{AroundLaw, ContentLaw, CountLaw, CountedCallsLaw, NoCallLaw, NumberLaw, PlainContentLaw};
+ghost use Rattle.laws_footnotes.specs.Ids.{IdsDifferLaw};
 ghost use Rattle.laws_footnotes.specs.Section.{PrintedCallLaw, SectionLaw};
 
 /// A page that calls no footnote has no section of them: its HTML is what stands outside of footnotes alone.
@@ -61,4 +62,10 @@ pub fn call_has_definition_law()
 #[tactic(auto, using(crate::proofs::Printed::printed_call_law))]
 pub fn printed_call_law()
     ensures { PrintedCallLaw }
+{}
+
+/// The ids of a page's headings differ from one another, and from those of footnotes, calls and the
+/// heading of footnotes.
+pub fn ids_differ_law()
+    ensures { IdsDifferLaw }
 {}

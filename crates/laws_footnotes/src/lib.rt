@@ -1,4 +1,4 @@
-//! Numbers of footnotes, and where they stand.
+//! Numbers of footnotes, where they stand, and ids of headings.
 #![tactic(auto)]
 
 pub mod footnotes;

@@ -20,8 +20,8 @@ use Rattle.laws_list.proofs.GfmTaskListItem.{read_in_item}
 use Rattle.laws_block.proofs.Looseness.{line_gap}
 use Rattle.laws_block.proofs.TextLines.{join-front}
 use Rattle.laws_quote.specs.Squeeze.{SqueezeState, kept_and_run, with_byte, with_bytes, nothing_yet, squeeze}
-use Rattle.laws_quote.proofs.Bytes.{after_text, bytes_after_text, dropped_ending}
-use Rattle.laws_quote.proofs.Printed.{with_piece, with_pieces, pieces_after_text, kept_at_fresh}
+use Rattle.laws_quote.proofs.Bytes.{bytes_after_text, dropped_ending}
+use Rattle.laws_quote.proofs.Printed.{PrintState, nothing_printed, state_after_text, with_piece, with_pieces, pieces_after_text, kept_at_fresh}
 use Rattle.laws_quote.proofs.Lists.{grouped-join}
 use Rattle.laws_quote.proofs.Siblings.{print_siblings, keep_join}
 use Rattle.laws_quote.proofs.PageLaw.{join-nil, reading, meaning, page_bytes, squeezed_kids, squeeze_page, added_ending, html_unmarked}
@@ -61,8 +61,8 @@ module _ (tables : TextTables) (options : Options) (default : LineEnding) (ds : 
   one_ending bs last ends =
       let r = reading tables options default ds in
       let m = meaning tables options default ds in
-      ap (λ all. (print_siblings default m (inside false) None (read_blocks r in_container all) nothing_yet).kept) (grouped-join bs last ends)
-      ∙ keep_join default m r (group_items bs) last ends None nothing_yet
+      ap (λ all. (print_siblings default m (inside false) None (read_blocks r in_container all) nothing_printed).squeezed.kept) (grouped-join bs last ends)
+      ∙ keep_join default m r (group_items bs) last ends None nothing_printed
 
   endings : (bs ends : tree.Blocks) → tree.all_endings ends ≡ true → (kids_of (tree.join bs ends)).kept ≡ (kids_of bs).kept
   endings bs tree.Nil h = ap (λ all. (kids_of all).kept) (join-nil bs)
@@ -72,16 +72,17 @@ module _ (tables : TextTables) (options : Options) (default : LineEnding) (ds : 
 
   -- ---- a list of one item that is loose
 
-  fresh_keeps : (said : Bool) (s : SqueezeState) → (with_pieces default s (fresh_unless said)).kept ≡ s.kept
+  fresh_keeps : (said : Bool) (s : PrintState) → (with_pieces options.compile default s (fresh_unless said)).squeezed.kept ≡ s.squeezed.kept
   fresh_keeps true s = refl
-  fresh_keeps false s = kept_at_fresh default s
+  fresh_keeps false s = kept_at_fresh default s.squeezed
 
   -- after what stands in the item: its end, an ending, and the list's end
-  ends_list : (s t : SqueezeState) → s.kept ≡ t.kept
-      → (with_pieces default s (Close (codes "li") ∷ Eol ∷ Close (codes "ul") ∷ [])).kept ≡ (with_bytes (kept_and_run t.kept None) list_end).kept
+  ends_list : (s t : PrintState) → s.squeezed.kept ≡ t.squeezed.kept
+      → (with_pieces options.compile default s (Close (codes "li") ∷ Eol ∷ Close (codes "ul") ∷ [])).squeezed.kept
+      ≡ (with_bytes (kept_and_run t.squeezed.kept None) list_end).kept
   ends_list s t e =
       let item_end = codes "</li>" in
-      let u = with_bytes (kept_and_run s.kept None) item_end in
+      let u = with_bytes (kept_and_run s.squeezed.kept None) item_end in
       ap (λ v. (with_bytes v (codes "</ul>")).kept) (dropped_ending u default refl)
       ∙ ap (λ kept. (with_bytes (kept_and_run kept None) list_end).kept) e
 
@@ -93,26 +94,27 @@ module _ (tables : TextTables) (options : Options) (default : LineEnding) (ds : 
 
   -- a list of one item with these children, squeezed
   item_kept : (kids : page.Blocks)
-      → (with_pieces default nothing_yet (pieces_here true (page.Cons (page.Holds page.Item kids) page.Nil))).kept
-      ≡ kept_around (print_siblings default (meaning tables options default ds) (inside false) None kids nothing_yet).kept
+      → (with_pieces options.compile default nothing_printed (pieces_here true (page.Cons (page.Holds page.Item kids) page.Nil))).squeezed.kept
+      ≡ kept_around (print_siblings default (meaning tables options default ds) (inside false) None kids nothing_printed).squeezed.kept
   item_kept kids =
-      let f = with_piece default in
-      let s = after_text list_start nothing_yet in
+      let f = with_piece options.compile default in
+      let s = state_after_text list_start nothing_printed in
       let inner = children_pieces (meaning tables options default ds) (inside false) None kids in
       let plainly = ends_plainly false (last_visible None kids) in
       let inside_item = inner ++ fresh_unless plainly in
       let item = inside_item ++ Close (codes "li") ∷ [] in
       let in_list = (item ++ []) ++ Eol ∷ [] in
       let whole = in_list ++ Close (codes "ul") ∷ [] in
-      let t = after_text list_start (with_pieces default nothing_yet inner) in
-      let kept = (ap (λ u. u.kept) (fold-append f s inner (fresh_unless plainly))
-      ∙ fresh_keeps plainly (with_pieces default s inner)
-      ∙ ap (λ u. u.kept) (pieces_after_text default list_start inner nothing_yet)) in
-      ap (λ u. u.kept) (fold-append f s whole [])
-      ∙ ap (λ u. u.kept) (fold-append f s in_list (Close (codes "ul") ∷ []))
-      ∙ ap (λ u. (with_pieces default u (Close (codes "ul") ∷ [])).kept) (fold-append f s (item ++ []) (Eol ∷ []))
-      ∙ ap (λ u. (with_pieces default u (Eol ∷ Close (codes "ul") ∷ [])).kept) (fold-append f s item [] ∙ fold-append f s inside_item (Close (codes "li") ∷ []))
-      ∙ ends_list (with_pieces default s inside_item) t kept
+      let t = state_after_text list_start (with_pieces options.compile default nothing_printed inner) in
+      let kept = (ap (λ u. u.squeezed.kept) (fold-append f s inner (fresh_unless plainly))
+      ∙ fresh_keeps plainly (with_pieces options.compile default s inner)
+      ∙ ap (λ u. u.squeezed.kept) (pieces_after_text default options.compile list_start inner nothing_printed)) in
+      ap (λ u. u.squeezed.kept) (fold-append f s whole [])
+      ∙ ap (λ u. u.squeezed.kept) (fold-append f s in_list (Close (codes "ul") ∷ []))
+      ∙ ap (λ u. (with_pieces options.compile default u (Close (codes "ul") ∷ [])).squeezed.kept) (fold-append f s (item ++ []) (Eol ∷ []))
+      ∙ ap (λ u. (with_pieces options.compile default u (Eol ∷ Close (codes "ul") ∷ [])).squeezed.kept)
+      (fold-append f s item [] ∙ fold-append f s inside_item (Close (codes "li") ∷ []))
+      ∙ ends_list (with_pieces options.compile default s inside_item) t kept
 
   squeeze_item : options.parse.constructs.gfm_task_list_item ≡ false → (kids : tree.Blocks) → has_gap (group_items kids) ≡ true
       → (kids_of (item_of kids)).kept ≡ kept_around (kids_of kids).kept
@@ -120,8 +122,10 @@ module _ (tables : TextTables) (options : Options) (default : LineEnding) (ds : 
       let all = group_items kids in
       let r = reading tables options default ds in
       let loose : is_loose (tree.one (tree.Holds plus_item all)) ≡ true = ap (λ gap. gap || false) h in
-      ap (λ is. (with_pieces default nothing_yet (pieces_here is (page.Cons (page.Holds page.Item (read_blocks r in_item all)) page.Nil))).kept) loose
-      ∙ ap (λ inner. (with_pieces default nothing_yet (pieces_here true (page.Cons (page.Holds page.Item inner) page.Nil))).kept) (read_in_item r off true all)
+      let list : Bool → page.Blocks → List ℕ = λ is inner.
+      (with_pieces options.compile default nothing_printed (pieces_here is (page.Cons (page.Holds page.Item inner) page.Nil))).squeezed.kept in
+      ap (λ is. list is (read_blocks r in_item all)) loose
+      ∙ ap (list true) (read_in_item r off true all)
       ∙ item_kept (read_here all)
 
   -- children in a list, with the endings at their end after it, and alone

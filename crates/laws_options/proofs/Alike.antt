@@ -1,6 +1,6 @@
--- Pages are the same by options that print raw HTML and URLs alike.
-use Rattle.std.proofs.Common.{◌≡◌, ℕ, false, not, cond, List, [], ◌∷◌, ◌++◌, Option, None, Some, refl, ap, ◌∙◌, map}
-use Rattle.std.specs.Prelude.{codes}
+-- Pages are the same by options that print raw HTML, links, images and ids of headings alike.
+use Rattle.std.proofs.Common.{◌≡◌, ℕ, Bool, true, false, not, cond, List, [], ◌∷◌, ◌++◌, Option, None, Some, refl, sym, ap, ◌∙◌, map}
+use Rattle.std.specs.Prelude.{codes, if◌then◌else◌}
 use Rattle.std.specs.List.{flat_map}
 use Rattle.markdown_compile_options.specs.declared.configuration.CompileOptions.{CompileOptions}
 use Rattle.markdown_options.specs.declared.line_ending.LineEnding.{LineEnding}
@@ -10,26 +10,39 @@ use Rattle.definition_text.specs.Lines.{ending_text}
 use Rattle.definition_inline.specs.Inline.{LinkTexts, InlineLeaf, Autolink, Literal, Html, TaskCheck, Link, Image, Inline, Leaf, Span, Linked, Call}
 use Rattle.definition_inline.specs.Inline.{Inlines, Nil, Cons}
 use Rattle.definition_page.specs.Tags.{PrintedPart, Words, EndOfLine, Attribute, attribute, Tag, tag, bare_tag}
-use Rattle.definition_page.specs.Pieces.{Piece, Void, Says, Eol, Fresh, NoteStart, NoteEnd}
-use Rattle.definition_page.specs.InlinePieces.{Meaning, link_url, image_url, url_of, title_attribute, address, literal_address, raw_html, HtmlLine, html_lines}
+use Rattle.definition_page.specs.Pieces.{Piece, Open, Close, Void, Says, Eol, Fresh, Named, NoteStart, NoteEnd}
+use Rattle.definition_page.specs.Destinations.{link_destination, image_source}
+use Rattle.definition_page.specs.HeadingIds.{id_attributes, with_ids}
+use Rattle.definition_page.specs.HeadingText.{heading_text}
+use Rattle.definition_page.specs.Slug.{next_slug, with_slug}
+use Rattle.definition_page.specs.InlinePieces.{Meaning, link_url, image_url, url_of, title_attribute, rel_attributes, loading_attributes, address}
+use Rattle.definition_page.specs.InlinePieces.{literal_address, raw_html, HtmlLine, html_lines}
 use Rattle.definition_page.specs.InlinePieces.{html_line_says, later_line_says, html_lines_say, link_tag, image_tag, leaf_says, part_says, description}
 use Rattle.definition_inline.specs.Targets.{leads_to}
 use Rattle.definition_page.specs.InlinePieces.{part_counts, inline_counts, element, address_tag, leaf_pieces, span_name, part_pieces, inline_pieces}
 use Rattle.definition_page.specs.GfmTaskListItem.{checkable_attributes, done_attributes}
 use Rattle.markdown_options.specs.declared.align_kind.AlignKind.{AlignKind}
-use Rattle.definition_page.specs.GfmTable.{Table, TableRow, align_attributes, cell_pieces, cells_pieces, row_pieces, endings_pieces, body_row_pieces, head_pieces}
+use Rattle.definition_page.specs.GfmTable.{Table, TableRow, align_attributes, cell_pieces, cells_pieces, row_pieces, endings_pieces, body_row_pieces}
+use Rattle.definition_page.specs.GfmTable.{head_pieces}
 use Rattle.definition_page.specs.GfmTable.{body_pieces, table_pieces}
 use Rattle.definition_page.specs.Page as page
 use Rattle.definition_page.specs.Page.{Page}
-use Rattle.definition_page.specs.BlockPieces.{Place, at_top, inside, html_line, says, heading_name}
+use Rattle.definition_page.specs.BlockPieces.{Place, at_top, inside, html_line, says, heading_name, heading_start}
 use Rattle.definition_page.specs.BlockPieces.{list_tag, last_visible, ends_plainly, fresh_unless, leaf_block_pieces, block_pieces, children_pieces}
 use Rattle.definition_page.specs.BlockPieces.{document_pieces}
+use Rattle.definition_page.proofs.HeadingIds.{ids_off}
 
--- options that print raw HTML and URLs alike
+-- options that print raw HTML, links, images and ids of headings alike
 pub record Alike (one another : CompileOptions) : Type 0 where
   pub raw : (html : List ℕ) → raw_html one html ≡ raw_html another html
   pub link : (url : List ℕ) → link_url one url ≡ link_url another url
   pub image : (url : List ℕ) → image_url one url ≡ image_url another url
+  pub destination : (url : List ℕ) → link_destination one url ≡ link_destination another url
+  pub source : (url : List ℕ) → image_source one url ≡ image_source another url
+  pub rel : rel_attributes one.link_rel ≡ rel_attributes another.link_rel
+  pub lazy : one.lazy_images ≡ another.lazy_images
+  pub named : one.heading_ids ≡ another.heading_ids
+  pub ids : another.heading_ids ≡ true → (slug : List ℕ) → id_attributes one slug ≡ id_attributes another slug
   pub checkable : one.gfm_task_list_item_checkable ≡ another.gfm_task_list_item_checkable
 
 module _ (m : Meaning) (compile : CompileOptions) (alike : Alike compile m.compile) where
@@ -73,12 +86,22 @@ module _ (m : Meaning) (compile : CompileOptions) (alike : Alike compile m.compi
 
   same_link_tag : (target : LinkTexts) → link_tag other target ≡ link_tag m target
   same_link_tag target =
-      ap (λ url. tag (codes "a") (attribute (codes "href") url ∷ title_attribute m target.title)) (alike.link (url_of m target))
+      let url = url_of m target in
+      let title = title_attribute m target.title in
+      let link : List ℕ → List Attribute → Tag = λ printed rel. tag (codes "a") (attribute (codes "href") printed ∷ title ++ rel) in
+      ap (λ to. link (link_url compile to) (rel_attributes compile.link_rel)) (alike.destination url)
+      ∙ ap (λ printed. link printed (rel_attributes compile.link_rel)) (alike.link (link_destination m.compile url))
+      ∙ ap (link (link_url m.compile (link_destination m.compile url))) alike.rel
 
   same_image_tag : (target : LinkTexts) (text : List PrintedPart) → image_tag other target text ≡ image_tag m target text
   same_image_tag target text =
       let description : Attribute = record { name = codes "alt"; value = text } in
-      ap (λ url. tag (codes "img") (attribute (codes "src") url ∷ description ∷ title_attribute m target.title)) (alike.image (url_of m target))
+      let url = url_of m target in
+      let title = title_attribute m target.title in
+      let image : List ℕ → List Attribute → Tag = λ printed loading. tag (codes "img") (attribute (codes "src") printed ∷ description ∷ title ++ loading) in
+      ap (λ from. image (image_url compile from) (loading_attributes compile.lazy_images)) (alike.source url)
+      ∙ ap (λ printed. image printed (loading_attributes compile.lazy_images)) (alike.image (image_source m.compile url))
+      ∙ ap (λ lazy. image (image_url m.compile (image_source m.compile url)) (loading_attributes lazy)) alike.lazy
 
   mutual
     same_part_counts : (i : Inline) → part_counts other i ≡ part_counts m i
@@ -93,7 +116,10 @@ module _ (m : Meaning) (compile : CompileOptions) (alike : Alike compile m.compi
 
   same_address : (url text : List ℕ)
       → element (address_tag compile url) (Says (Words text) ∷ []) ≡ element (address_tag m.compile url) (Says (Words text) ∷ [])
-  same_address url text = ap (λ printed. element (tag (codes "a") (attribute (codes "href") printed ∷ [])) (Says (Words text) ∷ [])) (alike.link url)
+  same_address url text =
+      let link : List ℕ → List Attribute → List Piece = λ printed rel.
+      element (tag (codes "a") (attribute (codes "href") printed ∷ rel)) (Says (Words text) ∷ []) in
+      ap (λ printed. link printed (rel_attributes compile.link_rel)) (alike.link url) ∙ ap (link (link_url m.compile url)) alike.rel
 
   same_leaf : (part : InlineLeaf) → leaf_pieces compile part ≡ leaf_pieces m.compile part
   same_leaf (Autolink is_email text) = same_address (address is_email text) text
@@ -170,9 +196,18 @@ module _ (m : Meaning) (compile : CompileOptions) (alike : Alike compile m.compi
       ap (λ head. whole head (body_pieces other t.aligns t.endings t.rows)) (same_head t.aligns t.head)
       ∙ ap (whole (head_pieces m t.aligns t.head)) (same_body t.aligns t.endings t.rows)
 
+  same_start : (rank : ℕ) (is : Inlines) → heading_start other rank is ≡ heading_start m rank is
+  same_start rank is =
+      let t = bare_tag (heading_name rank) in
+      let start : Bool → Piece = λ named. if named then Named t (heading_text is) else Open t in
+      ap start alike.named
+
   same_leaf_block : (place : Place) (leaf : page.PageLeaf) → leaf_block_pieces other place leaf ≡ leaf_block_pieces m place leaf
   same_leaf_block place (page.Paragraph is) = ap (λ ps. cond place.tight ps (Fresh ∷ element (bare_tag (codes "p")) ps)) (same_inlines is)
-  same_leaf_block place (page.Heading rank is) = ap (λ ps. Fresh ∷ element (bare_tag (heading_name rank)) ps) (same_inlines is)
+  same_leaf_block place (page.Heading rank is) =
+      let end = Close (heading_name rank) ∷ [] in
+      ap (λ start. Fresh ∷ start ∷ inline_pieces other is ++ end) (same_start rank is)
+      ∙ ap (λ ps. Fresh ∷ heading_start m rank is ∷ ps ++ end) (same_inlines is)
   same_leaf_block place (page.Html ls) = ap (λ said. Fresh ∷ says said) (same_html ls)
   same_leaf_block place (page.Table t) = same_table t
   same_leaf_block place leaf = refl
@@ -196,5 +231,24 @@ module _ (m : Meaning) (compile : CompileOptions) (alike : Alike compile m.compi
         ap (λ ps. ps ++ children_pieces other place (Some b) bs) (same_block place before b)
         ∙ ap (λ ps. block_pieces m place before b ++ ps) (same_children place (Some b) bs)
 
+  -- ---- ids
+
+  same_ids : m.compile.heading_ids ≡ true → (taken : List (List ℕ)) (ps : List Piece) → with_ids compile taken ps ≡ with_ids m.compile taken ps
+  same_ids on taken [] = refl
+  same_ids on taken (Named t text ∷ ps) =
+      let later = with_slug taken text in
+      ap (λ ids. Open (tag t.name (ids ++ t.attributes)) ∷ with_ids compile later ps) (alike.ids on (next_slug taken text))
+      ∙ ap (λ all. Open (tag t.name (id_attributes m.compile (next_slug taken text) ++ t.attributes)) ∷ all) (same_ids on later ps)
+  same_ids on taken (p ∷ ps) = ap (λ all. p ∷ all) (same_ids on taken ps)
+
+  -- where headings have none, none is named
+  same_ids_by : (has : Bool) → m.compile.heading_ids ≡ has → (bs : page.Blocks) (said : Bool)
+      → let ps = children_pieces m at_top None bs ++ fresh_unless said in with_ids compile [] ps ≡ with_ids m.compile [] ps
+  same_ids_by true on bs said = same_ids on [] (children_pieces m at_top None bs ++ fresh_unless said)
+  same_ids_by false off bs said = ids_off m off compile bs said ∙ sym (ids_off m off m.compile bs said)
+
   pub same_document : (p : Page) → document_pieces other p ≡ document_pieces m p
-  same_document p = ap (λ ps. ps ++ fresh_unless (not p.ends_blank)) (same_children at_top None p.blocks)
+  same_document p =
+      let said = not p.ends_blank in
+      ap (λ ps. with_ids compile [] (ps ++ fresh_unless said)) (same_children at_top None p.blocks)
+      ∙ same_ids_by m.compile.heading_ids refl p.blocks said

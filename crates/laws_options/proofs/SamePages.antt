@@ -1,6 +1,6 @@
 -- Where an option of printing makes no difference.
-use Rattle.std.proofs.Common.{◌≡◌, ℕ, true, List, Option, None, Some, refl, sym, ap, ◌∙◌}
-use Rattle.std.specs.Prelude.{unwrap_or, is_some}
+use Rattle.std.proofs.Common.{◌≡◌, ℕ, true, List, [], Option, None, Some, refl, sym, ap, ◌∙◌}
+use Rattle.std.specs.Prelude.{unwrap_or, is_some, if◌then◌else◌}
 use Rattle.std.proofs.lemmas.Bool.{cond-false, or_right, false≢true}
 use Rattle.markdown_options.specs.declared.line_ending.LineEnding.{LineEnding}
 use Rattle.markdown_compile_options.specs.declared.configuration.CompileOptions.{CompileOptions}
@@ -8,6 +8,8 @@ use Rattle.markdown_compile_options.specs.declared.configuration.Options.{Option
 use Rattle.markdown_options.specs.LineEndings.{ending_bytes}
 use Rattle.definition_text.specs.Lines.{without_mark, first_line}
 use Rattle.definition_page.specs.TextTables.{TextTables}
+use Rattle.definition_page.specs.OptionTexts.{text_or}
+use Rattle.definition_page.specs.Destinations.{heading_prefix, link_base, based, prefixed}
 use Rattle.definition_page.specs.Urls.{src_protocols}
 use Rattle.definition_page.specs.InlinePieces.{permitted_url}
 use Rattle.definition_page.specs.DocumentPieces.{meaning_of, pieces, default_ending}
@@ -15,7 +17,7 @@ use Rattle.definition_page.specs.Page.{Page}
 use Rattle.definition_page.specs.Read.{read}
 use Rattle.definition_page.specs.Layout.{page_layout}
 use Rattle.definition_page.specs.Html.{html}
-use Rattle.laws_options.specs.Laws.{printing_by, TagfilterLaw, ImageSourceLaw, DefaultEndingLaw}
+use Rattle.laws_options.specs.Laws.{printing_by, TagfilterLaw, ImageSourceLaw, DefaultEndingLaw, IdPrefixLaw}
 use Rattle.laws_options.proofs.Alike.{Alike, same_document}
 use Rattle.laws_options.proofs.Layouts.{CallAlike, same_layout}
 
@@ -34,7 +36,18 @@ pub tagfilter_law : TagfilterLaw
 tagfilter_law tables text options filter off =
     let raw = options.compile.allow_dangerous_html in
     let alike : Alike (record options.compile { gfm_tagfilter = filter }) options.compile =
-    record { checkable = refl; raw = λ html. cond-false raw _ _ off ∙ sym (cond-false raw _ _ off); link = λ url. refl; image = λ url. refl } in
+    record {
+      destination = λ url. refl;
+      source = λ url. refl;
+      rel = refl;
+      lazy = refl;
+      named = refl;
+      ids = λ on slug. refl;
+      checkable = refl;
+      raw = λ html. cond-false raw _ _ off ∙ sym (cond-false raw _ _ off);
+      link = λ url. refl;
+      image = λ url. refl;
+    } in
     same_page tables text options (record options.compile { gfm_tagfilter = filter }) alike (record { call = λ c. refl; section = λ notes. refl }) refl
 
 pub image_source_law : ImageSourceLaw
@@ -42,7 +55,18 @@ image_source_law tables text options any on =
     let all = options.compile.allow_dangerous_protocol in
     let same = or_right any all on ∙ sym (or_right options.compile.allow_any_img_src all on) in
     let alike : Alike (record options.compile { allow_any_img_src = any }) options.compile =
-    record { checkable = refl; raw = λ html. refl; link = λ url. refl; image = λ url. ap (λ p. permitted_url p src_protocols url) same } in
+    record {
+      destination = λ url. refl;
+      source = λ url. refl;
+      rel = refl;
+      lazy = refl;
+      named = refl;
+      ids = λ on slug. refl;
+      checkable = refl;
+      raw = λ html. refl;
+      link = λ url. refl;
+      image = λ url. ap (λ p. permitted_url p src_protocols url) same;
+    } in
     same_page tables text options (record options.compile { allow_any_img_src = any }) alike (record { call = λ c. refl; section = λ notes. refl }) refl
 
 same_or : (o : Option LineEnding) (a b : LineEnding) → is_some o ≡ true → unwrap_or o a ≡ unwrap_or o b
@@ -53,6 +77,39 @@ pub default_ending_law : DefaultEndingLaw
 default_ending_law tables text options ending has =
     let same = same_or (first_line (without_mark text)).ending ending options.compile.default_line_ending has in
     let alike : Alike (record options.compile { default_line_ending = ending }) options.compile =
-    record { checkable = refl; raw = λ html. refl; link = λ url. refl; image = λ url. refl } in
+    record {
+      destination = λ url. refl;
+      source = λ url. refl;
+      rel = refl;
+      lazy = refl;
+      named = refl;
+      ids = λ on slug. refl;
+      checkable = refl;
+      raw = λ html. refl;
+      link = λ url. refl;
+      image = λ url. refl;
+    } in
     same_page tables text options (record options.compile { default_line_ending = ending }) alike
     (record { call = λ c. refl; section = λ notes. refl }) (ap ending_bytes same)
+
+pub id_prefix_law : IdPrefixLaw
+id_prefix_law tables text options other off =
+    let compile : CompileOptions = record options.compile { heading_id_prefix = other.heading_id_prefix } in
+    let none : (default : List ℕ) → (if options.compile.heading_ids then default else []) ≡ [] =
+    λ default. cond-false options.compile.heading_ids default [] off in
+    let prefix : heading_prefix compile ≡ heading_prefix options.compile =
+    none (text_or other.heading_id_prefix []) ∙ sym (none (text_or options.compile.heading_id_prefix [])) in
+    let alike : Alike compile options.compile =
+    record {
+      destination = λ url. ap (λ all. based (link_base options.compile) (prefixed all url)) prefix;
+      source = λ url. refl;
+      rel = refl;
+      lazy = refl;
+      named = refl;
+      ids = λ on slug. absurd (false≢true (sym off ∙ on));
+      checkable = refl;
+      raw = λ html. refl;
+      link = λ url. refl;
+      image = λ url. refl;
+    } in
+    same_page tables text options compile alike (record { call = λ c. refl; section = λ notes. refl }) refl

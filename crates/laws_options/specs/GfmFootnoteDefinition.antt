@@ -1,8 +1,9 @@
 -- Footnotes that are off.
-use Rattle.std.specs.Prelude.{◌≡◌, ℕ, false, List}
+use Rattle.std.specs.Prelude.{◌≡◌, ℕ, true, false, List}
 use Rattle.markdown_compile_options.specs.declared.configuration.CompileOptions.{CompileOptions}
 use Rattle.markdown_compile_options.specs.declared.configuration.Options.{Options}
 use Rattle.definition_page.specs.TextTables.{TextTables}
+use Rattle.definition_page.specs.GfmLabelStartFootnote.{id_prefix}
 use Rattle.definition_page.specs.Html.{html}
 use Rattle.laws_options.specs.Laws.{printing_by}
 
@@ -19,8 +20,13 @@ with_footnotes_by other options =
     })
     options
 
+-- the ids of headings avoid those of footnotes: where headings have ids, these options begin the ids of footnotes alike
+abbrev pub AvoidAlike : CompileOptions → CompileOptions → Type 0
+AvoidAlike other options = options.heading_ids ≡ true → id_prefix other ≡ id_prefix options
+
 -- where footnote definitions are off, a page is the same by any options of footnotes (in neither standard)
 abbrev pub FootnoteDefinitionOffLaw : Type 0
 FootnoteDefinitionOffLaw =
     (tables : TextTables) (text : List ℕ) (options : Options) (other : CompileOptions) → options.parse.constructs.gfm_footnote_definition ≡ false
+    → AvoidAlike other options.compile
     → html tables text (with_footnotes_by other options) ≡ html tables text options

@@ -23,6 +23,10 @@ with_any_source any options = printing_by (record options.compile { allow_any_im
 abbrev pub with_default_ending : LineEnding → Options → Options
 with_default_ending ending options = printing_by (record options.compile { default_line_ending = ending }) options
 
+-- with the prefix of ids that these have
+abbrev pub with_id_prefix_of : CompileOptions → Options → Options
+with_id_prefix_of other options = printing_by (record options.compile { heading_id_prefix = other.heading_id_prefix }) options
+
 -- where dangerous HTML isn't allowed, a page is the same with the tag filter and without (GFM 6.11)
 abbrev pub TagfilterLaw : Type 0
 TagfilterLaw =
@@ -40,3 +44,9 @@ abbrev pub DefaultEndingLaw : Type 0
 DefaultEndingLaw =
     (tables : TextTables) (text : List ℕ) (options : Options) (ending : LineEnding) → is_some (first_line (without_mark text)).ending ≡ true
     → html tables text (with_default_ending ending options) ≡ html tables text options
+
+-- where headings have no ids, a page is the same whatever these would begin with (in neither standard)
+abbrev pub IdPrefixLaw : Type 0
+IdPrefixLaw =
+    (tables : TextTables) (text : List ℕ) (options : Options) (other : CompileOptions) → options.compile.heading_ids ≡ false
+    → html tables text (with_id_prefix_of other options) ≡ html tables text options

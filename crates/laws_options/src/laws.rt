@@ -1,5 +1,5 @@
 //! Where an option of printing makes no difference.
-ghost use Rattle.laws_options.specs.Laws.{TagfilterLaw, ImageSourceLaw, DefaultEndingLaw};
+ghost use Rattle.laws_options.specs.Laws.{TagfilterLaw, ImageSourceLaw, DefaultEndingLaw, IdPrefixLaw};
 
 /// Where dangerous HTML isn't allowed, a page is the same with the tag filter and without.
 #[tactic(auto, using(crate::proofs::SamePages::tagfilter_law))]
@@ -17,4 +17,10 @@ pub fn image_source_law()
 #[tactic(auto, using(crate::proofs::SamePages::default_ending_law))]
 pub fn default_ending_law()
     ensures { DefaultEndingLaw }
+{}
+
+/// Where headings have no ids, a page is the same whatever these would begin with.
+#[tactic(auto, using(crate::proofs::SamePages::id_prefix_law))]
+pub fn id_prefix_law()
+    ensures { IdPrefixLaw }
 {}

@@ -34,8 +34,8 @@ use Rattle.laws_quote.proofs.Quotes.{quote_law, quote_definitions_law}
 use Rattle.laws_quote.proofs.Endings.{at_last}
 use Rattle.laws_quote.specs.Squeeze.{SqueezeState, kept_and_run, with_byte, with_bytes, nothing_yet, squeeze}
 use Rattle.laws_quote.specs.PageLaws.{IsQuotable, quote_around, QuotePageLaw, QuotePagesLaw}
-use Rattle.laws_quote.proofs.Bytes.{after_text, bytes_after_text}
-use Rattle.laws_quote.proofs.Printed.{with_piece, with_pieces, pieces_printed, pieces_after_text, kept_at_fresh}
+use Rattle.laws_quote.proofs.Bytes.{bytes_after_text}
+use Rattle.laws_quote.proofs.Printed.{PrintState, nothing_printed, state_after_text, with_piece, with_pieces, pieces_printed, pieces_after_text, kept_at_fresh}
 use Rattle.laws_quote.proofs.PlainPages.{HaveNoNotes, text_without_notes, no_labels, document_plain}
 use Rattle.laws_quote.proofs.Lists.{grouped-join}
 use Rattle.laws_quote.proofs.Siblings.{print_siblings, same_in_quote, keep_join}
@@ -74,7 +74,7 @@ module _ (tables : TextTables) (options : Options) (default : LineEnding) (ds : 
 
   -- children in a quote, squeezed
   abbrev pub squeezed_kids : tree.Blocks → SqueezeState
-  squeezed_kids bs = print_siblings default meaning (inside false) None (read_blocks reading in_container (group_items bs)) nothing_yet
+  squeezed_kids bs = (print_siblings default meaning (inside false) None (read_blocks reading in_container (group_items bs)) nothing_printed).squeezed
 
   -- it is laid out piece by piece
   pub laid_out : (bs : tree.Blocks) → HaveNoNotes bs
@@ -83,18 +83,18 @@ module _ (tables : TextTables) (options : Options) (default : LineEnding) (ds : 
       plain_page options.compile (ending_bytes default) (pieces tables options (page_with tables options.parse (targets ds []) bs))
       (document_plain meaning refl reading bs (not (ends_blank false bs)) p)
 
-  last_line : (said : Bool) (s : SqueezeState) → (with_pieces default s (fresh_unless said)).kept ≡ s.kept
+  last_line : (said : Bool) (s : PrintState) → (with_pieces options.compile default s (fresh_unless said)).squeezed.kept ≡ s.squeezed.kept
   last_line true s = refl
-  last_line false s = kept_at_fresh default s
+  last_line false s = kept_at_fresh default s.squeezed
 
   pub squeeze_page : (bs : tree.Blocks) → squeeze (page_bytes bs) ≡ (squeezed_kids bs).kept
   squeeze_page bs =
       let kids = children_pieces meaning at_top None (read_blocks reading on_page (group_items bs)) in
       let said = not (ends_blank false bs) in
-      ap (λ s. s.kept) (pieces_printed default (kids ++ fresh_unless said) [])
-      ∙ ap (λ s. s.kept) (fold-append (with_piece default) nothing_yet kids (fresh_unless said))
-      ∙ last_line said (with_pieces default nothing_yet kids)
-      ∙ ap (λ s. s.kept) (same_in_quote default meaning reading (group_items bs) None nothing_yet)
+      ap (λ s. s.kept) (pieces_printed default options.compile [] (kids ++ fresh_unless said) [])
+      ∙ ap (λ s. s.squeezed.kept) (fold-append (with_piece options.compile default) nothing_printed kids (fresh_unless said))
+      ∙ last_line said (with_pieces options.compile default nothing_printed kids)
+      ∙ ap (λ s. s.squeezed.kept) (same_in_quote default meaning reading (group_items bs) None nothing_printed)
 
   -- the ending of a last line makes no difference
   without_ending : (bs kids : tree.Blocks) → (squeezed_kids (tree.join bs (tree.last_of kids))).kept ≡ (squeezed_kids bs).kept
@@ -102,22 +102,23 @@ module _ (tables : TextTables) (options : Options) (default : LineEnding) (ds : 
       at_last (λ last. (squeezed_kids (tree.join bs last)).kept ≡ (squeezed_kids bs).kept) kids
       (ap (λ all. (squeezed_kids all).kept) (join-nil bs))
       (λ last ends.
-      ap (λ all. (print_siblings default meaning (inside false) None (read_blocks reading in_container all) nothing_yet).kept) (grouped-join bs last ends)
-      ∙ keep_join default meaning reading (group_items bs) last ends None nothing_yet)
+      ap (λ all. (print_siblings default meaning (inside false) None (read_blocks reading in_container all) nothing_printed).squeezed.kept)
+      (grouped-join bs last ends)
+      ∙ keep_join default meaning reading (group_items bs) last ends None nothing_printed)
 
   -- a quote is what its children are, between its tags
   squeeze_quote : (kids : tree.Blocks) → (squeezed_kids (quote_of kids)).kept ≡ kept_around (squeezed_kids kids).kept
   squeeze_quote kids =
-      let f = with_piece default in
+      let f = with_piece options.compile default in
       let start = codes "<blockquote>" in
-      let s = after_text start nothing_yet in
+      let s = state_after_text start nothing_printed in
       let inner = children_pieces meaning (inside false) None (read_blocks reading in_container (group_items kids)) in
       let end = Close (codes "blockquote") ∷ [] in
-      let kept = (ap (λ t. t.kept) (fold-append f s inner (Fresh ∷ []))
-      ∙ kept_at_fresh default (with_pieces default s inner)
-      ∙ ap (λ t. t.kept) (pieces_after_text default start inner nothing_yet)) in
-      ap (λ t. t.kept) (fold-append f s ((inner ++ Fresh ∷ []) ++ end) [])
-      ∙ ap (λ t. t.kept) (fold-append f s (inner ++ Fresh ∷ []) end)
+      let kept = (ap (λ t. t.squeezed.kept) (fold-append f s inner (Fresh ∷ []))
+      ∙ kept_at_fresh default (with_pieces options.compile default s inner).squeezed
+      ∙ ap (λ t. t.squeezed.kept) (pieces_after_text default options.compile start inner nothing_printed)) in
+      ap (λ t. t.squeezed.kept) (fold-append f s ((inner ++ Fresh ∷ []) ++ end) [])
+      ∙ ap (λ t. t.squeezed.kept) (fold-append f s (inner ++ Fresh ∷ []) end)
       ∙ ap (λ all. (with_bytes (kept_and_run all None) quote_end).kept) kept
 
   -- children in a quote, with the ending of the last line after it, and alone

@@ -10,9 +10,10 @@ use Rattle.definition_block.specs.Tree.{is_ending, one, blocks}
 use Rattle.definition_block.specs.Definitions.{block_footnotes, footnotes}
 use Rattle.definition_block.specs.Lists.{endings_of, after_endings, list_items, list_marker, rest_of, item_marker, before_list, put_before, grouped_block}
 use Rattle.definition_block.specs.Lists.{group_items}
+use Rattle.definition_page.specs.HeadingIds.{with_ids}
 use Rattle.definition_page.specs.InlinePieces.{Meaning, call_at, count_at}
 use Rattle.definition_page.specs.Page as page
-use Rattle.definition_page.specs.BlockPieces.{at_top, inside}
+use Rattle.definition_page.specs.BlockPieces.{at_top}
 use Rattle.definition_page.specs.BlockPieces.{fresh_unless, children_pieces}
 use Rattle.definition_page.specs.Read.{Reading, on_page}
 use Rattle.definition_page.specs.Read.{read_container, read_blocks}
@@ -165,20 +166,21 @@ module _ (m : Meaning) (none : m.footnotes ≡ []) where
   plain : Prints IsPlain m
   plain =
       record {
-        opens = λ t. tt;
+        opens = λ t own. tt;
         closes = λ name. tt;
-        voids = λ t. tt;
+        voids = λ t own. tt;
         said = λ part. tt;
         eol = tt;
         fresh = tt;
+        names = λ on t text own. tt;
         calls = λ label. subst (λ labels. ArePlain (call_at (first_match label labels) (normal_label label))) (sym none) tt;
         counts = λ label. subst (λ labels. ArePlain (count_at (first_match label labels) (normal_label label))) (sym none) tt;
       }
 
   -- the page of such blocks has no piece that footnotes need
   pub document_plain : (r : Reading) (bs : tree.Blocks) (said : Bool) → HaveNoNotes bs
-      → ArePlain (children_pieces m at_top None (read_blocks r on_page (group_items bs)) ++ fresh_unless said)
+      → ArePlain (with_ids m.compile [] (children_pieces m at_top None (read_blocks r on_page (group_items bs)) ++ fresh_unless said))
   document_plain r bs said p =
       let read = read_blocks r on_page (group_items bs) in
-      page_good IsPlain m plain ReadNoNotes no_notes read said
+      page_good IsPlain m plain ReadNoNotes no_notes (λ t. tt) read said
       (blocks_read r ReadNoNotes HaveNoNotes (no_notes_read r) on_page (group_items bs) (notes_grouped bs p))

@@ -1,5 +1,5 @@
 -- Siblings at the top of a document and in a block quote, squeezed.
-use Rattle.std.proofs.Common.{◌≡◌, ℕ, List, [], ◌∷◌, ◌++◌, Bool, true, false, Option, None, Some, cond, refl, sym, ap, ◌∙◌}
+use Rattle.std.proofs.Common.{◌≡◌, ℕ, List, [], ◌∷◌, ◌++◌, Bool, true, false, Option, None, Some, cond, ◌||◌, if◌then◌else◌, refl, sym, ap, ◌∙◌}
 use Rattle.std.specs.Prelude.{codes, map}
 use Rattle.std.specs.List.{flat_map}
 use Rattle.std.proofs.lemmas.Bool.{false≢true}
@@ -10,7 +10,7 @@ use Rattle.definition_text.specs.BlockLines.{BlockLine, own_lines}
 use Rattle.definition_text.specs.Columns.{code_byte}
 use Rattle.definition_block.specs.Tree as tree
 use Rattle.definition_page.specs.Tags.{Words, said_bytes, end_tag, tag, bare_tag}
-use Rattle.definition_page.specs.Pieces.{Piece, Open, Close, Says, Eol, Fresh}
+use Rattle.definition_page.specs.Pieces.{Piece, Open, Close, Says, Eol, Fresh, Named}
 use Rattle.definition_page.specs.InlinePieces.{Meaning, element}
 use Rattle.definition_page.specs.Page as page
 use Rattle.definition_page.specs.Read.{Reading, Standing, on_page, in_container, info_text, without_ending, read_leaf, read_container, standing_in}
@@ -18,9 +18,12 @@ use Rattle.definition_page.specs.Read.{list_number, read_block, read_blocks}
 use Rattle.definition_block.specs.Lists.{is_loose}
 use Rattle.definition_page.specs.BlockPieces.{Place, at_top, inside, code_line, says, info_attributes, is_silent, fenced_pieces, leaf_block_pieces}
 use Rattle.definition_page.specs.BlockPieces.{block_pieces, children_pieces}
-use Rattle.laws_quote.specs.Squeeze.{SqueezeState, with_bytes}
+use Rattle.definition_text.proofs.Each.{each-append, each_map}
+use Rattle.definition_page.proofs.HeadingIds.{IsUnnamed, AreUnnamed}
+use Rattle.std.proofs.lemmas.Bool.{cond_both}
+use Rattle.laws_quote.specs.Squeeze.{with_bytes}
 use Rattle.laws_quote.proofs.Bytes.{kept_at_ending, same_at_tag}
-use Rattle.laws_quote.proofs.Printed.{with_piece, with_pieces, kept_at_fresh, kept_at_said, dropped_said}
+use Rattle.laws_quote.proofs.Printed.{PrintState, print_state, with_text, with_piece, with_pieces, kept_at_fresh, kept_at_said, dropped_said}
 
 -- ---- the place of a block
 
@@ -99,15 +102,15 @@ same_after m place a b (page.Cons c bs) e = refl
 
 module _ (default : LineEnding) (m : Meaning) where
   -- what siblings print after something, where the one before them is given
-  abbrev pub print_siblings : Place → Option page.Block → page.Blocks → SqueezeState → SqueezeState
-  print_siblings place before bs s = with_pieces default s (children_pieces m place before bs)
+  abbrev pub print_siblings : Place → Option page.Block → page.Blocks → PrintState → PrintState
+  print_siblings place before bs s = with_pieces m.compile default s (children_pieces m place before bs)
 
-  abbrev print_block : Place → Option page.Block → page.Block → SqueezeState → SqueezeState
-  print_block place before b s = with_pieces default s (block_pieces m place before b)
+  abbrev print_block : Place → Option page.Block → page.Block → PrintState → PrintState
+  print_block place before b s = with_pieces m.compile default s (block_pieces m place before b)
 
-  print-cons : (place : Place) (before : Option page.Block) (b : page.Block) (bs : page.Blocks) (s : SqueezeState)
+  print-cons : (place : Place) (before : Option page.Block) (b : page.Block) (bs : page.Blocks) (s : PrintState)
       → print_siblings place before (page.Cons b bs) s ≡ print_siblings place (Some b) bs (print_block place before b s)
-  print-cons place before b bs s = fold-append (with_piece default) s (block_pieces m place before b) (children_pieces m place (Some b) bs)
+  print-cons place before b bs s = fold-append (with_piece m.compile default) s (block_pieces m place before b) (children_pieces m place (Some b) bs)
 
   -- ---- fenced code that isn't closed
 
@@ -115,19 +118,19 @@ module _ (default : LineEnding) (m : Meaning) where
   fence info ls = page.Leaf (page.FencedCode info false ls)
 
   -- an ending right after it at the top prints nothing that is kept
-  no_ending : (info : Option (List ℕ)) (ls : List BlockLine) (bs : page.Blocks) (s : SqueezeState) → s.run ≡ None
+  no_ending : (info : Option (List ℕ)) (ls : List BlockLine) (bs : page.Blocks) (s : PrintState) → s.squeezed.run ≡ None
       → print_siblings at_top (Some (fence info ls)) (without_ending bs) s ≡ print_siblings at_top (Some (fence info ls)) bs s
   no_ending info ls (page.Cons (page.Ending ending) bs) s e =
-      ap (with_pieces default s) (same_after m at_top (Some (fence info ls)) (Some (page.Ending ending)) bs refl)
-      ∙ sym (ap (print_siblings at_top (Some (page.Ending ending)) bs) (dropped_said s ending e))
+      ap (with_pieces m.compile default s) (same_after m at_top (Some (fence info ls)) (Some (page.Ending ending)) bs refl)
+      ∙ sym (ap (print_siblings at_top (Some (page.Ending ending)) bs) (ap (print_state s.taken) (dropped_said s.squeezed ending e)))
   no_ending info ls bs s e = refl
 
   -- its last line is kept without its ending
-  kept_lines : (line : BlockLine) (others : List BlockLine) (s : SqueezeState)
-      → (with_pieces default s (says (flat_map code_line (line ∷ others)))).kept
-      ≡ (with_pieces default s (says (flat_map code_line (own_lines (line ∷ others))))).kept
-  kept_lines line [] s = kept_at_said (with_bytes s (said_bytes (Words (map code_byte line.codes)))) line.ending
-  kept_lines line (next ∷ others) s = kept_lines next others (with_pieces default s (says (code_line line)))
+  kept_lines : (line : BlockLine) (others : List BlockLine) (s : PrintState)
+      → (with_pieces m.compile default s (says (flat_map code_line (line ∷ others)))).squeezed.kept
+      ≡ (with_pieces m.compile default s (says (flat_map code_line (own_lines (line ∷ others))))).squeezed.kept
+  kept_lines line [] s = kept_at_said (with_bytes s.squeezed (said_bytes (Words (map code_byte line.codes)))) line.ending
+  kept_lines line (next ∷ others) s = kept_lines next others (with_pieces m.compile default s (says (code_line line)))
 
   -- one line at least is its own
   own_pieces : (line : BlockLine) (others : List BlockLine)
@@ -136,60 +139,86 @@ module _ (default : LineEnding) (m : Meaning) where
   own_pieces line (next ∷ others) = refl
 
   -- after these pieces, others that keep what is kept, and a fresh line
-  kept_end : (ps more : List Piece) (s : SqueezeState) → ((t : SqueezeState) → (with_pieces default t more).kept ≡ t.kept)
-      → (with_pieces default s ((ps ++ more) ++ Fresh ∷ [])).kept ≡ (with_pieces default s ps).kept
+  kept_end : (ps more : List Piece) (s : PrintState) → ((t : PrintState) → (with_pieces m.compile default t more).squeezed.kept ≡ t.squeezed.kept)
+      → (with_pieces m.compile default s ((ps ++ more) ++ Fresh ∷ [])).squeezed.kept ≡ (with_pieces m.compile default s ps).squeezed.kept
   kept_end ps more s same =
-      let f = with_piece default in
-      ap (λ t. t.kept) (fold-append f s (ps ++ more) (Fresh ∷ []))
-      ∙ kept_at_fresh default (with_pieces default s (ps ++ more))
-      ∙ ap (λ t. t.kept) (fold-append f s ps more)
-      ∙ same (with_pieces default s ps)
+      let f = with_piece m.compile default in
+      ap (λ t. t.squeezed.kept) (fold-append f s (ps ++ more) (Fresh ∷ []))
+      ∙ kept_at_fresh default (with_pieces m.compile default s (ps ++ more)).squeezed
+      ∙ ap (λ t. t.squeezed.kept) (fold-append f s ps more)
+      ∙ same (with_pieces m.compile default s ps)
 
-  kept_code : (ls : List BlockLine) (s : SqueezeState)
-      → (with_pieces default s (fenced_pieces at_top false ls)).kept ≡ (with_pieces default s (fenced_pieces (inside false) false (own_lines ls))).kept
+  kept_code : (ls : List BlockLine) (s : PrintState)
+      → (with_pieces m.compile default s (fenced_pieces at_top false ls)).squeezed.kept
+      ≡ (with_pieces m.compile default s (fenced_pieces (inside false) false (own_lines ls))).squeezed.kept
   kept_code [] s = refl
   kept_code (line ∷ others) s =
       let own = says (flat_map code_line (own_lines (line ∷ others))) in
       kept_end (says (flat_map code_line (line ∷ others))) [] s (λ t. refl)
       ∙ kept_lines line others s
-      ∙ sym (ap (λ ps. (with_pieces default s ps).kept) (own_pieces line others) ∙ kept_end own (Eol ∷ []) s (λ t. kept_at_ending t default))
+      ∙ sym (ap (λ ps. (with_pieces m.compile default s ps).squeezed.kept) (own_pieces line others)
+      ∙ kept_end own (Eol ∷ []) s (λ t. kept_at_ending t.squeezed default))
+
+  -- no heading is in them
+  taken_kept : (ps : List Piece) (s : PrintState) → AreUnnamed ps → (with_pieces m.compile default s ps).taken ≡ s.taken
+  taken_kept [] s h = refl
+  taken_kept (Named t text ∷ ps) s h = absurd h.0
+  taken_kept (p ∷ ps) s h = taken_kept ps (with_piece m.compile default s p) h.1
+
+  unnamed_code : (place : Place) (ls : List BlockLine) → AreUnnamed (fenced_pieces place false ls)
+  unnamed_code place [] = tt
+  unnamed_code place (line ∷ others) =
+      let code = flat_map code_line (line ∷ others) in
+      let last = if place.top || false then [] else Eol ∷ [] in
+      each-append IsUnnamed (says code ++ last) (Fresh ∷ [])
+      (each-append IsUnnamed (says code) last (each_map IsUnnamed Says code (λ said. tt))
+      (cond_both (place.top || false) [] (Eol ∷ []) AreUnnamed (λ _. tt) (λ _. (tt, tt)))) (tt, tt)
+
+  taken_in_code : (place : Place) (ls : List BlockLine) (s : PrintState)
+      → (with_pieces m.compile default s (fenced_pieces place false ls)).taken ≡ s.taken
+  taken_in_code place ls s = taken_kept (fenced_pieces place false ls) s (unnamed_code place ls)
 
   -- what follows its lines
-  abbrev code_end : SqueezeState → SqueezeState
-  code_end s = with_bytes (with_bytes s (end_tag (codes "code"))) (end_tag (codes "pre"))
+  abbrev code_end : PrintState → PrintState
+  code_end s = with_text (with_text s (end_tag (codes "code"))) (end_tag (codes "pre"))
 
-  print-end : (s : SqueezeState) (ps : List Piece)
-      → with_pieces default s (((ps ++ Close (codes "code") ∷ []) ++ Close (codes "pre") ∷ []) ++ Fresh ∷ []) ≡ code_end (with_pieces default s ps)
+  print-end : (s : PrintState) (ps : List Piece)
+      → with_pieces m.compile default s (((ps ++ Close (codes "code") ∷ []) ++ Close (codes "pre") ∷ []) ++ Fresh ∷ [])
+      ≡ code_end (with_pieces m.compile default s ps)
   print-end s ps =
       let code = Close (codes "code") ∷ [] in
       let pre = Close (codes "pre") ∷ [] in
-      let f = with_piece default in
+      let f = with_piece m.compile default in
       fold-append f s ((ps ++ code) ++ pre) (Fresh ∷ [])
-      ∙ ap (λ t. with_pieces default t (Fresh ∷ [])) (fold-append f s (ps ++ code) pre ∙ ap (λ t. with_pieces default t pre) (fold-append f s ps code))
+      ∙ ap (λ t. with_pieces m.compile default t (Fresh ∷ []))
+      (fold-append f s (ps ++ code) pre ∙ ap (λ t. with_pieces m.compile default t pre) (fold-append f s ps code))
 
   -- what stands before them
-  abbrev code_start : Option (List ℕ) → SqueezeState → SqueezeState
+  abbrev code_start : Option (List ℕ) → PrintState → PrintState
   code_start info s =
-      with_pieces default s (Fresh ∷ Open (bare_tag (codes "pre")) ∷ Open (tag (codes "code") (info_attributes info)) ∷ [])
+      with_pieces m.compile default s (Fresh ∷ Open (bare_tag (codes "pre")) ∷ Open (tag (codes "code") (info_attributes info)) ∷ [])
 
-  print-fence : (place : Place) (before : Option page.Block) (info : Option (List ℕ)) (ls : List BlockLine) (s : SqueezeState)
-      → print_block place before (fence info ls) s ≡ code_end (with_pieces default (code_start info s) (fenced_pieces place false ls))
+  print-fence : (place : Place) (before : Option page.Block) (info : Option (List ℕ)) (ls : List BlockLine) (s : PrintState)
+      → print_block place before (fence info ls) s ≡ code_end (with_pieces m.compile default (code_start info s) (fenced_pieces place false ls))
   print-fence place before info ls s = print-end (code_start info s) (fenced_pieces place false ls)
 
-  same_fence : (before : Option page.Block) (info : Option (List ℕ)) (ls : List BlockLine) (s : SqueezeState)
+  same_fence : (before : Option page.Block) (info : Option (List ℕ)) (ls : List BlockLine) (s : PrintState)
       → print_block at_top before (fence info ls) s ≡ print_block (inside false) before (fence info (own_lines ls)) s
   same_fence before info ls s =
-      let code = with_pieces default (code_start info s) (fenced_pieces at_top false ls) in
-      let own = with_pieces default (code_start info s) (fenced_pieces (inside false) false (own_lines ls)) in
+      let code = with_pieces m.compile default (code_start info s) (fenced_pieces at_top false ls) in
+      let own = with_pieces m.compile default (code_start info s) (fenced_pieces (inside false) false (own_lines ls)) in
       print-fence at_top before info ls s
-      ∙ ap (λ t. with_bytes t (end_tag (codes "pre"))) (same_at_tag (codes "/code>") code own (kept_code ls (code_start info s)))
+      ∙ ap (λ taken. code_end (print_state taken code.squeezed))
+      (taken_in_code at_top ls (code_start info s) ∙ sym (taken_in_code (inside false) (own_lines ls) (code_start info s)))
+      ∙ ap (λ t. print_state own.taken (with_bytes t (end_tag (codes "pre"))))
+      (same_at_tag (codes "/code>") code.squeezed own.squeezed (kept_code ls (code_start info s)))
       ∙ sym (print-fence (inside false) before info (own_lines ls) s)
 
   -- ---- siblings
 
   -- siblings, which are read and printed at the top and in a quote
   abbrev PrintSame : page.Blocks → page.Blocks → Type 0
-  PrintSame outer inner = (before : Option page.Block) (s : SqueezeState) → print_siblings at_top before outer s ≡ print_siblings (inside false) before inner s
+  PrintSame outer inner = (before : Option page.Block) (s : PrintState) → print_siblings at_top before outer s ≡ print_siblings (inside false) before inner s
 
   module _ (r : Reading) where
     same_cons : (b : tree.Block) (outer inner : page.Blocks) → ReadBoth m r b → PrintSame outer inner
@@ -198,7 +227,7 @@ module _ (default : LineEnding) (m : Meaning) where
         ap (λ bs. print_siblings at_top before bs s) (read true outer)
         ∙ print-cons at_top before c outer s
         ∙ same (Some c) (print_block at_top before c s)
-        ∙ ap (λ ps. print_siblings (inside false) (Some c) inner (with_pieces default s ps)) (alike before)
+        ∙ ap (λ ps. print_siblings (inside false) (Some c) inner (with_pieces m.compile default s ps)) (alike before)
         ∙ sym (print-cons (inside false) before c inner s)
         ∙ sym (ap (λ bs. print_siblings (inside false) before bs s) (read false inner))
     same_cons b outer inner (Nothing read) same before s =
@@ -209,12 +238,12 @@ module _ (default : LineEnding) (m : Meaning) where
         let code = fence info ls in
         let own = fence info (own_lines ls) in
         let t = print_block at_top before code s in
-        let dropped = ap (λ u. u.run) (print-fence at_top before info ls s) in
+        let dropped = ap (λ u. u.squeezed.run) (print-fence at_top before info ls s) in
         ap (λ bs. print_siblings at_top before bs s) (read_outer outer)
         ∙ print-cons at_top before code (without_ending outer) s
         ∙ no_ending info ls outer t dropped
         ∙ same (Some code) t
-        ∙ ap (with_pieces default t) (same_after m (inside false) (Some code) (Some own) inner refl)
+        ∙ ap (with_pieces m.compile default t) (same_after m (inside false) (Some code) (Some own) inner refl)
         ∙ ap (print_siblings (inside false) (Some own) inner) (same_fence before info ls s)
         ∙ sym (print-cons (inside false) before own inner s)
         ∙ sym (ap (λ bs. print_siblings (inside false) before bs s) (read_inner inner))
@@ -229,33 +258,34 @@ module _ (default : LineEnding) (m : Meaning) where
     -- siblings in a quote, of which the same is kept
     abbrev KeepSame : page.Blocks → page.Blocks → Type 0
     KeepSame bs cs =
-        (before : Option page.Block) (s : SqueezeState) → (print_siblings (inside false) before bs s).kept ≡ (print_siblings (inside false) before cs s).kept
+        (before : Option page.Block) (s : PrintState)
+        → (print_siblings (inside false) before bs s).squeezed.kept ≡ (print_siblings (inside false) before cs s).squeezed.kept
 
     keep_cons : (b : page.Block) (bs cs : page.Blocks) → KeepSame bs cs → KeepSame (page.Cons b bs) (page.Cons b cs)
     keep_cons b bs cs same before s =
-        ap (λ t. t.kept) (print-cons (inside false) before b bs s)
+        ap (λ t. t.squeezed.kept) (print-cons (inside false) before b bs s)
         ∙ same (Some b) (print_block (inside false) before b s)
-        ∙ sym (ap (λ t. t.kept) (print-cons (inside false) before b cs s))
+        ∙ sym (ap (λ t. t.squeezed.kept) (print-cons (inside false) before b cs s))
 
     keep_read : (b : tree.Block) (bs cs : page.Blocks) → ReadBoth m r b → KeepSame bs cs
         → KeepSame (read_block r in_container b bs) (read_block r in_container b cs)
     keep_read b bs cs (Alike c read alike) same before s =
-        ap (λ all. (print_siblings (inside false) before all s).kept) (read false bs)
+        ap (λ all. (print_siblings (inside false) before all s).squeezed.kept) (read false bs)
         ∙ keep_cons c bs cs same before s
-        ∙ sym (ap (λ all. (print_siblings (inside false) before all s).kept) (read false cs))
+        ∙ sym (ap (λ all. (print_siblings (inside false) before all s).squeezed.kept) (read false cs))
     keep_read b bs cs (Nothing read) same before s =
-        ap (λ all. (print_siblings (inside false) before all s).kept) (read false bs)
+        ap (λ all. (print_siblings (inside false) before all s).squeezed.kept) (read false bs)
         ∙ same before s
-        ∙ sym (ap (λ all. (print_siblings (inside false) before all s).kept) (read false cs))
+        ∙ sym (ap (λ all. (print_siblings (inside false) before all s).squeezed.kept) (read false cs))
     keep_read b bs cs (Unclosed info ls read_outer read) same before s =
-        ap (λ all. (print_siblings (inside false) before all s).kept) (read bs)
+        ap (λ all. (print_siblings (inside false) before all s).squeezed.kept) (read bs)
         ∙ keep_cons (fence info (own_lines ls)) bs cs same before s
-        ∙ sym (ap (λ all. (print_siblings (inside false) before all s).kept) (read cs))
+        ∙ sym (ap (λ all. (print_siblings (inside false) before all s).squeezed.kept) (read cs))
 
-    keep_ending : (silent : Bool) (ending : LineEnding) (s : SqueezeState)
-        → (with_pieces default s (cond silent [] (Says (Words (ending_bytes ending)) ∷ []) ++ [])).kept ≡ s.kept
+    keep_ending : (silent : Bool) (ending : LineEnding) (s : PrintState)
+        → (with_pieces m.compile default s (cond silent [] (Says (Words (ending_bytes ending)) ∷ []) ++ [])).squeezed.kept ≡ s.squeezed.kept
     keep_ending true ending s = refl
-    keep_ending false ending s = kept_at_said s (Some ending)
+    keep_ending false ending s = kept_at_said s.squeezed (Some ending)
 
     keep_last : (last : tree.Block) → tree.is_ending last ≡ true → KeepSame (read_blocks r in_container (tree.one last)) page.Nil
     keep_last (tree.Ending None) e before s = refl

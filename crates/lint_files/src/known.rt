@@ -1,5 +1,5 @@
 //! The fragments of the files that links lead to.
-use lint_events::events_of;
+use crate::events::events_of;
 use lint_rules::{Document, Fragments};
 use markdown_input::{Fault, Flags};
 use markdown_tables::Builtin;

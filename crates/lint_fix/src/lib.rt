@@ -2,7 +2,11 @@
 #![tactic(auto)]
 
 mod entry;
+mod rules;
+mod source;
 
 pub use entry::fix;
 pub use lint_edits::Finder;
 pub use markdown::SIZE_MAX;
+pub use rules::Rules;
+pub use source::fix_source;

@@ -7,7 +7,7 @@ use Rattle.markdown_definition.specs.Html.{html}
 use Rattle.markdown_definition.specs.TextTables.{TextTables}
 use Rattle.html_bytes.specs.Html.{marked_html}
 use Rattle.html_bytes.proofs.SamePage.{html_is}
-use Rattle.laws_safe_page.specs.SafeHtml.{AreSafe, HasOneReading}
+use Rattle.laws_safe_page.specs.SafeHtml.{AreSafe, HasOneReadingBy, table_of}
 use Rattle.laws_safe_page.proofs.SafeHtml.{safe_page_law}
 use Rattle.laws_quote.specs.Squeeze.{squeeze}
 use Rattle.laws_quote.proofs.PageLaw.{quote_page_law}
@@ -25,8 +25,8 @@ marked_page tables options text before rest page kind left is =
     ∙ sym (html_is tables text options)
 
 pub safe_page : (tables : TextTables) (options : Options) (text page : List ℕ) → page ≡ html tables text options → AreSafe options.compile
-    → HasOneReading page
-safe_page tables options text page is safe = subst HasOneReading (sym is) (safe_page_law tables text options safe)
+    → HasOneReadingBy (table_of options.compile) page
+safe_page tables options text page is safe = subst (HasOneReadingBy (table_of options.compile)) (sym is) (safe_page_law tables text options safe)
 
 pub quotes_page : (tables : TextTables) (options : Options) (value page : List ℕ) → page ≡ html tables value options → QuotesPage tables options value page
 quotes_page tables options value page is text same quotable =

@@ -9,7 +9,7 @@ use Rattle.markdown_definition.specs.TextTables.{TextTables}
 use Rattle.laws_list.specs.Listed.{list_lines}
 use Rattle.laws_list.specs.PageLaws.{IsListable, list_around}
 use Rattle.laws_endings.specs.Endings.{with_ending}
-use Rattle.laws_endings.specs.PageLaws.{EndsInFeeds, FootnotesHoldNoFeed}
+use Rattle.laws_endings.specs.PageLaws.{EndsInFeeds, OptionsHoldNoFeed}
 use Rattle.laws_escape.specs.Escaped.{with_backslashes, IsTrimmedLine}
 use Rattle.laws_quote.specs.Quoted.{quote_lines}
 use Rattle.laws_quote.specs.PageLaws.{IsQuotable, quote_around}
@@ -28,10 +28,10 @@ SaysEscapedLine options value page =
     → page ≡ codes "<p>" ++ encode line ++ codes "</p>"
 
 -- the page of a text with a line ending in place of each LF is the page of that text with that ending in place of each LF, where what the options say
--- around footnotes holds no LF
+-- on a page holds no LF
 abbrev pub EndsPage : TextTables → Options → List ℕ → List ℕ → Type 0
 EndsPage tables options value page =
-    (e : LineEnding) (text : List ℕ) → value ≡ with_ending e text → EndsInFeeds text → FootnotesHoldNoFeed options
+    (e : LineEnding) (text : List ℕ) → value ≡ with_ending e text → EndsInFeeds text → OptionsHoldNoFeed options
     → page ≡ with_ending e (html tables text options)
 
 -- the page of a text with `+ ` before its first line and two spaces before every other is a list of one item around the page of that text, but for

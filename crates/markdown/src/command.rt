@@ -4,9 +4,9 @@ ghost use Rattle.std.specs.Prelude.{option_map, string_bytes, false};
 ghost use Rattle.markdown_compile_options.specs.Mdx.{HasNoMdx};
 ghost use Rattle.markdown_definition.specs.Html.{html};
 ghost use Rattle.html_contents.specs.Texts.{tables_by};
-ghost use Rattle.markdown_settings.specs.Settings.{faults_of, file_of, options_of, path_of, word_texts};
+ghost use Rattle.markdown_settings.specs.Settings.{faults_of, word_texts};
 ghost use Rattle.markdown_devices.specs.Endings.{Ends, EndsBy, EndsOf};
-ghost use Rattle.markdown_devices.specs.Program.{Runs, WritesAnswer};
+ghost use Rattle.markdown_devices.specs.Program.{EndsForWords, Runs, WritesAnswer};
 ghost use Rattle.markdown_devices.specs.Statuses.{status_of, MayComeOf};
 ghost use Rattle.markdown_devices.specs.Watched.{has_failed};
 
@@ -52,8 +52,8 @@ fn obey<S: Files + AllocGlobal, R: Read, W: Write>(
     requires reader { has_failed reader.old ≡ false }
     requires writer { has_failed writer.old ≡ false }
     ensures page { faults_of (word_texts words.now) ≡ []
-        → EndsBy (file_of (word_texts words.now)) (path_of (word_texts words.now)) (options_of (word_texts words.now))
-        S.File.Read.remaining R.remaining W.contents reader.old reader.new writer.old writer.new (is_ok result) }
+        → EndsForWords (word_texts words.now) S.File.Read.remaining R.remaining W.contents
+        reader.old reader.new writer.old writer.new (is_ok result) }
     ensures answer { ¬ (faults_of (word_texts words.now) ≡ [])
         → WritesAnswer (faults_of (word_texts words.now)) W.contents writer.old writer.new (is_ok result) }
     ensures unread { ¬ (faults_of (word_texts words.now) ≡ []) → reader.new ≡ reader.old }

@@ -19,11 +19,11 @@ mod transfer;
 pub use command::program;
 pub use convert::{fits, to_html, to_html_with_options, to_html_with_tables};
 pub use entry::start;
-pub use html_safe_page::is_safe_page;
+pub use html_safe_page::{TagTable, is_safe_page, is_safe_page_by};
 pub use markdown_compile_options::{CompileOptions, Options};
 pub use markdown_devices::{RunError, SIZE_MAX, Watched};
 pub use markdown_options::{
-    Constructs, LineEnding, LineEndingError, Message, ParseOptions, Place, Tables, configuration,
+    Constructs, LineEnding, LineEndingError, Message, ParseOptions, Place, Tables,
     constants as constant, line_ending, message, unist,
 };
 pub use markdown_settings::{Settings, SettingsError, settings};
@@ -35,6 +35,12 @@ pub mod character_reference {
     pub use inline_references::decode::decode;
     pub use inline_references::parse::parse;
     pub use inline_references::{decode_named, decode_numeric, value_max, value_test};
+}
+
+/// Which constructs are on, how a text is read, and how its HTML is printed.
+pub mod configuration {
+    pub use markdown_compile_options::{CompileOptions, Options};
+    pub use markdown_options::{Constructs, ParseOptions};
 }
 
 /// Text encoded as HTML.

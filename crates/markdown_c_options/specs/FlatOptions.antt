@@ -1,5 +1,5 @@
 -- Options as C passes them, and what they stand for.
-use Rattle.std.specs.Prelude.{◌≡◌, ◌<◌, ◌^◌, ℕ, List, codes, if◌then◌else◌, Option, Some, None, option_map, string_bytes, bytes_eq}
+use Rattle.std.specs.Prelude.{◌≡◌, ◌<◌, ◌^◌, ℕ, List, [], codes, if◌then◌else◌, Option, Some, None, option_map, string_bytes, bytes_eq}
 use Rattle.std.specs.Str.{IsUtf8}
 use Rattle.markdown_compile_options.specs.declared.configuration.Options.{Options}
 use Rattle.markdown_options.specs.declared.configuration.ParseOptions.{ParseOptions}
@@ -8,15 +8,19 @@ use Rattle.markdown_c_options.specs.Switches.{options_of_numbers, parse_options_
 
 -- all numbers of options are known, and their texts are UTF-8
 pub record IsKnown (flat : FlatOptions) : Type 0 where
-  pub size : flat.size ≡ 104
+  pub size : flat.size ≡ 168
   pub constructs : flat.constructs < 2 ^ 30
-  pub switches : flat.switches < 128
+  pub switches : flat.switches < 512
   pub ending : flat.default_line_ending < 3
   pub back_label : IsUtf8 flat.gfm_footnote_back_label.now
   pub clobber_prefix : IsUtf8 flat.gfm_footnote_clobber_prefix.now
   pub label : IsUtf8 flat.gfm_footnote_label.now
   pub label_attributes : IsUtf8 flat.gfm_footnote_label_attributes.now
   pub label_tag_name : IsUtf8 flat.gfm_footnote_label_tag_name.now
+  pub id_prefix : IsUtf8 flat.heading_id_prefix.now
+  pub link_base : IsUtf8 flat.link_base.now
+  pub image_base : IsUtf8 flat.image_base.now
+  pub link_rel : IsUtf8 flat.link_rel.now
 
 -- a text of the caller's, unless it is the default one
 abbrev pub given_text : List ℕ → List ℕ → Option (List ℕ)
@@ -31,6 +35,10 @@ without_texts options = record options {
     gfm_footnote_label = None;
     gfm_footnote_label_attributes = None;
     gfm_footnote_label_tag_name = None;
+    heading_id_prefix = None;
+    image_base = None;
+    link_base = None;
+    link_rel = None;
   };
 }
 
@@ -44,6 +52,10 @@ pub record StandsFor (flat : FlatOptions) (options : Options) : Type 0 where
   pub label_attributes : option_map string_bytes options.compile.gfm_footnote_label_attributes
       ≡ given_text (codes "class=\"sr-only\"") flat.gfm_footnote_label_attributes.now
   pub label_tag_name : option_map string_bytes options.compile.gfm_footnote_label_tag_name ≡ given_text (codes "h2") flat.gfm_footnote_label_tag_name.now
+  pub id_prefix : option_map string_bytes options.compile.heading_id_prefix ≡ given_text [] flat.heading_id_prefix.now
+  pub link_base : option_map string_bytes options.compile.link_base ≡ given_text [] flat.link_base.now
+  pub image_base : option_map string_bytes options.compile.image_base ≡ given_text [] flat.image_base.now
+  pub link_rel : option_map string_bytes options.compile.link_rel ≡ given_text [] flat.link_rel.now
 
 -- how a text is read by them
 abbrev pub ReadsBy : FlatOptions → ParseOptions → Type 0

@@ -15,7 +15,7 @@ use std::alloc::{AllocError, Global};
 #[repr(C)]
 #[derive(Clone, Copy)]
 pub struct FlatOptions<'a> {
-    /// How many bytes this struct has: 104.
+    /// How many bytes this struct has: 168.
     pub size: usize,
     /// The constructs that are on, as a sum of their numbers.
     pub constructs: u64,
@@ -34,10 +34,20 @@ pub struct FlatOptions<'a> {
     pub gfm_footnote_label_attributes: &'a [u8],
     /// The tag name of that heading, printed as given. The default is `h2`.
     pub gfm_footnote_label_tag_name: &'a [u8],
+    /// The prefix of the ids of headings, and of links to fragments of the page, if headings have
+    /// ids. The default is empty.
+    pub heading_id_prefix: &'a [u8],
+    /// What is printed before destinations of links that are relative paths. The default is empty.
+    pub link_base: &'a [u8],
+    /// What is printed before the URLs of images that are relative paths. An empty text, which is
+    /// the default, stands for `link_base`.
+    pub image_base: &'a [u8],
+    /// The `rel` of links, except those of footnotes. If it is empty, as by default, they have none.
+    pub link_rel: &'a [u8],
 }
 
 /// The size of the struct of options, in bytes.
-const OPTIONS_SIZE: usize = 104;
+const OPTIONS_SIZE: usize = 168;
 
 /// Whether bytes are UTF-8.
 fn is_utf8(bytes: &[u8]) -> bool
@@ -59,6 +69,10 @@ pub fn is_known(flat: &FlatOptions<'_>) -> bool
         && is_utf8(flat.gfm_footnote_label)
         && is_utf8(flat.gfm_footnote_label_attributes)
         && is_utf8(flat.gfm_footnote_label_tag_name)
+        && is_utf8(flat.heading_id_prefix)
+        && is_utf8(flat.link_base)
+        && is_utf8(flat.image_base)
+        && is_utf8(flat.link_rel)
 }
 
 /// A text of the caller's, unless it is the default one.
@@ -101,5 +115,9 @@ pub fn asked_options(heap: Global, flat: &FlatOptions<'_>) -> Result<Options, Al
         flat.gfm_footnote_label_attributes,
     )?;
     compile.gfm_footnote_label_tag_name = given_text(heap, "h2", flat.gfm_footnote_label_tag_name)?;
+    compile.heading_id_prefix = given_text(heap, "", flat.heading_id_prefix)?;
+    compile.link_base = given_text(heap, "", flat.link_base)?;
+    compile.image_base = given_text(heap, "", flat.image_base)?;
+    compile.link_rel = given_text(heap, "", flat.link_rel)?;
     Ok(options)
 }

@@ -30,8 +30,14 @@ const GFM_STRIKETHROUGH_SINGLE_TILDE: u64 = 32;
 /// One dollar makes math within text too, as in `$a$`.
 const MATH_TEXT_SINGLE_DOLLAR: u64 = 64;
 
+/// Headings have ids, as GitHub makes them.
+const HEADING_IDS: u64 = 128;
+
+/// Images have `loading="lazy"`.
+const LAZY_IMAGES: u64 = 256;
+
 /// All switches together.
-pub(crate) const ALL: u32 = 127;
+pub(crate) const ALL: u32 = 511;
 
 /// The largest number of a line ending.
 pub(crate) const LAST_ENDING: u32 = 2;
@@ -83,6 +89,8 @@ pub fn options_of_numbers(constructs: u64, switches: u32, ending: u32) -> Option
             default_line_ending: ending_of(ending),
             gfm_tagfilter: has_flag(GFM_TAGFILTER, switches),
             gfm_task_list_item_checkable: has_flag(GFM_TASK_LIST_ITEM_CHECKABLE, switches),
+            heading_ids: has_flag(HEADING_IDS, switches),
+            lazy_images: has_flag(LAZY_IMAGES, switches),
             ..CompileOptions::default()
         },
     }

@@ -2,7 +2,8 @@
 use Rattle.std.specs.Prelude.{◌≡◌, ◌⊎◌, ◌==◌, ℕ, Bool, true, false, List, [], Option}
 use Rattle.std.specs.Io.KnownBytes.{Appends, Keeps}
 use Rattle.clap.specs.Words.{Kinds, Text}
-use Rattle.markdown_settings.specs.Settings.{AsksFor, faults_of, file_of, options_of, path_of}
+use Rattle.markdown_compile_options.specs.declared.configuration.Options.{Options}
+use Rattle.markdown_settings.specs.Settings.{AsksFor, faults_of, file_of, path_of, MeanWords}
 use Rattle.markdown_devices.specs.declared.fault.Fault.{Fault}
 use Rattle.markdown_devices.specs.declared.watched.Watched.{Watched}
 use Rattle.markdown_devices.specs.Complaints.{complaint}
@@ -28,6 +29,14 @@ abbrev pub WritesAnswer : {E : Type 0} → Kinds → (E → Option (List ℕ)) �
 WritesAnswer kinds contents writer writer' ok =
     ((ok ≡ false) × (writer' ≡ writer)) ⊎ ((text : Text) × AsksFor kinds text × WritesText contents writer writer' ok text)
 
+-- how a conversion for words ends: nothing is read or written where memory is refused before, and otherwise it ends by options that the words mean
+abbrev pub EndsForWords : {D E G : Type 0} → List Text → (G → Option (List ℕ)) → (D → Option (List ℕ)) → (E → Option (List ℕ))
+    → Watched D → Watched D → Watched E → Watched E → Bool → Type 0
+EndsForWords words held remaining contents reader reader' writer writer' ok =
+    ((ok ≡ false) × (reader' ≡ reader) × (writer' ≡ writer))
+    ⊎ ((options : Options) × MeanWords words options
+    × EndsBy (file_of words) (path_of words) options held remaining contents reader reader' writer writer' ok)
+
 -- a fault ends the program with its status, and is one line where that can be printed
 abbrev pub Complains : {F : Type 0} → (F → Option (List ℕ)) → Watched F → Watched F → ℕ → Fault → Type 0
 Complains contents faults faults' status fault =
@@ -39,7 +48,7 @@ pub record Runs {D E F G : Type 0} (words : List Text) (held : G → Option (Lis
     (reader reader' : Watched D) (writer writer' : Watched E) (faults faults' : Watched F) (status : ℕ) : Type 0 where
   -- words without a fault ask for a page, of their file or of the reader: 0 where all of it was written
   pub page : faults_of words ≡ []
-      → EndsBy (file_of words) (path_of words) (options_of words) held remaining contents reader reader' writer writer' (status == 0)
+      → EndsForWords words held remaining contents reader reader' writer writer' (status == 0)
   -- others may ask for the help or the version, and nothing is read for them
   pub answer : ¬ (faults_of words ≡ []) → WritesAnswer (faults_of words) contents writer writer' (status == 0)
   pub unread : ¬ (faults_of words ≡ []) → reader' ≡ reader

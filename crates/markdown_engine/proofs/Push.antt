@@ -7,7 +7,7 @@ use Rattle.markdown_engine.proofs.Prelude.{feed, GoesAll, GoesOn, HasEnded, HasF
 use Rattle.markdown_engine.proofs.Prelude.{line_start, lt-ltb, ltb-true, mark, MovesOn, Name, Ok, OnlyAdds, Outcome, ParseState, place_in, Point, RanksAt}
 use Rattle.markdown_engine.proofs.Prelude.{read_with, restore, Result, Runs, seen_as, Source, source, State, state_after, Steps, Text, text_to, Tokenizer}
 use Rattle.markdown_engine.proofs.Prelude.{Turn, view_config, VirtualByte, weight, with_skip}
-use Rattle.std.specs.Prelude.{OnOk, is_err}
+use Rattle.std.specs.Prelude.{OnErr, OnOk, is_err}
 use Rattle.engine_states.specs.declared.state.State.TheVariants as states
 use Rattle.std.specs.Borrow.{Bor}
 use Rattle.markdown_options.specs.declared.message.Message.{Message}
@@ -740,6 +740,11 @@ joined_ranges view valid step old mid new given s r cuts h (inr k) =
     let end : ℕ × ℕ = (length mid.parse_state.now.bytes.now, 0) in
     let on = same_goes_on (source old) (source mid) h.last end same (subst (λ (n : ℕ). IsAfter h.last (n, 0)) (sym size) h.within) in
     inr (record { well = k.well; state = k.state; outcome = (h.reads (source mid) end on).back (view_config view new) k.well k.outcome })
+
+-- what holds of an error holds
+pub on_error : {X E : Type 0} {P : Type 0} (r : Result X E) → is_err r ≡ true → OnErr r P → P
+on_error (Ok x) e h = absurd (let f : false ≡ true = e in cc)
+on_error (Err x) e h = h
 
 -- an answer that is no error is well
 pub unless_error : {X E : Type 0} {P : Type 0} (r : Result X E) → is_err r ≡ false → OnOk r P → P

@@ -86,7 +86,7 @@ fn skip_before<'a, M, T, A: Allocator + Clone>(
     ensures source { OnOk result (source tokenizer.new ≡ after_chunk end start (source tokenizer.old)) }
     ensures config { config tokenizer.new ≡ config tokenizer.old }
     ensures attempts { KeepsAttempts tokenizer.old tokenizer.new }
-    ensures failed { tokenizer.new.failed ≡ tokenizer.old.failed }
+    ensures failed { OnOk result (tokenizer.new.failed ≡ tokenizer.old.failed) }
     ensures parse_state { KeepsParseState tokenizer.old tokenizer.new }
     ensures memory { IfErr result IsOutOfMemory }
 {
@@ -110,7 +110,7 @@ fn skip_before_chunks<'a, M, T, A: Allocator + Clone>(
     ensures place { IfOk result (λ end. IsPlace (bytes_of tokenizer.old) end) }
     ensures config { config tokenizer.new ≡ config tokenizer.old }
     ensures attempts { tokenizer.new.attempts.items ≡ tokenizer.old.attempts.items }
-    ensures failed { tokenizer.new.failed ≡ tokenizer.old.failed }
+    ensures failed { OnOk result (tokenizer.new.failed ≡ tokenizer.old.failed) }
     ensures parse_state { tokenizer.new.parse_state.now ≡ tokenizer.old.parse_state.now }
     ensures memory { IfErr result IsOutOfMemory }
 {

@@ -181,7 +181,8 @@ impl<'a, M, T, A: Allocator + Clone> Tokenizer<'a, M, T, A> {
         })
     }
 
-    /// Makes the reading of a point's line begin at the point, whenever the line is read.
+    /// Makes the reading of a point's line begin at the point, whenever the line is read. After out of
+    /// memory nothing can be read any more.
     pub fn define_skip(&mut self, point: Point) -> Result<(), Message>
         requires { point.index ≤ length (bytes_of self.old) }
         ensures skips { OnOk result (self.new.skips.entries ≡
@@ -191,11 +192,13 @@ impl<'a, M, T, A: Allocator + Clone> Tokenizer<'a, M, T, A> {
         ensures config { config self.new ≡ config self.old }
         ensures attempts { KeepsAttempts self.old self.new }
         ensures parse_state { KeepsParseState self.old self.new }
-        ensures failed { self.new.failed ≡ self.old.failed }
+        ensures failed { OnOk result (self.new.failed ≡ self.old.failed) }
+        ensures refused { OnErr result (HasFailed self.new) }
         ensures memory { IfErr result IsOutOfMemory }
     {
         let start = line_start(self.parse_state.bytes, point.index);
         if self.skips.insert(start, point).is_err() {
+            self.failed = true;
             return Err(Message::out_of_memory());
         }
         Ok(())
@@ -331,6 +334,7 @@ impl<'a, M, T, A: Allocator> Tokenizer<'a, M, T, A> {
     }
 
     /// Registers a resolver to run after those that are registered; one that is stays where it is.
+    /// After out of memory nothing can be read any more.
     pub fn register_resolver(&mut self, name: resolve::Name) -> Result<(), Message>
         ensures became { OnOk result (Became (to_run_last name (config self.old)) self.old self.new) }
         ensures once { OnOk result (AreOnce self.old.resolvers.items → AreOnce self.new.resolvers.items) }
@@ -338,17 +342,20 @@ impl<'a, M, T, A: Allocator> Tokenizer<'a, M, T, A> {
         ensures err { OnErr result (config self.new ≡ config self.old) }
         ensures text { SameText self.old self.new }
         ensures memory { IfErr result IsOutOfMemory }
+        ensures refused { OnErr result (HasFailed self.new) }
     {
         if self.resolvers.contains(&name) {
             return Ok(());
         }
         if self.resolvers.push(name).is_err() {
+            self.failed = true;
             return Err(Message::out_of_memory());
         }
         Ok(())
     }
 
     /// Registers a resolver to run before those that are registered; one that is stays where it is.
+    /// After out of memory nothing can be read any more.
     pub fn register_resolver_before(&mut self, name: resolve::Name) -> Result<(), Message>
         ensures became { OnOk result (Became (to_run_first name (config self.old)) self.old self.new) }
         ensures once { OnOk result (AreOnce self.old.resolvers.items → AreOnce self.new.resolvers.items) }
@@ -356,11 +363,13 @@ impl<'a, M, T, A: Allocator> Tokenizer<'a, M, T, A> {
         ensures err { OnErr result (config self.new ≡ config self.old) }
         ensures text { SameText self.old self.new }
         ensures memory { IfErr result IsOutOfMemory }
+        ensures refused { OnErr result (HasFailed self.new) }
     {
         if self.resolvers.contains(&name) {
             return Ok(());
         }
         if self.resolvers.insert(0, name).is_err() {
+            self.failed = true;
             return Err(Message::out_of_memory());
         }
         Ok(())
@@ -624,7 +633,6 @@ impl<'a, M: Machine<T>, T: Tables, A: Allocator + Clone> Tokenizer<'a, M, T, A> 
             return first;
         }
         if self.define_skip(point).is_err() {
-            self.failed = true;
             return State::out_of_memory();
         }
         let to = (self.parse_state.bytes.len(), 0);

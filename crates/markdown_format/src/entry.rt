@@ -6,8 +6,8 @@ ghost use Rattle.markdown_definition.specs.Html.{html};
 ghost use Rattle.markdown_tables.specs.Builtin.{builtin_tables};
 ghost use Rattle.format_pages.specs.SameDocument.{IsSameDocument};
 
+use crate::passes::{first_edits, formatted};
 use format_pages::{ByOptions, Known, read_by};
-use format_passes::{first_edits, formatted};
 use format_rules::Style;
 use markdown::{SIZE_MAX, fits};
 use markdown_compile_options::Options;

@@ -2,6 +2,7 @@
 #![tactic(auto)]
 
 mod entry;
+mod passes;
 
 pub use entry::format;
 pub use format_rules::{BreakStyle, RULE_NAMES, RuleSet, Style, TableStyle};

@@ -8,6 +8,8 @@
 //! crate `markdown`.
 #![tactic(auto)]
 
+pub mod page;
+
 pub use compile_html::{compile, compile_checked};
 pub use event_check::{
     Checked, CompileError, check_events, gfm_table_align, list_item_loose, list_loose,
@@ -15,10 +17,11 @@ pub use event_check::{
 pub use event_grammar::{EventFault, FaultKind};
 pub use html_escape::encode::encode;
 pub use html_escape::{gfm_tagfilter, sanitize, sanitize_with_protocols};
-pub use markdown_by_events::{SIZE_MAX, to_html_by_events};
 pub use markdown_compile_options::{CompileOptions, Options};
 pub use markdown_options::{AlignKind, LineEnding, Message, Tables};
 pub use markdown_tables::Builtin;
+pub use page::to_html_by_events;
+pub use parse_events::SIZE_MAX;
 
 /// A list of events to HTML, and lists that are refused.
 pub mod to_html {

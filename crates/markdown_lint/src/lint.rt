@@ -1,8 +1,7 @@
 //! Files and their findings.
 use crate::mend::{mended_file, mended_text};
 use crate::outcome::Outcome;
-use lint_events::events_of;
-use lint_files::{FolderOf, KnownFragments};
+use lint_files::{FolderOf, KnownFragments, events_of};
 use lint_output::{Form, write_findings};
 use lint_rules::{Document, Finding, Settings, findings_of};
 use lint_settings::Options;

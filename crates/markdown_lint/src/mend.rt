@@ -1,5 +1,5 @@
 //! Files, mended.
-use lint_mend::fix_source;
+use lint_fix::fix_source;
 use lint_settings::Options;
 use markdown_input::{Fault, replace};
 

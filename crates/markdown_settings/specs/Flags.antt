@@ -1,5 +1,5 @@
 -- The options that flags ask for.
-use Rattle.std.specs.Prelude.{Bool, false, if◌then◌else◌, List, Option, codes}
+use Rattle.std.specs.Prelude.{◌≡◌, Bool, false, if◌then◌else◌, List, Option, None, codes, option_map, string_bytes}
 use Rattle.std.specs.Option.{option_map_or}
 use Rattle.std.specs.Str.{bytes_eq}
 use Rattle.clap.specs.Words.{Row, Text, first_of}
@@ -26,6 +26,8 @@ flags_in rows = record {
   mark = is_set (codes "mark") rows;
   math = is_set (codes "math") rows;
   frontmatter = is_set (codes "frontmatter") rows;
+  heading_ids = is_set (codes "heading-ids") rows;
+  lazy_images = is_set (codes "lazy-images") rows;
   dangerous = is_set (codes "dangerous") rows;
   plain = is_set (codes "plain") rows;
 }
@@ -49,9 +51,34 @@ parse_of flags = record default_parse_options { constructs = constructs_of flags
 abbrev pub printed_as : Bool → CompileOptions
 printed_as gfm = if gfm then gfm_compile_options else default_compile_options
 
--- `--dangerous` allows HTML of the text and every protocol
+-- `--dangerous` allows HTML of the text and every protocol; `--heading-ids` gives headings ids, and `--lazy-images` makes images lazy
 abbrev pub compile_of : Flags → CompileOptions
-compile_of flags = record (printed_as flags.gfm) { allow_dangerous_html = flags.dangerous; allow_dangerous_protocol = flags.dangerous }
+compile_of flags = record (printed_as flags.gfm) {
+  allow_dangerous_html = flags.dangerous;
+  allow_dangerous_protocol = flags.dangerous;
+  heading_ids = flags.heading_ids;
+  lazy_images = flags.lazy_images;
+}
 
+-- the options of flags, with the default texts
 abbrev pub flag_options : Flags → Options
 flag_options flags = record { parse = parse_of flags; compile = compile_of flags }
+
+-- options with the default texts in place of those that words may give
+abbrev pub without_texts : Options → Options
+without_texts options = record options {
+  compile = record options.compile {
+    heading_id_prefix = None;
+    image_base = None;
+    link_base = None;
+    link_rel = None;
+  };
+}
+
+-- options are those of matches: of their flags, with their texts
+pub record MeanRows (rows : List Row) (options : Options) : Type 0 where
+  pub flags : without_texts options ≡ flag_options (flags_in rows)
+  pub id_prefix : option_map string_bytes options.compile.heading_id_prefix ≡ first_of (codes "heading-id-prefix") rows
+  pub link_base : option_map string_bytes options.compile.link_base ≡ first_of (codes "link-base") rows
+  pub image_base : option_map string_bytes options.compile.image_base ≡ first_of (codes "image-base") rows
+  pub link_rel : option_map string_bytes options.compile.link_rel ≡ first_of (codes "link-rel") rows

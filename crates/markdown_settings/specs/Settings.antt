@@ -10,7 +10,7 @@ use Rattle.markdown_settings.specs.declared.help.TheConstants.{HELP, VERSION}
 use Rattle.markdown_settings.specs.declared.settings_error.SettingsError.{SettingsError}
 use Rattle.markdown_settings.specs.declared.settings_error.SettingsError.TheVariants.{Help, Words, Memory}
 use Rattle.markdown_settings.specs.Command.{markdown_command}
-use Rattle.markdown_settings.specs.Flags.{flag_options, flags_in}
+use Rattle.markdown_settings.specs.Flags.{MeanRows}
 
 -- the bytes of each word
 abbrev pub word_texts : {A : Type 0} → List (String A) → List Text
@@ -28,9 +28,9 @@ faults_of = fault_of markdown_command
 unfoldable pub takes_words : List Text → Bool
 takes_words = takes markdown_command
 
--- the options of the flags that are set
-abbrev pub options_of : List Text → Options
-options_of words = flag_options (flags_in (rows_of_words words))
+-- options are those that words ask for
+abbrev pub MeanWords : List Text → Options → Type 0
+MeanWords words options = MeanRows (rows_of_words words) options
 
 -- the file of a name; `-` is standard input, as no name is
 abbrev pub named_file : Option Text → Option Text

@@ -1,10 +1,11 @@
 //! The command line.
 //!
-//!     markdown [--gfm] [--mark] [--math] [--frontmatter] [--dangerous] [--plain] [--references PATH]
-//!         [--help] [--version] [FILE]
+//!     markdown [--gfm] [--mark] [--math] [--frontmatter] [--heading-ids] [--heading-id-prefix TEXT]
+//!         [--link-base URL] [--image-base URL] [--link-rel TEXT] [--lazy-images] [--dangerous]
+//!         [--plain] [--references PATH] [--help] [--version] [FILE]
 ghost use Rattle.std.specs.Prelude.{◌≡◌, IfOk, false};
 ghost use Rattle.clap.specs.Words.{app_of, rule_of};
-ghost use Rattle.markdown_settings.specs.Command.{file_rule, flag, markdown_command, references_rule};
+ghost use Rattle.markdown_settings.specs.Command.{file_rule, flag, markdown_command, valued};
 
 use crate::help::VERSION;
 use clap::{Arg, ArgAction, Command};
@@ -21,9 +22,15 @@ pub(crate) fn command<'a>(alloc: Global) -> Result<Command<'a>, AllocError>
         .arg(flag(alloc, "mark"))?
         .arg(flag(alloc, "math"))?
         .arg(flag(alloc, "frontmatter"))?
+        .arg(flag(alloc, "heading-ids"))?
+        .arg(valued(alloc, "heading-id-prefix", "TEXT"))?
+        .arg(valued(alloc, "link-base", "URL"))?
+        .arg(valued(alloc, "image-base", "URL"))?
+        .arg(valued(alloc, "link-rel", "TEXT"))?
+        .arg(flag(alloc, "lazy-images"))?
         .arg(flag(alloc, "dangerous"))?
         .arg(flag(alloc, "plain"))?
-        .arg(references(alloc))?
+        .arg(valued(alloc, "references", "PATH"))?
         .arg(file(alloc))?;
     Ok(command)
 }
@@ -36,14 +43,12 @@ fn flag<'a>(alloc: Global, name: &'a str) -> Arg<'a>
     Arg::new(alloc, name).long(name).action(ArgAction::SetTrue)
 }
 
-/// `--references`, with a path.
-fn references<'a>(alloc: Global) -> Arg<'a>
-    ensures rule { rule_of result ≡ references_rule }
+/// A flag with a value.
+fn valued<'a>(alloc: Global, name: &'a str, value: &'a str) -> Arg<'a>
+    ensures rule { rule_of result ≡ valued name.now }
     ensures local { result.global ≡ false }
 {
-    Arg::new(alloc, "references")
-        .long("references")
-        .value_name("PATH")
+    Arg::new(alloc, name).long(name).value_name(value)
 }
 
 /// The word that is no flag.

@@ -24,12 +24,14 @@ pub(crate) struct Flags {
     pub(crate) mark: bool,
     pub(crate) math: bool,
     pub(crate) frontmatter: bool,
+    pub(crate) heading_ids: bool,
+    pub(crate) lazy_images: bool,
     pub(crate) dangerous: bool,
     pub(crate) plain: bool,
 }
 
 impl Flags {
-    /// The options of these flags.
+    /// The options of these flags, with the default texts.
     pub(crate) fn options(self) -> Options
         ensures options { result ≡ flag_options self }
         ensures without_mdx { HasNoMdx result }
@@ -39,6 +41,8 @@ impl Flags {
             compile: CompileOptions {
                 allow_dangerous_html: self.dangerous,
                 allow_dangerous_protocol: self.dangerous,
+                heading_ids: self.heading_ids,
+                lazy_images: self.lazy_images,
                 ..printed_as(self.gfm)
             },
         }

@@ -19,6 +19,14 @@ Options:
       --math               Read $a$, and blocks between lines of $$, as math
       --frontmatter        Leave out metadata at the start of the input,
                            between lines of --- or +++
+      --heading-ids        Print ids of headings, as GitHub makes them
+      --heading-id-prefix <TEXT>
+                           Print a text before these ids, and in links to them
+      --link-base <URL>    Print a URL before links that are relative paths
+      --image-base <URL>   Print a URL before images that are relative paths.
+                           Without this option that of --link-base is printed
+      --link-rel <TEXT>    Print rel=\"TEXT\" in links
+      --lazy-images        Print loading=\"lazy\" in images
       --dangerous          Keep raw HTML and URLs with any protocol. Only for
                            input from trusted authors
       --plain              Turn every construct off, also with other options
@@ -35,5 +43,6 @@ Exit status:
 Examples:
   markdown page.md > page.html
   markdown --gfm --frontmatter README.md > readme.html
+  markdown --heading-ids --link-base=https://example.com/docs/ a.md > a.html
   markdown --references names.txt < page.md > page.html
 ";

@@ -2,8 +2,8 @@
 ghost use Rattle.std.specs.Prelude.{◌≡◌, IfOk, IfErr, OnOk, [], true, codes, option_map, string_bytes};
 ghost use Rattle.clap.specs.Words.{first_of, found_of, kind_of, rows_of, Kinds, IsAmong};
 ghost use Rattle.markdown_compile_options.specs.Mdx.{HasNoMdx};
-ghost use Rattle.markdown_settings.specs.Flags.{flag_options, flags_in, is_true_text};
-ghost use Rattle.markdown_settings.specs.Settings.{faults_of, file_of, options_of, path_of, takes_words};
+ghost use Rattle.markdown_settings.specs.Flags.{flags_in, is_true_text, MeanRows};
+ghost use Rattle.markdown_settings.specs.Settings.{faults_of, file_of, path_of, takes_words, MeanWords};
 ghost use Rattle.markdown_settings.specs.Settings.{named_file, HasFault, Refuses, word_texts};
 
 use crate::command::command;
@@ -12,16 +12,19 @@ use crate::help::{HELP, VERSION};
 use crate::settings_error::SettingsError;
 use clap::error::ErrorKind;
 use clap::{ArgMatches, Error};
+use markdown_compile_options::Options;
 use std::alloc::{AllocError, Global};
 
 /// Reads the words of the command line, without the program's name.
 ///
 /// `--gfm` reads and prints GitHub Flavored Markdown. `--mark`, `--math` and `--frontmatter` read marked text, math and
-/// frontmatter. `--dangerous` keeps raw HTML and every URL protocol. `--plain` turns all constructs off. `--references` is
-/// followed by the path of a file. One word that is no flag may be the path of the file to read; `-` is standard input.
+/// frontmatter. `--heading-ids` and `--lazy-images` turn the options of these names on; `--heading-id-prefix`, `--link-base`,
+/// `--image-base` and `--link-rel` are followed by the text of the option. `--dangerous` keeps raw HTML and every URL protocol.
+/// `--plain` turns all constructs off. `--references` is followed by the path of a file. One word that is no flag may be the
+/// path of the file to read; `-` is standard input.
 pub fn settings(alloc: Global, words: &[String]) -> Result<Settings, SettingsError>
     // The options and the paths are those of the command's matches for the words.
-    ensures options { IfOk result (λ s. s.options ≡ options_of (word_texts words.now)) }
+    ensures options { IfOk result (λ s. MeanWords (word_texts words.now) s.options) }
     ensures file { IfOk result (λ s. option_map string_bytes s.file ≡ file_of (word_texts words.now)) }
     ensures references { IfOk result (λ s. option_map string_bytes s.references ≡ path_of (word_texts words.now)) }
     ensures without_mdx { IfOk result (λ s. HasNoMdx s.options) }
@@ -40,7 +43,7 @@ pub fn settings(alloc: Global, words: &[String]) -> Result<Settings, SettingsErr
 
 /// The settings of the command's matches.
 fn settings_of(alloc: Global, matches: &ArgMatches<'_>) -> Result<Settings, SettingsError>
-    ensures options { IfOk result (λ s. s.options ≡ flag_options (flags_in (rows_of (found_of matches.now)))) }
+    ensures options { IfOk result (λ s. MeanRows (rows_of (found_of matches.now)) s.options) }
     ensures file { IfOk result (λ s. option_map string_bytes s.file ≡ named_file (first_of (codes "file") (rows_of (found_of matches.now)))) }
     ensures references { IfOk result (λ s. option_map string_bytes s.references ≡ first_of (codes "references") (rows_of (found_of matches.now))) }
     ensures without_mdx { IfOk result (λ s. HasNoMdx s.options) }
@@ -49,10 +52,25 @@ fn settings_of(alloc: Global, matches: &ArgMatches<'_>) -> Result<Settings, Sett
     let file = copied(alloc, named_file(value(matches, "file")))?;
     let references = copied(alloc, value(matches, "references"))?;
     Ok(Settings {
-        options: flags(matches).options(),
+        options: options_of(alloc, matches)?,
         file,
         references,
     })
+}
+
+/// The options of the command's matches.
+#[tactic(auto, using(crate::proofs::Options::mean))]
+fn options_of(alloc: Global, matches: &ArgMatches<'_>) -> Result<Options, AllocError>
+    ensures options { IfOk result (λ options. MeanRows (rows_of (found_of matches.now)) options) }
+    ensures without_mdx { IfOk result HasNoMdx }
+{
+    let mut options = flags(matches).options();
+    let compile = &mut options.compile;
+    compile.heading_id_prefix = copied(alloc, value(matches, "heading-id-prefix"))?;
+    compile.link_base = copied(alloc, value(matches, "link-base"))?;
+    compile.image_base = copied(alloc, value(matches, "image-base"))?;
+    compile.link_rel = copied(alloc, value(matches, "link-rel"))?;
+    Ok(options)
 }
 
 /// The flags that are set.
@@ -64,6 +82,8 @@ fn flags(matches: &ArgMatches<'_>) -> Flags
         mark: is_set(matches, "mark"),
         math: is_set(matches, "math"),
         frontmatter: is_set(matches, "frontmatter"),
+        heading_ids: is_set(matches, "heading-ids"),
+        lazy_images: is_set(matches, "lazy-images"),
         dangerous: is_set(matches, "dangerous"),
         plain: is_set(matches, "plain"),
     }
@@ -96,12 +116,12 @@ fn named_file<'a>(name: Option<&'a str>) -> Option<&'a str>
     }
 }
 
-/// An owned copy of a path.
-fn copied(alloc: Global, path: Option<&str>) -> Result<Option<String>, AllocError>
-    ensures { IfOk result (λ copy. option_map string_bytes copy ≡ option_map (λ s. s.now) path.entry) }
+/// An owned copy of a value.
+fn copied(alloc: Global, value: Option<&str>) -> Result<Option<String>, AllocError>
+    ensures { IfOk result (λ copy. option_map string_bytes copy ≡ option_map (λ s. s.now) value.entry) }
 {
-    match path {
-        Some(path) => Ok(Some(String::from_str(alloc, path)?)),
+    match value {
+        Some(text) => Ok(Some(String::from_str(alloc, text)?)),
         None => Ok(None),
     }
 }

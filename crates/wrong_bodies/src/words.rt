@@ -1,7 +1,7 @@
 //! The command line of the program `markdown`.
 ghost use Rattle.std.specs.Prelude.{◌≡◌, IfOk, IfErr, OnOk, [], true, option_map, string_bytes};
 ghost use Rattle.markdown_compile_options.specs.Mdx.{HasNoMdx};
-ghost use Rattle.markdown_settings.specs.Settings.{faults_of, file_of, options_of, path_of, takes_words};
+ghost use Rattle.markdown_settings.specs.Settings.{faults_of, file_of, path_of, takes_words, MeanWords};
 ghost use Rattle.markdown_settings.specs.Settings.{Refuses, word_texts};
 
 use markdown_settings::{Settings, SettingsError};
@@ -10,7 +10,7 @@ use std::alloc::Global;
 /// `markdown_settings::settings`: each word has its meaning, and wrong words are refused.
 pub fn settings(alloc: Global, words: &[String]) -> Result<Settings, SettingsError>
     // The options and the paths are those of the command's matches for the words.
-    ensures options { IfOk result (λ s. s.options ≡ options_of (word_texts words.now)) }
+    ensures options { IfOk result (λ s. MeanWords (word_texts words.now) s.options) }
     ensures file { IfOk result (λ s. option_map string_bytes s.file ≡ file_of (word_texts words.now)) }
     ensures references { IfOk result (λ s. option_map string_bytes s.references ≡ path_of (word_texts words.now)) }
     ensures without_mdx { IfOk result (λ s. HasNoMdx s.options) }

@@ -1,8 +1,9 @@
 """Reads Markdown from a file or from standard input, and writes its HTML to standard output.
 
-    python -m markdown_proved [--gfm] [--mark] [--math] [--frontmatter] [--dangerous] [--plain] [FILE]
+    python -m markdown_proved [--gfm] [--mark] [--math] [--frontmatter] [--heading-ids] [--heading-id-prefix TEXT] [--link-base URL]
+        [--image-base URL] [--link-rel TEXT] [--lazy-images] [--dangerous] [--plain] [FILE]
 
-The words are those of the program for Debian, but for `--references`, and of that for Node. The exit status is 0 if the whole HTML was written, 2 for a wrong command line, and 1 for any other fault.
+The words are those of the program for Debian, but for `--references`. That for Node has those without a value. The exit status is 0 if the whole HTML was written, 2 for a wrong command line, and 1 for any other fault.
 """
 import argparse
 import sys
@@ -17,6 +18,17 @@ FLAGS = {
     "dangerous": (DANGEROUS, "keep raw HTML and URLs with any protocol; only for input from trusted authors"),
     "plain": (PLAIN, "turn every construct off, also with other options"),
 }
+# Words that are options of `to_html`, and those with a value.
+SWITCHES = {
+    "heading_ids": "print ids of headings, as GitHub makes them",
+    "lazy_images": 'print loading="lazy" in images',
+}
+TEXTS = {
+    "heading_id_prefix": ("TEXT", "print a text before these ids, and in links to them"),
+    "link_base": ("URL", "print a URL before links that are relative paths"),
+    "image_base": ("URL", "print a URL before images that are relative paths; without this option that of --link-base is printed"),
+    "link_rel": ("TEXT", 'print rel="TEXT" in links'),
+}
 
 
 def arguments() -> argparse.Namespace:
@@ -26,6 +38,10 @@ def arguments() -> argparse.Namespace:
     )
     for name, (_, meaning) in FLAGS.items():
         parser.add_argument(f"--{name}", action="store_true", help=meaning)
+    for name, meaning in SWITCHES.items():
+        parser.add_argument("--" + name.replace("_", "-"), action="store_true", help=meaning)
+    for name, (value, meaning) in TEXTS.items():
+        parser.add_argument("--" + name.replace("_", "-"), metavar=value, default="", help=meaning)
     parser.add_argument("-V", "--version", action="version", version=f"%(prog)s {__version__}", help="print the version")
     parser.add_argument("file", metavar="FILE", nargs="?", default="-", help="the file to read; - is standard input")
     return parser.parse_args()
@@ -52,7 +68,7 @@ def convert(words: argparse.Namespace) -> str:
     except OSError:
         return "cannot read"
     try:
-        page = to_html(text, flags)
+        page = to_html(text, flags, **{name: getattr(words, name) for name in (*SWITCHES, *TEXTS)})
     except (ImportError, ValueError) as fault:
         return str(fault)
     try:

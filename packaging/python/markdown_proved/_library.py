@@ -90,6 +90,12 @@ class Options(ReadOptions, total=False):
     footnote_label_tag: str  # its tag name, printed as given: ``h2``
     footnote_label_attributes: str  # its attributes, printed as given: ``class="sr-only"``
     footnote_back_label: str  # the label of the link from a footnote to its call: ``Back to content``
+    heading_ids: bool  # headings have ids, as GitHub makes them
+    heading_id_prefix: str  # what these ids, and links to fragments of the page, begin with if headings have ids: nothing
+    link_base: str  # what is printed before destinations of links that are relative paths: nothing
+    image_base: str  # the same for images; if it is empty, it is ``link_base``
+    link_rel: str  # the ``rel`` of links, except those of footnotes; if it is empty, they have none
+    lazy_images: bool  # images have ``loading="lazy"``
     line_ending: str  # what ends a line of the HTML if the input has no line ending: ``\n``, ``\r`` or ``\r\n``
 
 
@@ -213,6 +219,7 @@ _CONSTRUCT_KEYWORDS: Final = {name: number for name, number in _CONSTRUCT_NUMBER
 # The switches of that struct, in the order of their numbers.
 _SWITCHES: Final = (
     "any_image_protocol", "dangerous_html", "dangerous_protocol", "tagfilter", "checkable_tasks", "single_tilde", "single_dollar",
+    "heading_ids", "lazy_images",
 )
 _SWITCH_NUMBERS: Final = {name: 1 << place for place, name in enumerate(_SWITCHES)}
 _CORE: Final = sum(
@@ -250,6 +257,10 @@ class _Options(ctypes.Structure):
         ("footnote_label", _String),
         ("footnote_label_attributes", _String),
         ("footnote_label_tag", _String),
+        ("heading_id_prefix", _String),
+        ("link_base", _String),
+        ("image_base", _String),
+        ("link_rel", _String),
     ]
 
 
@@ -259,11 +270,15 @@ _DEFAULT_TEXTS: Final = {
     "footnote_label": "Footnotes",
     "footnote_label_attributes": 'class="sr-only"',
     "footnote_label_tag": "h2",
+    "heading_id_prefix": "",
+    "link_base": "",
+    "image_base": "",
+    "link_rel": "",
 }
 # Keywords that only the HTML depends on.
 _PRINTING: Final = frozenset({
-    "dangerous", "dangerous_html", "dangerous_protocol", "any_image_protocol", "tagfilter", "checkable_tasks", "line_ending",
-    *_DEFAULT_TEXTS,
+    "dangerous", "dangerous_html", "dangerous_protocol", "any_image_protocol", "tagfilter", "checkable_tasks", "heading_ids",
+    "lazy_images", "line_ending", *_DEFAULT_TEXTS,
 })
 # Keywords that sanitized HTML doesn't depend on.
 _NOT_SANITIZING: Final = frozenset({

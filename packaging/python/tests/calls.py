@@ -67,6 +67,18 @@ notes = to_html(
     "a[^b]\n\n[^b]: c", footnotes=True, prefix="1-", footnote_label="N", footnote_label_tag="h3", footnote_label_attributes="",
     footnote_back_label="back",
 )
+attributes = to_html(
+    "# a\n\n[b](#a) [c](d) ![e](f)", heading_ids=True, heading_id_prefix="g-", link_base="https://h/", image_base="https://i/", link_rel="nofollow",
+    lazy_images=True,
+)
+check("ids, bases, rel and loading", attributes, (
+    '<h1 id="g-a">a</h1>\n<p><a href="#g-a" rel="nofollow">b</a> <a href="https://h/d" rel="nofollow">c</a> '
+    '<img src="https://i/f" alt="e" loading="lazy" /></p>'
+))
+check("one base for both", to_html("[a](b) ![c](d)", link_base="/e/"), '<p><a href="/e/b">a</a> <img src="/e/d" alt="c" /></p>')
+check("a prefix without ids", to_html("# a\n\n[b](#a)", heading_id_prefix="c"), '<h1>a</h1>\n<p><a href="#a">b</a></p>')
+check("a base of a wrong type", fault(to_html, "", link_base=None), (TypeError, "link_base must be a str, not NoneType"))
+check("an option of the page alone", fault(outline, "", heading_ids=True), (TypeError, "outline() got an unexpected keyword argument 'heading_ids'"))
 check("texts of footnotes", [part in notes for part in ('id="1-fn-b"', 'href="#1-fnref-b"', ">N</h3>", 'aria-label="back"')], [True] * 4)
 
 check("a safe page", is_safe_page(to_html("<script> [a](javascript:b)")), True)

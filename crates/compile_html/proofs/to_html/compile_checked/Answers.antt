@@ -1,6 +1,5 @@
 use Rattle.std.proofs.Common.{◌≡◌, ℕ, true, List, map, string_bytes, refl, sym, ap, ◌∙◌, subst}
-use Rattle.compile_html.proofs.Prelude.{blocks_of, checked_nodes, Event, events_of, HasOneReadingBy, MatchesGrammar, Nodes, page_of, PlacesFit, safe_events_law, spot}
-use Rattle.compile_html.proofs.Prelude.{table_of, tree}
+use Rattle.compile_html.proofs.Prelude.{blocks_of, checked_nodes, Event, events_of, HasOneReadingBy, MatchesGrammar, Nodes, page_of, PlacesFit, safe_events_law, spot, table_of, tree}
 use Rattle.engine_events.specs.declared.event.Name.TheVariants as n
 use Rattle.inline_labels.specs.Table.{HasLabels}
 use Rattle.inline_links.specs.View.{link_texts_view}

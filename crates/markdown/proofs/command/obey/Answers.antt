@@ -1,14 +1,10 @@
-use Rattle.std.proofs.Common.{map, string_bytes, subst}
-use Rattle.markdown_settings.specs.Settings.{Refuses, faults_of, file_of, options_of, path_of}
-use Rattle.markdown_devices.proofs.Early.{early}
+use Rattle.std.proofs.Common.{map, string_bytes, inl, refl, subst}
+use Rattle.markdown_settings.specs.Settings.{Refuses, faults_of}
 use Rattle.markdown_devices.proofs.Refusals.{may_come_of_writer}
 use Rattle.markdown.proofs.command.obey.Goals as goal
 
 pub returns-in-Err-Memory-clause-page : goal.returns-in-Err-Memory-clause-page
-returns-in-Err-Memory-clause-page g c faultless =
-    let words = map string_bytes c.args.words.now in
-    early (file_of words) (path_of words) (options_of words) g.S.File.Read.remaining g.R.Read.remaining g.W.Write.contents
-    c.args.reader.now c.args.writer.now c.requires.reader c.requires.writer
+returns-in-Err-Memory-clause-page g c faultless = inl (refl, refl, refl)
 
 pub returns-in-Err-Help-clause-fault : goal.returns-in-Err-Help-clause-fault
 returns-in-Err-Help-clause-fault g c =

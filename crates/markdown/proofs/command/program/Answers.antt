@@ -1,7 +1,6 @@
 use Rattle.std.proofs.Common.{Bool, map, string_bytes, subst}
-use Rattle.markdown_settings.specs.Settings.{faults_of, file_of, options_of, path_of}
-use Rattle.markdown_devices.specs.Endings.{EndsBy}
-use Rattle.markdown_devices.specs.Program.{WritesAnswer}
+use Rattle.markdown_settings.specs.Settings.{faults_of}
+use Rattle.markdown_devices.specs.Program.{EndsForWords, WritesAnswer}
 use Rattle.markdown_devices.proofs.Programs.{complains, silent, succeeds}
 use Rattle.markdown.proofs.command.program.Goals as goal
 
@@ -13,7 +12,7 @@ returns g c =
     let same = succeeds lines _ _ _ c.obey-outcome.result told in
     record {
       page = λ h.
-          subst (λ (ok : Bool). EndsBy (file_of words) (path_of words) (options_of words) g.S.File.Read.remaining g.R.Read.remaining g.W.Write.contents
+          subst (λ (ok : Bool). EndsForWords words g.S.File.Read.remaining g.R.Read.remaining g.W.Write.contents
           c.args.reader.now c.obey-outcome.new.reader c.args.writer.now c.obey-outcome.new.writer ok) same (c.obey-outcome.ensures.page h);
       answer = λ h.
           subst (λ (ok : Bool). WritesAnswer (faults_of words) g.W.Write.contents c.args.writer.now c.obey-outcome.new.writer ok) same (c.obey-outcome.ensures.answer h);

@@ -1,14 +1,12 @@
-use Rattle.std.proofs.Common.{Bool, List, Ok, Err, OnOk, Result, ap, ap₂, codes, inl, inr, map, refl, string_bytes, subst, sym, true, ◌≡◌, ◌∙◌}
+use Rattle.std.proofs.Common.{List, Ok, Err, OnOk, Result, ap, codes, inl, inr, map, refl, string_bytes, subst, sym, true, ◌≡◌, ◌∙◌}
 use Rattle.std.proofs.lemmas.Result.{IfOk-weaker}
-use Rattle.clap.specs.Words.{App, IsAmong, Kinds, Text, fault_of, kind_of, first_of, first_value, found_of, is_simple, is_simple_and_free, matches_of, rows_of}
+use Rattle.clap.specs.Words.{App, IsAmong, Kinds, Text, fault_of, kind_of, first_of, found_of, is_simple, is_simple_and_free, matches_of, rows_of}
 use Rattle.clap.specs.Words.{takes}
 use Rattle.clap.proofs.OnLiterals.{clap_on_literals}
-use Rattle.clap.proofs.WalkLemmas.{first_value-rows}
 use Rattle.clap.specs.Simple.{HasMatchesOf}
 use Rattle.clap.specs.declared.parser.matches.ArgMatches.{ArgMatches}
-use Rattle.markdown_compile_options.specs.declared.configuration.Options.{Options}
 use Rattle.markdown_settings.specs.Command.{markdown_command}
-use Rattle.markdown_settings.specs.Flags.{flag_options, flags_in}
+use Rattle.markdown_settings.specs.Flags.{MeanRows}
 use Rattle.markdown_settings.specs.Settings.{Refuses, faults_of, named_file, rows_of_words, takes_words}
 use Rattle.markdown_settings.proofs.read.settings.Goals as goal
 
@@ -34,7 +32,7 @@ on_ok (Err e) p = tt
 
 pub returns-in-Ok-clause-options : goal.returns-in-Ok-clause-options
 returns-in-Ok-clause-options c =
-    IfOk-weaker c.settings_of.result _ _ (λ s is. is ∙ ap (λ rows. flag_options (flags_in rows)) (rows_are _ _ _ c.in_ok-command.ensures c.in-Ok.ensures.matches))
+    IfOk-weaker c.settings_of.result _ _ (λ s mean. subst (λ rows. MeanRows rows s.options) (rows_are _ _ _ c.in_ok-command.ensures c.in-Ok.ensures.matches) mean)
     c.settings_of.ensures.options
 
 pub returns-in-Ok-clause-file : goal.returns-in-Ok-clause-file

@@ -1,7 +1,7 @@
 use Rattle.std.proofs.Common.{◌≡◌, inl, inr, refl, length, ap, ◌∙◌, subst, sym, ℕ, ◌⊎◌, ◌<◌, false, arith}
 use Rattle.markdown_engine.proofs.Prelude.{GoesOn, HasFlushed, IsRefused, read_with, seen_as, Source, source, text_to, view_config, with_skip}
 use Rattle.markdown_engine.proofs.Push.{around, same_read, flushed_at, joined, skipped_as, whole_of, skip_goes_on, within, not_refused, only_memory}
-use Rattle.markdown_engine.proofs.Push.{unless_error, valid_alone, valid_later}
+use Rattle.markdown_engine.proofs.Push.{on_error, unless_error, valid_alone, valid_later}
 use Rattle.markdown_engine.proofs.tokenizer.Tokenizer.read_in_lines.Goals as goal
 
 pub read-first-requires : goal.read-first-requires
@@ -27,8 +27,8 @@ pub returns-then-is_err : goal.returns-then-is_err
 returns-then-is_err g c = record {
   reads = inl c.out_of_memory-then-is_err.ensures;
   whole = inl c.out_of_memory-then-is_err.ensures;
-  stays = λ h. refl;
-  failed = λ r. refl;
+  stays = λ h. on_error c.define_skip.result (sym c.is_err.ensures.value ∙ c.if-is_err.true) c.define_skip.ensures.refused;
+  failed = λ r. on_error c.define_skip.result (sym c.is_err.ensures.value ∙ c.if-is_err.true) c.define_skip.ensures.refused;
   refused = λ h. c.out_of_memory-then-is_err.ensures;
 }
 

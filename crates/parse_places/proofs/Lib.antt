@@ -1,4 +1,0 @@
-pub mod Points
-pub mod Events
-pub mod Nested
-pub mod Merged

@@ -1,3 +1,0 @@
-pub mod Codes
-pub mod Coming
-pub mod Laws
