@@ -1,8 +1,8 @@
 //! ATX headings (CommonMark 4.2).
-ghost use Rattle.std.specs.Prelude.{◌≡◌, ◌≤◌, List, OnOk, false, true};
+ghost use Rattle.std.specs.Prelude.{◌≡◌, ◌≤◌, ◌∷◌, List, OnOk, false, true};
 ghost use Rattle.definition_inline.specs.Definition.{Definition};
-ghost use Rattle.definition_page.specs.BlockPieces.{Place, leaf_block_pieces};
-ghost use Rattle.definition_page.specs.InlinePieces.{Meaning};
+ghost use Rattle.definition_page.specs.BlockPieces.{Place, heading_start, leaf_block_pieces};
+ghost use Rattle.definition_page.specs.InlinePieces.{Meaning, inline_pieces};
 ghost use Rattle.definition_page.specs.Page as page;
 ghost use Rattle.event_grammar.specs.Trees.{Nodes, events_of};
 ghost use Rattle.event_meaning.specs.Blocks.{heading_atx_of};
@@ -61,10 +61,35 @@ impl<A: Allocator + Clone> LeafPrinter<A> {
             OnOk result (LaysOut m.compile self.old.page self.new.page (in_bytes (leaf_block_pieces m place heading))) }
     {
         self.page.fresh()?;
+        self.start_heading(source, rank, text)?;
+        self.page.heading_tag("</h", rank)
+    }
+
+    /// Prints the start tag of a heading, with its id where headings have ids, and its text.
+    fn start_heading<T: Tables>(
+        &mut self,
+        source: &Source<'_, T, A>,
+        rank: u8,
+        text: &[Event],
+    ) -> Result<(), AllocError>
+        requires rank { (1 ≤ rank) × (rank ≤ 6) }
+        requires counted { AreCounted source.now.checked.bytes.now self.old.columns }
+        ensures default { KeepsEnding self.old.page self.new.page }
+        ensures counted { AreCounted source.now.checked.bytes.now self.new.columns }
+        ensures printed { (m : Meaning) (ds : List Definition) (kids : Nodes) →
+            let names = T.reference_of source.now.tables.now in let bytes = source.now.checked.bytes.now in
+            IsMeant names source.now ds m → text.now ≡ events_of kids → AreSound bytes kids →
+            let is = inlines_of names bytes false kids in
+            OnOk result (LaysOut m.compile self.old.page self.new.page (in_bytes (heading_start m rank is ∷ inline_pieces m is))) }
+    {
+        if source.options.heading_ids {
+            return self
+                .texts
+                .named_text(&mut self.page, &mut self.columns, source, rank, text);
+        }
         self.page.heading_tag("<h", rank)?;
         self.texts
-            .text(&mut self.page, &mut self.columns, source, false, text)?;
-        self.page.heading_tag("</h", rank)
+            .text(&mut self.page, &mut self.columns, source, false, text)
     }
 }
 

@@ -1,5 +1,5 @@
 use Rattle.std.proofs.Common.{◌≡◌, ◌∙◌, ◌∷◌, [], ℕ, Bool, false, List, sym, ap, subst}
-use Rattle.compile_blocks.proofs.Prelude.{AreTexts, ending_bytes, fold, HasLabels, HaveEndings, in_bytes, inline_pieces, inline_rows, inlines_of, labels_of}
+use Rattle.compile_blocks.proofs.Prelude.{AreTexts, ending_bytes, fold, HasLabels, HaveEndings, in_bytes, inline_pieces, inline_rows, inlines_of}
 use Rattle.compile_blocks.proofs.Prelude.{lay, leads_to, linked_at, linked_by, Meaning, meaning_by, OnOk, output_view, parts_in_cell, place_target, rows_view}
 use Rattle.compile_blocks.proofs.TextLaid.{places_law, meaning_law}
 use Rattle.compile_blocks.proofs.text.TextPrinter.text.Goals as goal
