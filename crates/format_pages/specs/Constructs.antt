@@ -16,7 +16,7 @@ plain_constructs given = record default_constructs {
   gfm_table = given.gfm_table;
 }
 
--- the same options with these constructs, and with the default texts for the section of footnotes
+-- the same options with these constructs, and with the default texts
 abbrev pub by_constructs : Constructs → Options → Options
 by_constructs on options = record {
   parse = record options.parse { constructs = on };
@@ -26,6 +26,10 @@ by_constructs on options = record {
     gfm_footnote_label = None;
     gfm_footnote_label_attributes = None;
     gfm_footnote_label_tag_name = None;
+    heading_id_prefix = None;
+    image_base = None;
+    link_base = None;
+    link_rel = None;
   };
 }
 

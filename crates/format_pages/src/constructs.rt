@@ -44,7 +44,7 @@ pub(crate) fn by_plain(options: &Options) -> Options
     by_constructs(plain_constructs(&options.parse.constructs), options)
 }
 
-/// The options with these constructs, and with the default texts for the section of footnotes.
+/// The options with these constructs, and with the default texts.
 fn by_constructs(constructs: Constructs, options: &Options) -> Options
     ensures { result ≡ spec.by_constructs constructs options.now }
 {
@@ -65,6 +65,12 @@ fn by_constructs(constructs: Constructs, options: &Options) -> Options
             gfm_footnote_label_tag_name: None,
             gfm_tagfilter: options.compile.gfm_tagfilter,
             gfm_task_list_item_checkable: options.compile.gfm_task_list_item_checkable,
+            heading_ids: options.compile.heading_ids,
+            heading_id_prefix: None,
+            image_base: None,
+            lazy_images: options.compile.lazy_images,
+            link_base: None,
+            link_rel: None,
         },
     }
 }

@@ -1,9 +1,11 @@
 //! Options of printing by letters.
+use html_safe_page::TagTable;
 use markdown_compile_options::CompileOptions;
 use markdown_options::LineEnding;
+use std::alloc::Global;
 
 /// The options that letters stand for, which the README lists.
-pub fn options_of(letters: &str) -> CompileOptions {
+pub fn options_of(alloc: Global, letters: &str) -> CompileOptions {
     CompileOptions {
         allow_dangerous_html: letters.contains('h'),
         allow_dangerous_protocol: letters.contains('p'),
@@ -11,7 +13,21 @@ pub fn options_of(letters: &str) -> CompileOptions {
         gfm_tagfilter: letters.contains('t'),
         gfm_task_list_item_checkable: letters.contains('c'),
         default_line_ending: ending_of(letters),
+        heading_ids: letters.contains('d'),
+        heading_id_prefix: text(alloc, letters, 'x', "x-"),
+        lazy_images: letters.contains('z'),
+        link_base: text(alloc, letters, 'b', "/b/"),
+        link_rel: text(alloc, letters, 'e', "nofollow ugc"),
         ..CompileOptions::default()
+    }
+}
+
+/// The text of an option, if its letter is given. Without memory there is none, and the pages are then wrong.
+fn text(alloc: Global, letters: &str, letter: char, text: &str) -> Option<String> {
+    if letters.contains(letter) {
+        String::from_str(alloc, text).ok()
+    } else {
+        None
     }
 }
 
@@ -28,4 +44,13 @@ fn ending_of(letters: &str) -> LineEnding {
 /// Whether all pages by these letters are safe.
 pub fn are_safe(letters: &str) -> bool {
     !letters.contains('h') && !letters.contains('p') && !letters.contains('i')
+}
+
+/// The table of tags by which pages by these letters are safe.
+pub fn table_of(letters: &str) -> TagTable {
+    if letters.contains('d') || letters.contains('z') || letters.contains('e') {
+        TagTable::Extended
+    } else {
+        TagTable::Basic
+    }
 }

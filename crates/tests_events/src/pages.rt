@@ -1,10 +1,10 @@
 //! Lists with their texts and options of printing, and the page of each.
 use crate::lists::{bytes_of, events_of};
 use crate::names::Names;
-use crate::options::{are_safe, options_of};
+use crate::options::{are_safe, options_of, table_of};
 use compile_html::compile;
 use event_check::CompileError;
-use html_safe_page::is_safe_page;
+use html_safe_page::is_safe_page_by;
 use markdown_tables::Builtin;
 use std::alloc::{AllocError, Global};
 use std::io::{self, ErrorKind};
@@ -18,9 +18,9 @@ pub fn print_page_of(rt: &(impl AllocGlobal + Print), names: &Names, line: &str)
     let alloc = rt.alloc();
     let bytes = bytes_of(alloc, text)?.ok_or(ErrorKind::InvalidData)?;
     let events = events_of(alloc, names, list)?.ok_or(ErrorKind::InvalidData)?;
-    let options = options_of(letters);
+    let options = options_of(alloc, letters);
     match compile(alloc, &events, &bytes, &options, &Builtin) {
-        Ok(page) => print_page(rt, are_safe(letters), &page),
+        Ok(page) => print_page(rt, letters, &page),
         Err(CompileError::Memory) => Err(ErrorKind::OutOfMemory.into()),
         Err(CompileError::Events(fault)) => {
             println!(rt; "fault {:?} {}", fault.kind, fault.index)?;
@@ -30,9 +30,9 @@ pub fn print_page_of(rt: &(impl AllocGlobal + Print), names: &Names, line: &str)
 }
 
 /// Prints a page as one line. One that should be safe and isn't has a mark.
-fn print_page(rt: &(impl AllocGlobal + Print), safe: bool, page: &str) -> io::Result<()> {
+fn print_page(rt: &(impl AllocGlobal + Print), letters: &str, page: &str) -> io::Result<()> {
     let line = one_line(rt.alloc(), page)?;
-    let mark = if safe && !is_safe_page(rt.alloc(), page)? {
+    let mark = if are_safe(letters) && !is_safe_page_by(rt.alloc(), table_of(letters), page)? {
         "UNSAFE "
     } else {
         ""
