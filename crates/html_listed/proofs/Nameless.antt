@@ -16,7 +16,7 @@ use Rattle.html_safe_page.proofs.Text.{by_kind, plain_other}
 use Rattle.html_safe_page.proofs.Spelled.{is_word_byte, starts_word, same_bytes}
 use Rattle.html_safe_page.proofs.Pages.{start_worded, void_worded}
 use Rattle.html_safe_page.proofs.Inserted.{spelled_append}
-use Rattle.html_listed.specs.PageParts.{Raw, is_in_text, after_element, raw_run, page_parts_after, page_parts}
+use Rattle.html_listed.specs.PageParts.{Raw, is_in_text, is_in_tag, after_tag, after_element, raw_run, page_parts_after, page_parts}
 use Rattle.html_listed.specs.MarkedPage.{has_none, is_nameless, are_letters, is_marked}
 use Rattle.html_listed.proofs.PageParts.{passed, skipped, other_first, in_both, letter_in_text, tag_starts}
 
@@ -39,7 +39,9 @@ run_step most bytes more =
     let rest = after_element bytes in
     let next = after_all ends_line rest in
     let others = raw_run most next in
-    let here = end_of_end rest (after_all is_in_text inside) inside (dropped 3 (after_all is_in_text inside)) (dropped (prefix_len is_in_text inside) inside) in
+    let end = after_all is_in_text inside in
+    let tag = end_of_end rest (after_all is_in_tag end) end (dropped 1 (after_all is_in_tag end)) (dropped (prefix_len is_in_tag end) end) in
+    let here = end_of_end rest end inside tag (dropped (prefix_len is_in_text inside) inside) in
     cond_both (begins_with (codes "<>") next) (part (text ++ take_while ends_line rest ++ others.text) others.rest) (part text rest)
     (λ (p : Part). IsEndOf p.rest inside)
     (λ _. end_of_end others.rest next inside (more next) (end_of_end next rest inside (dropped (prefix_len ends_line rest) rest) here))
@@ -195,8 +197,8 @@ element_passed : (inside items : Items) (after : List ℕ) → are_letters insid
     → after_element (spell_before (Element nameless inside items) after) ≡ spell_before items after
 element_passed inside items after h =
     let end = 60 ∷ 47 ∷ 62 ∷ spell_before items after in
-    ap (λ x. drop 3 (after_all is_in_text x)) (spelled_append inside [] end)
-    ∙ ap (drop 3) (passed is_in_text (spell inside) 60 (47 ∷ 62 ∷ spell_before items after) (letters_in_text inside h) refl)
+    ap (λ x. after_tag (after_all is_in_text x)) (spelled_append inside [] end)
+    ∙ ap after_tag (passed is_in_text (spell inside) 60 (47 ∷ 62 ∷ spell_before items after) (letters_in_text inside h) refl)
 
 cond_rest : (t : Bool) (p q : Part) → (cond t p q).rest ≡ cond t p.rest q.rest
 cond_rest true p q = refl
