@@ -9,6 +9,8 @@ pub mod PlainText
 pub mod PageParts
 pub mod Nameless
 pub mod Pass
+pub mod Mixed
+pub mod Within
 pub mod Listed
 pub mod Unmarked
 pub mod OneElement

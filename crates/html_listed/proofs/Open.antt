@@ -4,13 +4,14 @@ use Rattle.std.proofs.Common.{append-nil}
 use Rattle.std.specs.Prelude.{nat_le}
 use Rattle.std.specs.List.{fold}
 use Rattle.std.proofs.lemmas.Bool.{cond_both}
+use Rattle.definition_text.specs.Encode.{encode}
 use Rattle.definition_page.specs.Tags.{Tag, start_tag, end_tag, void_tag}
 use Rattle.html_listed.specs.Listing.{is_in, is_part, parents_of, heading_names, deepest}
 use Rattle.html_listed.specs.Raw.{RawPart, Text, Begin, Empty, End, Single}
 use Rattle.html_listed.specs.State.{State, state, says, with_open, opened, ended_of, ended, all_ended, count_to, ended_to, begins_with_frame, without_frame}
 use Rattle.html_listed.specs.State.{with_room}
 use Rattle.html_listed.specs.Listed.{begun, begun_in, begun_heading, begins, raw_part}
-use Rattle.html_listed.proofs.Pages.{Rules, IsPageIn, page_nothing, page_append, page_element, page_void}
+use Rattle.html_listed.proofs.Pages.{Rules, IsPageIn, page_nothing, page_text, page_append, page_element, page_void}
 use Rattle.html_listed.proofs.Tags.{IsTagWith, element_spelled, void_spelled}
 
 -- ---- what ends open elements
@@ -131,9 +132,9 @@ pub record HasPlaces (r : Rules) : Type 0 where
 -- ---- parts of raw HTML
 
 module _ (r : Rules) where
-  -- a part whose text is a page and whose tag passes the test
+  -- a part that is an encoded text or whose tag passes the test
   abbrev pub IsGood : RawPart → Type 0
-  IsGood (Text bytes) = (names : List (List ℕ)) → IsPageIn r names bytes
+  IsGood (Text bytes) = (text : List ℕ) × (bytes ≡ encode text)
   IsGood (Begin t) = IsTagWith r.start t
   IsGood (Empty t) = IsTagWith r.start t
   IsGood (End name) = Unit {0}
@@ -183,7 +184,7 @@ module _ (r : Rules) (places : HasPlaces r) where
       (λ _. both_steps r s room (begun next t room) made begins_there))
 
   pub part_step : (part : RawPart) (s : State) → AreFit r s.level.names → IsGood r part → Follows r s (raw_part s part)
-  part_step (Text bytes) s fit h = says_page r s bytes fit (h s.level.names)
+  part_step (Text bytes) s fit h = says_page r s bytes fit (subst (IsPageIn r s.level.names) (sym h.1) (page_text r h.0 s.level.names))
   part_step (Begin t) s fit h = begins_step (λ u. u) t s fit (no_step r) h
   part_step (Empty t) s fit h = begins_step (ended 1) t s fit (ends r 1) h
   part_step (End name) s fit h = ends r (count_to (name ∷ []) s.level.names) s fit

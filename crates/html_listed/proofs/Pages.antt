@@ -9,7 +9,7 @@ use Rattle.html_safe_page.proofs.Inserted.{spelled_append}
 use Rattle.html_listed.specs.ListedPage.{have_tags}
 
 -- items in a row are spelled one after another
-spell_join : (a b : Items) (after : List ℕ) → spell_before (join a b) after ≡ spell_before a (spell_before b after)
+pub spell_join : (a b : Items) (after : List ℕ) → spell_before (join a b) after ≡ spell_before a (spell_before b after)
 spell_join End b after = refl
 spell_join (Letter c items) b after = ap (λ x. spell_letter c ++ x) (spell_join items b after)
 spell_join (Void tag items) b after = ap (λ x. 60 ∷ spell_tag tag (void_end ++ (62 ∷ x))) (spell_join items b after)

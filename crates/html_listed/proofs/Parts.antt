@@ -1,5 +1,5 @@
 -- Each part of raw HTML is a text or a tag of the list.
-use Rattle.std.proofs.Common.{◌≡◌, ℕ, zero, suc, ◌-◌, Bool, true, cond, List, [], ◌∷◌, Option, None, Some, codes, length, take, drop}
+use Rattle.std.proofs.Common.{◌≡◌, ℕ, zero, suc, ◌-◌, Bool, true, cond, List, [], ◌∷◌, Option, None, Some, codes, length, take, drop, refl}
 use Rattle.std.specs.Option.{IfSome, option_map}
 use Rattle.std.proofs.lemmas.Bool.{cond_both}
 use Rattle.markdown_compile_options.specs.declared.configuration.CompileOptions.{CompileOptions}
@@ -20,7 +20,7 @@ use Rattle.html_listed.specs.Raw.{Text, Begin, Empty, End, Single, kept_tag, end
 use Rattle.html_listed.specs.Raw.{token_to, reference_to, token_or_reference, or_code, raw_parts_after, raw_parts}
 use Rattle.html_listed.specs.ListedPage.{is_listed_start, is_listed_void}
 use Rattle.html_listed.specs.Laws.{HaveSafeProtocols}
-use Rattle.html_listed.proofs.Pages.{Rules, page_nothing, page_text}
+use Rattle.html_listed.proofs.Pages.{Rules}
 use Rattle.html_listed.proofs.Tags.{IsTagWith, attributes_kept, start_listed, void_listed}
 use Rattle.html_listed.proofs.Open.{IsGood, AreGood}
 
@@ -48,11 +48,11 @@ module _ (r : Rules) (starts : (u : safe.Tag) → is_listed_start u ≡ true →
       let tag = cond (begins_with (codes "</") html) (End name) (open_part names options name (drop 1 html)) in
       let shown = Text (encode (code_bytes html)) in
       cond_both (begins_with (codes "<!--") html) (Text []) (cond (is_listed name) tag shown) (IsGood r)
-      (λ _. page_nothing r)
+      (λ _. ([], refl))
       (λ _. cond_both (is_listed name) tag shown (IsGood r)
       (λ e. cond_both (begins_with (codes "</") html) (End name) (open_part names options name (drop 1 html)) (IsGood r)
       (λ _. tt) (λ _. open_good name (drop 1 html) e))
-      (λ _. page_text r (code_bytes html)))
+      (λ _. (code_bytes html, refl)))
 
   abbrev IsGoodFound : FoundRaw → Type 0
   IsGoodFound found = IsGood r found.part
@@ -63,10 +63,10 @@ module _ (r : Rules) (starts : (u : safe.Tag) → is_listed_start u ≡ true →
 
   reference_found : (html : List Code) (o : Option Part) → IfSome (option_map (reference_to html) o) IsGoodFound
   reference_found html None = tt
-  reference_found html (Some known) = page_text r known.text
+  reference_found html (Some known) = (known.text, refl)
 
   or_good : (c : Code) (o : Option FoundRaw) → IfSome o IsGoodFound → IsGoodFound (or_code c o)
-  or_good c None h = page_text r (eol_bytes c)
+  or_good c None h = (eol_bytes c, refl)
   or_good c (Some found) h = h
 
   found_good : (html : List Code) → IfSome (token_or_reference names options html) IsGoodFound

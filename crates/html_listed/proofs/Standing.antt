@@ -117,9 +117,9 @@ found_stands wanted names r fit =
     (and_parts (nat_lt (length r.rest) deepest) (may_stand r.rest r.name) (fits_later r.front (r.name ∷ r.rest) (subst (AreFit sanitizing) r.parts fit)).0).1
 
 -- an element that is no part stands in no frame, and as a heading in no heading
-record StandsFree (names : List (List ℕ)) (name : List ℕ) : Type 0 where
-  no_frame : begins_with_frame names ≡ false
-  no_heading : (is_in heading_names name && list_any (is_in heading_names) names) ≡ false
+pub record StandsFree (names : List (List ℕ)) (name : List ℕ) : Type 0 where
+  pub no_frame : begins_with_frame names ≡ false
+  pub no_heading : (is_in heading_names name && list_any (is_in heading_names) names) ≡ false
 
 stands_free : (names : List (List ℕ)) (name : List ℕ) → is_part name ≡ false → may_stand names name ≡ true → StandsFree names name
 stands_free names name other h =
@@ -221,7 +221,7 @@ no_frame s fit =
 
 -- ---- headings
 
-heading_is_no_part : (name : List ℕ) → is_in heading_names name ≡ true → is_part name ≡ false
+pub heading_is_no_part : (name : List ℕ) → is_in heading_names name ≡ true → is_part name ≡ false
 unfolding heading_names part_rows
 heading_is_no_part name h =
     let at = λ (n : List ℕ) (k : is_part n ≡ false) (e : bytes_eq n name ≡ true). subst (λ m. is_part m ≡ false) (same_bytes n name e) k in
@@ -265,7 +265,7 @@ heading_ended names name fit h =
     and_right_any false h = refl
 
 -- an element that is no part has room
-has_room : (name : List ℕ) (s : State) → AreFit sanitizing s.level.names → StandsFree (with_room name s).level.names name
+pub has_room : (name : List ℕ) (s : State) → AreFit sanitizing s.level.names → StandsFree (with_room name s).level.names name
 has_room name s fit =
     let t = without_frame s in
     let frame = frame_step sanitizing s fit in
