@@ -3,8 +3,9 @@ ghost use Rattle.std.specs.Prelude.{◌≡◌, ◌++◌, ◌<◌, IfOk, OnOk, co
 ghost use Rattle.std.specs.List.{prefix_len, take_while};
 ghost use Rattle.definition_text.specs.Bytes.{after_all, begins_with, is_letter_or_digit};
 ghost use Rattle.html_listed.specs.Listed.{listed};
-ghost use Rattle.html_listed.specs.Laws.{HasOneListedReading, HaveSafeProtocols};
+ghost use Rattle.html_listed.specs.Laws.{HasOneListedReading, HaveSafeProtocols, IsMixedPage};
 ghost use Rattle.html_listed.specs.MarkedPage.{IsMarkedPage};
+ghost use Rattle.html_listed.specs.Mixed.{tags_of};
 ghost use Rattle.html_listed.specs.PageParts.{is_in_text};
 ghost use Rattle.html_listed.specs.State.{says, with_room, entered, left, all_ended};
 ghost use Rattle.html_safe_page.specs.SafePage.{IsSafePage};
@@ -36,6 +37,8 @@ pub fn listed_html<A: Allocator + Clone, T: Tables>(
 ) -> Result<String<A>, AllocError>
     ensures page { IfOk result (λ html. string_bytes html ≡ listed (T.reference_of tables.now) options.now page.now) }
     ensures listed { HaveSafeProtocols options.now → IsMarkedPage page.now → IfOk result (λ html. HasOneListedReading (string_bytes html)) }
+    ensures standing { HaveSafeProtocols options.now → (marked : IsMarkedPage page.now)
+        → IfOk result (λ html. IsMixedPage (tags_of marked.0) (string_bytes html)) }
     ensures unmarked { IsSafePage page.now → IfOk result (λ html. string_bytes html ≡ page.now) }
 {
     let mut out = Page::new(alloc.clone()?)?;

@@ -3,10 +3,11 @@ use Rattle.std.specs.List.{take_while}
 use Rattle.std.proofs.lemmas.Bool.{eqb-true}
 use Rattle.definition_text.specs.Bytes.{begins_with}
 use Rattle.html_safe_page.specs.Views.{open_names}
-use Rattle.html_listed.specs.Laws.{HasOneListedReading}
+use Rattle.html_listed.specs.Laws.{HasOneListedReading, IsMixedPage}
+use Rattle.html_listed.specs.Mixed.{tags_of}
 use Rattle.html_listed.specs.PageParts.{is_in_text}
 use Rattle.html_listed.specs.State.{State, says, all_ended}
-use Rattle.html_listed.proofs.Listed.{listed_law}
+use Rattle.html_listed.proofs.Listed.{listed_law, standing_law}
 use Rattle.html_listed.proofs.Unmarked.{unmarked_law}
 use Rattle.html_sanitizer.specs.Elements.{parts_after}
 use Rattle.html_sanitizer.specs.Page.{page_state}
@@ -63,6 +64,15 @@ returns-clause-listed g c = λ safe marked.
     (c.in_ok-end_all.ensures ∙ ap all_ended (sym (page_done names c.args.options.now (page_state c.loop-rest.out) rest
     (eqb-true (length rest) 0 (sym c.is_empty.ensures ∙ c.loop-rest-test.false))) ∙ c.loop-rest.invariant.2))))
     (listed_law names c.args.options.now c.args.page.now safe marked)
+
+pub returns-clause-standing : goal.returns-clause-standing
+returns-clause-standing g c = λ safe marked.
+    let names = g.T.Tables.reference_of c.args.tables.now in
+    let rest = c.loop-rest.rest.now in
+    subst (IsMixedPage (tags_of marked.0)) (sym (ap (λ (s : State). s.out)
+    (c.in_ok-end_all.ensures ∙ ap all_ended (sym (page_done names c.args.options.now (page_state c.loop-rest.out) rest
+    (eqb-true (length rest) 0 (sym c.is_empty.ensures ∙ c.loop-rest-test.false))) ∙ c.loop-rest.invariant.2))))
+    (standing_law names c.args.options.now c.args.page.now safe marked)
 
 pub returns-clause-unmarked : goal.returns-clause-unmarked
 returns-clause-unmarked g c = λ safe.
