@@ -23,7 +23,7 @@ use Rattle.html_listed.specs.MarkedPage.{is_nameless, are_letters, is_marked, Is
 use Rattle.html_listed.specs.Mixed.{own_may_begin, tags_of, all_items}
 use Rattle.html_listed.specs.Laws.{HaveSafeProtocols, ListedLaw, StandingLaw}
 use Rattle.html_listed.proofs.Open.{AreFit}
-use Rattle.html_listed.proofs.Standing.{sanitizing, StandsFree, has_room}
+use Rattle.html_listed.proofs.Standing.{StandsFree, has_room}
 use Rattle.html_listed.proofs.Mixed.{join_end, mixed_tags, mixed_letter, mixed_own, mixed_own_tag, IsMixedIn}
 use Rattle.html_listed.proofs.Within.{Adds, page_ahead, both_steps, no_step, says_page, ends, room_step, parts_step, level_page}
 use Rattle.html_listed.proofs.Parts.{parts_good}
@@ -76,7 +76,7 @@ free_begins names name free =
     and_from (not (begins_with_frame names)) (not (is_in heading_names name && list_any (is_in heading_names) names)) (ap not free.no_frame)
     (ap not free.no_heading)
 
-void_step : (t : Tag) (name : List ℕ) (s : State) → AreFit sanitizing s.level.names → is_tag_of void_rows t ≡ true
+void_step : (t : Tag) (name : List ℕ) (s : State) → AreFit s.level.names → is_tag_of void_rows t ≡ true
     → Adds (Void t End) s (says (in_brackets (spell_tag t void_end)) (with_room name s))
 void_step t name s fit h =
     let room = with_room name s in
@@ -95,7 +95,7 @@ begun_own t name s = entered name (says (in_brackets (spell_tag t [])) (with_roo
 abbrev ended_own : Tag → State → State
 ended_own t s = says (in_brackets (47 ∷ t.name)) (left (all_ended s))
 
-own_step : (t : Tag) (own : Items) (s within : State) → AreFit sanitizing s.level.names → is_tag_of start_rows t ≡ true
+own_step : (t : Tag) (own : Items) (s within : State) → AreFit s.level.names → is_tag_of start_rows t ≡ true
     → Adds own (begun_own t t.name s) within → Adds (Element t own End) s (ended_own t within)
 own_step t own s within fit h inner =
     let room = with_room t.name s in
@@ -138,7 +138,7 @@ module _ (names : Names) (options : CompileOptions) (safe_protocols : HaveSafePr
       → Runs b between after t → Runs (join a b) bytes after s
   go_on a b s t bytes between after step e r = (r.0, both_steps a b s t r.0 step r.1, e ∙ r.2)
 
-  runs : (most : ℕ) (items : Items) (after : List ℕ) (s : State) → AreFit sanitizing s.level.names → size items ≤ most → is_marked items ≡ true
+  runs : (most : ℕ) (items : Items) (after : List ℕ) (s : State) → AreFit s.level.names → size items ≤ most → is_marked items ≡ true
       → IsStop after → Runs (tags_of items) (spell_before items after) after s
   runs most End after s fit le m stop = (s, no_step s fit, refl)
   runs zero (Letter b items) after s fit le m stop = absurd (omega arith)
@@ -175,7 +175,7 @@ module _ (names : Names) (options : CompileOptions) (safe_protocols : HaveSafePr
             let html = unwrap_or (read_text (run_of text).text) [] in
             let raw = raw_parts names options html in
             let next = fold raw_part s raw in
-            let good = parts_good sanitizing (λ u k. k) (λ u k. k) names options safe_protocols html in
+            let good = parts_good names options safe_protocols html in
             let step = parts_step raw s fit good in
             let rest = subst (λ o. Runs o (spell_before later.later after) after next) later.own
             (runs most later.later after next step.fit (omega arith) later.marked stop) in

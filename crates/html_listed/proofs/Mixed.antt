@@ -3,14 +3,13 @@ use Rattle.std.proofs.Common.{◌≡◌, ℕ, Bool, true, not, ◌&&◌, List, [
 use Rattle.std.proofs.lemmas.Bool.{and_parts, and_from, or_left, or_right}
 use Rattle.definition_text.specs.Encode.{encode, plain}
 use Rattle.html_safe_page.specs.Table.{start_rows, void_rows}
-use Rattle.html_safe_page.specs.SafePage.{spell_letter, spell_text, Tag, spell_tag, Items, End, Letter, Void, Element, spell, join, is_tag_of}
+use Rattle.html_safe_page.specs.SafePage.{spell_letter, spell_text, Tag, spell_tag, void_end, Items, End, Letter, Void, Element, spell_before, spell, join, is_tag_of}
 use Rattle.html_safe_page.specs.Closed.{element, void as void_bytes}
 use Rattle.html_safe_page.proofs.Closing.{encode_spelled}
 use Rattle.html_safe_page.proofs.Inserted.{spelled_append}
 use Rattle.html_listed.specs.State.{Level, level, begins_with_frame}
 use Rattle.html_listed.specs.ListedPage.{is_listed_start, is_listed_void, is_start, is_void, have_tags}
 use Rattle.html_listed.specs.Mixed.{Mixed, Done, Char, OwnTag, OwnElement, RawTag, RawElement, all_items, own_items, own_may_begin, raw_may_begin, level_in, stand_in}
-use Rattle.html_listed.proofs.Pages.{spell_join}
 
 -- ---- items in a row
 
@@ -25,6 +24,14 @@ join_more End b c = refl
 join_more (Letter x items) b c = ap (Letter x) (join_more items b c)
 join_more (Void tag items) b c = ap (Void tag) (join_more items b c)
 join_more (Element tag inside items) b c = ap (Element tag inside) (join_more items b c)
+
+-- items in a row are spelled one after another
+spell_join : (a b : Items) (after : List ℕ) → spell_before (join a b) after ≡ spell_before a (spell_before b after)
+spell_join End b after = refl
+spell_join (Letter c items) b after = ap (λ x. spell_letter c ++ x) (spell_join items b after)
+spell_join (Void tag items) b after = ap (λ x. 60 ∷ spell_tag tag (void_end ++ (62 ∷ x))) (spell_join items b after)
+spell_join (Element tag inside items) b after =
+    ap (λ x. 60 ∷ spell_tag tag (62 ∷ spell_before inside (60 ∷ 47 ∷ (tag.name ++ (62 ∷ x))))) (spell_join items b after)
 
 abbrev joined : Mixed → Mixed → Mixed
 joined Done q = q

@@ -16,7 +16,7 @@ use Rattle.html_listed.specs.State.{without_frame, with_room}
 use Rattle.html_listed.specs.Listed.{begun, begun_in, begun_heading, begins, raw_part}
 use Rattle.html_listed.proofs.Tags.{IsTagWith, element_spelled, void_spelled}
 use Rattle.html_listed.proofs.Open.{AreFit, names_ended, IsGood, AreGood, none_open}
-use Rattle.html_listed.proofs.Standing.{sanitizing, heading_is_no_part, places}
+use Rattle.html_listed.proofs.Standing.{heading_is_no_part, has_room, part_fits, other_fits}
 use Rattle.html_listed.proofs.Mixed.{join_end, join_more, IsMixedIn, mixed_nothing, mixed_text, mixed_append, mixed_raw, mixed_raw_tag}
 
 -- bytes end raw elements of these names, the last one first, each after a page, and then are a page; with these own tags
@@ -32,7 +32,7 @@ pub record Adds (own : Items) (before after : State) : Type 0 where
   pub printed : after.out ≡ before.out ++ added
   pub closes : (o : Items) (bytes : List ℕ) → Closes before.level.in_heading after.level.names o bytes
       → Closes before.level.in_heading before.level.names (join own o) (added ++ bytes)
-  pub fit : AreFit sanitizing after.level.names
+  pub fit : AreFit after.level.names
   pub around : after.around ≡ before.around
   pub heading : after.level.in_heading ≡ before.level.in_heading
 
@@ -50,7 +50,7 @@ page_ahead h a o page bytes (n ∷ ns) p k = (
   ap (join a) k.7 ∙ sym (join_more a k.2 k.3),
 )
 
-pub no_step : (s : State) → AreFit sanitizing s.level.names → Adds End s s
+pub no_step : (s : State) → AreFit s.level.names → Adds End s s
 no_step s fit = record { added = []; printed = sym (append-nil s.out); closes = λ o bytes k. k; fit = fit; around = refl; heading = refl }
 
 pub both_steps : (a b : Items) (s t u : State) → Adds a s t → Adds b t u → Adds (join a b) s u
@@ -68,7 +68,7 @@ both_steps a b s t u one two = record {
   heading = two.heading ∙ one.heading;
 }
 
-pub says_page : (own : Items) (s : State) (page : List ℕ) → AreFit sanitizing s.level.names → IsMixedIn s.level.in_heading s.level.names own page
+pub says_page : (own : Items) (s : State) (page : List ℕ) → AreFit s.level.names → IsMixedIn s.level.in_heading s.level.names own page
     → Adds own s (says page s)
 says_page own s page fit p = record {
   added = page;
@@ -81,7 +81,7 @@ says_page own s page fit p = record {
 
 -- ---- raw elements
 
-begin_step : (t : Tag) (s : State) → AreFit sanitizing s.level.names → IsTagWith is_listed_start t → raw_may_begin s.level t.name ≡ true
+begin_step : (t : Tag) (s : State) → AreFit s.level.names → IsTagWith is_listed_start t → raw_may_begin s.level t.name ≡ true
     → Adds End s (opened t s)
 begin_step t s fit i k = record {
   added = start_tag t;
@@ -105,7 +105,7 @@ begin_step t s fit i k = record {
   heading = refl;
 }
 
-end_steps : (n : ℕ) (names : List (List ℕ)) (s : State) → AreFit sanitizing names → Adds End (with_open names s) (ended_of n names s)
+end_steps : (n : ℕ) (names : List (List ℕ)) (s : State) → AreFit names → Adds End (with_open names s) (ended_of n names s)
 end_steps zero names s fit = no_step (with_open names s) fit
 end_steps (suc n) [] s fit = no_step (with_open [] s) fit
 end_steps (suc n) (name ∷ names) s fit =
@@ -120,15 +120,15 @@ end_steps (suc n) (name ∷ names) s fit =
     })
     (end_steps n names (says (end_tag name) s) fit.1)
 
-pub ends : (n : ℕ) (s : State) → AreFit sanitizing s.level.names → Adds End s (ended n s)
+pub ends : (n : ℕ) (s : State) → AreFit s.level.names → Adds End s (ended n s)
 ends n s fit = end_steps n s.level.names s fit
 
-frame_step : (s : State) → AreFit sanitizing s.level.names → Adds End s (without_frame s)
+frame_step : (s : State) → AreFit s.level.names → Adds End s (without_frame s)
 frame_step s fit =
     cond_both (begins_with_frame s.level.names) (ended_to (codes "table" ∷ []) s) s (Adds End s)
     (λ _. ends (count_to (codes "table" ∷ []) s.level.names) s fit) (λ _. no_step s fit)
 
-pub room_step : (name : List ℕ) (s : State) → AreFit sanitizing s.level.names → Adds End s (with_room name s)
+pub room_step : (name : List ℕ) (s : State) → AreFit s.level.names → Adds End s (with_room name s)
 room_step name s fit =
     let t = without_frame s in
     let frame = frame_step s fit in
@@ -153,9 +153,9 @@ part_is_no_heading h name part = elim (cases_Bool (is_in heading_names name)) [
 ]
 
 abbrev IsNext : (State → State) → Type 0
-IsNext next = (s : State) → AreFit sanitizing s.level.names → Adds End s (next s)
+IsNext next = (s : State) → AreFit s.level.names → Adds End s (next s)
 
-begun_step : (next : State → State) (t : Tag) (s : State) → AreFit sanitizing s.level.names → IsNext next → IsTagWith is_listed_start t
+begun_step : (next : State → State) (t : Tag) (s : State) → AreFit s.level.names → IsNext next → IsTagWith is_listed_start t
     → (nat_le deepest (length s.level.names) ≡ false → raw_may_begin s.level t.name ≡ true) → Adds End s (begun next t s)
 begun_step next t s fit go i k =
     cond_both (nat_le deepest (length s.level.names)) s (next (opened t s)) (Adds End s) (λ _. no_step s fit)
@@ -163,7 +163,7 @@ begun_step next t s fit go i k =
     let first = begin_step t s fit i (k e) in
     both_steps End End s (opened t s) (next (opened t s)) first (go (opened t s) first.fit))
 
-begun_in_step : (next : State → State) (n : ℕ) (t : Tag) (s : State) → AreFit sanitizing s.level.names → IsNext next → IsTagWith is_listed_start t
+begun_in_step : (next : State → State) (n : ℕ) (t : Tag) (s : State) → AreFit s.level.names → IsNext next → IsTagWith is_listed_start t
     → is_part t.name ≡ true → count_to (parents_of t.name) s.level.names ≡ n → Adds End s (begun_in next n t s)
 begun_in_step next zero t s fit go i part k = no_step s fit
 begun_in_step next (suc above) t s fit go i part k =
@@ -174,10 +174,10 @@ begun_in_step next (suc above) t s fit go i part k =
     (begun_step next t u ending.fit go i
     (λ deep. raw_begins u.level t.name
     (subst (λ left. nat_le deepest (length left) ≡ false → may_begin left t.name ≡ true) (sym (names_ended above names s))
-    (places.part t.name names above part k) deep)
+    (part_fits t.name names above part k) deep)
     (part_is_no_heading u.level.in_heading t.name part)))
 
-begins_step : (next : State → State) (t : Tag) (s : State) → AreFit sanitizing s.level.names → IsNext next → IsTagWith is_listed_start t
+begins_step : (next : State → State) (t : Tag) (s : State) → AreFit s.level.names → IsNext next → IsTagWith is_listed_start t
     → Adds End s (begins next t s)
 begins_step next t s fit go i =
     let room = with_room t.name s in
@@ -187,7 +187,7 @@ begins_step next t s fit go i =
     (λ part. begun_in_step next above t s fit go i part refl)
     (λ other.
     let begins_if = λ (e : (room.level.in_heading && is_in heading_names t.name) ≡ false).
-    begun_step next t room made.fit go i (λ deep. raw_begins room.level t.name (places.other t.name s fit other deep) e) in
+    begun_step next t room made.fit go i (λ deep. raw_begins room.level t.name (other_fits t.name s fit other deep) e) in
     cond_both (is_in heading_names t.name) (begun_heading next t room) (begun next t room) (Adds End s)
     (λ _. both_steps End End s room (begun_heading next t room) made
     (cond_both room.level.in_heading room (begun next t room) (Adds End room) (λ _. no_step room made.fit)
@@ -197,7 +197,7 @@ begins_step next t s fit go i =
 
 -- ---- parts of raw HTML
 
-part_step : (part : RawPart) (s : State) → AreFit sanitizing s.level.names → IsGood sanitizing part → Adds End s (raw_part s part)
+part_step : (part : RawPart) (s : State) → AreFit s.level.names → IsGood part → Adds End s (raw_part s part)
 part_step (Text bytes) s fit h =
     says_page End s bytes fit (subst (IsMixedIn s.level.in_heading s.level.names End) (sym h.1) (mixed_text s.level.in_heading s.level.names h.0))
 part_step (Begin t) s fit h = begins_step (λ u. u) t s fit no_step h
@@ -208,9 +208,9 @@ part_step (Single t) s fit h =
     let made = room_step t.name s fit in
     both_steps End End s room (says (void_tag t) room) made
     (says_page End room (void_tag t) made.fit (subst (IsMixedIn room.level.in_heading room.level.names End) (sym (void_spelled is_listed_void t h))
-    (mixed_raw_tag room.level.in_heading room.level.names h.spelled h.passes (places.void t.name s fit))))
+    (mixed_raw_tag room.level.in_heading room.level.names h.spelled h.passes (ap not (has_room t.name s fit).no_frame))))
 
-pub parts_step : (parts : List RawPart) (s : State) → AreFit sanitizing s.level.names → AreGood sanitizing parts → Adds End s (fold raw_part s parts)
+pub parts_step : (parts : List RawPart) (s : State) → AreFit s.level.names → AreGood parts → Adds End s (fold raw_part s parts)
 parts_step [] s fit h = no_step s fit
 parts_step (part ∷ parts) s fit h =
     let first = part_step part s fit h.0 in
