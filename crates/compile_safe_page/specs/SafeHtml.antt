@@ -5,10 +5,17 @@ use Rattle.definition_inline.specs.CharacterReference.{Names}
 use Rattle.engine_events.specs.declared.event.Event.{Event}
 use Rattle.event_check.specs.Matches.{MatchesGrammar}
 use Rattle.event_meaning.specs.Spelled.{html_of_events}
-use Rattle.laws_safe_page.specs.SafeHtml.{AreSafe, HasOneReading}
+use Rattle.html_safe_page.specs.declared.table.TagTable.TheVariants.{Extended}
+use Rattle.laws_safe_page.specs.SafeHtml.{AreSafe, table_of, HasOneReadingBy}
 
--- under safe options the HTML of every list of events in the grammar, whoever made it, is a safe page, and has no other reading as one
+-- under safe options the HTML of every list of events in the grammar, whoever made it, is a safe page by the table of the options, with one reading as one
 abbrev pub SafeEventsLaw : Type 0
 SafeEventsLaw =
     (names : Names) (options : CompileOptions) (bytes : List ℕ) (events : List Event) → AreSafe options → MatchesGrammar names bytes events
-    → HasOneReading (html_of_events names options bytes events)
+    → HasOneReadingBy (table_of options) (html_of_events names options bytes events)
+
+-- and by the extended table whatever the other options are
+abbrev pub ExtendedEventsLaw : Type 0
+ExtendedEventsLaw =
+    (names : Names) (options : CompileOptions) (bytes : List ℕ) (events : List Event) → AreSafe options → MatchesGrammar names bytes events
+    → HasOneReadingBy Extended (html_of_events names options bytes events)

@@ -4,7 +4,7 @@ use Rattle.std.proofs.Common.{sym, ap, ◌∙◌, subst, inl, inr, append_assoc,
 use Rattle.std.specs.Option.{IfSome, is_some, option_map}
 use Rattle.std.proofs.lemmas.Bool.{cases_Bool, cond_both, cond-true, cond-false, false≢true, and_parts, and_from, or_left, or_right, eqb-true}
 use Rattle.html_safe_page.specs.SafePage.{Kind, And, Quote, Less, Greater, Plain, kind, spell_letter, spell_tag, Items, End, Letter, Void, Element, void_end}
-use Rattle.html_safe_page.specs.SafePage.{spell_before, spell, join, is_safe, IsSafePage}
+use Rattle.html_safe_page.specs.SafePage.{spell_before, spell, join, is_safe_by, IsSafePageBy}
 use Rattle.html_safe_page.specs.Reader.{strip, QuotedText, longer, Rest, Reading, Nowhere, Outside, Inside, read}
 use Rattle.html_safe_page.specs.Machine.{begins_reference, stands, may_stand, split_tag, follows}
 use Rattle.html_safe_page.proofs.Options.{map_if}
@@ -14,6 +14,7 @@ use Rattle.html_safe_page.proofs.Sound.{tag_append}
 use Rattle.html_safe_page.proofs.Steps.{all_plain, not_here, are_ends, closes, ends_first, letter_more, no_tag, bad_tag, good_tag, decided}
 use Rattle.html_safe_page.proofs.Passed.{not_true, stops}
 use Rattle.html_safe_page.proofs.Follow.{shorter}
+use Rattle.html_safe_page.specs.declared.table.TagTable.{TagTable}
 
 -- ---- a safe page before what closes tags
 
@@ -37,16 +38,6 @@ outside_of : (s : Reading) (ns : List (List ℕ)) → closes s ns ≡ true → I
 outside_of Nowhere ns h = absurd (false≢true h)
 outside_of (Outside r) ns h = (r, refl, h)
 outside_of (Inside bytes r) ns h = absurd (false≢true h)
-
--- it closes the same tags
-page_ahead : (items : Items) (after : List ℕ) (ns : List (List ℕ)) → is_safe items ≡ true → closes (read after) ns ≡ true
-    → closes (read (spell items ++ after)) ns ≡ true
-page_ahead items after ns safe h =
-    let found = outside_of (read after) ns h in
-    ap (λ bytes. closes (read bytes) ns) (sym (spelled_append items [] after))
-    ∙ ap (λ s. closes s ns) (items_read items after found.0 safe found.1)
-    ∙ ends_first (join items) found.0 ns
-    ∙ found.2
 
 -- ---- letters before what is none stand before anything
 
@@ -120,62 +111,81 @@ split_more (b ∷ bs) more =
 pub split_found : (bytes more : List ℕ) (q : QuotedText) → split_tag bytes ≡ Some q → split_tag (bytes ++ more) ≡ Some (with_more more q)
 split_found bytes more q e = subst (λ o. IfSome o (λ q. split_tag (bytes ++ more) ≡ Some (with_more more q))) e (split_more bytes more)
 
--- ---- parting a page before a tag
+module _ (table : TagTable) where
+  -- ---- a safe page before what closes tags
 
--- what closes the tags that are open before a tag may stand there in its place
-abbrev IsParted : List ℕ → List ℕ → List (List ℕ) → Type 0
-IsParted before after ns =
-    (open_tags : List (List ℕ))
-    × (closes (read (60 ∷ after)) open_tags ≡ true)
-    × ((others : List ℕ) → closes (read others) open_tags ≡ true → closes (read (before ++ others)) ns ≡ true)
+  -- it closes the same tags
+  page_ahead : (items : Items) (after : List ℕ) (ns : List (List ℕ)) → is_safe_by table items ≡ true → closes (read table after) ns ≡ true
+      → closes (read table (spell items ++ after)) ns ≡ true
+  page_ahead items after ns safe h =
+      let found = outside_of (read table after) ns h in
+      ap (λ bytes. closes (read table bytes) ns) (sym (spelled_append items [] after))
+      ∙ ap (λ s. closes s ns) (items_read table items after found.0 safe found.1)
+      ∙ ends_first (join items) found.0 ns
+      ∙ found.2
 
-module _ (bs after : List ℕ) (ns : List (List ℕ))
-    (more : (before : List ℕ) (ms : List (List ℕ)) → length before < length bs → closes (read (before ++ 60 ∷ after)) ms ≡ true → IsParted before after ms)
-    (h : closes (read (60 ∷ (bs ++ 60 ∷ after))) ns ≡ true) where
-  parted_followed : (q : QuotedText) → split_tag bs ≡ Some q → (o : Option (List (List ℕ))) → follows q.inside ns ≡ o → IsParted (60 ∷ bs) after ns
-  parted_followed q e None k = absurd (false≢true (sym (bad_tag (bs ++ 60 ∷ after) ns (with_more (60 ∷ after) q) (split_found bs (60 ∷ after) q e) k) ∙ h))
-  parted_followed q e (Some ms) k =
-      let goes_on = good_tag (bs ++ 60 ∷ after) ns ms (with_more (60 ∷ after) q) (split_found bs (60 ∷ after) q e) k in
-      let rest = more q.rest ms (shorter bs q (sym e)) (sym goes_on ∙ h) in
-      (rest.0, rest.1, λ others c. good_tag (bs ++ others) ns ms (with_more others q) (split_found bs others q e) k ∙ rest.2 others c)
+  -- ---- parting a page before a tag
 
-  parted_tag : (o : Option QuotedText) → split_tag bs ≡ o → IsParted (60 ∷ bs) after ns
-  parted_tag None e = absurd (false≢true (sym (no_tag (bs ++ 60 ∷ after) ns (split_before bs after ∙ ap (option_map (with_more (60 ∷ after))) e)) ∙ h))
-  parted_tag (Some q) e = parted_followed q e (follows q.inside ns) refl
+  -- what closes the tags that are open before a tag may stand there in its place
+  abbrev IsParted : List ℕ → List ℕ → List (List ℕ) → Type 0
+  IsParted before after ns =
+      (open_tags : List (List ℕ))
+      × (closes (read table (60 ∷ after)) open_tags ≡ true)
+      × ((others : List ℕ) → closes (read table others) open_tags ≡ true → closes (read table (before ++ others)) ns ≡ true)
 
-parted : (most : ℕ) (before after : List ℕ) (ns : List (List ℕ)) → length before ≤ most
-    → closes (read (before ++ 60 ∷ after)) ns ≡ true → IsParted before after ns
-parted most [] after ns le h = (ns, h, λ others c. c)
-parted zero (b ∷ bs) after ns le h = absurd (omega arith)
-parted (suc most) (b ∷ bs) after ns le h =
-    let fewer : length bs ≤ most = omega arith in
-    elim (cases_Bool (eqb b 60)) [
-      | inl e ↦
-          let is = eqb-true b 60 e in
-          subst (λ b. IsParted (b ∷ bs) after ns) (sym is)
-          (parted_tag bs after ns (λ before ms lt c. parted most before after ms (omega arith) c)
-          (ap (λ b. closes (read (b ∷ (bs ++ 60 ∷ after))) ns) (sym is) ∙ h) (split_tag bs) refl)
-      | inr e ↦
-          let both = and_parts (may_stand b (bs ++ 60 ∷ after)) (closes (read (bs ++ 60 ∷ after)) ns) (sym (letter_more b (bs ++ 60 ∷ after) ns e) ∙ h) in
-          let rest = parted most bs after ns fewer both.1 in (
-            rest.0,
-            rest.1,
-            λ others c.
-                letter_more b (bs ++ others) ns e
-                ∙ and_from (may_stand b (bs ++ others)) (closes (read (bs ++ others)) ns) (stands_kept (kind b) bs (60 ∷ after) others refl both.0) (rest.2 others c),
-          )
-    ]
+  module _ (bs after : List ℕ) (ns : List (List ℕ))
+      (more : (before : List ℕ) (ms : List (List ℕ)) → length before < length bs → closes (read table (before ++ 60 ∷ after)) ms ≡ true
+      → IsParted before after ms)
+      (h : closes (read table (60 ∷ (bs ++ 60 ∷ after))) ns ≡ true) where
+    parted_followed : (q : QuotedText) → split_tag bs ≡ Some q → (o : Option (List (List ℕ))) → follows table q.inside ns ≡ o → IsParted (60 ∷ bs) after ns
+    parted_followed q e None k =
+        absurd (false≢true (sym (bad_tag table (bs ++ 60 ∷ after) ns (with_more (60 ∷ after) q) (split_found bs (60 ∷ after) q e) k) ∙ h))
+    parted_followed q e (Some ms) k =
+        let goes_on = good_tag table (bs ++ 60 ∷ after) ns ms (with_more (60 ∷ after) q) (split_found bs (60 ∷ after) q e) k in
+        let rest = more q.rest ms (shorter bs q (sym e)) (sym goes_on ∙ h) in
+        (rest.0, rest.1, λ others c. good_tag table (bs ++ others) ns ms (with_more others q) (split_found bs others q e) k ∙ rest.2 others c)
 
--- ---- a page put into another one
+    parted_tag : (o : Option QuotedText) → split_tag bs ≡ o → IsParted (60 ∷ bs) after ns
+    parted_tag None e = absurd (false≢true (sym (no_tag table (bs ++ 60 ∷ after) ns (split_before bs after ∙ ap (option_map (with_more (60 ∷ after))) e)) ∙ h))
+    parted_tag (Some q) e = parted_followed q e (follows table q.inside ns) refl
 
-pub closes_safe : (page : List ℕ) → IsSafePage page → closes (read page) [] ≡ true
-closes_safe page p = (decided page (closes (read page) []) refl).1 p
+  parted : (most : ℕ) (before after : List ℕ) (ns : List (List ℕ)) → length before ≤ most
+      → closes (read table (before ++ 60 ∷ after)) ns ≡ true → IsParted before after ns
+  parted most [] after ns le h = (ns, h, λ others c. c)
+  parted zero (b ∷ bs) after ns le h = absurd (omega arith)
+  parted (suc most) (b ∷ bs) after ns le h =
+      let fewer : length bs ≤ most = omega arith in
+      elim (cases_Bool (eqb b 60)) [
+        | inl e ↦
+            let is = eqb-true b 60 e in
+            subst (λ b. IsParted (b ∷ bs) after ns) (sym is)
+            (parted_tag bs after ns (λ before ms lt c. parted most before after ms (omega arith) c)
+            (ap (λ b. closes (read table (b ∷ (bs ++ 60 ∷ after))) ns) (sym is) ∙ h) (split_tag bs) refl)
+        | inr e ↦
+            let both = and_parts (may_stand b (bs ++ 60 ∷ after)) (closes (read table (bs ++ 60 ∷ after)) ns)
+            (sym (letter_more table b (bs ++ 60 ∷ after) ns e) ∙ h) in
+            let rest = parted most bs after ns fewer both.1 in (
+              rest.0,
+              rest.1,
+              λ others c.
+                  letter_more table b (bs ++ others) ns e
+                  ∙ and_from (may_stand b (bs ++ others)) (closes (read table (bs ++ others)) ns) (stands_kept (kind b) bs (60 ∷ after) others refl both.0)
+                  (rest.2 others c),
+            )
+      ]
 
-pub safe_closed : (page : List ℕ) → closes (read page) [] ≡ true → IsSafePage page
-safe_closed page h = (decided page (closes (read page) []) refl).0 h
+  -- ---- a page put into another one
 
-pub put_in : (before after inner : List ℕ) → IsSafePage (before ++ 60 ∷ after) → IsSafePage inner → IsSafePage (before ++ (inner ++ 60 ∷ after))
-put_in before after inner page within =
-    let place = parted (length before) before after [] (omega arith) (closes_safe (before ++ 60 ∷ after) page) in
-    let more = page_ahead within.0 (60 ∷ after) place.0 within.1.0 place.1 in
-    safe_closed (before ++ (inner ++ 60 ∷ after)) (place.2 (inner ++ 60 ∷ after) (ap (λ x. closes (read (x ++ 60 ∷ after)) place.0) (sym within.1.1) ∙ more))
+  pub closes_safe : (page : List ℕ) → IsSafePageBy table page → closes (read table page) [] ≡ true
+  closes_safe page p = (decided table page (closes (read table page) []) refl).1 p
+
+  pub safe_closed : (page : List ℕ) → closes (read table page) [] ≡ true → IsSafePageBy table page
+  safe_closed page h = (decided table page (closes (read table page) []) refl).0 h
+
+  pub put_in : (before after inner : List ℕ) → IsSafePageBy table (before ++ 60 ∷ after) → IsSafePageBy table inner
+      → IsSafePageBy table (before ++ (inner ++ 60 ∷ after))
+  put_in before after inner page within =
+      let place = parted (length before) before after [] (omega arith) (closes_safe (before ++ 60 ∷ after) page) in
+      let more = page_ahead within.0 (60 ∷ after) place.0 within.1.0 place.1 in
+      safe_closed (before ++ (inner ++ 60 ∷ after))
+      (place.2 (inner ++ 60 ∷ after) (ap (λ x. closes (read table (x ++ 60 ∷ after)) place.0) (sym within.1.1) ∙ more))

@@ -6,9 +6,9 @@ use Rattle.std.specs.List.{list_all}
 use Rattle.std.specs.Option.{IfSome, is_some, option_and_then, option_map, option_or}
 use Rattle.std.specs.Str.{bytes_eq}
 use Rattle.std.proofs.lemmas.Bool.{cases_Bool, cond-true, cond-false, true≢false, false≢true, and_parts, and_right, ne_eqb, eqb-true}
-use Rattle.html_safe_page.specs.Table.{start_rows, void_rows}
+use Rattle.html_safe_page.specs.Table.{start_rows_of, void_rows_of}
 use Rattle.html_safe_page.specs.SafePage.{Kind, And, Quote, Less, Greater, Plain, kind, spell_kind, spell_letter, spell_text, Tag, Items, End, Letter, Void}
-use Rattle.html_safe_page.specs.SafePage.{Element, void_end, spell_before, IsReading, IsSafePage}
+use Rattle.html_safe_page.specs.SafePage.{Element, void_end, spell_before, IsReadingBy, IsSafePageBy}
 use Rattle.html_safe_page.specs.Reader.{strip, replace, join_reference, join_kind, read_text, QuotedText, longer, read_tag, Rest, Last, Then}
 use Rattle.html_safe_page.specs.Reader.{Reading, Nowhere, Outside, Inside, at_first, strip_letters, replace_letters, join_letters, outside, join_rest, open_or}
 use Rattle.html_safe_page.specs.Reader.{read_mark, step, read, whole, read_page}
@@ -16,6 +16,7 @@ use Rattle.html_safe_page.specs.Machine.{begins_reference, stands, may_stand, sp
 use Rattle.html_safe_page.proofs.Text.{by_kind, is_plain, plain_other, text_sound}
 use Rattle.html_safe_page.proofs.Pages.{is_inner, page_spelled}
 use Rattle.html_safe_page.proofs.Sound.{spell_rest, IsRest, IsSound, read_sound, page_sound}
+use Rattle.html_safe_page.specs.declared.table.TagTable.{TagTable}
 
 -- ---- references
 
@@ -156,35 +157,6 @@ joined_then : (o : Option Items) (ns : List (List ℕ)) (items : Items) (name : 
 joined_then None ns items name r = refl
 joined_then (Some i) ns items name r = ends_first (λ _. i) (Then items name r) ns
 
-and_more : (bytes : List ℕ) (r : Rest) (ns : List (List ℕ)) → IsRest bytes r → closes (outside (join_rest r)) ns ≡ (begins_reference bytes && are_ends r ns)
-and_more bytes (Last items) ns h =
-    joined_last (join_letters items) ns items ∙ ap (λ x. x && are_ends (Last items) ns) (items_reference items [] bytes refl h.spelling)
-and_more bytes (Then items name r) ns h =
-    joined_then (join_letters items) ns items name r
-    ∙ ap (λ x. x && are_ends (Then items name r) ns) (items_reference items (60 ∷ 47 ∷ (name ++ (62 ∷ spell_rest r))) bytes refl h.spelling)
-
-letter_step : (b : ℕ) (bytes : List ℕ) (s : Reading) (ns : List (List ℕ)) → IsSound bytes s → eqb b 60 ≡ false
-    → closes (step (kind b) b s) ns ≡ (may_stand b bytes && closes s ns)
-letter_step b bytes Nowhere ns h e =
-    by_kind (λ b. closes (step (kind b) b Nowhere) ns ≡ (may_stand b bytes && false))
-    (sym (and_right (begins_reference bytes) false refl)) refl refl refl
-    (λ b k. ap (λ kind. closes (step kind b Nowhere) ns) k ∙ ap (λ kind. stands kind bytes && false) (sym k))
-    b
-letter_step b bytes (Inside inner r) ns h e =
-    by_kind (λ b. eqb b 60 ≡ false → closes (step (kind b) b (Inside inner r)) ns ≡ (may_stand b bytes && false))
-    (λ _. sym (and_right (begins_reference bytes) false refl)) (λ _. refl) (λ e. absurd (true≢false e)) (λ _. refl)
-    (λ b k _. ap (λ kind. closes (step kind b (Inside inner r)) ns) k ∙ ap (λ kind. stands kind bytes && false) (sym k))
-    b e
-letter_step b bytes (Outside r) ns h e =
-    by_kind (λ b. closes (step (kind b) b (Outside r)) ns ≡ (may_stand b bytes && are_ends r ns))
-    (and_more bytes r ns h) refl refl refl
-    (λ b k. ap (λ kind. closes (step kind b (Outside r)) ns) k ∙ ends_first (Letter b) r ns ∙ ap (λ kind. stands kind bytes && are_ends r ns) (sym k))
-    b
-
-pub letter_more : (b : ℕ) (bytes : List ℕ) (ns : List (List ℕ)) → eqb b 60 ≡ false
-    → closes (read (b ∷ bytes)) ns ≡ (may_stand b bytes && closes (read bytes) ns)
-letter_more b bytes ns e = letter_step b bytes (read bytes) ns (read_sound bytes) e
-
 -- ---- tags
 
 abbrev go : Option (List (List ℕ)) → Reading → Bool
@@ -218,22 +190,6 @@ ending_more : (name : List ℕ) (r : Rest) (ns : List (List ℕ)) → are_ends (
 ending_more name r [] = refl
 ending_more name r (n ∷ ns) = go_if (bytes_eq name n) ns r
 
-mark_more : (bytes : List ℕ) (r : Rest) (ns : List (List ℕ)) → closes (outside (read_mark bytes r)) ns ≡ go (follows bytes ns) (Outside r)
-mark_more [] r ns = refl
-mark_more (b ∷ bs) r ns =
-    let start = read_tag start_rows [] (b ∷ bs) in
-    let void = read_tag void_rows void_end (b ∷ bs) in
-    elim (cases_Bool (eqb b 47)) [
-      | inl e ↦
-          ap (λ o. closes (outside o) ns) (cond-true (eqb b 47) (Some (Then End bs r)) (open_or start void r) e)
-          ∙ ending_more bs r ns
-          ∙ ap (λ o. go o (Outside r)) (sym (cond-true (eqb b 47) (close bs ns) (with_open_tag start void ns) e))
-      | inr e ↦
-          ap (λ o. closes (outside o) ns) (cond-false (eqb b 47) (Some (Then End bs r)) (open_or start void r) e)
-          ∙ opening_more start void r ns
-          ∙ ap (λ o. go o (Outside r)) (sym (cond-false (eqb b 47) (close bs ns) (with_open_tag start void ns) e))
-    ]
-
 record InTag : Type 0 where
   bytes : List ℕ
   rest : Rest
@@ -255,90 +211,10 @@ inside_outside : (o : Option Rest) → inside_of (outside o) ≡ None
 inside_outside None = refl
 inside_outside (Some r) = refl
 
-inside_more : (k : Kind) (b : ℕ) (s : Reading) → is_inner k ≡ true → inside_of (step k b s) ≡ option_map (longer_tag b) (inside_of s)
-inside_more And b Nowhere h = refl
-inside_more And b (Outside r) h = inside_outside (join_rest r)
-inside_more And b (Inside bytes r) h = refl
-inside_more Quote b Nowhere h = refl
-inside_more Quote b (Outside r) h = refl
-inside_more Quote b (Inside bytes r) h = refl
-inside_more Less b s h = absurd (false≢true h)
-inside_more Greater b s h = absurd (false≢true h)
-inside_more Plain b Nowhere h = refl
-inside_more Plain b (Outside r) h = refl
-inside_more Plain b (Inside bytes r) h = refl
-
-inside_end : (s : Reading) → inside_of (step Greater 62 s) ≡ in_tag [] s
-inside_end Nowhere = refl
-inside_end (Outside r) = refl
-inside_end (Inside bytes r) = refl
-
-inside_start : (s : Reading) → inside_of (step Less 60 s) ≡ None
-inside_start Nowhere = refl
-inside_start (Outside r) = refl
-inside_start (Inside bytes r) = inside_outside (read_mark bytes r)
-
-abbrev tagged : Option QuotedText → Option InTag
-tagged None = None
-tagged (Some q) = in_tag q.inside (read q.rest)
-
 in_longer : (b : ℕ) (bytes : List ℕ) (s : Reading) → option_map (longer_tag b) (in_tag bytes s) ≡ in_tag (b ∷ bytes) s
 in_longer b bytes Nowhere = refl
 in_longer b bytes (Outside r) = refl
 in_longer b bytes (Inside inner r) = refl
-
-tagged_longer : (b : ℕ) (o : Option QuotedText) → option_map (longer_tag b) (tagged o) ≡ tagged (option_map (longer b) o)
-tagged_longer b None = refl
-tagged_longer b (Some q) = in_longer b q.inside (read q.rest)
-
-inside_is : (bytes : List ℕ) → inside_of (read bytes) ≡ tagged (split_tag bytes)
-inside_is [] = refl
-inside_is (b ∷ bs) =
-    let known : option_map (longer_tag b) (inside_of (read bs)) ≡ tagged (option_map (longer b) (split_tag bs)) =
-    ap (option_map (longer_tag b)) (inside_is bs) ∙ tagged_longer b (split_tag bs) in
-    by_kind (λ b. option_map (longer_tag b) (inside_of (read bs)) ≡ tagged (option_map (longer b) (split_tag bs))
-    → inside_of (step (kind b) b (read bs)) ≡ tagged (split_tag (b ∷ bs)))
-    (λ known. inside_more And 38 (read bs) refl ∙ known)
-    (λ known. inside_more Quote 34 (read bs) refl ∙ known)
-    (λ _. inside_start (read bs))
-    (λ _. inside_end (read bs))
-    (λ b k known.
-    ap (λ kind. inside_of (step kind b (read bs))) k ∙ inside_more Plain b (read bs) refl ∙ known
-    ∙ ap tagged (sym (cond-false (eqb b 62) _ (cond (eqb b 60) None (option_map (longer b) (split_tag bs))) (plain_other b 62 k refl)
-    ∙ cond-false (eqb b 60) None (option_map (longer b) (split_tag bs)) (plain_other b 60 k refl))))
-    b known
-
-abbrev closes_in : Option InTag → List (List ℕ) → Bool
-closes_in None ns = false
-closes_in (Some t) ns = closes (outside (read_mark t.bytes t.rest)) ns
-
-less_closes : (s : Reading) (ns : List (List ℕ)) → closes (step Less 60 s) ns ≡ closes_in (inside_of s) ns
-less_closes Nowhere ns = refl
-less_closes (Outside r) ns = refl
-less_closes (Inside bytes r) ns = refl
-
-in_goes : (bytes : List ℕ) (s : Reading) (ns : List (List ℕ)) → closes_in (in_tag bytes s) ns ≡ go (follows bytes ns) s
-in_goes bytes Nowhere ns = sym (go_nowhere (follows bytes ns))
-in_goes bytes (Outside r) ns = mark_more bytes r ns
-in_goes bytes (Inside inner r) ns = sym (go_inside (follows bytes ns) inner r)
-
-tag_is : (bytes : List ℕ) (ns : List (List ℕ)) → closes (read (60 ∷ bytes)) ns ≡ closes_in (tagged (split_tag bytes)) ns
-tag_is bytes ns = less_closes (read bytes) ns ∙ ap (λ o. closes_in o ns) (inside_is bytes)
-
-pub no_tag : (bytes : List ℕ) (ns : List (List ℕ)) → split_tag bytes ≡ None → closes (read (60 ∷ bytes)) ns ≡ false
-no_tag bytes ns h = tag_is bytes ns ∙ ap (λ o. closes_in (tagged o) ns) h
-
-split_goes : (bytes : List ℕ) (ns : List (List ℕ)) (q : QuotedText) → split_tag bytes ≡ Some q
-    → closes (read (60 ∷ bytes)) ns ≡ go (follows q.inside ns) (read q.rest)
-split_goes bytes ns q h = tag_is bytes ns ∙ ap (λ o. closes_in (tagged o) ns) h ∙ in_goes q.inside (read q.rest) ns
-
-pub bad_tag : (bytes : List ℕ) (ns : List (List ℕ)) (q : QuotedText) → split_tag bytes ≡ Some q → follows q.inside ns ≡ None
-    → closes (read (60 ∷ bytes)) ns ≡ false
-bad_tag bytes ns q h k = split_goes bytes ns q h ∙ ap (λ o. go o (read q.rest)) k
-
-pub good_tag : (bytes : List ℕ) (ns more : List (List ℕ)) (q : QuotedText) → split_tag bytes ≡ Some q → follows q.inside ns ≡ Some more
-    → closes (read (60 ∷ bytes)) ns ≡ closes (read q.rest) more
-good_tag bytes ns more q h k = split_goes bytes ns q h ∙ ap (λ o. go o (read q.rest)) k
 
 -- ---- pages
 
@@ -348,13 +224,146 @@ whole_closes (Inside bytes r) = refl
 whole_closes (Outside (Last items)) = refl
 whole_closes (Outside (Then items name r)) = refl
 
-has_reading : (page : List ℕ) (o : Option Items) → IfSome o (IsReading page) → is_some o ≡ true → IsSafePage page
-has_reading page None h k = absurd (false≢true k)
-has_reading page (Some items) h k = (items, h)
+module _ (table : TagTable) where
+  -- ---- letters
 
--- what the test says
-pub decided : (page : List ℕ) (safe : Bool) → closes (read page) [] ≡ safe → IsTrue safe ↔ IsSafePage page
-decided page safe h = (
-  λ t. has_reading page (read_page page) (page_sound page) (sym (whole_closes (read page)) ∙ h ∙ t),
-  λ r. sym h ∙ whole_closes (read page) ∙ ap (λ p. is_some (read_page p)) (sym r.1.1) ∙ ap is_some (page_spelled r.0 r.1.0),
-)
+  and_more : (bytes : List ℕ) (r : Rest) (ns : List (List ℕ)) → IsRest table bytes r
+      → closes (outside (join_rest r)) ns ≡ (begins_reference bytes && are_ends r ns)
+  and_more bytes (Last items) ns h =
+      joined_last (join_letters items) ns items ∙ ap (λ x. x && are_ends (Last items) ns) (items_reference items [] bytes refl h.spelling)
+  and_more bytes (Then items name r) ns h =
+      joined_then (join_letters items) ns items name r
+      ∙ ap (λ x. x && are_ends (Then items name r) ns) (items_reference items (60 ∷ 47 ∷ (name ++ (62 ∷ spell_rest r))) bytes refl h.spelling)
+
+  letter_step : (b : ℕ) (bytes : List ℕ) (s : Reading) (ns : List (List ℕ)) → IsSound table bytes s → eqb b 60 ≡ false
+      → closes (step table (kind b) b s) ns ≡ (may_stand b bytes && closes s ns)
+  letter_step b bytes Nowhere ns h e =
+      by_kind (λ b. closes (step table (kind b) b Nowhere) ns ≡ (may_stand b bytes && false))
+      (sym (and_right (begins_reference bytes) false refl)) refl refl refl
+      (λ b k. ap (λ kind. closes (step table kind b Nowhere) ns) k ∙ ap (λ kind. stands kind bytes && false) (sym k))
+      b
+  letter_step b bytes (Inside inner r) ns h e =
+      by_kind (λ b. eqb b 60 ≡ false → closes (step table (kind b) b (Inside inner r)) ns ≡ (may_stand b bytes && false))
+      (λ _. sym (and_right (begins_reference bytes) false refl)) (λ _. refl) (λ e. absurd (true≢false e)) (λ _. refl)
+      (λ b k _. ap (λ kind. closes (step table kind b (Inside inner r)) ns) k ∙ ap (λ kind. stands kind bytes && false) (sym k))
+      b e
+  letter_step b bytes (Outside r) ns h e =
+      by_kind (λ b. closes (step table (kind b) b (Outside r)) ns ≡ (may_stand b bytes && are_ends r ns))
+      (and_more bytes r ns h) refl refl refl
+      (λ b k. ap (λ kind. closes (step table kind b (Outside r)) ns) k ∙ ends_first (Letter b) r ns ∙ ap (λ kind. stands kind bytes && are_ends r ns) (sym k))
+      b
+
+  pub letter_more : (b : ℕ) (bytes : List ℕ) (ns : List (List ℕ)) → eqb b 60 ≡ false
+      → closes (read table (b ∷ bytes)) ns ≡ (may_stand b bytes && closes (read table bytes) ns)
+  letter_more b bytes ns e = letter_step b bytes (read table bytes) ns (read_sound table bytes) e
+
+  -- ---- tags
+
+  mark_more : (bytes : List ℕ) (r : Rest) (ns : List (List ℕ)) → closes (outside (read_mark table bytes r)) ns ≡ go (follows table bytes ns) (Outside r)
+  mark_more [] r ns = refl
+  mark_more (b ∷ bs) r ns =
+      let start = read_tag (start_rows_of table) [] (b ∷ bs) in
+      let void = read_tag (void_rows_of table) void_end (b ∷ bs) in
+      elim (cases_Bool (eqb b 47)) [
+        | inl e ↦
+            ap (λ o. closes (outside o) ns) (cond-true (eqb b 47) (Some (Then End bs r)) (open_or start void r) e)
+            ∙ ending_more bs r ns
+            ∙ ap (λ o. go o (Outside r)) (sym (cond-true (eqb b 47) (close bs ns) (with_open_tag start void ns) e))
+        | inr e ↦
+            ap (λ o. closes (outside o) ns) (cond-false (eqb b 47) (Some (Then End bs r)) (open_or start void r) e)
+            ∙ opening_more start void r ns
+            ∙ ap (λ o. go o (Outside r)) (sym (cond-false (eqb b 47) (close bs ns) (with_open_tag start void ns) e))
+      ]
+
+  inside_more : (k : Kind) (b : ℕ) (s : Reading) → is_inner k ≡ true → inside_of (step table k b s) ≡ option_map (longer_tag b) (inside_of s)
+  inside_more And b Nowhere h = refl
+  inside_more And b (Outside r) h = inside_outside (join_rest r)
+  inside_more And b (Inside bytes r) h = refl
+  inside_more Quote b Nowhere h = refl
+  inside_more Quote b (Outside r) h = refl
+  inside_more Quote b (Inside bytes r) h = refl
+  inside_more Less b s h = absurd (false≢true h)
+  inside_more Greater b s h = absurd (false≢true h)
+  inside_more Plain b Nowhere h = refl
+  inside_more Plain b (Outside r) h = refl
+  inside_more Plain b (Inside bytes r) h = refl
+
+  inside_end : (s : Reading) → inside_of (step table Greater 62 s) ≡ in_tag [] s
+  inside_end Nowhere = refl
+  inside_end (Outside r) = refl
+  inside_end (Inside bytes r) = refl
+
+  inside_start : (s : Reading) → inside_of (step table Less 60 s) ≡ None
+  inside_start Nowhere = refl
+  inside_start (Outside r) = refl
+  inside_start (Inside bytes r) = inside_outside (read_mark table bytes r)
+
+  abbrev tagged : Option QuotedText → Option InTag
+  tagged None = None
+  tagged (Some q) = in_tag q.inside (read table q.rest)
+
+  tagged_longer : (b : ℕ) (o : Option QuotedText) → option_map (longer_tag b) (tagged o) ≡ tagged (option_map (longer b) o)
+  tagged_longer b None = refl
+  tagged_longer b (Some q) = in_longer b q.inside (read table q.rest)
+
+  inside_is : (bytes : List ℕ) → inside_of (read table bytes) ≡ tagged (split_tag bytes)
+  inside_is [] = refl
+  inside_is (b ∷ bs) =
+      let known : option_map (longer_tag b) (inside_of (read table bs)) ≡ tagged (option_map (longer b) (split_tag bs)) =
+      ap (option_map (longer_tag b)) (inside_is bs) ∙ tagged_longer b (split_tag bs) in
+      by_kind (λ b. option_map (longer_tag b) (inside_of (read table bs)) ≡ tagged (option_map (longer b) (split_tag bs))
+      → inside_of (step table (kind b) b (read table bs)) ≡ tagged (split_tag (b ∷ bs)))
+      (λ known. inside_more And 38 (read table bs) refl ∙ known)
+      (λ known. inside_more Quote 34 (read table bs) refl ∙ known)
+      (λ _. inside_start (read table bs))
+      (λ _. inside_end (read table bs))
+      (λ b k known.
+      ap (λ kind. inside_of (step table kind b (read table bs))) k ∙ inside_more Plain b (read table bs) refl ∙ known
+      ∙ ap tagged (sym (cond-false (eqb b 62) _ (cond (eqb b 60) None (option_map (longer b) (split_tag bs))) (plain_other b 62 k refl)
+      ∙ cond-false (eqb b 60) None (option_map (longer b) (split_tag bs)) (plain_other b 60 k refl))))
+      b known
+
+  abbrev closes_in : Option InTag → List (List ℕ) → Bool
+  closes_in None ns = false
+  closes_in (Some t) ns = closes (outside (read_mark table t.bytes t.rest)) ns
+
+  less_closes : (s : Reading) (ns : List (List ℕ)) → closes (step table Less 60 s) ns ≡ closes_in (inside_of s) ns
+  less_closes Nowhere ns = refl
+  less_closes (Outside r) ns = refl
+  less_closes (Inside bytes r) ns = refl
+
+  in_goes : (bytes : List ℕ) (s : Reading) (ns : List (List ℕ)) → closes_in (in_tag bytes s) ns ≡ go (follows table bytes ns) s
+  in_goes bytes Nowhere ns = sym (go_nowhere (follows table bytes ns))
+  in_goes bytes (Outside r) ns = mark_more bytes r ns
+  in_goes bytes (Inside inner r) ns = sym (go_inside (follows table bytes ns) inner r)
+
+  tag_is : (bytes : List ℕ) (ns : List (List ℕ)) → closes (read table (60 ∷ bytes)) ns ≡ closes_in (tagged (split_tag bytes)) ns
+  tag_is bytes ns = less_closes (read table bytes) ns ∙ ap (λ o. closes_in o ns) (inside_is bytes)
+
+  pub no_tag : (bytes : List ℕ) (ns : List (List ℕ)) → split_tag bytes ≡ None → closes (read table (60 ∷ bytes)) ns ≡ false
+  no_tag bytes ns h = tag_is bytes ns ∙ ap (λ o. closes_in (tagged o) ns) h
+
+  split_goes : (bytes : List ℕ) (ns : List (List ℕ)) (q : QuotedText) → split_tag bytes ≡ Some q
+      → closes (read table (60 ∷ bytes)) ns ≡ go (follows table q.inside ns) (read table q.rest)
+  split_goes bytes ns q h = tag_is bytes ns ∙ ap (λ o. closes_in (tagged o) ns) h ∙ in_goes q.inside (read table q.rest) ns
+
+  pub bad_tag : (bytes : List ℕ) (ns : List (List ℕ)) (q : QuotedText) → split_tag bytes ≡ Some q → follows table q.inside ns ≡ None
+      → closes (read table (60 ∷ bytes)) ns ≡ false
+  bad_tag bytes ns q h k = split_goes bytes ns q h ∙ ap (λ o. go o (read table q.rest)) k
+
+  pub good_tag : (bytes : List ℕ) (ns more : List (List ℕ)) (q : QuotedText) → split_tag bytes ≡ Some q → follows table q.inside ns ≡ Some more
+      → closes (read table (60 ∷ bytes)) ns ≡ closes (read table q.rest) more
+  good_tag bytes ns more q h k = split_goes bytes ns q h ∙ ap (λ o. go o (read table q.rest)) k
+
+  -- ---- pages
+
+  has_reading : (page : List ℕ) (o : Option Items) → IfSome o (IsReadingBy table page) → is_some o ≡ true → IsSafePageBy table page
+  has_reading page None h k = absurd (false≢true k)
+  has_reading page (Some items) h k = (items, h)
+
+  -- what the test says
+  pub decided : (page : List ℕ) (safe : Bool) → closes (read table page) [] ≡ safe → IsTrue safe ↔ IsSafePageBy table page
+  decided page safe h = (
+    λ t. has_reading page (read_page table page) (page_sound table page) (sym (whole_closes (read table page)) ∙ h ∙ t),
+    λ r. sym h ∙ whole_closes (read table page) ∙ ap (λ p. is_some (read_page table p)) (sym r.1.1) ∙ ap is_some (page_spelled table r.0 r.1.0),
+  )

@@ -1,5 +1,6 @@
 -- A value is tested as it is spelled.
-use Rattle.std.proofs.Common.{◌≡◌, ℕ, ◌+◌, suc, List, [], ◌∷◌, ◌++◌, Bool, true, false, not, ◌&&◌, ◌||◌, cond, eqb, Option, None, Some, codes, drop, refl, sym, ap, ap₂}
+use Rattle.std.proofs.Common.{◌≡◌, ℕ, ◌+◌, suc, List, [], ◌∷◌, ◌++◌, Bool, true, false, not, ◌&&◌, ◌||◌, cond, eqb, Option, None, Some, codes, drop, refl}
+use Rattle.std.proofs.Common.{sym, ap, ap₂}
 use Rattle.std.proofs.Common.{◌<◌, ◌∙◌, Bor, get_or, inl, inr, length, arith}
 use Rattle.std.specs.Char.{to_ascii_lowercase}
 use Rattle.std.specs.List.{list_any, list_all, prefix_len, take_while}
@@ -176,7 +177,8 @@ start_same [] text h = refl
 start_same (c ∷ cs) [] h = refl
 start_same (c ∷ cs) (b ∷ bs) h =
     let parts = and_parts (is_plain (kind c)) (all_plain cs) h in
-    let no = λ (m : ℕ) (k : is_plain (kind m) ≡ false) (x : List ℕ). ap (λ t. cond t (begins_with cs x) false) (plain_before c m (plain_is (kind c) parts.0) k) in
+    let no = λ (m : ℕ) (k : is_plain (kind m) ≡ false) (x : List ℕ). ap (λ t. cond t (begins_with cs x) false)
+    (plain_before c m (plain_is (kind c) parts.0) k) in
     by_kind (λ b. begins_with (c ∷ cs) (spell_letter b ++ sp bs) ≡ begins_with (c ∷ cs) (b ∷ bs))
     (no 38 refl (codes "amp;" ++ sp bs) ∙ sym (no 38 refl bs))
     (no 38 refl (codes "quot;" ++ sp bs) ∙ sym (no 34 refl bs))
@@ -210,16 +212,21 @@ pub value_spelled : (tag name text : List ℕ) → is_value tag name text ≡ is
 value_spelled tag name text =
     let choose = λ (word : List ℕ) (x y : Bool). cond (bytes_eq name word) x y in
     let is_empty_name = list_any (λ n. bytes_eq n name) empty_names in
-    let after_align = λ (t : List ℕ). cond is_empty_name (bytes_eq [] t) true in
+    let after_loading = λ (t : List ℕ). cond is_empty_name (bytes_eq [] t) true in
+    let after_align = λ (t : List ℕ). choose (codes "loading") (bytes_eq (codes "lazy") t) (after_loading t) in
     let after_type = λ (t : List ℕ). choose (codes "align") (list_any (λ a. bytes_eq a t) alignments) (after_align t) in
     let after_class = λ (t : List ℕ). choose (codes "type") (bytes_eq (codes "checkbox") t) (after_type t) in
     let after_src = λ (t : List ℕ). choose (codes "class") (is_class tag t) (after_class t) in
     let after_href = λ (t : List ℕ). choose (codes "src") (permits src_protocols t) (after_src t) in
-    let same_after_align : after_align text ≡ after_align (sp text) = ap (λ x. cond is_empty_name x true) (sym (text_same [] text refl)) in
+    let same_after_loading : after_loading text ≡ after_loading (sp text) = ap (λ x. cond is_empty_name x true) (sym (text_same [] text refl)) in
+    let same_after_align : after_align text ≡ after_align (sp text) = ap₂ (choose (codes "loading"))
+    (sym (text_same (codes "lazy") text refl)) same_after_loading in
     let same_after_type : after_type text ≡ after_type (sp text) = ap₂ (choose (codes "align")) (sym (texts_same alignments text refl)) same_after_align in
-    let same_after_class : after_class text ≡ after_class (sp text) = ap₂ (choose (codes "type")) (sym (text_same (codes "checkbox") text refl)) same_after_type in
+    let same_after_class : after_class text ≡ after_class (sp text) = ap₂ (choose (codes "type"))
+    (sym (text_same (codes "checkbox") text refl)) same_after_type in
     let same_after_src : after_src text ≡ after_src (sp text) = ap₂ (choose (codes "class")) (class_same tag text) same_after_class in
-    let same_after_href : after_href text ≡ after_href (sp text) = ap₂ (choose (codes "src")) (sym (permitted_spelled src_protocols text src_plain)) same_after_src in
+    let same_after_href : after_href text ≡ after_href (sp text) = ap₂ (choose (codes "src"))
+    (sym (permitted_spelled src_protocols text src_plain)) same_after_src in
     ap₂ (choose (codes "href")) (sym (permitted_spelled href_protocols text href_plain)) same_after_href
 
 -- an attribute of another name
@@ -238,9 +245,10 @@ turned true = refl
 turned false = refl
 
 pub other_value : (tag name value : List ℕ) (is_empty is_listed : Bool) → (name ≡ codes "href" → ⊥) → (name ≡ codes "src" → ⊥)
-    → (name ≡ codes "class" → ⊥) → (name ≡ codes "type" → ⊥) → (name ≡ codes "align" → ⊥) → is_empty ≡ eqb (length value) 0 → is_empty ≡ false
+    → (name ≡ codes "class" → ⊥) → (name ≡ codes "type" → ⊥) → (name ≡ codes "align" → ⊥) → (name ≡ codes "loading" → ⊥) → is_empty ≡ eqb (length value) 0
+    → is_empty ≡ false
     → is_listed ≡ list_any (λ n. bytes_eq n name) empty_names → not is_listed ≡ is_value tag name value
-other_value tag name value is_empty is_listed href src class type align size full listed =
+other_value tag name value is_empty is_listed href src class type align loading size full listed =
     turned is_listed
     ∙ ap (λ x. cond is_listed x true) (sym (not_empty value (sym size ∙ full)))
     ∙ ap (λ t. cond t (bytes_eq [] value) true) listed
@@ -248,7 +256,8 @@ other_value tag name value is_empty is_listed href src class type align size ful
     ∙ cond-false (bytes_eq name (codes "src")) (permits src_protocols value) _ (no_word name (codes "src") src)
     ∙ cond-false (bytes_eq name (codes "class")) (is_class tag value) _ (no_word name (codes "class") class)
     ∙ cond-false (bytes_eq name (codes "type")) (bytes_eq (codes "checkbox") value) _ (no_word name (codes "type") type)
-    ∙ cond-false (bytes_eq name (codes "align")) (list_any (λ a. bytes_eq a value) alignments) _ (no_word name (codes "align") align))
+    ∙ cond-false (bytes_eq name (codes "align")) (list_any (λ a. bytes_eq a value) alignments) _ (no_word name (codes "align") align)
+    ∙ cond-false (bytes_eq name (codes "loading")) (bytes_eq (codes "lazy") value) _ (no_word name (codes "loading") loading))
 
 -- ---- values
 

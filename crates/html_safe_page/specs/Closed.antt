@@ -2,8 +2,9 @@
 use Rattle.std.specs.Prelude.{◌≡◌, ℕ, true, List, [], ◌∷◌, ◌++◌, codes}
 use Rattle.definition_text.specs.Ascii.{slash, less_than, greater_than}
 use Rattle.definition_text.specs.Encode.{encode}
-use Rattle.html_safe_page.specs.Table.{start_rows, void_rows}
-use Rattle.html_safe_page.specs.SafePage.{Tag, spell_tag, void_end, is_tag_of, IsSafePage}
+use Rattle.html_safe_page.specs.Table.{start_rows_of, void_rows_of}
+use Rattle.html_safe_page.specs.declared.table.TagTable.{TagTable}
+use Rattle.html_safe_page.specs.SafePage.{Tag, spell_tag, void_end, is_tag_of, IsSafePageBy}
 
 -- an element with this inside
 abbrev pub element : Tag → List ℕ → List ℕ
@@ -12,14 +13,16 @@ element tag inside = less_than ∷ spell_tag tag (greater_than ∷ (inside ++ (l
 abbrev pub void : Tag → List ℕ
 void tag = less_than ∷ spell_tag tag (void_end ++ codes ">")
 
-pub record Closure : Type 0 where
-  pub nothing : IsSafePage []
-  pub line_feed : IsSafePage (codes "\n")
-  pub carriage_return : IsSafePage (codes "\r")
-  pub both : IsSafePage (codes "\r\n")
-  pub text : (text : List ℕ) → IsSafePage (encode text)
-  pub void_tag : (tag : Tag) → is_tag_of void_rows tag ≡ true → IsSafePage (void tag)
-  pub tags_around : (tag : Tag) (inside : List ℕ) → is_tag_of start_rows tag ≡ true → IsSafePage inside → IsSafePage (element tag inside)
-  pub in_a_row : (one other : List ℕ) → IsSafePage one → IsSafePage other → IsSafePage (one ++ other)
+pub record Closure (table : TagTable) : Type 0 where
+  pub nothing : IsSafePageBy table []
+  pub line_feed : IsSafePageBy table (codes "\n")
+  pub carriage_return : IsSafePageBy table (codes "\r")
+  pub both : IsSafePageBy table (codes "\r\n")
+  pub text : (text : List ℕ) → IsSafePageBy table (encode text)
+  pub void_tag : (tag : Tag) → is_tag_of (void_rows_of table) tag ≡ true → IsSafePageBy table (void tag)
+  pub tags_around : (tag : Tag) (inside : List ℕ) → is_tag_of (start_rows_of table) tag ≡ true → IsSafePageBy table inside
+      → IsSafePageBy table (element tag inside)
+  pub in_a_row : (one other : List ℕ) → IsSafePageBy table one → IsSafePageBy table other → IsSafePageBy table (one ++ other)
   -- one before a tag of another one, where 60 is the byte `<`
-  pub put_in : (before after inner : List ℕ) → IsSafePage (before ++ less_than ∷ after) → IsSafePage inner → IsSafePage (before ++ (inner ++ less_than ∷ after))
+  pub put_in : (before after inner : List ℕ) → IsSafePageBy table (before ++ less_than ∷ after) → IsSafePageBy table inner
+      → IsSafePageBy table (before ++ (inner ++ less_than ∷ after))

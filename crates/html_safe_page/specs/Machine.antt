@@ -3,7 +3,8 @@ use Rattle.std.specs.Prelude.{ℕ, Bool, true, false, if◌then◌else◌, ◌==
 use Rattle.std.specs.List.{list_any}
 use Rattle.std.specs.Option.{is_some, option_and_then, option_map, option_or}
 use Rattle.std.specs.Str.{bytes_eq}
-use Rattle.html_safe_page.specs.Table.{start_rows, void_rows}
+use Rattle.html_safe_page.specs.Table.{start_rows_of, void_rows_of}
+use Rattle.html_safe_page.specs.declared.table.TagTable.{TagTable}
 use Rattle.html_safe_page.specs.SafePage.{Kind, And, Quote, Less, Greater, Plain, kind, Tag, void_end}
 use Rattle.html_safe_page.specs.Reader.{strip, QuotedText, longer, quoted_value, read_value, read_tag}
 use Rattle.definition_text.specs.Ascii.{double_quote, ampersand, slash, less_than, greater_than}
@@ -74,9 +75,11 @@ with_open_tag None (Some tag) names = Some names
 with_open_tag None None names = None
 
 -- after a tag
-abbrev pub follows : List ℕ → List (List ℕ) → Option (List (List ℕ))
-follows [] names = None
-follows (b ∷ bs) names = if b == slash then close bs names else with_open_tag (read_tag start_rows [] (b ∷ bs)) (read_tag void_rows void_end (b ∷ bs)) names
+abbrev pub follows : TagTable → List ℕ → List (List ℕ) → Option (List (List ℕ))
+follows table [] names = None
+follows table (b ∷ bs) names =
+    if b == slash then close bs names
+    else with_open_tag (read_tag (start_rows_of table) [] (b ∷ bs)) (read_tag (void_rows_of table) void_end (b ∷ bs)) names
 
 -- names, if the test goes on
 abbrev pub if_goes_on : Bool → List (List ℕ) → Option (List (List ℕ))
@@ -90,11 +93,11 @@ pub record Next : Type 0 where
 abbrev pub next : List ℕ → List (List ℕ) → Next
 next rest names = record { rest = rest; names = names }
 
-abbrev pub after_split : Option QuotedText → List (List ℕ) → Option Next
-after_split None names = None
-after_split (Some q) names = option_map (next q.rest) (follows q.inside names)
+abbrev pub after_split : TagTable → Option QuotedText → List (List ℕ) → Option Next
+after_split table None names = None
+after_split table (Some q) names = option_map (next q.rest) (follows table q.inside names)
 
 -- after the tag that bytes begin with
-abbrev pub after_tag : List ℕ → List (List ℕ) → Option Next
-after_tag [] names = None
-after_tag (b ∷ bs) names = if b == less_than then after_split (split_tag bs) names else None
+abbrev pub after_tag : TagTable → List ℕ → List (List ℕ) → Option Next
+after_tag table [] names = None
+after_tag table (b ∷ bs) names = if b == less_than then after_split table (split_tag bs) names else None

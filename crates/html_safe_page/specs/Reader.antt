@@ -2,7 +2,8 @@
 use Rattle.std.specs.Prelude.{ℕ, if◌then◌else◌, ◌==◌, List, [], ◌∷◌, Option, None, Some, codes}
 use Rattle.std.specs.Option.{option_and_then, option_map, option_or}
 use Rattle.std.specs.Str.{bytes_eq}
-use Rattle.html_safe_page.specs.Table.{Row, start_rows, void_rows}
+use Rattle.html_safe_page.specs.Table.{Row, start_rows_of, void_rows_of}
+use Rattle.html_safe_page.specs.declared.table.TagTable.{TagTable}
 use Rattle.html_safe_page.specs.SafePage.{Kind, And, Quote, Less, Greater, Plain, kind, Attribute, Tag, Items, End, Letter, Void, Element, attribute_start}
 use Rattle.html_safe_page.specs.SafePage.{void_end, is_value}
 use Rattle.definition_text.specs.Ascii.{double_quote, ampersand, slash, less_than, greater_than}
@@ -135,29 +136,29 @@ open_or None (Some tag) rest = Some (at_first (Void tag) rest)
 open_or None None rest = None
 
 -- the bytes of a tag before what follows it
-abbrev pub read_opening : List ℕ → Rest → Option Rest
-read_opening bytes rest = open_or (read_tag start_rows [] bytes) (read_tag void_rows void_end bytes) rest
+abbrev pub read_opening : TagTable → List ℕ → Rest → Option Rest
+read_opening table bytes rest = open_or (read_tag (start_rows_of table) [] bytes) (read_tag (void_rows_of table) void_end bytes) rest
 
-abbrev pub read_mark : List ℕ → Rest → Option Rest
-read_mark [] rest = None
-read_mark (b ∷ bs) rest = if b == slash then Some (Then End bs rest) else read_opening (b ∷ bs) rest
+abbrev pub read_mark : TagTable → List ℕ → Rest → Option Rest
+read_mark table [] rest = None
+read_mark table (b ∷ bs) rest = if b == slash then Some (Then End bs rest) else read_opening table (b ∷ bs) rest
 
-abbrev pub step : Kind → ℕ → Reading → Reading
-step kind b Nowhere = Nowhere
-step And b (Outside rest) = outside (join_rest rest)
-step Quote b (Outside rest) = Nowhere
-step Less b (Outside rest) = Nowhere
-step Greater b (Outside rest) = Inside [] rest
-step Plain b (Outside rest) = Outside (at_first (Letter b) rest)
-step Less b (Inside bytes rest) = outside (read_mark bytes rest)
-step Greater b (Inside bytes rest) = Nowhere
-step And b (Inside bytes rest) = Inside (b ∷ bytes) rest
-step Quote b (Inside bytes rest) = Inside (b ∷ bytes) rest
-step Plain b (Inside bytes rest) = Inside (b ∷ bytes) rest
+abbrev pub step : TagTable → Kind → ℕ → Reading → Reading
+step table kind b Nowhere = Nowhere
+step table And b (Outside rest) = outside (join_rest rest)
+step table Quote b (Outside rest) = Nowhere
+step table Less b (Outside rest) = Nowhere
+step table Greater b (Outside rest) = Inside [] rest
+step table Plain b (Outside rest) = Outside (at_first (Letter b) rest)
+step table Less b (Inside bytes rest) = outside (read_mark table bytes rest)
+step table Greater b (Inside bytes rest) = Nowhere
+step table And b (Inside bytes rest) = Inside (b ∷ bytes) rest
+step table Quote b (Inside bytes rest) = Inside (b ∷ bytes) rest
+step table Plain b (Inside bytes rest) = Inside (b ∷ bytes) rest
 
-abbrev pub read : List ℕ → Reading
-read [] = Outside (Last End)
-read (b ∷ bs) = step (kind b) b (read bs)
+abbrev pub read : TagTable → List ℕ → Reading
+read table [] = Outside (Last End)
+read table (b ∷ bs) = step table (kind b) b (read table bs)
 
 abbrev pub whole : Reading → Option Items
 whole Nowhere = None
@@ -165,5 +166,5 @@ whole (Inside bytes rest) = None
 whole (Outside (Last items)) = Some items
 whole (Outside (Then items name rest)) = None
 
-abbrev pub read_page : List ℕ → Option Items
-read_page page = whole (read page)
+abbrev pub read_page : TagTable → List ℕ → Option Items
+read_page table page = whole (read table page)

@@ -4,7 +4,9 @@ use Rattle.std.specs.List.{list_any, list_all}
 use Rattle.std.specs.Str.{bytes_eq}
 use Rattle.definition_text.specs.Ascii.{space, double_quote, ampersand, slash, less_than, greater_than}
 use Rattle.definition_page.specs.Urls.{permits, href_protocols, src_protocols}
-use Rattle.html_safe_page.specs.Table.{Row, start_rows, void_rows}
+use Rattle.html_safe_page.specs.Table.{Row, start_rows_of, void_rows_of}
+use Rattle.html_safe_page.specs.declared.table.TagTable.{TagTable}
+use Rattle.html_safe_page.specs.declared.table.TagTable.TheVariants.{Basic}
 
 -- ---- letters
 
@@ -131,7 +133,7 @@ alignments = codes "left" ∷ codes "right" ∷ codes "center" ∷ []
 abbrev pub empty_names : List (List ℕ)
 empty_names = codes "disabled" ∷ codes "checked" ∷ codes "data-footnotes" ∷ codes "data-footnote-ref" ∷ codes "data-footnote-backref" ∷ []
 
--- whether a tag may have an attribute with this value; any may stand in `id`, `start`, `alt`, `title` and those named `aria-`
+-- whether a tag may have an attribute with this value; any may stand in `id`, `start`, `alt`, `title`, `rel` and those named `aria-`
 abbrev pub is_value : List ℕ → List ℕ → List ℕ → Bool
 is_value tag name value =
     if bytes_eq name (codes "href") then permits href_protocols value
@@ -139,25 +141,38 @@ is_value tag name value =
     else (if bytes_eq name (codes "class") then is_class tag value
     else (if bytes_eq name (codes "type") then bytes_eq (codes "checkbox") value
     else (if bytes_eq name (codes "align") then list_any (λ a. bytes_eq a value) alignments
-    else (if list_any (λ n. bytes_eq n name) empty_names then bytes_eq [] value else true)))))
+    else (if bytes_eq name (codes "loading") then bytes_eq (codes "lazy") value
+    else (if list_any (λ n. bytes_eq n name) empty_names then bytes_eq [] value else true))))))
 
 abbrev pub is_tag_of : List Row → Tag → Bool
 is_tag_of rows tag = list_any (is_of_row tag) rows && list_all (λ a. is_value tag.name a.name a.value) tag.attributes
 
-abbrev pub is_safe : Items → Bool
-is_safe End = true
-is_safe (Letter b items) = is_safe items
-is_safe (Void tag items) = is_tag_of void_rows tag && is_safe items
-is_safe (Element tag inside items) = is_tag_of start_rows tag && (is_safe inside && is_safe items)
+-- each tag is one of the table
+abbrev pub is_safe_by : TagTable → Items → Bool
+is_safe_by table End = true
+is_safe_by table (Letter b items) = is_safe_by table items
+is_safe_by table (Void tag items) = is_tag_of (void_rows_of table) tag && is_safe_by table items
+is_safe_by table (Element tag inside items) = is_tag_of (start_rows_of table) tag && (is_safe_by table inside && is_safe_by table items)
 
--- items are a reading of a page
-abbrev pub IsReading : List ℕ → Items → Type 0
-IsReading page items = IsTrue (is_safe items) × (spell items ≡ page)
+-- items are a reading of a page, by a table
+abbrev pub IsReadingBy : TagTable → List ℕ → Items → Type 0
+IsReadingBy table page items = IsTrue (is_safe_by table items) × (spell items ≡ page)
 
 -- a page has a reading
-abbrev pub IsSafePage : List ℕ → Type 0
-IsSafePage page = (items : Items) × IsReading page items
+abbrev pub IsSafePageBy : TagTable → List ℕ → Type 0
+IsSafePageBy table page = (items : Items) × IsReadingBy table page items
 
 -- it has no second one
 abbrev pub OneReading : Type 0
-OneReading = (page : List ℕ) (a b : Items) → IsReading page a → IsReading page b → a ≡ b
+OneReading = (table : TagTable) (page : List ℕ) (a b : Items) → IsReadingBy table page a → IsReadingBy table page b → a ≡ b
+
+-- ---- by the basic table
+
+abbrev pub is_safe : Items → Bool
+is_safe items = is_safe_by Basic items
+
+abbrev pub IsReading : List ℕ → Items → Type 0
+IsReading page items = IsReadingBy Basic page items
+
+abbrev pub IsSafePage : List ℕ → Type 0
+IsSafePage page = IsSafePageBy Basic page

@@ -3,6 +3,10 @@
 
 mod letters;
 mod page;
+mod table;
 mod tags;
 
-pub use page::{closure_law, is_safe_page, one_reading_law, unsafe_place};
+pub use page::{
+    closure_law, is_safe_page, is_safe_page_by, one_reading_law, unsafe_place, unsafe_place_by,
+};
+pub use table::TagTable;

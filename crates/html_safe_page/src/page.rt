@@ -1,17 +1,20 @@
 //! Whether a page is safe.
 ghost use Rattle.std.specs.Prelude.{◌≡◌, ◌↔◌, IfOk, IsTrue};
-ghost use Rattle.html_safe_page.specs.SafePage.{IsSafePage, OneReading};
+ghost use Rattle.html_safe_page.specs.SafePage.{IsSafePage, IsSafePageBy, OneReading};
+ghost use Rattle.html_safe_page.specs.declared.table.TagTable.{TagTable};
+ghost use Rattle.html_safe_page.specs.declared.table.TagTable.TheVariants.{Basic};
 ghost use Rattle.html_safe_page.specs.Closed.{Closure};
 ghost use Rattle.html_safe_page.specs.Machine.{split_tag, follows, if_goes_on, after_tag};
 ghost use Rattle.html_safe_page.specs.Place.{IsUnsafePlace};
 ghost use Rattle.html_safe_page.specs.Views.{open_names, quoted_of, if_next};
 
 use crate::letters::after_letters;
+use crate::table::TagTable;
 use crate::tags::{is_frequent, is_void, start_name};
 use std::alloc::{AllocError, Allocator};
 use text_search::{BytePair, next_of};
 
-/// A page has at most one reading.
+/// A page has at most one reading by a table.
 pub fn one_reading_law()
     ensures { OneReading }
 {}
@@ -19,7 +22,7 @@ pub fn one_reading_law()
 /// Texts, line endings, void tags, elements, and several safe pages in a row are safe pages. So is
 /// a safe page that is inserted before a tag of another one.
 pub fn closure_law()
-    ensures { Closure }
+    ensures { (table : TagTable) → Closure table }
 {}
 
 /// `>` and `<`.
@@ -43,8 +46,12 @@ fn split_tag(bytes: &[u8]) -> Option<(&[u8], &[u8])>
 }
 
 /// Opens or closes an element by its tag. Returns false if the tag isn't allowed here.
-fn follow<'a, A: Allocator>(names: &mut Vec<&'a [u8], A>, tag: &'a [u8]) -> Result<bool, AllocError>
-    ensures { IfOk result (λ goes_on. follows tag.now (open_names names.old.items) ≡ if_goes_on goes_on (open_names names.new.items)) }
+fn follow<'a, A: Allocator>(
+    table: TagTable,
+    names: &mut Vec<&'a [u8], A>,
+    tag: &'a [u8],
+) -> Result<bool, AllocError>
+    ensures { IfOk result (λ goes_on. follows table tag.now (open_names names.old.items) ≡ if_goes_on goes_on (open_names names.new.items)) }
 {
     if tag.starts_with(b"/") {
         return Ok(match names.pop() {
@@ -56,19 +63,20 @@ fn follow<'a, A: Allocator>(names: &mut Vec<&'a [u8], A>, tag: &'a [u8]) -> Resu
         names.push(tag)?;
         return Ok(true);
     }
-    if let Some(name) = start_name(tag) {
+    if let Some(name) = start_name(table, tag) {
         names.push(name)?;
         return Ok(true);
     }
-    Ok(is_void(tag))
+    Ok(is_void(table, tag))
 }
 
 /// What follows the tag at the start, if it is allowed here. Opens or closes its element.
 fn after_tag<'a, A: Allocator>(
+    table: TagTable,
     names: &mut Vec<&'a [u8], A>,
     bytes: &'a [u8],
 ) -> Result<Option<&'a [u8]>, AllocError>
-    ensures { IfOk result (λ next. after_tag bytes.now (open_names names.old.items) ≡ if_next next (open_names names.new.items)) }
+    ensures { IfOk result (λ next. after_tag table bytes.now (open_names names.old.items) ≡ if_next next (open_names names.new.items)) }
 {
     let Some((first, after)) = bytes.split_first() else {
         return Ok(None);
@@ -79,7 +87,7 @@ fn after_tag<'a, A: Allocator>(
     let Some((tag, next)) = split_tag(after) else {
         return Ok(None);
     };
-    if !follow(names, tag)? {
+    if !follow(table, names, tag)? {
         return Ok(None);
     }
     Ok(Some(next))
@@ -94,12 +102,23 @@ fn after_tag<'a, A: Allocator>(
 /// Time is linear in the page. Memory is taken for the list of open tags. The only error is out of
 /// memory.
 pub fn unsafe_place<A: Allocator>(alloc: A, page: &str) -> Result<Option<usize>, AllocError>
-    ensures { IfOk result (IsUnsafePlace page.now) }
+    ensures { IfOk result (IsUnsafePlace Basic page.now) }
+{
+    unsafe_place_by(alloc, TagTable::Basic, page)
+}
+
+/// Like `unsafe_place`, with the tags of this table.
+pub fn unsafe_place_by<A: Allocator>(
+    alloc: A,
+    table: TagTable,
+    page: &str,
+) -> Result<Option<usize>, AllocError>
+    ensures { IfOk result (IsUnsafePlace table page.now) }
 {
     let mut names = Vec::new(alloc);
     let mut rest = after_letters(page.as_bytes());
     while !rest.is_empty() {
-        let Some(next) = after_tag(&mut names, rest)? else {
+        let Some(next) = after_tag(table, &mut names, rest)? else {
             return Ok(Some(page.len().saturating_sub(rest.len())));
         };
         rest = after_letters(next);
@@ -119,10 +138,23 @@ pub fn unsafe_place<A: Allocator>(alloc: A, page: &str) -> Result<Option<usize>,
 ///   or none. Other values are fixed, but for those of `id`, `start`, `alt`, `title` and names with
 ///   `aria-`, and what follows `language-` in the `class` of `code`.
 ///
+/// Headings have no `id` here, links no `rel`, and images no `loading`: see `is_safe_page_by`.
+///
 /// Time is linear in the page. Memory is taken for the list of open tags. The only error is out of
 /// memory.
 pub fn is_safe_page<A: Allocator>(alloc: A, page: &str) -> Result<bool, AllocError>
     ensures { IfOk result (λ safe. IsTrue safe ↔ IsSafePage page.now) }
 {
-    Ok(unsafe_place(alloc, page)?.is_none())
+    is_safe_page_by(alloc, TagTable::Basic, page)
+}
+
+/// Like `is_safe_page`, with the tags of this table.
+pub fn is_safe_page_by<A: Allocator>(
+    alloc: A,
+    table: TagTable,
+    page: &str,
+) -> Result<bool, AllocError>
+    ensures { IfOk result (λ safe. IsTrue safe ↔ IsSafePageBy table page.now) }
+{
+    Ok(unsafe_place_by(alloc, table, page)?.is_none())
 }

@@ -6,10 +6,11 @@ ghost use Rattle.std.specs.Option.{is_some, option_map, option_copied};
 ghost use Rattle.html_safe_page.specs.SafePage.{attribute_start, is_class, is_value, void_end};
 ghost use Rattle.html_safe_page.specs.Reader.{before_quote, strip, read_value, read_attributes, read_row, read_tag};
 ghost use Rattle.html_safe_page.specs.Machine.{after_attribute, is_frequent};
-ghost use Rattle.html_safe_page.specs.Table.{start_rows, void_rows};
+ghost use Rattle.html_safe_page.specs.Table.{start_rows, start_rows_of, void_rows, void_rows_of};
 ghost use Rattle.html_safe_page.specs.Views.{row_of, names_of, quoted_of};
 
 use crate::letters::{is_text, strip};
+use crate::table::TagTable;
 use html_escape::is_permitted;
 use markdown_options::constants::{SAFE_PROTOCOL_HREF, SAFE_PROTOCOL_SRC};
 use text_search::{BytePair, next_of};
@@ -74,6 +75,24 @@ const VOID_ROWS: [Row; 8] = [
     Row("input", &["type", "disabled", "checked"]),
 ];
 
+/// What the extended table has besides.
+const MORE_START_ROWS: [Row; 8] = [
+    Row("h1", &["id"]),
+    Row("h2", &["id"]),
+    Row("h3", &["id"]),
+    Row("h4", &["id"]),
+    Row("h5", &["id"]),
+    Row("h6", &["id"]),
+    Row("a", &["href", "rel"]),
+    Row("a", &["href", "title", "rel"]),
+];
+
+/// What it has besides of void tags.
+const MORE_VOID_ROWS: [Row; 2] = [
+    Row("img", &["src", "alt", "loading"]),
+    Row("img", &["src", "alt", "title", "loading"]),
+];
+
 /// The values of `align`.
 const ALIGNMENTS: [&str; 3] = ["left", "right", "center"];
 
@@ -109,6 +128,7 @@ fn is_allowed(tag: &str, name: &str, value: &[u8]) -> bool
         "class" => is_class(tag, value),
         "type" => "checkbox".as_bytes() == value,
         "align" => is_one_of(&ALIGNMENTS, value),
+        "loading" => "lazy".as_bytes() == value,
         _ => value.is_empty() || !is_one_of(&EMPTY_NAMES, name.as_bytes()),
     }
 }
@@ -226,8 +246,8 @@ fn is_one_of(names: &[&str], tag: &[u8]) -> bool
     false
 }
 
-/// Returns the name of a start tag, if it is one of the table.
-pub fn start_name(tag: &[u8]) -> Option<&'static [u8]>
+/// The name of a start tag, if it is one of the basic table.
+fn basic_name(tag: &[u8]) -> Option<&'static [u8]>
     ensures { option_copied result ≡ option_map (λ t. t.name) (read_tag start_rows [] tag.now) }
 {
     if tag.starts_with(b"a") {
@@ -236,9 +256,37 @@ pub fn start_name(tag: &[u8]) -> Option<&'static [u8]>
     tag_name(&START_ROWS, b"", tag)
 }
 
-/// Returns whether a tag is a void tag of the table.
-pub fn is_void(tag: &[u8]) -> bool
+/// Returns the name of a start tag, if it is one of the table.
+pub fn start_name(table: TagTable, tag: &[u8]) -> Option<&'static [u8]>
+    ensures { option_copied result ≡ option_map (λ t. t.name) (read_tag (start_rows_of table) [] tag.now) }
+{
+    let basic = basic_name(tag);
+    match table {
+        TagTable::Basic => basic,
+        TagTable::Extended => {
+            if basic.is_some() {
+                basic
+            } else {
+                tag_name(&MORE_START_ROWS, b"", tag)
+            }
+        }
+    }
+}
+
+/// Whether a tag is a void tag of the basic table.
+fn is_basic_void(tag: &[u8]) -> bool
     ensures { result ≡ is_some (read_tag void_rows void_end tag.now) }
 {
     tag_name(&VOID_ROWS, b" /", tag).is_some()
+}
+
+/// Returns whether a tag is a void tag of the table.
+pub fn is_void(table: TagTable, tag: &[u8]) -> bool
+    ensures { result ≡ is_some (read_tag (void_rows_of table) void_end tag.now) }
+{
+    let basic = is_basic_void(tag);
+    match table {
+        TagTable::Basic => basic,
+        TagTable::Extended => basic || tag_name(&MORE_VOID_ROWS, b" /", tag).is_some(),
+    }
 }

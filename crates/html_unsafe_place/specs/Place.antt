@@ -1,6 +1,7 @@
 -- The first place of a page that isn't safe.
 use Rattle.std.specs.Prelude.{◌≡◌, ◌+◌, ◌==◌, if◌then◌else◌, ℕ, List, [], ◌∷◌, Option, None, Some, take, drop}
 use Rattle.definition_text.specs.Ascii.{line_feed}
+use Rattle.html_safe_page.specs.declared.table.TagTable.TheVariants.{Basic}
 use Rattle.html_safe_page.specs.SafePage.{IsSafePage}
 use Rattle.html_safe_page.specs.Place.{IsUnsafeAt}
 use Rattle.html_unsafe_place.specs.What.{unsafe_at}
@@ -25,4 +26,4 @@ pub record IsPlaceAt (page : List ℕ) (n : ℕ) (found : UnsafePlace) : Type 0 
 -- nothing for a safe page, and otherwise the place after its longest beginning that end tags make a safe page
 abbrev pub IsFirstUnsafe : List ℕ → Option UnsafePlace → Type 0
 IsFirstUnsafe page None = IsSafePage page
-IsFirstUnsafe page (Some found) = (n : ℕ) × (IsUnsafeAt page n × IsPlaceAt page n found)
+IsFirstUnsafe page (Some found) = (n : ℕ) × (IsUnsafeAt Basic page n × IsPlaceAt page n found)

@@ -12,18 +12,22 @@ use Rattle.definition_inline.specs.LabelMatch.{normal_label, first_match}
 use Rattle.definition_page.specs.GfmTagfilter.{filter_if}
 use Rattle.definition_page.specs.Tags.{Words, AsItIs, EndOfLine, attribute, Tag, tag, bare_tag}
 use Rattle.definition_page.specs.Pieces.{Void, Says}
+use Rattle.definition_page.specs.Destinations.{link_destination, image_source}
 use Rattle.definition_page.specs.GfmTaskListItem.{checkable_attributes, done_attributes, check_tag}
 use Rattle.definition_page.specs.InlinePieces.{Meaning, raw_html, HtmlLine, html_text_line, in_first_line, html_lines, html_line_says, later_line_says}
 use Rattle.definition_page.specs.InlinePieces.{html_lines_say, html_says, url_of, link_tag, image_tag, math_tag, address, literal_address}
 use Rattle.definition_inline.specs.Targets.{leads_to}
 use Rattle.definition_page.specs.InlinePieces.{leaf_says, part_says, description, call_at, count_at, part_counts, inline_counts, element}
 use Rattle.definition_page.specs.InlinePieces.{address_tag, leaf_pieces, span_name, part_pieces, inline_pieces}
-use Rattle.html_safe_page.specs.Table.{start_rows, void_rows}
+use Rattle.html_safe_page.specs.Table.{start_rows, start_rows_of, void_rows}
+use Rattle.html_safe_page.specs.declared.table.TagTable.{TagTable}
 use Rattle.laws_safe_page.specs.SafeHtml.{AreSafe}
 use Rattle.laws_safe_page.proofs.Values.{IsTextPart, AreTextParts}
 use Rattle.laws_safe_page.proofs.Each.{Each, each-append, each_mapped}
-use Rattle.laws_safe_page.proofs.Lays.{Lays, lays_nothing, lays_append, lays_says, lays_void, lays_parts, lays_element, lays_call, lays_count}
-use Rattle.laws_safe_page.proofs.Tags.{IsTag}
+use Rattle.laws_safe_page.proofs.Lays.{Lays, lays_nothing, lays_append, lays_says, lays_void, lays_void_by, lays_parts, lays_element, lays_element_by}
+use Rattle.laws_safe_page.proofs.Lays.{lays_call, lays_count}
+use Rattle.laws_safe_page.proofs.Tags.{IsTag, as_start}
+use Rattle.laws_safe_page.proofs.Fits.{Fits}
 use Rattle.laws_safe_page.proofs.Links.{link_is_tag, image_is_tag, words_text}
 use Rattle.laws_safe_page.proofs.Footnotes.{call_adds}
 
@@ -125,60 +129,64 @@ check_is_tag true false = ((words_text (codes "checkbox"), tt), refl)
 check_is_tag false true = ((words_text (codes "checkbox"), (words_text [], (words_text [], tt))), refl)
 check_is_tag false false = ((words_text (codes "checkbox"), (words_text [], tt)), refl)
 
-module _ (default : List ℕ) (m : Meaning) where
-  counts_at : (place : Option ℕ) (label : List ℕ) → Lays m.compile default (count_at place label)
-  counts_at None label = lays_nothing m.compile default
-  counts_at (Some place) label = lays_count m.compile default place label
+module _ (table : TagTable) where
+  module _ (default : List ℕ) (m : Meaning) where
+    counts_at : (place : Option ℕ) (label : List ℕ) → Lays table m.compile default (count_at place label)
+    counts_at None label = lays_nothing table m.compile default
+    counts_at (Some place) label = lays_count table m.compile default place label
 
-  calls_at : (place : Option ℕ) (label : List ℕ) → Lays m.compile default (call_at place label)
-  calls_at None label = lays_nothing m.compile default
-  calls_at (Some place) label = lays_call m.compile default (call_adds default m.compile) place label
+    calls_at : (place : Option ℕ) (label : List ℕ) → Lays table m.compile default (call_at place label)
+    calls_at None label = lays_nothing table m.compile default
+    calls_at (Some place) label = lays_call table m.compile default (call_adds table default m.compile) place label
 
-  mutual
-    part_counts_lay : (i : Inline) → Lays m.compile default (part_counts m i)
-    part_counts_lay (Leaf part) = lays_nothing m.compile default
-    part_counts_lay (Span kind kids) = counts_lay kids
-    part_counts_lay (Linked kind target kids) = counts_lay kids
-    part_counts_lay (Call label) = counts_at (first_match label m.footnotes) (normal_label label)
+    mutual
+      part_counts_lay : (i : Inline) → Lays table m.compile default (part_counts m i)
+      part_counts_lay (Leaf part) = lays_nothing table m.compile default
+      part_counts_lay (Span kind kids) = counts_lay kids
+      part_counts_lay (Linked kind target kids) = counts_lay kids
+      part_counts_lay (Call label) = counts_at (first_match label m.footnotes) (normal_label label)
 
-    pub counts_lay : (is : Inlines) → Lays m.compile default (inline_counts m is)
-    counts_lay Nil = lays_nothing m.compile default
-    counts_lay (Cons i is) = lays_append m.compile default (part_counts m i) (inline_counts m is) (part_counts_lay i) (counts_lay is)
+      pub counts_lay : (is : Inlines) → Lays table m.compile default (inline_counts m is)
+      counts_lay Nil = lays_nothing table m.compile default
+      counts_lay (Cons i is) = lays_append table m.compile default (part_counts m i) (inline_counts m is) (part_counts_lay i) (counts_lay is)
 
-module _ (default : List ℕ) (m : Meaning) (safe : AreSafe m.compile) where
-  -- an element around a text
-  said_adds : (t : Tag) (text : List ℕ) → IsTag start_rows t → Lays m.compile default (element t (Says (Words text) ∷ []))
-  said_adds t text is = lays_element m.compile default t (Says (Words text) ∷ []) is (lays_says m.compile default (Words text) tt)
+  module _ (default : List ℕ) (m : Meaning) (safe : AreSafe m.compile) (fits : Fits m.compile table) where
+    -- an element around a text
+    said_adds : (t : Tag) (text : List ℕ) → IsTag (start_rows_of table) t → Lays table m.compile default (element t (Says (Words text) ∷ []))
+    said_adds t text is = lays_element_by table m.compile default t (Says (Words text) ∷ []) is (lays_says table m.compile default (Words text) tt)
 
-  leaf_adds : (part : InlineLeaf) → LeafEndsLine part → Lays m.compile default (leaf_pieces m.compile part)
-  unfolding start_rows void_rows
-  leaf_adds (Code text) h = said_adds (bare_tag (codes "code")) text (tt, refl)
-  leaf_adds (Math text) h = said_adds math_tag text math_is_tag
-  leaf_adds (Autolink is_email text) h = said_adds (address_tag m.compile (address is_email text)) text (link_is_tag m safe (address is_email text) None)
-  leaf_adds (Literal kind text) h =
-      said_adds (address_tag m.compile (literal_address kind text)) text (link_is_tag m safe (literal_address kind text) None)
-  leaf_adds EscapedBreak h = lays_void m.compile default (bare_tag (codes "br")) (tt, refl)
-  leaf_adds TrailingBreak h = lays_void m.compile default (bare_tag (codes "br")) (tt, refl)
-  leaf_adds (TaskCheck done) h = lays_void m.compile default (check_tag m.compile done) (check_is_tag m.compile.gfm_task_list_item_checkable done)
-  leaf_adds part h = lays_parts m.compile default (leaf_says m.compile part) (leaf_is_text m.compile safe part h)
+    leaf_adds : (part : InlineLeaf) → LeafEndsLine part → Lays table m.compile default (leaf_pieces m.compile part)
+    unfolding start_rows void_rows
+    leaf_adds (Code text) h = said_adds (bare_tag (codes "code")) text (as_start table (bare_tag (codes "code")) (tt, refl))
+    leaf_adds (Math text) h = said_adds math_tag text (as_start table math_tag math_is_tag)
+    leaf_adds (Autolink is_email text) h =
+        said_adds (address_tag m.compile (address is_email text)) text (link_is_tag m safe table fits (address is_email text) None)
+    leaf_adds (Literal kind text) h =
+        said_adds (address_tag m.compile (literal_address kind text)) text (link_is_tag m safe table fits (literal_address kind text) None)
+    leaf_adds EscapedBreak h = lays_void table m.compile default (bare_tag (codes "br")) (tt, refl)
+    leaf_adds TrailingBreak h = lays_void table m.compile default (bare_tag (codes "br")) (tt, refl)
+    leaf_adds (TaskCheck done) h = lays_void table m.compile default (check_tag m.compile done) (check_is_tag m.compile.gfm_task_list_item_checkable done)
+    leaf_adds part h = lays_parts table m.compile default (leaf_says m.compile part) (leaf_is_text m.compile safe part h)
 
-  mutual
-    part_adds : (i : Inline) → EndsLines i → Lays m.compile default (part_pieces m i)
-    part_adds (Leaf part) h = leaf_adds part h
-    part_adds (Span kind kids) h =
-        lays_element m.compile default (bare_tag (span_name kind)) (inline_pieces m kids) (span_is_tag kind) (inline_adds kids h.1)
-    part_adds (Linked Link target kids) h =
-        let to = leads_to m.definition target in
-        lays_element m.compile default (link_tag m to) (inline_pieces m kids) (link_is_tag m safe (url_of m to) to.title) (inline_adds kids h.1)
-    part_adds (Linked Image target kids) h =
-        let to = leads_to m.definition target in
-        let image = image_tag m to (description m.compile kids) in
-        lays_append m.compile default (Void image ∷ []) (inline_counts m kids)
-        (lays_void m.compile default image
-        (image_is_tag m safe (url_of m to) to.title (description m.compile kids) (description_is_text m.compile safe kids h.1)))
-        (counts_lay default m kids)
-    part_adds (Call label) h = calls_at default m (first_match label m.footnotes) (normal_label label)
+    mutual
+      part_adds : (i : Inline) → EndsLines i → Lays table m.compile default (part_pieces m i)
+      part_adds (Leaf part) h = leaf_adds part h
+      part_adds (Span kind kids) h =
+          lays_element table m.compile default (bare_tag (span_name kind)) (inline_pieces m kids) (span_is_tag kind) (inline_adds kids h.1)
+      part_adds (Linked Link target kids) h =
+          let to = leads_to m.definition target in
+          lays_element_by table m.compile default (link_tag m to) (inline_pieces m kids)
+          (link_is_tag m safe table fits (link_destination m.compile (url_of m to)) to.title) (inline_adds kids h.1)
+      part_adds (Linked Image target kids) h =
+          let to = leads_to m.definition target in
+          let image = image_tag m to (description m.compile kids) in
+          lays_append table m.compile default (Void image ∷ []) (inline_counts m kids)
+          (lays_void_by table m.compile default image
+          (image_is_tag m safe table fits (image_source m.compile (url_of m to)) to.title (description m.compile kids)
+          (description_is_text m.compile safe kids h.1)))
+          (counts_lay default m kids)
+      part_adds (Call label) h = calls_at default m (first_match label m.footnotes) (normal_label label)
 
-    pub inline_adds : (is : Inlines) → AllEndLines is → Lays m.compile default (inline_pieces m is)
-    inline_adds Nil h = lays_nothing m.compile default
-    inline_adds (Cons i is) h = lays_append m.compile default (part_pieces m i) (inline_pieces m is) (part_adds i h.0) (inline_adds is h.1)
+      pub inline_adds : (is : Inlines) → AllEndLines is → Lays table m.compile default (inline_pieces m is)
+      inline_adds Nil h = lays_nothing table m.compile default
+      inline_adds (Cons i is) h = lays_append table m.compile default (part_pieces m i) (inline_pieces m is) (part_adds i h.0) (inline_adds is h.1)

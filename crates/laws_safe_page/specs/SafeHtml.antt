@@ -1,10 +1,13 @@
 -- The HTML of a text is a safe page.
-use Rattle.std.specs.Prelude.{◌≡◌, ℕ, false, List, None}
+use Rattle.std.specs.Prelude.{◌≡◌, ℕ, false, if◌then◌else◌, ◌||◌, List, None}
+use Rattle.std.specs.Option.{is_some}
 use Rattle.markdown_compile_options.specs.declared.configuration.CompileOptions.{CompileOptions}
 use Rattle.markdown_compile_options.specs.declared.configuration.Options.{Options}
 use Rattle.definition_page.specs.TextTables.{TextTables}
 use Rattle.definition_page.specs.Html.{html}
-use Rattle.html_safe_page.specs.SafePage.{Items, IsReading}
+use Rattle.html_safe_page.specs.declared.table.TagTable.{TagTable}
+use Rattle.html_safe_page.specs.declared.table.TagTable.TheVariants.{Basic, Extended}
+use Rattle.html_safe_page.specs.SafePage.{Items, IsReadingBy}
 
 -- options that let through no raw HTML and no URL of another protocol, nor a tag name or attributes for the heading of footnotes
 pub record AreSafe (options : CompileOptions) : Type 0 where
@@ -14,12 +17,25 @@ pub record AreSafe (options : CompileOptions) : Type 0 where
   pub no_tag_name : options.gfm_footnote_label_tag_name ≡ None
   pub no_attributes : options.gfm_footnote_label_attributes ≡ None
 
--- a page has a reading as a safe page, and no other
-pub record HasOneReading (page : List ℕ) : Type 0 where
-  pub items : Items
-  pub is_reading : IsReading page items
-  pub is_only : (other : Items) → IsReading page other → other ≡ items
+-- the tags of pages under these options: the basic ones, unless headings have ids, links a `rel`, or images are lazy
+abbrev pub table_of : CompileOptions → TagTable
+table_of options = if options.heading_ids || (is_some options.link_rel || options.lazy_images) then Extended else Basic
 
--- under safe options the HTML of every text, by any tables, is a safe page
+-- a page has a reading as a safe page by a table, and no other
+pub record HasOneReadingBy (table : TagTable) (page : List ℕ) : Type 0 where
+  pub items : Items
+  pub is_reading : IsReadingBy table page items
+  pub is_only : (other : Items) → IsReadingBy table page other → other ≡ items
+
+-- and by the basic table
+abbrev pub HasOneReading : List ℕ → Type 0
+HasOneReading page = HasOneReadingBy Basic page
+
+-- under safe options the HTML of every text, by any tables, is a safe page by the table of the options
 abbrev pub SafePageLaw : Type 0
-SafePageLaw = (tables : TextTables) (text : List ℕ) (options : Options) → AreSafe options.compile → HasOneReading (html tables text options)
+SafePageLaw =
+    (tables : TextTables) (text : List ℕ) (options : Options) → AreSafe options.compile → HasOneReadingBy (table_of options.compile) (html tables text options)
+
+-- and by the extended table whatever the other options are
+abbrev pub ExtendedPageLaw : Type 0
+ExtendedPageLaw = (tables : TextTables) (text : List ℕ) (options : Options) → AreSafe options.compile → HasOneReadingBy Extended (html tables text options)

@@ -18,6 +18,6 @@ pub returns-else-is_empty : goal.returns-else-is_empty
 returns-else-is_empty c =
     let other = c.in_default in
     other_value c.args.tag.now c.args.name.now c.args.value.now c.is_empty.result c.is_one_of-else-is_empty.result other.not-href other.not-src
-    other.not-class other.not-type other.not-align c.is_empty.ensures c.if-is_empty.false
+    other.not-class other.not-type other.not-align other.not-loading c.is_empty.ensures c.if-is_empty.false
     (c.is_one_of-else-is_empty.ensures
     ∙ ap (λ it. list_any (λ n. bytes_eq n it) empty_names) c.as_bytes-else-is_empty.ensures.value)

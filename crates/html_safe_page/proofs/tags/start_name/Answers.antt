@@ -1,12 +1,15 @@
-use Rattle.std.proofs.Common.{◌∙◌, sym}
-use Rattle.html_safe_page.specs.Table.{start_rows}
-use Rattle.html_safe_page.proofs.Frequent.{link_read}
+use Rattle.std.proofs.Common.{◌∙◌, ap, sym}
+use Rattle.html_safe_page.specs.Table.{more_start_rows}
+use Rattle.html_safe_page.proofs.Frequent.{name_by, basic_kept, more_kept}
 use Rattle.html_safe_page.proofs.tags.start_name.Goals as goal
 
-pub returns-then-starts_with : goal.returns-then-starts_with
-unfolding start_rows
-returns-then-starts_with c = c.tag_name.ensures ∙ link_read c.args.tag.now (sym c.starts_with.ensures.value ∙ c.if-starts_with.true)
+pub returns-then-is_some : goal.returns-then-is_some
+returns-then-is_some c =
+    basic_kept c.args.table c.args.tag.now c.basic_name-basic.result (sym c.is_some.ensures ∙ c.if-is_some.true) c.basic_name-basic.ensures
 
-pub returns : goal.returns
-unfolding start_rows
-returns c = c.tag_name-2.ensures
+pub returns-else-is_some : goal.returns-else-is_some
+unfolding more_start_rows
+returns-else-is_some c =
+    more_kept c.args.tag.now c.basic_name-basic.result c.tag_name.result
+    (sym c.is_some.ensures ∙ c.if-is_some.false) c.basic_name-basic.ensures c.tag_name.ensures
+    ∙ sym (ap (λ t. name_by t c.args.tag.now) c.in-Extended.is)
