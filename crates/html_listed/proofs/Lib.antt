@@ -1,14 +1,15 @@
-pub mod Pages
 pub mod Tags
 pub mod Open
 pub mod Parts
 pub mod Standing
 pub mod Spellings
-pub mod Sanitized
 pub mod PlainText
 pub mod PageParts
 pub mod Nameless
 pub mod Pass
+pub mod Mixed
+pub mod Within
+pub mod Sanitized
 pub mod Listed
 pub mod Unmarked
 pub mod OneElement

@@ -16,7 +16,8 @@ use Rattle.html_safe_page.proofs.Text.{by_kind, plain_other}
 use Rattle.html_safe_page.proofs.Spelled.{is_word_byte, starts_word, same_bytes}
 use Rattle.html_safe_page.proofs.Pages.{start_worded, void_worded}
 use Rattle.html_safe_page.proofs.Inserted.{spelled_append}
-use Rattle.html_listed.specs.PageParts.{Raw, is_in_text, after_element, raw_run, page_parts_after, page_parts}
+use Rattle.html_listed.specs.PageParts.{Raw, is_in_text, is_in_tag, after_tag, after_element, raw_run, page_parts_after, page_parts}
+use Rattle.html_listed.specs.Mixed.{tags_of}
 use Rattle.html_listed.specs.MarkedPage.{has_none, is_nameless, are_letters, is_marked}
 use Rattle.html_listed.proofs.PageParts.{passed, skipped, other_first, in_both, letter_in_text, tag_starts}
 
@@ -39,7 +40,9 @@ run_step most bytes more =
     let rest = after_element bytes in
     let next = after_all ends_line rest in
     let others = raw_run most next in
-    let here = end_of_end rest (after_all is_in_text inside) inside (dropped 3 (after_all is_in_text inside)) (dropped (prefix_len is_in_text inside) inside) in
+    let end = after_all is_in_text inside in
+    let tag = end_of_end rest (after_all is_in_tag end) end (dropped 1 (after_all is_in_tag end)) (dropped (prefix_len is_in_tag end) end) in
+    let here = end_of_end rest end inside tag (dropped (prefix_len is_in_text inside) inside) in
     cond_both (begins_with (codes "<>") next) (part (text ++ take_while ends_line rest ++ others.text) others.rest) (part text rest)
     (λ (p : Part). IsEndOf p.rest inside)
     (λ _. end_of_end others.rest next inside (more next) (end_of_end next rest inside (dropped (prefix_len ends_line rest) rest) here))
@@ -111,6 +114,7 @@ record IsNamelessAhead (items : Items) (after : List ℕ) : Type 0 where
   letters : are_letters inside ≡ true
   marked : is_marked later ≡ true
   smaller : size inside + size later + 1 ≤ size items
+  own : tags_of later ≡ tags_of items
   spelling : after_all ends_line (spell_before items after) ≡ spell_before (Element nameless inside later) after
 
 abbrev IsAhead : Items → List ℕ → Type 0
@@ -128,6 +132,7 @@ after_line b items after h s a =
         letters = r.letters;
         marked = r.marked;
         smaller = omega arith;
+        own = r.own;
         spelling = passes ∙ r.spelling;
       })
     ]
@@ -168,6 +173,7 @@ ahead (Element t inside items) after h stop =
         letters = sym (cond-true (is_nameless t) (are_letters inside) own e) ∙ parts.0;
         marked = parts.1;
         smaller = omega arith;
+        own = sym (cond-true (is_nameless t) (tags_of items) (Element t (tags_of inside) (tags_of items)) e);
         spelling = ap (λ t. spell_before (Element t inside items) after) (is_the_nameless t e);
       })
       | inr e ↦
@@ -183,6 +189,7 @@ pub record AreLater (items : Items) (after bytes : List ℕ) : Type 0 where
   pub later : Items
   pub marked : is_marked later ≡ true
   pub smaller : size later ≤ size items
+  pub own : tags_of later ≡ tags_of items
   pub spelling : bytes ≡ spell_before later after
 
 letters_in_text : (items : Items) → are_letters items ≡ true → list_all is_in_text (spell items) ≡ true
@@ -195,8 +202,8 @@ element_passed : (inside items : Items) (after : List ℕ) → are_letters insid
     → after_element (spell_before (Element nameless inside items) after) ≡ spell_before items after
 element_passed inside items after h =
     let end = 60 ∷ 47 ∷ 62 ∷ spell_before items after in
-    ap (λ x. drop 3 (after_all is_in_text x)) (spelled_append inside [] end)
-    ∙ ap (drop 3) (passed is_in_text (spell inside) 60 (47 ∷ 62 ∷ spell_before items after) (letters_in_text inside h) refl)
+    ap (λ x. after_tag (after_all is_in_text x)) (spelled_append inside [] end)
+    ∙ ap after_tag (passed is_in_text (spell inside) 60 (47 ∷ 62 ∷ spell_before items after) (letters_in_text inside h) refl)
 
 cond_rest : (t : Bool) (p q : Part) → (cond t p q).rest ≡ cond t p.rest q.rest
 cond_rest true p q = refl
@@ -224,7 +231,7 @@ run_first most inside items after h m stop more =
     let bytes = spell_before (Element nameless inside items) after in
     subst (AreLater items after) (sym (run_left most bytes ∙ ap (left_by most) (element_passed inside items after h)))
     (elim (ahead items after m stop) [
-      | inl e ↦ record { later = items; marked = m; smaller = omega arith; spelling = cond-false begins others x e }
+      | inl e ↦ record { later = items; marked = m; smaller = omega arith; own = refl; spelling = cond-false begins others x e }
       | inr r ↦
           let found : begins ≡ true = ap (begins_with (codes "<>")) r.spelling in
           subst (AreLater items after) (sym (cond-true begins others x found ∙ ap (λ y. (raw_run most y).rest) r.spelling)) (more r)
@@ -237,9 +244,10 @@ run_items zero inside items after h m stop =
       later = Element nameless r.inside r.later;
       marked = and_from (are_letters r.inside) (is_marked r.later) r.letters r.marked;
       smaller = r.smaller;
+      own = r.own;
       spelling = refl;
     })
 run_items (suc most) inside items after h m stop =
     run_first (suc most) inside items after h m stop (λ r.
     let more = run_items most r.inside r.later after r.letters r.marked stop in
-    record { later = more.later; marked = more.marked; smaller = omega arith; spelling = more.spelling })
+    record { later = more.later; marked = more.marked; smaller = omega arith; own = more.own ∙ r.own; spelling = more.spelling })

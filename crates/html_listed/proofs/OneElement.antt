@@ -1,5 +1,5 @@
 -- Any HTML as text in one element without a name.
-use Rattle.std.proofs.Common.{◌≡◌, ℕ, true, List, [], ◌∷◌, ◌++◌, codes, length, drop, refl, sym, ap, ◌∙◌, subst}
+use Rattle.std.proofs.Common.{◌≡◌, ℕ, true, List, [], ◌∷◌, ◌++◌, codes, length, refl, sym, ap, ◌∙◌, subst}
 use Rattle.std.specs.Prelude.{unwrap_or}
 use Rattle.std.specs.List.{list_all, fold, take_while}
 use Rattle.std.proofs.lemmas.Bool.{cond-false}
@@ -12,7 +12,7 @@ use Rattle.html_safe_page.specs.Reader.{read_text}
 use Rattle.html_safe_page.proofs.Text.{read_spelled}
 use Rattle.html_safe_page.proofs.Closing.{encode_spelled}
 use Rattle.html_listed.specs.State.{nothing_open, all_ended}
-use Rattle.html_listed.specs.PageParts.{Raw, is_in_text, after_element, raw_run, page_parts}
+use Rattle.html_listed.specs.PageParts.{Raw, is_in_text, after_tag, after_element, raw_run, page_parts}
 use Rattle.html_listed.specs.Listed.{page_part}
 use Rattle.html_listed.specs.Laws.{OneElementLaw}
 use Rattle.html_listed.proofs.PageParts.{taken, passed, in_both, letter_in_text}
@@ -30,7 +30,7 @@ one_part html =
     let rest = after_element (60 ∷ 62 ∷ inside) in
     let next = after_all ends_line rest in
     let clean = subst (λ x. list_all is_in_text x ≡ true) (sym (encode_spelled html)) (text_in_text (plain html)) in
-    let no_rest : rest ≡ [] = ap (λ x. drop 3 x) (passed is_in_text (encode html) 60 (47 ∷ 62 ∷ []) clean refl) in
+    let no_rest : rest ≡ [] = ap after_tag (passed is_in_text (encode html) 60 (47 ∷ 62 ∷ []) clean refl) in
     let whole : text ≡ encode html = taken is_in_text (encode html) 60 (47 ∷ 62 ∷ []) clean refl in
     let others = raw_run (length inside) next in
     let run : run_of inside ≡ part (encode html) [] =

@@ -157,7 +157,7 @@ items_same (Element t ia xs) (Element u ib bs) x y ha hb mx my e =
 -- ---- tests that pass words
 
 -- items pass weaker tests, too
-pub weaker_tags : (start void more_start more_void : Tag → Bool) → ((t : Tag) → start t ≡ true → more_start t ≡ true)
+weaker_tags : (start void more_start more_void : Tag → Bool) → ((t : Tag) → start t ≡ true → more_start t ≡ true)
     → ((t : Tag) → void t ≡ true → more_void t ≡ true) → (items : Items) → have_tags start void items ≡ true
     → have_tags more_start more_void items ≡ true
 weaker_tags start void more_start more_void f g End h = refl

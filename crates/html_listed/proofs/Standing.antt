@@ -9,32 +9,11 @@ use Rattle.std.proofs.lemmas.Bool.{cases_Bool, cond-true, cond-false, cond_both,
 use Rattle.std.proofs.lemmas.Bool.{not-true}
 use Rattle.std.proofs.lemmas.Bool.{leb-false, lt-ltb, le-ltb}
 use Rattle.std.proofs.lemmas.List.{length-append}
-use Rattle.html_safe_page.specs.SafePage.{Items, End, Letter, Void, Element}
 use Rattle.html_safe_page.proofs.Spelled.{same_bytes}
 use Rattle.html_listed.specs.Listing.{is_in, is_part, parents_of, part_rows, heading_names, frame_names, deepest}
 use Rattle.html_listed.specs.State.{State, ended_to, count_to, begins_with_frame, without_frame, with_room}
-use Rattle.html_listed.specs.ListedPage.{is_listed_start, is_listed_void}
-use Rattle.html_listed.specs.Standing.{is_right_in, may_stand, may_begin, stand}
-use Rattle.html_listed.proofs.Pages.{Rules, pass}
-use Rattle.html_listed.proofs.Open.{AreFit, names_ended, frame_step, HasPlaces}
-
--- tags of the list, where they may stand
-abbrev pub sanitizing : Rules
-sanitizing = record { start = is_listed_start; void = is_listed_void; fits = may_begin; fits_void = λ names. not (begins_with_frame names) }
-
-pub pass_stand : (names : List (List ℕ)) (items : Items) → pass sanitizing names items ≡ true → stand names items ≡ true
-pass_stand names End h = refl
-pass_stand names (Letter b items) h = pass_stand names items h
-pass_stand names (Void t items) h =
-    let parts = and_parts (is_listed_void t && not (begins_with_frame names)) (pass sanitizing names items) h in
-    and_from (not (begins_with_frame names)) (stand names items) (and_parts (is_listed_void t) (not (begins_with_frame names)) parts.0).1
-    (pass_stand names items parts.1)
-pass_stand names (Element t inside items) h =
-    let within = pass sanitizing (t.name ∷ names) inside in
-    let parts = and_parts (is_listed_start t && may_begin names t.name) (within && pass sanitizing names items) h in
-    let both = and_parts within (pass sanitizing names items) parts.1 in
-    and_from (may_begin names t.name) (stand (t.name ∷ names) inside && stand names items) (and_parts (is_listed_start t) (may_begin names t.name) parts.0).1
-    (and_from (stand (t.name ∷ names) inside) (stand names items) (pass_stand (t.name ∷ names) inside both.0) (pass_stand names items both.1))
+use Rattle.html_listed.specs.Standing.{is_right_in, may_stand, may_begin}
+use Rattle.html_listed.proofs.Open.{AreFit, names_ended, fit_ended}
 
 -- ---- the last open element of some names
 
@@ -107,19 +86,19 @@ left_after wanted names r =
 
 -- ---- what stands below
 
-fits_later : (front names : List (List ℕ)) → AreFit sanitizing (front ++ names) → AreFit sanitizing names
+fits_later : (front names : List (List ℕ)) → AreFit (front ++ names) → AreFit names
 fits_later [] names h = h
 fits_later (n ∷ ns) names h = fits_later ns names h.1
 
 -- an open element stands where it may
-found_stands : (wanted names : List (List ℕ)) (r : IsFound wanted names) → AreFit sanitizing names → may_stand r.rest r.name ≡ true
+found_stands : (wanted names : List (List ℕ)) (r : IsFound wanted names) → AreFit names → may_stand r.rest r.name ≡ true
 found_stands wanted names r fit =
-    (and_parts (nat_lt (length r.rest) deepest) (may_stand r.rest r.name) (fits_later r.front (r.name ∷ r.rest) (subst (AreFit sanitizing) r.parts fit)).0).1
+    (and_parts (nat_lt (length r.rest) deepest) (may_stand r.rest r.name) (fits_later r.front (r.name ∷ r.rest) (subst AreFit r.parts fit)).0).1
 
 -- an element that is no part stands in no frame, and as a heading in no heading
-record StandsFree (names : List (List ℕ)) (name : List ℕ) : Type 0 where
-  no_frame : begins_with_frame names ≡ false
-  no_heading : (is_in heading_names name && list_any (is_in heading_names) names) ≡ false
+pub record StandsFree (names : List (List ℕ)) (name : List ℕ) : Type 0 where
+  pub no_frame : begins_with_frame names ≡ false
+  pub no_heading : (is_in heading_names name && list_any (is_in heading_names) names) ≡ false
 
 stands_free : (names : List (List ℕ)) (name : List ℕ) → is_part name ≡ false → may_stand names name ≡ true → StandsFree names name
 stands_free names name other h =
@@ -182,7 +161,7 @@ right_in_frame wanted [] h k = absurd (false≢true k)
 right_in_frame wanted (n ∷ ns) h k = in_frame wanted n h k
 
 -- under a frame is a table
-frame_has_table : (names : List (List ℕ)) → AreFit sanitizing names → begins_with_frame names ≡ true → list_any (is_in table) names ≡ true
+frame_has_table : (names : List (List ℕ)) → AreFit names → begins_with_frame names ≡ true → list_any (is_in table) names ≡ true
 frame_has_table [] fit h = absurd (false≢true h)
 frame_has_table (n ∷ ns) fit h =
     elim (frame_kind n h) [
@@ -204,7 +183,7 @@ is_table name h = elim (or_cases (bytes_eq (codes "table") name) false h) [
 ]
 
 -- once its table ends, no frame is left
-frame_ended : (names : List (List ℕ)) → AreFit sanitizing names → begins_with_frame names ≡ true → begins_with_frame (drop (count_to table names) names) ≡ false
+frame_ended : (names : List (List ℕ)) → AreFit names → begins_with_frame names ≡ true → begins_with_frame (drop (count_to table names) names) ≡ false
 frame_ended names fit h =
     elim (found_or_none table names) [
       | inl none ↦ absurd (true≢false (sym (frame_has_table names fit h) ∙ none.1))
@@ -213,7 +192,7 @@ frame_ended names fit h =
           ∙ (stands_free r.rest r.name (ap is_part (sym (is_table r.name r.here)) ∙ table_is_no_part) (found_stands table names r fit)).no_frame
     ]
 
-no_frame : (s : State) → AreFit sanitizing s.level.names → begins_with_frame (without_frame s).level.names ≡ false
+no_frame : (s : State) → AreFit s.level.names → begins_with_frame (without_frame s).level.names ≡ false
 no_frame s fit =
     cond_both (begins_with_frame s.level.names) (ended_to table s) s (λ (t : State). begins_with_frame t.level.names ≡ false)
     (λ e. ap begins_with_frame (names_ended (count_to table s.level.names) s.level.names s) ∙ frame_ended s.level.names fit e)
@@ -221,7 +200,7 @@ no_frame s fit =
 
 -- ---- headings
 
-heading_is_no_part : (name : List ℕ) → is_in heading_names name ≡ true → is_part name ≡ false
+pub heading_is_no_part : (name : List ℕ) → is_in heading_names name ≡ true → is_part name ≡ false
 unfolding heading_names part_rows
 heading_is_no_part name h =
     let at = λ (n : List ℕ) (k : is_part n ≡ false) (e : bytes_eq n name ≡ true). subst (λ m. is_part m ≡ false) (same_bytes n name e) k in
@@ -246,7 +225,7 @@ heading_is_no_part name h =
     ]
 
 -- once a heading ends, neither a frame nor a heading is left
-heading_ended : (names : List (List ℕ)) (name : List ℕ) → AreFit sanitizing names → begins_with_frame names ≡ false
+heading_ended : (names : List (List ℕ)) (name : List ℕ) → AreFit names → begins_with_frame names ≡ false
     → StandsFree (drop (count_to heading_names names) names) name
 heading_ended names name fit h =
     elim (found_or_none heading_names names) [
@@ -264,16 +243,20 @@ heading_ended names name fit h =
     and_right_any true h = h
     and_right_any false h = refl
 
+frame_fit : (s : State) → AreFit s.level.names → AreFit (without_frame s).level.names
+frame_fit s fit =
+    cond_both (begins_with_frame s.level.names) (ended_to table s) s (λ (t : State). AreFit t.level.names)
+    (λ _. fit_ended (count_to table s.level.names) s.level.names s fit) (λ _. fit)
+
 -- an element that is no part has room
-has_room : (name : List ℕ) (s : State) → AreFit sanitizing s.level.names → StandsFree (with_room name s).level.names name
+pub has_room : (name : List ℕ) (s : State) → AreFit s.level.names → StandsFree (with_room name s).level.names name
 has_room name s fit =
     let t = without_frame s in
-    let frame = frame_step sanitizing s fit in
     let free = no_frame s fit in
     cond_both (is_in heading_names name) (ended_to heading_names t) t (λ (u : State). StandsFree u.level.names name)
     (λ _.
     subst (λ left. StandsFree left name) (sym (names_ended (count_to heading_names t.level.names) t.level.names t))
-    (heading_ended t.level.names name frame.fit free))
+    (heading_ended t.level.names name (frame_fit s fit) free))
     (λ e. record { no_frame = free; no_heading = and_left (is_in heading_names name) (list_any (is_in heading_names) t.level.names) e })
 
 -- ---- where elements begin
@@ -281,7 +264,7 @@ has_room name s fit =
 not_deep : (n : ℕ) → nat_le deepest n ≡ false → nat_lt n deepest ≡ true
 not_deep n h = lt-ltb n deepest (leb-false deepest n h)
 
-part_fits : (name : List ℕ) (names : List (List ℕ)) (above : ℕ) → is_part name ≡ true → count_to (parents_of name) names ≡ suc above
+pub part_fits : (name : List ℕ) (names : List (List ℕ)) (above : ℕ) → is_part name ≡ true → count_to (parents_of name) names ≡ suc above
     → nat_le deepest (length (drop above names)) ≡ false → may_begin (drop above names) name ≡ true
 part_fits name names above part k deep =
     elim (found_or_none (parents_of name) names) [
@@ -294,11 +277,8 @@ part_fits name names above part k deep =
           (cond-true (is_part name) (is_right_in (parents_of name) (drop above names)) _ part ∙ ap (is_right_in (parents_of name)) left ∙ r.here)
     ]
 
-pub places : HasPlaces sanitizing
-places = record {
-  part = part_fits;
-  other = λ name s fit other deep.
-      let names = (with_room name s).level.names in
-      and_from (nat_lt (length names) deepest) (may_stand names name) (not_deep (length names) deep) (free_stands names name other (has_room name s fit));
-  void = λ name s fit. ap not (has_room name s fit).no_frame;
-}
+pub other_fits : (name : List ℕ) (s : State) → AreFit s.level.names → is_part name ≡ false → nat_le deepest (length (with_room name s).level.names) ≡ false
+    → may_begin (with_room name s).level.names name ≡ true
+other_fits name s fit other deep =
+    let names = (with_room name s).level.names in
+    and_from (nat_lt (length names) deepest) (may_stand names name) (not_deep (length names) deep) (free_stands names name other (has_room name s fit))

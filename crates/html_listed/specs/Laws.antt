@@ -10,7 +10,9 @@ use Rattle.html_safe_page.specs.SafePage.{Tag, Items, spell, IsSafePage}
 use Rattle.html_listed.specs.Listed.{listed, sanitized}
 use Rattle.html_listed.specs.ListedPage.{is_listed_start, is_listed_void, have_tags, IsReadingWith, IsListedReading}
 use Rattle.html_listed.specs.MarkedPage.{IsMarkedPage}
+use Rattle.html_listed.specs.Mixed.{Mixed, all_items, own_items, tags_of, stand_in}
 use Rattle.html_listed.specs.Standing.{stand}
+use Rattle.html_listed.specs.State.{level}
 
 -- ---- readings
 
@@ -50,6 +52,18 @@ pub record HaveSafeProtocols (options : CompileOptions) : Type 0 where
 abbrev pub ListedLaw : Type 0
 ListedLaw = (names : Names) (options : CompileOptions) (page : List ℕ) → HaveSafeProtocols options → IsMarkedPage page
     → HasOneListedReading (listed names options page)
+
+-- a page is made of these tags of the page's own and of raw tags of the list, each where it may stand
+pub record IsMixedPage (tags : Items) (page : List ℕ) : Type 0 where
+  pub items : Mixed
+  pub spelling : spell (all_items items) ≡ page
+  pub stands : IsTrue (stand_in (level false []) items)
+  pub own : own_items items ≡ tags
+
+-- it keeps all tags of its own, in their order and one in the other as they were, and raw tags stand where they may
+abbrev pub StandingLaw : Type 0
+StandingLaw = (names : Names) (options : CompileOptions) (page : List ℕ) → HaveSafeProtocols options → (marked : IsMarkedPage page)
+    → IsMixedPage (tags_of marked.0) (listed names options page)
 
 -- a safe page without raw HTML stays as it is
 abbrev pub UnmarkedLaw : Type 0

@@ -30,9 +30,17 @@ found_part p size = record { part = p; size = size }
 abbrev pub is_in_text : ℕ → Bool
 is_in_text b = not (b == less_than)
 
--- what follows the element without a name that bytes begin with
+-- a byte of a tag: it doesn't end here
+abbrev pub is_in_tag : ℕ → Bool
+is_in_tag b = not (b == greater_than)
+
+-- what follows the tag that bytes are in
+abbrev pub after_tag : List ℕ → List ℕ
+after_tag bytes = drop 1 (after_all is_in_tag bytes)
+
+-- what follows the element without a name that bytes begin with, which the next tag ends
 abbrev pub after_element : List ℕ → List ℕ
-after_element bytes = drop 3 (after_all is_in_text (drop 2 bytes))
+after_element bytes = after_tag (after_all is_in_text (drop 2 bytes))
 
 -- the text of elements without a name that have nothing but line endings between them, which are part of it, and what follows; at most so many elements
 abbrev pub raw_run : ℕ → List ℕ → Part
@@ -60,10 +68,6 @@ own_part inside =
 -- such a tag, and how many bytes it has
 abbrev pub own_found : List ℕ → FoundPart
 own_found inside = found_part (own_part inside) (length inside + 2)
-
--- a byte of a tag: it doesn't end here
-abbrev pub is_in_tag : ℕ → Bool
-is_in_tag b = not (b == greater_than)
 
 -- ---- pages
 

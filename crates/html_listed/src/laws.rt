@@ -1,5 +1,5 @@
 //! Laws of pages whose raw HTML is kept by the list.
-ghost use Rattle.html_listed.specs.Laws.{ListedLaw, OneElementLaw, OneListedReading, OneSpelling, PlainTextLaw, SanitizedLaw, UnmarkedLaw};
+ghost use Rattle.html_listed.specs.Laws.{ListedLaw, OneElementLaw, OneListedReading, OneSpelling, PlainTextLaw, SanitizedLaw, StandingLaw, UnmarkedLaw};
 
 /// Items whose names are made of letters, digits and `-` have one spelling each.
 #[tactic(auto, using(crate::proofs::Spellings::one_spelling))]
@@ -18,6 +18,13 @@ pub fn one_listed_reading_law()
 #[tactic(auto, using(crate::proofs::Listed::listed_law))]
 pub fn listed_law()
     ensures { ListedLaw }
+{}
+
+/// That listed page has the page's own tags, as they were, and raw tags of the list, each where it may
+/// stand in its level.
+#[tactic(auto, using(crate::proofs::Listed::standing_law))]
+pub fn standing_law()
+    ensures { StandingLaw }
 {}
 
 /// A safe page without raw HTML stays as it is.

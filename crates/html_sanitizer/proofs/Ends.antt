@@ -1,5 +1,5 @@
 -- A page up to a place, and what ends in it.
-use Rattle.std.proofs.Common.{◌≡◌, ℕ, zero, suc, ◌+◌, ◌-◌, ◌<◌, ◌≤◌, Bool, true, false, not, ◌||◌, cond, eqb, List, [], ◌∷◌, ◌++◌, length, take, refl, sym}
+use Rattle.std.proofs.Common.{◌≡◌, ℕ, zero, suc, ◌+◌, ◌-◌, ◌<◌, ◌≤◌, Bool, true, false, not, ◌&&◌, ◌||◌, cond, eqb, List, [], ◌∷◌, ◌++◌, length, take, refl, sym}
 use Rattle.std.proofs.Common.{ap, ◌∙◌}
 use Rattle.std.proofs.Common.{Bor, arith, inl, inr, get_or}
 use Rattle.std.specs.Prelude.{nat_lt, nat_le}
@@ -14,9 +14,9 @@ use Rattle.html_safe_page.specs.Views.{onto, open_names}
 use Rattle.html_safe_page.proofs.Follow.{open_push}
 use Rattle.html_sanitizer.specs.Listing.{texts_of}
 
--- a page that is printed, with these raw elements open
-abbrev pub page_of : List ℕ → List (List ℕ) → State
-page_of out names = state out (level false names) []
+-- a page in which this is printed and these raw elements are open, where a page was in this state
+abbrev pub page_in : State → List ℕ → List (List ℕ) → State
+page_in s out names = state out (level s.level.in_heading names) s.around
 
 -- ---- ends
 
@@ -26,32 +26,32 @@ ended_open zero names before s = refl
 ended_open (suc n) [] before s = refl
 ended_open (suc n) (name ∷ names) before s = ended_open n names before (says (end_tag name) s)
 
-pub ended_step : (n : ℕ) (out name : List ℕ) (names : List (List ℕ)) → ended (suc n) (page_of out (name ∷ names))
-    ≡ ended n (page_of (out ++ end_tag name) names)
-ended_step n out name names = sym (ended_open n names names (says (end_tag name) (page_of out (name ∷ names))))
+pub ended_step : (s : State) (n : ℕ) (out name : List ℕ) (names : List (List ℕ)) → ended (suc n) (page_in s out (name ∷ names))
+    ≡ ended n (page_in s (out ++ end_tag name) names)
+ended_step s n out name names = sym (ended_open n names names (says (end_tag name) (page_in s out (name ∷ names))))
 
-pub ended_none : (n : ℕ) (out : List ℕ) → ended n (page_of out []) ≡ page_of out []
-ended_none zero out = refl
-ended_none (suc n) out = refl
+pub ended_none : (s : State) (n : ℕ) (out : List ℕ) → ended n (page_in s out []) ≡ page_in s out []
+ended_none s zero out = refl
+ended_none s (suc n) out = refl
 
 -- one more ends
-pub popped : (left : ℕ) (out after : List ℕ) (items others : List (Bor (List ℕ))) (last : Bor (List ℕ)) (target : State) → 0 < left → items ≡ others
+pub popped : (s : State) (left : ℕ) (out after : List ℕ) (items others : List (Bor (List ℕ))) (last : Bor (List ℕ)) (target : State) → 0 < left → items ≡ others
     ++ last ∷ []
-    → after ≡ out ++ end_tag last.now → ended left (page_of out (open_names items)) ≡ target → ended (left - 1) (page_of after (open_names others)) ≡ target
-popped left out after items others last target some is printed e =
+    → after ≡ out ++ end_tag last.now → ended left (page_in s out (open_names items)) ≡ target → ended (left - 1) (page_in s after (open_names others)) ≡ target
+popped s left out after items others last target some is printed e =
     let more : suc (left - 1) ≡ left = omega arith in
-    ap (λ x. ended (left - 1) (page_of x (open_names others))) printed
-    ∙ sym (ended_step (left - 1) out last.now (open_names others))
-    ∙ ap (λ k. ended k (page_of out (last.now ∷ open_names others))) more
-    ∙ ap (λ ns. ended left (page_of out ns)) (sym (ap open_names is ∙ open_push others last))
+    ap (λ x. ended (left - 1) (page_in s x (open_names others))) printed
+    ∙ sym (ended_step s (left - 1) out last.now (open_names others))
+    ∙ ap (λ k. ended k (page_in s out (last.now ∷ open_names others))) more
+    ∙ ap (λ ns. ended left (page_in s out ns)) (sym (ap open_names is ∙ open_push others last))
     ∙ e
 
 -- none is left
-pub all_popped : (left : ℕ) (out : List ℕ) (items others : List (Bor (List ℕ))) (target : State) → length others ≡ 0 → items ≡ others ++ []
-    → ended left (page_of out (open_names items)) ≡ target → page_of out (open_names others) ≡ target
-all_popped left out items [] target none is e =
-    sym (ap (λ xs. ended left (page_of out (open_names xs))) is ∙ ended_none left out) ∙ e
-all_popped left out items (x ∷ xs) target none is e = absurd (omega arith)
+pub all_popped : (s : State) (left : ℕ) (out : List ℕ) (items others : List (Bor (List ℕ))) (target : State) → length others ≡ 0 → items ≡ others ++ []
+    → ended left (page_in s out (open_names items)) ≡ target → page_in s out (open_names others) ≡ target
+all_popped s left out items [] target none is e =
+    sym (ap (λ xs. ended left (page_in s out (open_names xs))) is ∙ ended_none s left out) ∙ e
+all_popped s left out items (x ∷ xs) target none is e = absurd (omega arith)
 
 -- ---- the last element of some names
 
@@ -126,21 +126,41 @@ begun_found next t s n found size test = elim (cases_Bool (nat_le 50 (length s.l
       cond-false (nat_le 50 (length s.level.names)) s _ h ∙ sym (cond-true found _ s (test ∙ lt-ltb n 50 (omega arith)))
 ]
 
-heading_begun : (h : Bool) (next : State → State) (t : Tag) (s : State) → s.level.in_heading ≡ false → cond h (begun_heading next t s) (begun next t s)
-    ≡ begun next t s
-heading_begun true next t s e = cond-false s.level.in_heading s (begun next t s) e
-heading_begun false next t s e = refl
+and_none : (a : Bool) → (a && false) ≡ false
+and_none true = refl
+and_none false = refl
+
+and_all : (a : Bool) → (a && true) ≡ a
+and_all true = refl
+and_all false = refl
+
+-- a heading begins in no heading
+heading_found : (h : Bool) (next : State → State) (t : Tag) (s : State) (n : ℕ) (found : Bool) → n ≡ length s.level.names
+    → found ≡ (nat_lt n 50 && not (s.level.in_heading && h))
+    → cond h (begun_heading next t s) (begun next t s) ≡ cond found (next (opened t s)) s
+heading_found h next t s n found size test = elim (cases_Bool (s.level.in_heading && h)) [
+  | inl e ↦
+      let both = and_parts s.level.in_heading h e in
+      cond-true h (begun_heading next t s) (begun next t s) both.1
+      ∙ cond-true s.level.in_heading s (begun next t s) both.0
+      ∙ sym (cond-false found (next (opened t s)) s (test ∙ ap (λ x. nat_lt n 50 && not x) e ∙ and_none (nat_lt n 50)))
+  | inr e ↦ skipped h e ∙ begun_found next t s n found size (test ∙ ap (λ x. nat_lt n 50 && not x) e ∙ and_all (nat_lt n 50))
+]
+  where
+    skipped : (h : Bool) → (s.level.in_heading && h) ≡ false → cond h (begun_heading next t s) (begun next t s) ≡ begun next t s
+    skipped true e = cond-false s.level.in_heading s (begun next t s) (sym (and_all s.level.in_heading) ∙ e)
+    skipped false e = refl
 
 -- an element that is no part
 pub place_free : (next : State → State) (t : Tag) (s after : State) (name : List ℕ) (n : ℕ) (found : Bool) → t.name ≡ name → not_empty (parents_of name) ≡ false
-    → after ≡ with_room name s → after.level.in_heading ≡ false → n ≡ length after.level.names → found ≡ nat_lt n 50
+    → after ≡ with_room name s → n ≡ length after.level.names → found ≡ (nat_lt n 50 && not (after.level.in_heading && is_in heading_names name))
     → begins next t s ≡ cond found (next (opened t after)) after
-place_free next t s after name n found e free room outside size test =
+place_free next t s after name n found e free room size test =
     let here : after ≡ with_room t.name s = room ∙ ap (λ x. with_room x s) (sym e) in
     cond-false (is_part t.name) _ _ (ap is_part e ∙ part_by_parents name ∙ free)
     ∙ ap (λ u. cond (is_in heading_names t.name) (begun_heading next t u) (begun next t u)) (sym here)
-    ∙ heading_begun (is_in heading_names t.name) next t after outside
-    ∙ begun_found next t after n found size test
+    ∙ heading_found (is_in heading_names t.name) next t after n found size
+    (test ∙ ap (λ x. nat_lt n 50 && not (after.level.in_heading && is_in heading_names x)) (sym e))
 
 count_same : (t : Tag) (s : State) (name : List ℕ) (parents : List (List ℕ)) (count : ℕ) → t.name ≡ name → parents ≡ parents_of name
     → count ≡ count_to parents s.level.names → count_to (parents_of t.name) s.level.names ≡ count

@@ -25,7 +25,7 @@ use Rattle.inline_links.proofs.Runs.{one_more}
 use Rattle.inline_references.proofs.Decoding.{known_has}
 use Rattle.html_listed.specs.Attributes.{tag_bytes, code_bytes}
 use Rattle.html_listed.specs.Raw.{RawPart, Text, token_part, found_raw, token_to, reference_to, token_or_reference, or_code, raw_parts_after}
-use Rattle.html_listed.specs.State.{State, says, all_ended}
+use Rattle.html_listed.specs.State.{State, says}
 use Rattle.html_listed.specs.Listed.{raw_part}
 use Rattle.html_listed.proofs.Open.{says_twice, says_nothing}
 use Rattle.html_sanitizer.specs.Sanitized.{page_after, is_mark, before_marks, after_marks, reference_part}
@@ -155,9 +155,9 @@ text_printed names options s html are =
     let back = codes_back (before_marks html) (taken_are n html are) in
     let text : list_all is_text front ≡ true = text_of_bytes front (ap (list_all is_text) back ∙ all_before is_text html) in
     let cut : content_codes html ≡ front ++ content_codes (after_marks html) = mark_cut html n (stops_before html) in
-    sym (ap (λ x. let t = all_ended (after_codes names options s x) in t.out) cut
-    ∙ ap (λ u. let t = all_ended u in t.out) (text_codes names options front (content_codes (after_marks html)) s text
-    ∙ ap (λ x. after_codes names options (says (encode x) s) (content_codes (after_marks html))) back))
+    sym (ap (after_codes names options s) cut
+    ∙ text_codes names options front (content_codes (after_marks html)) s text
+    ∙ ap (λ x. after_codes names options (says (encode x) s) (content_codes (after_marks html))) back)
 
 -- ---- references
 
@@ -173,8 +173,8 @@ reference_printed names options s after p are is = by_bytes (known_at names (38 
         known_codes names (38 ∷ after) ((omega arith), are) ∙ ap (option_map (λ (p : Part). part p.text (content_codes p.rest))) e in
         let printed : part (codes "&amp;") after ≡ p = ap (reference_part after) (sym e) ∙ is in
         ap (λ (x : Part). page_after names options (says x.text s) x.rest) (sym printed)
-        ∙ sym (ap (λ u. let t = all_ended u in t.out) (one_code names options 38 (content_codes after) s
-        (ap (option_map (reference_to (38 ∷ content_codes after))) none)))
+        ∙ sym (one_code names options 38 (content_codes after) s
+        (ap (option_map (reference_to (38 ∷ content_codes after))) none))
     by_bytes (Some q) e =
         let some : known_at names (38 ∷ content_codes after) ≡ Some (part q.text (content_codes q.rest)) =
         known_codes names (38 ∷ after) ((omega arith), are) ∙ ap (option_map (λ (p : Part). part p.text (content_codes p.rest))) e in
@@ -189,8 +189,8 @@ reference_printed names options s after p are is = by_bytes (known_at names (38 
         ∙ drop_at has.front (content_codes q.rest) (length has.front) refl) in
         let front_some = written_some names has.front has.name has.written in
         ap (λ (x : Part). page_after names options (says x.text s) x.rest) (sym printed)
-        ∙ sym (ap (λ u. let t = all_ended u in t.out) (one_found names options 38 (content_codes after) (content_codes q.rest) s (Text (encode q.text)) size
-        (ap (option_map (reference_to (38 ∷ content_codes after))) some) (omega arith) place))
+        ∙ sym (one_found names options 38 (content_codes after) (content_codes q.rest) s (Text (encode q.text)) size
+        (ap (option_map (reference_to (38 ∷ content_codes after))) some) (omega arith) place)
 
 -- ---- raw HTML
 
@@ -289,8 +289,7 @@ token_printed names options s rest text after are token later =
     let same : token_part names options text ≡ token_part names options (content_codes text) =
     ap (token_part names options) (sym (codes_back text are)) ∙ token_bytes names options (content_codes text) first in
     ap (λ p. page_after names options (raw_part s p) after) same
-    ∙ ap (λ u. let t = all_ended u in t.out) (token_codes names options s html (content_codes text)
-    (content_codes after) size found.0 token.begins some later.codes)
+    ∙ token_codes names options s html (content_codes text) (content_codes after) size found.0 token.begins some later.codes
 
 -- `<` alone
 no_leaf : (html : List Code) (o : Option (List ℕ)) → None ≡ html_leaf html o → o ≡ None
@@ -302,4 +301,4 @@ pub lone_printed : (names : Names) (options : CompileOptions) (s : State) (after
 lone_printed names options s after h =
     let html = 60 ∷ content_codes after in
     let none : html_end (tag_bytes html) ≡ None = no_leaf html (html_end (tag_bytes html)) h in
-    sym (ap (λ u. let t = all_ended u in t.out) (one_code names options 60 (content_codes after) s (ap (option_map (token_to names options html)) none)))
+    sym (one_code names options 60 (content_codes after) s (ap (option_map (token_to names options html)) none))

@@ -16,7 +16,7 @@ use Rattle.html_listed.specs.State.{State, says, with_open, opened, ended, with_
 use Rattle.html_listed.specs.Listed.{begins, raw_part}
 use Rattle.html_sanitizer.specs.Attributes.{after_space, read_attribute, cut, rest_after}
 use Rattle.html_sanitizer.specs.Listing.{listed_name}
-use Rattle.html_sanitizer.proofs.Ends.{page_of}
+use Rattle.html_sanitizer.proofs.Ends.{page_in}
 use Rattle.html_sanitizer.proofs.Tokens.{kept_form, ends_form}
 
 -- ---- the name
@@ -83,11 +83,11 @@ module _ (names : Names) (options : CompileOptions) (called html after : List �
   tag_of = tag called (kept options called (map (read_attribute names) (cut (length after) after)))
 
   -- a void tag
-  pub void_printed : (s : State) (out full : List ℕ) (open_here : List (List ℕ)) → is_in void_names called ≡ true → page_of out open_here ≡ with_room called s
-      → full ≡ ((out ++ codes "<") ++ tag_bytes tag_of) ++ codes " />" → page_of full open_here ≡ raw_part s (open_part names options called html)
-  void_printed s out full open_here void room printed =
-      ap (λ x. page_of x open_here) (printed ∙ regrouped out (codes "<") (tag_bytes tag_of) (codes " />"))
-      ∙ ap (says (void_tag tag_of)) room
+  pub void_printed : (s room : State) (out full : List ℕ) (open_here : List (List ℕ)) → is_in void_names called ≡ true → page_in room out open_here ≡ with_room called s
+      → full ≡ ((out ++ codes "<") ++ tag_bytes tag_of) ++ codes " />" → page_in room full open_here ≡ raw_part s (open_part names options called html)
+  void_printed s room out full open_here void made printed =
+      ap (λ x. page_in room x open_here) (printed ∙ regrouped out (codes "<") (tag_bytes tag_of) (codes " />"))
+      ∙ ap (says (void_tag tag_of)) made
       ∙ ap (λ t. raw_part s (Single t)) (sym (kept_form names options called html after place))
       ∙ ap (raw_part s) (sym (cond-true (is_in void_names called) (Single (kept_tag names options called html)) _ void))
 
@@ -118,14 +118,14 @@ module _ (names : Names) (options : CompileOptions) (called html after : List �
 
   -- it begins
   pub placed : (s s1 s2 : State) (out full : List ℕ) (open_here : List (List ℕ)) (ends : Bool) → is_in void_names called ≡ false
-      → s1 ≡ page_of out open_here
+      → s1 ≡ page_in s1 out open_here
       → ((next : State → State) (t : Tag) → t.name ≡ called → begins next t s ≡ next (opened t s1))
-      → full ≡ ((out ++ codes "<") ++ tag_bytes tag_of) ++ codes ">" → s2 ≡ with_open (called ∷ open_here) (page_of full open_here)
+      → full ≡ ((out ++ codes "<") ++ tag_bytes tag_of) ++ codes ">" → s2 ≡ with_open (called ∷ open_here) (page_in s1 full open_here)
       → ends ≡ begins_with (codes "/") (after_space (rest_after (length after) after))
       → cond ends (ended 1 s2) s2 ≡ raw_part s (open_part names options called html)
   placed s s1 s2 out full open_here ends void is found printed now test =
       let printed_so : s2 ≡ opened tag_of s1 =
-      now ∙ ap (λ x. with_open (called ∷ open_here) (page_of x open_here)) (printed ∙ regrouped out (codes "<") (tag_bytes tag_of) (codes ">"))
+      now ∙ ap (λ x. with_open (called ∷ open_here) (page_in s1 x open_here)) (printed ∙ regrouped out (codes "<") (tag_bytes tag_of) (codes ">"))
       ∙ ap (opened tag_of) (sym is) in
       ap (λ t. cond t (ended 1 s2) s2) (test ∙ sym (ends_form html after place))
       ∙ ap (λ x. cond (ends_at_once html) (ended 1 x) x) printed_so

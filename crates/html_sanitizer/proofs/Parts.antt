@@ -18,10 +18,9 @@ use Rattle.inline_leaves.specs.declared.leaf.LeafPart.{LeafPart}
 use Rattle.inline_leaves.specs.declared.leaf.LeafPart.TheVariants.{Escape, Character, Number, Code, Math, Unclosed, Autolink, Literal, Html, EscapedBreak}
 use Rattle.inline_leaves.specs.declared.leaf.LeafPart.TheVariants.{TrailingBreak, LineEnd, Spaces}
 use Rattle.html_listed.specs.Attributes.{tag_bytes}
-use Rattle.html_listed.specs.State.{State, says, all_ended}
-use Rattle.html_listed.specs.Listed.{sanitized}
+use Rattle.html_listed.specs.State.{State, says}
 use Rattle.html_sanitizer.specs.Sanitized.{page_after, reference_part}
-use Rattle.html_sanitizer.proofs.Ends.{page_of}
+use Rattle.html_sanitizer.proofs.Ends.{page_in}
 use Rattle.html_sanitizer.proofs.Tokens.{AreBytes}
 use Rattle.html_sanitizer.proofs.Marks.{IsToken, is_token, lone_printed, reference_printed}
 use Rattle.html_sanitizer.proofs.Rests.{byte_passed, reference_passed}
@@ -84,27 +83,27 @@ leaf_token on rest found t is read html =
 
 -- ---- what is printed
 
-pub sign_printed : (names : Names) (options : CompileOptions) (on : Constructs) (out after rest next : List ℕ) (open_here : List (List ℕ)) → on
+pub sign_printed : (names : Names) (options : CompileOptions) (on : Constructs) (s : State) (out after rest next : List ℕ) (open_here : List (List ℕ)) → on
     ≡ default_constructs
     → found_leaf rest None ≡ html_text_at on (content_codes rest) → rest ≡ 60 ∷ next → after ≡ out ++ codes "&lt;"
-    → page_after names options (page_of after open_here) next ≡ page_after names options (page_of out open_here) rest
-sign_printed names options on out after rest next open_here is read first printed =
+    → page_after names options (page_in s after open_here) next ≡ page_after names options (page_in s out open_here) rest
+sign_printed names options on s out after rest next open_here is read first printed =
     let none : None ≡ html_text_at default_constructs (content_codes (60 ∷ next)) =
     read ∙ ap (λ o. html_text_at o (content_codes rest)) is ∙ ap (λ x. html_text_at default_constructs (content_codes x)) first in
-    ap (λ o. page_after names options (page_of o open_here) next) printed
-    ∙ lone_printed names options (page_of out open_here) next none
-    ∙ ap (page_after names options (page_of out open_here)) (sym first)
+    ap (λ o. page_after names options (page_in s o open_here) next) printed
+    ∙ lone_printed names options (page_in s out open_here) next none
+    ∙ ap (page_after names options (page_in s out open_here)) (sym first)
 
-pub known_printed : (names : Names) (options : CompileOptions) (out after rest next follows : List ℕ) (open_here : List (List ℕ)) → AreBytes next
+pub known_printed : (names : Names) (options : CompileOptions) (s : State) (out after rest next follows : List ℕ) (open_here : List (List ℕ)) → AreBytes next
     → rest ≡ 38 ∷ next → after ≡ out ++ (let found = reference_part next (known_at names (38 ∷ next)) in found.text)
     → follows ≡ (let found = reference_part next (known_at names (38 ∷ next)) in found.rest)
-    → page_after names options (page_of after open_here) follows ≡ page_after names options (page_of out open_here) rest
-known_printed names options out after rest next follows open_here are first printed place =
+    → page_after names options (page_in s after open_here) follows ≡ page_after names options (page_in s out open_here) rest
+known_printed names options s out after rest next follows open_here are first printed place =
     let found = reference_part next (known_at names (38 ∷ next)) in
-    ap (λ o. page_after names options (page_of o open_here) follows) printed
-    ∙ ap (page_after names options (says found.text (page_of out open_here))) place
-    ∙ reference_printed names options (page_of out open_here) next found are refl
-    ∙ ap (page_after names options (page_of out open_here)) (sym first)
+    ap (λ o. page_after names options (page_in s o open_here) follows) printed
+    ∙ ap (page_after names options (says found.text (page_in s out open_here))) place
+    ∙ reference_printed names options (page_in s out open_here) next found are refl
+    ∙ ap (page_after names options (page_in s out open_here)) (sym first)
 
 pub sign_passed : (rest next : List ℕ) → rest ≡ 60 ∷ next → IsShorterRest rest next
 sign_passed rest next first = subst (λ x. IsShorterRest x next) (sym first) (byte_passed 60 next)
@@ -114,7 +113,6 @@ pub known_passed : (names : Names) (rest next follows : List ℕ) → rest ≡ 3
 known_passed names rest next follows first place = subst (λ x. IsShorterRest x follows) (sym first) (reference_passed names next follows (sym place))
 
 -- all is printed
-pub ended_printed : (names : Names) (options : CompileOptions) (s t : State) (rest html : List ℕ) → length rest ≡ 0 → t ≡ all_ended s
-    → page_after names options s rest ≡ sanitized names options html → t.out ≡ sanitized names options html
-ended_printed names options s t [] html none is e = ap (λ (u : State). u.out) is ∙ e
-ended_printed names options s t (b ∷ bs) html none is e = absurd (omega arith)
+pub nothing_left : (names : Names) (options : CompileOptions) (s : State) (rest : List ℕ) → length rest ≡ 0 → page_after names options s rest ≡ s
+nothing_left names options s [] none = refl
+nothing_left names options s (b ∷ bs) none = absurd (omega arith)

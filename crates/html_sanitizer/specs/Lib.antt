@@ -3,3 +3,4 @@ pub mod Page
 pub mod Urls
 pub mod Attributes
 pub mod Sanitized
+pub mod Elements

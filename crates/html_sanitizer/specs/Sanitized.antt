@@ -7,12 +7,12 @@ use Rattle.definition_text.specs.Content.{Part, part}
 use Rattle.definition_text.specs.Encode.{encode}
 use Rattle.definition_inline.specs.CharacterReference.{Names}
 use Rattle.html_listed.specs.Raw.{raw_parts}
-use Rattle.html_listed.specs.State.{State, all_ended}
+use Rattle.html_listed.specs.State.{State}
 use Rattle.html_listed.specs.Listed.{raw_part}
 
--- the page of a state and the HTML after it
-abbrev pub page_after : Names → CompileOptions → State → List ℕ → List ℕ
-page_after names options s html = let t = all_ended (fold raw_part s (raw_parts names options html)) in t.out
+-- the state after raw HTML
+abbrev pub page_after : Names → CompileOptions → State → List ℕ → State
+page_after names options s html = fold raw_part s (raw_parts names options html)
 
 -- a byte that may begin a tag or a reference
 abbrev pub is_mark : ℕ → Bool

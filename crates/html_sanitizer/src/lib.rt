@@ -3,10 +3,13 @@
 #![tactic(auto)]
 
 mod attributes;
+mod elements;
+mod listed;
 mod listing;
 mod page;
 mod raw;
 mod sanitized;
 mod urls;
 
+pub use listed::listed_html;
 pub use sanitized::sanitized_html;

@@ -1,9 +1,11 @@
 //! The page that is printed, and the raw elements that are open in it.
-ghost use Rattle.std.specs.Prelude.{◌≡◌, ℕ, ◌++◌, ◌∷◌, ◌<◌, [], IfOk, OnOk, if◌then◌else◌, length, nat_lt, slice_index_or, string_bytes};
+ghost use Rattle.std.specs.Prelude.{◌≡◌, ℕ, ◌++◌, ◌∷◌, ◌<◌, ◌&&◌, ◌||◌, [], not, IfOk, OnOk, if◌then◌else◌, length, nat_lt, slice_index_or, string_bytes};
 ghost use Rattle.definition_text.specs.Encode.{encode};
 ghost use Rattle.definition_page.specs.Tags.{Tag, end_tag};
+ghost use Rattle.std.specs.List.{list_any};
+ghost use Rattle.html_listed.specs.Listing.{is_in, heading_names};
 ghost use Rattle.html_listed.specs.State.{State, nothing_open, says, with_open, opened, ended, ended_to, all_ended, count_to, begins_with_frame};
-ghost use Rattle.html_listed.specs.State.{without_frame, with_room};
+ghost use Rattle.html_listed.specs.State.{without_frame, with_room, entered, left};
 ghost use Rattle.html_listed.specs.Listed.{begins};
 ghost use Rattle.html_safe_page.specs.Views.{open_names};
 ghost use Rattle.html_sanitizer.specs.Listing.{texts_of};
@@ -12,14 +14,26 @@ ghost use Rattle.html_sanitizer.specs.Page.{page_state};
 use crate::listing::{DEEPEST, FRAME_NAMES, HEADING_NAMES, is_in, parents_of};
 use html_escape::push_encoded;
 use std::alloc::{AllocError, Allocator};
+use std::mem::replace;
+
+/// An element of the page's own that is open, or the page.
+#[derive(Drop)]
+pub(crate) struct Level<A: Allocator> {
+    /// Whether it is a heading or in one.
+    pub(crate) in_heading: bool,
+    /// The names of the raw elements that are open in it, the innermost last.
+    pub(crate) names: Vec<&'static str, A>,
+}
 
 /// A page up to a place.
 #[derive(Drop)]
 pub(crate) struct Page<A: Allocator> {
     /// What is printed.
     pub(crate) out: String<A>,
-    /// The names of the raw elements that are open, the innermost last.
-    pub(crate) names: Vec<&'static str, A>,
+    /// The innermost level.
+    pub(crate) level: Level<A>,
+    /// The levels around it, the innermost last.
+    pub(crate) around: Vec<Level<A>, A>,
 }
 
 impl<A: Allocator + Clone> Page<A> {
@@ -29,7 +43,11 @@ impl<A: Allocator + Clone> Page<A> {
     {
         Ok(Page {
             out: String::new(alloc.clone()?),
-            names: Vec::new(alloc),
+            level: Level {
+                in_heading: false,
+                names: Vec::new(alloc.clone()?),
+            },
+            around: Vec::new(alloc),
         })
     }
 }
@@ -44,9 +62,9 @@ impl<A: Allocator> Page<A> {
 
     /// An element of this name is open from here on.
     pub(crate) fn open(&mut self, name: &'static str) -> Result<(), AllocError>
-        ensures { OnOk result (page_state self.new ≡ with_open (name.now ∷ open_names self.old.names.items) (page_state self.old)) }
+        ensures { OnOk result (page_state self.new ≡ with_open (name.now ∷ open_names self.old.level.names.items) (page_state self.old)) }
     {
-        self.names.push(name)?;
+        self.level.names.push(name)?;
         Ok(())
     }
 
@@ -56,7 +74,7 @@ impl<A: Allocator> Page<A> {
     {
         let mut left = count;
         while left > 0 {
-            let Some(name) = self.names.pop() else {
+            let Some(name) = self.level.names.pop() else {
                 return Ok(());
             };
             push_end_tag(&mut self.out, name)?;
@@ -69,7 +87,7 @@ impl<A: Allocator> Page<A> {
     pub(crate) fn end_to(&mut self, wanted: &[&str]) -> Result<(), AllocError>
         ensures { OnOk result (page_state self.new ≡ ended_to (texts_of wanted.now) (page_state self.old)) }
     {
-        let count = count_to(self.names.as_slice(), wanted);
+        let count = count_to(self.level.names.as_slice(), wanted);
         self.end(count)
     }
 
@@ -77,15 +95,15 @@ impl<A: Allocator> Page<A> {
     pub(crate) fn end_all(&mut self) -> Result<(), AllocError>
         ensures { OnOk result (page_state self.new ≡ all_ended (page_state self.old)) }
     {
-        let count = self.names.len();
+        let count = self.level.names.len();
         self.end(count)
     }
 
     /// Whether the last element holds nothing but its parts and text.
     fn is_in_frame(&self) -> bool
-        ensures { result ≡ begins_with_frame (open_names self.now.names.items) }
+        ensures { result ≡ begins_with_frame (open_names self.now.level.names.items) }
     {
-        match self.names.as_slice().split_last() {
+        match self.level.names.as_slice().split_last() {
             Some((name, _)) => is_in(&FRAME_NAMES, name),
             None => false,
         }
@@ -122,9 +140,9 @@ impl<A: Allocator> Page<A> {
         let parents = parents_of(name);
         if parents.is_empty() {
             self.make_room(name)?;
-            return Ok(self.has_room());
+            return Ok(self.may_hold(name));
         }
-        let count = count_to(self.names.as_slice(), parents);
+        let count = count_to(self.level.names.as_slice(), parents);
         if count == 0 {
             return Ok(false);
         }
@@ -132,11 +150,72 @@ impl<A: Allocator> Page<A> {
         Ok(self.has_room())
     }
 
+    /// Whether an element of this name, which is no part, may begin once there is room for it.
+    fn may_hold(&self, name: &str) -> bool
+        ensures { result ≡ (nat_lt (length (open_names self.now.level.names.items)) 50 && not (self.now.level.in_heading && is_in heading_names name.now)) }
+    {
+        self.has_room() && !self.is_second_heading(name)
+    }
+
+    /// Whether an element of this name is a heading that would stand in another.
+    fn is_second_heading(&self, name: &str) -> bool
+        ensures { result ≡ (self.now.level.in_heading && is_in heading_names name.now) }
+    {
+        if self.level.in_heading {
+            is_in(&HEADING_NAMES, name)
+        } else {
+            false
+        }
+    }
+
     /// Whether one more element may be open.
     fn has_room(&self) -> bool
-        ensures { result ≡ nat_lt (length (open_names self.now.names.items)) 50 }
+        ensures { result ≡ nat_lt (length (open_names self.now.level.names.items)) 50 }
     {
-        self.names.len() < DEEPEST
+        self.level.names.len() < DEEPEST
+    }
+
+    /// An element of the page's own begins.
+    pub(crate) fn enter(&mut self, alloc: A, name: &str) -> Result<(), AllocError>
+        ensures { OnOk result (page_state self.new ≡ entered name.now (page_state self.old)) }
+    {
+        let inside = Level {
+            in_heading: self.makes_heading(name),
+            names: Vec::new(alloc),
+        };
+        let level = replace(&mut self.level, inside);
+        self.around.push(level)?;
+        Ok(())
+    }
+
+    /// Whether an element of the page's own is a heading or in one.
+    fn makes_heading(&self, name: &str) -> bool
+        ensures { result ≡ (self.now.level.in_heading || is_in heading_names name.now
+            || list_any (is_in heading_names) (open_names self.now.level.names.items)) }
+    {
+        if self.level.in_heading {
+            return true;
+        }
+        if is_in(&HEADING_NAMES, name) {
+            return true;
+        }
+        self.has_heading()
+    }
+
+    /// Whether a raw heading is open.
+    fn has_heading(&self) -> bool
+        ensures { result ≡ list_any (is_in heading_names) (open_names self.now.level.names.items) }
+    {
+        count_to(self.level.names.as_slice(), &HEADING_NAMES) != 0
+    }
+
+    /// An element of the page's own ends, once those in it have.
+    pub(crate) fn leave(&mut self)
+        ensures { page_state self.new ≡ left (page_state self.old) }
+    {
+        if let Some(level) = self.around.pop() {
+            self.level = level;
+        }
     }
 }
 

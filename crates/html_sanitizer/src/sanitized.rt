@@ -48,8 +48,23 @@ pub fn sanitized_html<A: Allocator + Clone, T: Tables>(
     ensures page { IfOk result (λ page. string_bytes page ≡ sanitized (T.reference_of tables.now) options.now html.now) }
     ensures listed { HaveSafeProtocols options.now → IfOk result (λ page. IsSanitized (string_bytes page)) }
 {
-    let on = Constructs::default();
     let mut page = Page::new(alloc.clone()?)?;
+    push_raw(&mut page, alloc, options, tables, html)?;
+    page.end_all()?;
+    Ok(page.out)
+}
+
+/// Prints raw HTML.
+pub(crate) fn push_raw<A: Allocator + Clone, T: Tables>(
+    page: &mut Page<A>,
+    alloc: A,
+    options: &CompileOptions,
+    tables: &T,
+    html: &str,
+) -> Result<(), AllocError>
+    ensures { OnOk result (page_state page.new ≡ page_after (T.reference_of tables.now) options.now (page_state page.old) html.now) }
+{
+    let on = Constructs::default();
     let mut scratch = Scratch {
         written: Vec::new(alloc.clone()?),
         buffers: Buffers {
@@ -62,7 +77,7 @@ pub fn sanitized_html<A: Allocator + Clone, T: Tables>(
     let mut rest = push_text(&mut page.out, html)?;
     while !rest.is_empty() {
         let after = push_part(
-            &mut page,
+            page,
             &mut scratch,
             &mut searches,
             &on,
@@ -72,8 +87,7 @@ pub fn sanitized_html<A: Allocator + Clone, T: Tables>(
         )?;
         rest = push_text(&mut page.out, after)?;
     }
-    page.end_all()?;
-    Ok(page.out)
+    Ok(())
 }
 
 /// Appends the text before the first `<` or `&`. Returns what follows.

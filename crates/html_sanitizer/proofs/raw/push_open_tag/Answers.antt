@@ -20,8 +20,8 @@ returns-then-is_in g c = λ html place.
     let after = c.args.after.now in
     let out = string_bytes c.make_room.new.self.out in
     let written = c.in_ok-rest.ensures.written ∙ ap (λ l. attributes_of l ++ cut (length after) after) c.clear.ensures.items in
-    void_printed names options name html after place (page_state c.args.page.now) out (string_bytes c.push_str.new.self)
-    (open_names c.make_room.new.self.names.items) (sym c.is_in.ensures ∙ c.if-is_in.true) c.in_ok-make_room.ensures
+    void_printed names options name html after place (page_state c.args.page.now) (page_state c.make_room.new.self) out (string_bytes c.push_str.new.self)
+    (open_names c.make_room.new.self.level.names.items) (sym c.is_in.ensures ∙ c.if-is_in.true) c.in_ok-make_room.ensures
     (c.in_ok-push_str.ensures.bytes ∙ ap (λ x. x ++ codes " />") (c.in_ok-push_tag.ensures
     ∙ ap (λ l. (out ++ codes "<") ++ tag_bytes (tag name (kept options name (map (read_attribute names) l)))) written))
 
@@ -45,7 +45,7 @@ returns-then-starts_with g c = λ html place.
     let written = c.in_ok-rest.ensures.written ∙ ap (λ l. attributes_of l ++ cut (length after) after) c.clear.ensures.items in
     subst (λ (t : State). OnOk c.end.result (page_state c.end.new.self ≡ t))
     (placed names options name html after place (page_state c.args.page.now) s1 (page_state c.open.new.self) out (string_bytes c.push_str-2.new.self)
-    (open_names c.find_place.new.self.names.items) true (sym c.is_in.ensures ∙ c.if-is_in.false) refl
+    (open_names c.find_place.new.self.level.names.items) true (sym c.is_in.ensures ∙ c.if-is_in.false) refl
     (λ next t e. c.in_ok-find_place.ensures next t e ∙ ap (λ b. cond b (next (opened t s1)) s1) c.if-not-branch.false)
     (c.in_ok-push_str-2.ensures.bytes ∙ ap (λ x. x ++ codes ">") (c.in_ok-push_tag-2.ensures
     ∙ ap (λ l. (out ++ codes "<") ++ tag_bytes (tag name (kept options name (map (read_attribute names) l)))) written))
@@ -65,7 +65,7 @@ returns-else-starts_with g c = λ html place.
     let out = string_bytes c.find_place.new.self.out in
     let written = c.in_ok-rest.ensures.written ∙ ap (λ l. attributes_of l ++ cut (length after) after) c.clear.ensures.items in
     placed names options name html after place (page_state c.args.page.now) s1 (page_state c.open.new.self) out (string_bytes c.push_str-2.new.self)
-    (open_names c.find_place.new.self.names.items) false (sym c.is_in.ensures ∙ c.if-is_in.false) refl
+    (open_names c.find_place.new.self.level.names.items) false (sym c.is_in.ensures ∙ c.if-is_in.false) refl
     (λ next t e. c.in_ok-find_place.ensures next t e ∙ ap (λ b. cond b (next (opened t s1)) s1) c.if-not-branch.false)
     (c.in_ok-push_str-2.ensures.bytes ∙ ap (λ x. x ++ codes ">") (c.in_ok-push_tag-2.ensures
     ∙ ap (λ l. (out ++ codes "<") ++ tag_bytes (tag name (kept options name (map (read_attribute names) l)))) written))

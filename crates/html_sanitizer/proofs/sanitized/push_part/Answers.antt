@@ -14,8 +14,8 @@ returns-in-Some-clause-printed g c =
     let rest = c.args.rest.now in
     let is = rw c.in-Some.is at (strip_prefix_char 38 rest c.strip_prefix.result c.strip_prefix.ensures.cases (lit< tt)) in
     let all = subst AreBytes is (are_bytes rest (λ k. omega (arith, c.type_inv.rest k))) in
-    known_printed (g.T.Tables.reference_of c.args.tables.now) c.args.options.now (string_bytes c.args.page.now.out) (string_bytes c.push_reference.new.out) rest
-    c.in-Some.after.now c.in_ok-next.next.now (open_names c.args.page.now.names.items) all.1 is c.in_ok-next.ensures.printed c.in_ok-next.ensures.rest
+    known_printed (g.T.Tables.reference_of c.args.tables.now) c.args.options.now (page_state c.args.page.now) (string_bytes c.args.page.now.out) (string_bytes c.push_reference.new.out) rest
+    c.in-Some.after.now c.in_ok-next.next.now (open_names c.args.page.now.level.names.items) all.1 is c.in_ok-next.ensures.printed c.in_ok-next.ensures.rest
 
 pub returns-in-Some-clause-shorter : goal.returns-in-Some-clause-shorter
 returns-in-Some-clause-shorter g c =
@@ -31,9 +31,9 @@ push_sign-requires g c =
 
 pub returns-in_default-html_text_at-clause-printed : goal.returns-in_default-html_text_at-clause-printed
 returns-in_default-html_text_at-clause-printed g c =
-    sign_printed (g.T.Tables.reference_of c.args.tables.now) c.args.options.now c.args.on.now (string_bytes c.args.page.now.out)
+    sign_printed (g.T.Tables.reference_of c.args.tables.now) c.args.options.now c.args.on.now (page_state c.args.page.now) (string_bytes c.args.page.now.out)
     (string_bytes c.push_sign.new.out)
-    c.args.rest.now c.in_ok-next-2.next.now (open_names c.args.page.now.names.items) c.requires.on c.in_default-html_text_at.ensures.read
+    c.args.rest.now c.in_ok-next-2.next.now (open_names c.args.page.now.level.names.items) c.requires.on c.in_default-html_text_at.ensures.read
     c.in_ok-next-2.ensures.rest c.in_ok-next-2.ensures.printed
 
 pub returns-in_default-part : goal.returns-in_default-part

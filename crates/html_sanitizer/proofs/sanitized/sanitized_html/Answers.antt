@@ -1,76 +1,22 @@
-use Rattle.std.proofs.Common.{◌-◌, ℕ, List, Bor, length, arith, sym, ap, subst, rules, ◌∙◌}
-use Rattle.std.proofs.lemmas.Bool.{eqb-true}
-use Rattle.inline_links.specs.Codes.{IsRest}
-use Rattle.definition_text.specs.Encode.{encode}
-use Rattle.html_safe_page.specs.Views.{open_names}
-use Rattle.html_listed.specs.State.{says}
+use Rattle.std.proofs.Common.{ap, subst, sym, ◌∙◌}
+use Rattle.html_listed.specs.State.{State, all_ended}
 use Rattle.html_listed.specs.Laws.{IsSanitized}
 use Rattle.html_listed.proofs.Sanitized.{sanitized_law}
-use Rattle.html_sanitizer.specs.Page.{page_state}
-use Rattle.html_sanitizer.specs.Sanitized.{page_after, before_marks, begins_with_mark}
-use Rattle.html_sanitizer.proofs.Ends.{page_of}
-use Rattle.html_sanitizer.proofs.Tokens.{AreBytes}
-use Rattle.html_sanitizer.proofs.Marks.{are_bytes, dropped_are, text_printed}
-use Rattle.html_sanitizer.proofs.Rests.{marked_after, whole_rest, rest_after_text, rest_after_part}
-use Rattle.html_sanitizer.proofs.Parts.{ended_printed}
+use Rattle.html_sanitizer.specs.Sanitized.{page_after}
 use Rattle.html_sanitizer.proofs.sanitized.sanitized_html.Goals as goal
-
-pub loop-rest-init : goal.loop-rest-init
-loop-rest-init g c =
-    let names = g.T.Tables.reference_of c.args.tables.now in
-    let options = c.args.options.now in
-    let html = c.args.html.now in
-    let page = c.in_ok-page.page in
-    let rest = c.in_ok-rest.rest.now in
-    let is = c.in_ok-rest.ensures.rest in
-    let are = are_bytes html (λ k. omega (arith, c.type_inv.html k)) in (
-      search rules,
-      ap (λ (x : Bor (List ℕ)). x.now) c.new-searches.ensures,
-      subst (λ (x : List ℕ). IsRest html x) (sym is) (rest_after_text html html (whole_rest html)),
-      (λ some. ap begins_with_mark is ∙ marked_after html (λ none. some (ap length is ∙ none))),
-      ap (λ o. page_after names options (page_of o (open_names page.names.items)) rest) c.in_ok-rest.ensures.printed
-          ∙ ap (page_after names options (says (encode (before_marks html)) (page_state page))) is
-          ∙ text_printed names options (page_state page) html are
-          ∙ ap (λ s. page_after names options s html) c.in_ok-page.ensures,
-    )
-
-pub loop-rest-preserved : goal.loop-rest-preserved
-loop-rest-preserved g c =
-    let names = g.T.Tables.reference_of c.args.tables.now in
-    let options = c.args.options.now in
-    let html = c.args.html.now in
-    let page = c.push_part.new.page in
-    let rest = c.loop-rest.rest.now in
-    let after = c.in_ok-after.after.now in
-    let next = c.in_ok-rest-2.rest.now in
-    let is = c.in_ok-rest-2.ensures.rest in
-    let place = c.loop-rest.invariant.2 in
-    let shorter = c.in_ok-after.ensures.shorter in
-    let are_html = are_bytes html (λ k. omega (arith, c.type_inv.html k)) in
-    let are_rest = subst AreBytes (sym place.place) (dropped_are (length html - length rest) html are_html) in
-    let are = subst AreBytes (sym shorter.place) (dropped_are (length rest - length after) rest are_rest) in (
-      search rules,
-      ap (λ (x : Bor (List ℕ)). x.now) c.push_part.ensures.content ∙ c.loop-rest.invariant.1,
-      subst (λ (x : List ℕ). IsRest html x) (sym is) (rest_after_part html rest after place shorter),
-      (λ some. ap begins_with_mark is ∙ marked_after after (λ none. some (ap length is ∙ none))),
-      ap (λ o. page_after names options (page_of o (open_names page.names.items)) next) c.in_ok-rest-2.ensures.printed
-          ∙ ap (page_after names options (says (encode (before_marks after)) (page_state page))) is
-          ∙ text_printed names options (page_state page) after are
-          ∙ c.in_ok-after.ensures.printed
-          ∙ c.loop-rest.invariant.4,
-    )
 
 pub returns-clause-page : goal.returns-clause-page
 returns-clause-page g c =
-    ended_printed (g.T.Tables.reference_of c.args.tables.now) c.args.options.now (page_state c.loop-rest.page) (page_state c.end_all.new.self)
-    c.loop-rest.rest.now c.args.html.now (eqb-true (length c.loop-rest.rest.now) 0 (sym c.is_empty.ensures ∙ c.loop-rest-test.false))
-    c.in_ok-end_all.ensures c.loop-rest.invariant.4
+    let names = g.T.Tables.reference_of c.args.tables.now in
+    ap (λ (s : State). s.out)
+    (c.in_ok-end_all.ensures ∙ ap all_ended (c.in_ok-push_raw.ensures
+    ∙ ap (λ s. page_after names c.args.options.now s c.args.html.now) c.in_ok-page.ensures))
 
 pub returns-clause-listed : goal.returns-clause-listed
 returns-clause-listed g c = λ safe.
     let names = g.T.Tables.reference_of c.args.tables.now in
     subst IsSanitized
-    (sym (ended_printed names c.args.options.now (page_state c.loop-rest.page) (page_state c.end_all.new.self)
-    c.loop-rest.rest.now c.args.html.now (eqb-true (length c.loop-rest.rest.now) 0 (sym c.is_empty.ensures ∙ c.loop-rest-test.false))
-    c.in_ok-end_all.ensures c.loop-rest.invariant.4))
+    (sym (ap (λ (s : State). s.out)
+    (c.in_ok-end_all.ensures ∙ ap all_ended (c.in_ok-push_raw.ensures
+    ∙ ap (λ s. page_after names c.args.options.now s c.args.html.now) c.in_ok-page.ensures))))
     (sanitized_law names c.args.options.now c.args.html.now safe)

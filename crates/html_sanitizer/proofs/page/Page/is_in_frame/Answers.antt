@@ -7,4 +7,4 @@ pub returns-in-Some : goal.returns-in-Some
 unfolding frame_names
 returns-in-Some g c =
     c.is_in.ensures
-    ∙ frame_last c.args.self.now.names.items c.in-Some.field-0-1.now c.in-Some.name.now (sym c.as_slice.ensures.value ∙ c.in-Some.ensures.cases.0)
+    ∙ frame_last c.args.self.now.level.names.items c.in-Some.field-0-1.now c.in-Some.name.now (sym c.as_slice.ensures.value ∙ c.in-Some.ensures.cases.0)

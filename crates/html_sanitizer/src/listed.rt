@@ -1,0 +1,170 @@
+//! A page with raw HTML as text in elements without a name, to one in which listed tags are tags.
+ghost use Rattle.std.specs.Prelude.{◌≡◌, ◌++◌, ◌<◌, IfOk, OnOk, codes, length, string_bytes, true};
+ghost use Rattle.std.specs.List.{prefix_len, take_while};
+ghost use Rattle.definition_text.specs.Bytes.{after_all, begins_with, is_letter_or_digit};
+ghost use Rattle.html_listed.specs.Listed.{listed};
+ghost use Rattle.html_listed.specs.Laws.{HasOneListedReading, HaveSafeProtocols, IsMixedPage};
+ghost use Rattle.html_listed.specs.MarkedPage.{IsMarkedPage};
+ghost use Rattle.html_listed.specs.Mixed.{tags_of};
+ghost use Rattle.html_listed.specs.PageParts.{is_in_text};
+ghost use Rattle.html_listed.specs.State.{says, with_room, entered, left, all_ended};
+ghost use Rattle.html_safe_page.specs.SafePage.{IsSafePage};
+ghost use Rattle.html_sanitizer.specs.Elements.{first_name, in_brackets, own_printed, parts_after};
+ghost use Rattle.html_sanitizer.specs.Page.{page_state};
+
+use crate::elements::{push_elements, push_read, split_tag, split_text};
+use crate::page::Page;
+use crate::sanitized::push_raw;
+use markdown_compile_options::CompileOptions;
+use markdown_options::Tables;
+use std::alloc::{AllocError, Allocator};
+
+/// Returns a page with the listed tags of its raw HTML as tags. Raw HTML stands in the page as text
+/// in elements without a name, such as `<>&lt;b&gt;</>`; those with nothing but line endings between
+/// them are read as one. It prints what it prints by `sanitized_html`, with these differences:
+///
+/// - A tag of the page's own stays as it is. Raw elements end before the page's own element that they
+///   are in.
+/// - Before an own element begins, raw elements that can't hold it end.
+/// - A closing tag ends no element that the page's own element around it is in.
+///
+/// Time is linear in the page. The only error is out of memory.
+pub fn listed_html<A: Allocator + Clone, T: Tables>(
+    alloc: A,
+    page: &str,
+    options: &CompileOptions,
+    tables: &T,
+) -> Result<String<A>, AllocError>
+    ensures page { IfOk result (λ html. string_bytes html ≡ listed (T.reference_of tables.now) options.now page.now) }
+    ensures listed { HaveSafeProtocols options.now → IsMarkedPage page.now → IfOk result (λ html. HasOneListedReading (string_bytes html)) }
+    ensures standing { HaveSafeProtocols options.now → (marked : IsMarkedPage page.now)
+        → IfOk result (λ html. IsMixedPage (tags_of marked.0) (string_bytes html)) }
+    ensures unmarked { IsSafePage page.now → IfOk result (λ html. string_bytes html ≡ page.now) }
+{
+    let mut out = Page::new(alloc.clone()?)?;
+    let mut rest = push_letters(&mut out.out, page)?;
+    while !rest.is_empty() {
+        let after = push_tag(&mut out, alloc.clone()?, options, tables, rest)?;
+        rest = push_letters(&mut out.out, after)?;
+    }
+    out.end_all()?;
+    Ok(out.out)
+}
+
+/// Appends a text up to the first `<`. Returns what follows.
+fn push_letters<'a, A: Allocator>(out: &mut String<A>, text: &'a str) -> Result<&'a str, AllocError>
+    ensures printed { OnOk result (string_bytes out.new ≡ string_bytes out.old ++ take_while is_in_text text.now) }
+    ensures rest { IfOk result (λ rest. rest.now ≡ after_all is_in_text text.now) }
+{
+    let (letters, rest) = split_text(text);
+    out.push_str(letters)?;
+    Ok(rest)
+}
+
+/// Prints what begins with `<`: a tag of the page's own, or raw HTML. Returns what follows.
+fn push_tag<'a, A: Allocator + Clone, T: Tables>(
+    page: &mut Page<A>,
+    alloc: A,
+    options: &CompileOptions,
+    tables: &T,
+    rest: &'a str,
+) -> Result<&'a str, AllocError>
+    requires { begins_with (codes "<") rest.now ≡ true }
+    ensures printed { IfOk result (λ after. parts_after (T.reference_of tables.now) options.now (page_state page.new) after.now
+        ≡ parts_after (T.reference_of tables.now) options.now (page_state page.old) rest.now) }
+    ensures shorter { IfOk result (λ after. length after.now < length rest.now) }
+{
+    if rest.as_bytes().starts_with(b"<>") {
+        return push_marked(page, alloc, options, tables, rest);
+    }
+    let Some(text) = rest.strip_prefix('<') else {
+        return Ok("");
+    };
+    let (inside, after) = split_tag(text);
+    push_own(page, alloc, inside)?;
+    Ok(after)
+}
+
+/// Prints the raw HTML of the elements without a name at the start of a page. Returns what follows.
+fn push_marked<'a, A: Allocator + Clone, T: Tables>(
+    page: &mut Page<A>,
+    alloc: A,
+    options: &CompileOptions,
+    tables: &T,
+    rest: &'a str,
+) -> Result<&'a str, AllocError>
+    requires { begins_with (codes "<>") rest.now ≡ true }
+    ensures printed { IfOk result (λ after. parts_after (T.reference_of tables.now) options.now (page_state page.new) after.now
+        ≡ parts_after (T.reference_of tables.now) options.now (page_state page.old) rest.now) }
+    ensures shorter { IfOk result (λ after. length after.now < length rest.now) }
+{
+    let mut text = String::new(alloc.clone()?);
+    let after = push_elements(&mut text, rest)?;
+    let mut html = String::new(alloc.clone()?);
+    push_read(&mut html, text.as_str())?;
+    push_raw(page, alloc, options, tables, html.as_str())?;
+    Ok(after)
+}
+
+// ---- tags of the page's own
+
+/// Prints a tag of the page's own, by what stands between its `<` and `>`.
+fn push_own<A: Allocator>(page: &mut Page<A>, alloc: A, inside: &str) -> Result<(), AllocError>
+    ensures { OnOk result (page_state page.new ≡ own_printed (page_state page.old) inside.now) }
+{
+    if inside.as_bytes().starts_with(b"/") {
+        return push_end(page, inside);
+    }
+    if inside.as_bytes().ends_with(b" /") {
+        return push_void(page, inside);
+    }
+    push_start(page, alloc, inside)
+}
+
+fn push_end<A: Allocator>(page: &mut Page<A>, inside: &str) -> Result<(), AllocError>
+    ensures { OnOk result (page_state page.new ≡ says (in_brackets inside.now) (left (all_ended (page_state page.old)))) }
+{
+    page.end_all()?;
+    page.leave();
+    push_in_brackets(&mut page.out, inside)
+}
+
+fn push_void<A: Allocator>(page: &mut Page<A>, inside: &str) -> Result<(), AllocError>
+    ensures { OnOk result (page_state page.new ≡ says (in_brackets inside.now) (with_room (first_name inside.now) (page_state page.old))) }
+{
+    page.make_room(first_name(inside))?;
+    push_in_brackets(&mut page.out, inside)
+}
+
+fn push_start<A: Allocator>(page: &mut Page<A>, alloc: A, inside: &str) -> Result<(), AllocError>
+    ensures { OnOk result (page_state page.new
+        ≡ entered (first_name inside.now) (says (in_brackets inside.now) (with_room (first_name inside.now) (page_state page.old)))) }
+{
+    push_void(page, inside)?;
+    page.enter(alloc, first_name(inside))
+}
+
+/// Appends `<`, this text and `>`.
+fn push_in_brackets<A: Allocator>(out: &mut String<A>, inside: &str) -> Result<(), AllocError>
+    ensures { OnOk result (string_bytes out.new ≡ string_bytes out.old ++ in_brackets inside.now) }
+{
+    out.push_str("<")?;
+    out.push_str(inside)?;
+    out.push_str(">")
+}
+
+/// The letters and digits at the start of a text.
+fn first_name(text: &str) -> &str
+    ensures { result.now ≡ first_name text.now }
+{
+    text.split_at(name_size(text.as_bytes())).0
+}
+
+fn name_size(bytes: &[u8]) -> usize
+    ensures { result ≡ prefix_len is_letter_or_digit bytes.now }
+{
+    bytes
+        .iter()
+        .take_while(|b| b.is_ascii_alphanumeric())
+        .count()
+}
