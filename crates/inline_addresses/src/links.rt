@@ -8,7 +8,7 @@ ghost use Rattle.definition_inline.specs.GfmAutolinkLiteral.{with_literals};
 ghost use Rattle.definition_inline.specs.Inline.{Target, LinkTexts, Inlines};
 ghost use Rattle.inline_rows.specs.InlineRows.{inline_rows};
 ghost use Rattle.inline_rows.specs.View.{rows_view};
-ghost use Rattle.inline_addresses.specs.Addresses.{begins_link, has_at_sign, row_may_link, rows_may_link};
+ghost use Rattle.inline_addresses.specs.Addresses.{begins_link, has_at_sign, row_may_link, row_text, rows_may_link};
 
 use crate::walk::{literal_of, text_of};
 use inline_rows::InlineRow;
@@ -28,7 +28,7 @@ pub fn may_link(rows: &[InlineRow<'_>]) -> bool
         rows_view at rows.now ≡ inline_rows leads (with_literals [] kids) }
 {
     for (place, row) in rows.iter().enumerate() {
-        if has_at_sign(text_of(*row)) {
+        if row_has_at_sign(*row) {
             return true;
         }
         if begins_link(*row) {
@@ -58,7 +58,17 @@ fn row_may_link(row: InlineRow<'_>) -> bool
 {
     match literal_of(row) {
         Some(_) => true,
-        None => has_at_sign(text_of(row)),
+        None => row_has_at_sign(row),
+    }
+}
+
+/// Whether an `@` stands in the text of a row. Verbatim text is mostly known to have none.
+fn row_has_at_sign(row: InlineRow<'_>) -> bool
+    ensures { result ≡ has_at_sign (row_text row.entry) }
+{
+    match row {
+        InlineRow::Verbatim(verbatim) if verbatim.has_no_at_sign => false,
+        _ => has_at_sign(text_of(row)),
     }
 }
 

@@ -31,7 +31,7 @@ pub use Rattle.inline_reading.specs.declared.label.OpenLabel.{OpenLabel}
 pub use Rattle.inline_rows.specs.InlineRows.{inline_rows}
 pub use Rattle.inline_rows.specs.View.{row_view, rows_view}
 pub use Rattle.inline_runs.specs.View.{run_view}
-pub use Rattle.inline_text.proofs.Verbatim.{front_same}
+pub use Rattle.inline_text.proofs.Verbatim.{front_bare, front_same}
 pub use Rattle.markdown_options.specs.declared.configuration.Constructs.{Constructs}
 pub use Rattle.markdown_options.specs.declared.configuration.ParseOptions.{ParseOptions}
 pub use Rattle.inline_parser.specs.Scanned.{context_by, IsPlace}

@@ -1,12 +1,12 @@
 //! The scan of a content from left to right (CommonMark 6 and appendix, phase 2).
 //!
 //!     content ::= white* (text | leaf | literal | run | start | ']')*
-ghost use Rattle.std.specs.Prelude.{◌≡◌, ◌<◌, ◌≤◌, ◌==◌, ◌&&◌, ℕ, Bool, List, [], ◌∷◌, Option, None, Some, true};
+ghost use Rattle.std.specs.Prelude.{◌≡◌, ◌<◌, ◌≤◌, ◌==◌, ◌&&◌, ℕ, Bool, List, [], ◌∷◌, Option, None, Some, false, true};
 ghost use Rattle.std.specs.Prelude.{length, not, IfOk, IfSome, OnOk, take, drop, slice_index};
-ghost use Rattle.std.specs.List.{prefix_len};
+ghost use Rattle.std.specs.List.{list_any, prefix_len};
 ghost use Rattle.std.specs.Option.{is_some};
 ghost use Rattle.std.specs.Str.{IsCharBoundary};
-ghost use Rattle.definition_text.specs.Ascii.{right_bracket};
+ghost use Rattle.definition_text.specs.Ascii.{at_sign, right_bracket};
 ghost use Rattle.definition_text.specs.Columns.{is_blank, is_white};
 ghost use Rattle.definition_text.specs.Encode.{encode};
 ghost use Rattle.definition_text.specs.Content.{content_codes};
@@ -195,7 +195,7 @@ fn span_alone<'a>(options: &ParseOptions, start: &'a str, front: Front) -> Optio
     }
     let text = text_before(start, front.size);
     if is_blank_from(start, front.size) {
-        Some(text_row(front, text))
+        Some(text_row(options.constructs.gfm_autolink_literal, front, text))
     } else {
         None
     }
@@ -210,14 +210,18 @@ fn is_blank_from(text: &str, at: usize) -> bool
     is_blank(from(text.as_bytes(), at))
 }
 
-/// The row of a text that is all at its front.
-fn text_row<'a>(front: Front, text: &'a str) -> InlineRow<'a>
-    requires { front.is_verbatim ≡ true → encode text.now ≡ text.now }
+/// The row of a text that is all at its front. Verbatim text has no `@` where literals are on.
+fn text_row<'a>(has_literals: bool, front: Front, text: &'a str) -> InlineRow<'a>
+    requires same { front.is_verbatim ≡ true → encode text.now ≡ text.now }
+    requires bare { front.is_verbatim ≡ true → has_literals ≡ true → list_any (λ b. b == at_sign) text.now ≡ false }
     ensures text { row_text result ≡ Some text.now }
     ensures rows { (at : ℕ → LinkTexts) → row_view at result ≡ data_rows text.now }
 {
     if front.is_verbatim {
-        InlineRow::Verbatim(VerbatimText { text })
+        InlineRow::Verbatim(VerbatimText {
+            text,
+            has_no_at_sign: has_literals,
+        })
     } else {
         InlineRow::Text(text)
     }
@@ -278,7 +282,7 @@ impl<'a, A: Allocator + Clone> Scanner<'a, A> {
         if front.size == 0 {
             return Ok(());
         }
-        self.front(front)
+        self.front(source.options.constructs.gfm_autolink_literal, front)
     }
 
     /// A literal, a run, a label start, a `]`, or a byte of text.
@@ -304,34 +308,37 @@ impl<'a, A: Allocator + Clone> Scanner<'a, A> {
     }
 
     /// The text at the front.
-    fn front(&mut self, front: Front) -> Result<(), AllocError>
+    fn front(&mut self, has_literals: bool, front: Front) -> Result<(), AllocError>
         requires sound { IsSound self.old.reading }
         requires boundary { IsCharBoundary self.old.rest.now front.size }
         requires next { IsAfter self.old.rest.now (drop front.size self.old.rest.now) }
-        requires verbatim { TellsVerbatim self.old.rest.now front }
+        requires verbatim { TellsVerbatim has_literals self.old.rest.now front }
         ensures placed { StaysPlaced self.old result self.new }
         ensures rest { OnOk result (self.new.rest.now ≡ drop front.size self.old.rest.now) }
         ensures read { ShowsThen self.old.reading result self.new.reading (read_tokens (text_items (take front.size self.old.rest.now))) }
     {
         if front.is_verbatim {
-            self.verbatim(front.size)
+            self.verbatim(has_literals, front.size)
         } else {
             self.text(front.size)
         }
     }
 
-    /// Bytes of text that are printed as they are, so many.
-    fn verbatim(&mut self, size: usize) -> Result<(), AllocError>
+    /// Bytes of text that are printed as they are, so many. None is `@` where literals are on.
+    fn verbatim(&mut self, has_literals: bool, size: usize) -> Result<(), AllocError>
         requires sound { IsSound self.old.reading }
         requires boundary { IsCharBoundary self.old.rest.now size }
         requires next { IsAfter self.old.rest.now (drop size self.old.rest.now) }
-        requires verbatim { AreVerbatim self.old.rest.now size }
+        requires verbatim { AreVerbatim has_literals self.old.rest.now size }
         ensures placed { StaysPlaced self.old result self.new }
         ensures rest { OnOk result (self.new.rest.now ≡ drop size self.old.rest.now) }
         ensures read { ShowsThen self.old.reading result self.new.reading (read_tokens (text_items (take size self.old.rest.now))) }
     {
         let text = text_before(self.rest, size);
-        self.reading.verbatim(VerbatimText { text })?;
+        self.reading.verbatim(VerbatimText {
+            text,
+            has_no_at_sign: has_literals,
+        })?;
         self.rest = rest_from(self.rest, size);
         Ok(())
     }

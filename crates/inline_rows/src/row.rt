@@ -1,5 +1,7 @@
 //! A row of inline structure.
-ghost use Rattle.std.specs.Prelude.{◌≡◌};
+ghost use Rattle.std.specs.Prelude.{◌≡◌, ◌==◌, false, true};
+ghost use Rattle.std.specs.List.{list_any};
+ghost use Rattle.definition_text.specs.Ascii.{at_sign};
 ghost use Rattle.definition_text.specs.Encode.{encode};
 
 use inline_leaves::LeafPart;
@@ -20,7 +22,10 @@ pub enum LinkTarget<'a> {
 pub struct VerbatimText<'a> {
     /// Its bytes.
     pub text: &'a str,
+    /// Whether it is known to hold no `@`, so that no email address is in it (GFM 6.9).
+    pub has_no_at_sign: bool,
     pub ghost same: { encode text.now ≡ text.now },
+    pub ghost bare: { has_no_at_sign ≡ true → list_any (λ b. b == at_sign) text.now ≡ false },
 }
 
 /// A construct that holds no other, as a list of events spells it. Texts give a [`LeafPart`].

@@ -18,7 +18,7 @@ pub record IsTextFront (has_literals has_marks : Bool) (bytes : List ℕ) (front
       → (is_text_at (drop front.size (content_codes bytes)) ≡ false) ⊎ (begins_more has_literals has_marks (drop front.size bytes) ≡ true)
   pub ascii : front.size < length bytes → slice_index bytes front.size < 128
   pub ending : 0 < front.size → IsAfter bytes (drop front.size bytes)
-  pub verbatim : TellsVerbatim bytes front
+  pub verbatim : TellsVerbatim has_literals bytes front
 
 -- the same with these constructs
 abbrev pub IsTextOf : Constructs → List ℕ → Front → Type 0

@@ -1,7 +1,7 @@
 -- Text in a content (CommonMark 6.9).
 use Rattle.std.specs.Prelude.{◌≡◌, ◌<◌, ◌≤◌, ℕ, Bool, true, false, not, if◌then◌else◌, ◌==◌, ◌&&◌, ◌||◌, List, [], ◌∷◌, drop, length, slice_index}
 use Rattle.definition_text.specs.Ascii.{exclamation_mark, dollar, ampersand, asterisk, less_than, left_bracket, backslash, right_bracket, underscore, backtick}
-use Rattle.definition_text.specs.Ascii.{tilde, double_quote, greater_than}
+use Rattle.definition_text.specs.Ascii.{at_sign, tilde, double_quote, greater_than}
 use Rattle.definition_text.specs.Columns.{is_white, bare}
 use Rattle.definition_text.specs.Content.{is_eol}
 use Rattle.definition_inline.specs.HardBreak.{ends_here}
@@ -37,6 +37,10 @@ pub record IsStart (has_literals has_marks : Bool) (bytes : List ℕ) (stop : �
 -- a byte at which nothing starts and that is printed as something else: NUL, `"` or `>`
 abbrev pub is_replaced : ℕ → Bool
 is_replaced code = (code == 0) || ((code == double_quote) || (code == greater_than))
+
+-- a byte at which nothing starts, and text that holds it isn't verbatim: one of these or, where literals are on, `@`
+abbrev pub goes_on : Bool → ℕ → Bool
+goes_on has_literals code = is_replaced code || (has_literals && (code == at_sign))
 
 -- something may start at this byte, or it is printed as something else
 abbrev pub stops : ℕ → Bool

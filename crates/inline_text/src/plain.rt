@@ -8,12 +8,12 @@ ghost use Rattle.std.specs.Prelude.{◌≡◌, ◌<◌, ◌≤◌, ◌-◌, ℕ,
 ghost use Rattle.definition_text.specs.Columns.{is_white};
 ghost use Rattle.definition_text.specs.Content.{is_eol};
 ghost use Rattle.inline_text.specs.Mark.{IsStopWith};
-ghost use Rattle.inline_text.specs.Plain.{is_replaced, IsStart};
+ghost use Rattle.inline_text.specs.Plain.{goes_on, is_replaced, IsStart};
 ghost use Rattle.inline_text.specs.Fronts.{IsTextFront, IsTextOf};
 ghost use Rattle.inline_text.specs.Verbatim.{TellsVerbatim};
 ghost use Rattle.std.specs.Str.{IsUtf8};
 
-use crate::letters::next_of_or_letters;
+use crate::letters::{StopBytes, next_of_or_letters};
 use crate::mark::next_of_or_equals;
 use inline_links::part::from;
 use markdown_options::Constructs;
@@ -21,21 +21,28 @@ use text_bytes::is_space_or_tab;
 use text_search::{ByteSet, next_of};
 
 /// The bytes that are no space or tab at which a construct may start (CommonMark 6).
-const STARTS: ByteSet = ByteSet {
-    first: [
-        b'`', b'!', 3, 4, b'$', 6, b'&', 8, 9, 10, b'*', b'[', b'\\', b']', b'~', b'_',
-    ],
-    second: [1, 2, 3, 4, 5, 6, 7, 8, 9, 10, b'\n', 12, b'<', b'\r', 15, 0],
+const STARTS: StopBytes = StopBytes {
+    set: ByteSet {
+        first: [
+            b'`', b'!', 3, 4, b'$', 6, b'&', 8, 9, 10, b'*', b'[', b'\\', b']', b'~', b'_',
+        ],
+        second: [1, 2, 3, 4, 5, 6, 7, 8, 9, 10, b'\n', 12, b'<', b'\r', 15, 0],
+    },
+    extra: b'`',
 };
 
-/// The same bytes, and those of text that are printed as something else.
-const STOPS: ByteSet = ByteSet {
-    first: [
-        b'`', b'!', b'"', 4, b'$', 6, b'&', 8, 9, 10, b'*', b'[', b'\\', b']', b'~', b'_',
-    ],
-    second: [
-        0, 2, 3, 4, 5, 6, 7, 8, 9, 10, b'\n', 12, b'<', b'\r', b'>', 0,
-    ],
+/// The same bytes, and those of text that are printed as something else; where literals are on, `@`
+/// too, which an email address may have.
+const STOPS: StopBytes = StopBytes {
+    set: ByteSet {
+        first: [
+            b'`', b'!', b'"', 4, b'$', 6, b'&', 8, 9, 10, b'*', b'[', b'\\', b']', b'~', b'_',
+        ],
+        second: [
+            0, 2, 3, 4, 5, 6, 7, 8, 9, 10, b'\n', 12, b'<', b'\r', b'>', 0,
+        ],
+    },
+    extra: b'@',
 };
 
 /// Text at the front of bytes.
@@ -43,7 +50,7 @@ const STOPS: ByteSet = ByteSet {
 pub struct Front {
     /// How many bytes it has.
     pub size: usize,
-    /// Whether it is known to be printed as it is.
+    /// Whether it is known to be printed as it is, and to hold no `@` where literals are on.
     pub is_verbatim: bool,
 }
 
@@ -96,15 +103,14 @@ fn text_front(has_literals: bool, has_marks: bool, bytes: &[u8]) -> Front
 }
 
 /// What comes before the first byte at which a construct may start, a literal and marked text among
-/// them where they are on. A byte that is printed as something else is looked for until there is
-/// one.
+/// them where they are on. A byte that makes text not verbatim is looked for until there is one.
 #[inline(always)]
 fn next_start(has_literals: bool, has_marks: bool, bytes: &[u8]) -> Front
     ensures start { IsStart has_literals has_marks bytes.now result.size }
-    ensures verbatim { TellsVerbatim bytes.now result }
+    ensures verbatim { TellsVerbatim has_literals bytes.now result }
 {
     let stop = first_stop(has_literals, has_marks, bytes, STOPS);
-    if stop < bytes.len() && is_replaced(bytes[stop]) {
+    if stop < bytes.len() && goes_on(has_literals, bytes[stop]) {
         return Front {
             size: stop + first_start(has_literals, has_marks, from(bytes, stop)),
             is_verbatim: false,
@@ -116,19 +122,19 @@ fn next_start(has_literals: bool, has_marks: bool, bytes: &[u8]) -> Front
     }
 }
 
-/// The first byte that a set holds, or at which a literal or marked text may start, where they are
-/// on.
+/// The first byte that the set holds, or at which a literal or marked text may start, where they are
+/// on, or the extra byte where literals are on.
 #[inline(always)]
-fn first_stop(has_literals: bool, has_marks: bool, bytes: &[u8], set: ByteSet) -> usize
-    ensures { IsStopWith has_literals has_marks set bytes.now result }
+fn first_stop(has_literals: bool, has_marks: bool, bytes: &[u8], stops: StopBytes) -> usize
+    ensures { IsStopWith has_literals has_marks stops bytes.now result }
 {
     if has_marks {
-        return next_of_or_equals(has_literals, bytes, set);
+        return next_of_or_equals(has_literals, bytes, stops);
     }
     if has_literals {
-        next_of_or_letters(bytes, set)
+        next_of_or_letters(bytes, stops)
     } else {
-        next_of(bytes, set)
+        next_of(bytes, stops.set)
     }
 }
 
@@ -138,6 +144,13 @@ fn first_start(has_literals: bool, has_marks: bool, bytes: &[u8]) -> usize
     ensures { IsStart has_literals has_marks bytes.now result }
 {
     first_stop(has_literals, has_marks, bytes, STARTS)
+}
+
+/// Whether nothing starts at a byte, and text that holds it isn't verbatim.
+fn goes_on(has_literals: bool, byte: u8) -> bool
+    ensures { result ≡ goes_on has_literals byte }
+{
+    is_replaced(byte) || (has_literals && byte == b'@')
 }
 
 /// Whether nothing starts at a byte and it is printed as something else.

@@ -12,7 +12,7 @@ returns-then-begins_link-clause-same c =
     let here : drop i rows ≡ row ∷ drop (i + 1) rows =
     drop_more rows i row c.loop-place-test.true ∙ ap (λ r. r ∷ drop (i + 1) rows) (sym c.index-rows-place.is) in
     let all = take_all (length rows - i) (drop i rows) (omega (arith, length-drop i rows)) in
-    let none : has_at_sign (row_text row) ≡ false = ap has_at_sign (sym c.text_of.ensures) ∙ sym c.if-has_at_sign.ensures in
+    let none : has_at_sign (row_text row) ≡ false = sym c.if-row_has_at_sign.ensures in
     c.any_may_link.ensures
     ∙ from_link (drop i rows) (drop (i + 1) rows) (take (length rows - i) (drop i rows)) row here none (sym c.if-begins_link.ensures) all
     ∙ sym c.loop-place.invariant

@@ -1,12 +1,18 @@
-use Rattle.std.proofs.Common.{◌≡◌, ◌∙◌, sym, subst, arith}
-use Rattle.inline_parser.proofs.Prelude.{encode, front_same}
+use Rattle.std.proofs.Common.{◌≡◌, ◌==◌, ◌∙◌, false, sym, subst, arith}
+use Rattle.std.specs.List.{list_any}
+use Rattle.inline_parser.proofs.Prelude.{encode, front_bare, front_same}
 use Rattle.inline_parser.proofs.PlainText.{front_rows}
 use Rattle.inline_parser.proofs.scan.span_alone.Goals as goal
 
-pub text_row-requires : goal.text_row-requires
-text_row-requires c verbatim =
+pub text_row-requires-clause-same : goal.text_row-requires-clause-same
+text_row-requires-clause-same c verbatim =
     subst (λ bytes. encode bytes ≡ bytes) (sym c.text_before-text.ensures)
-    (front_same c.args.start.now c.args.front.size (c.requires.verbatim verbatim))
+    (front_same c.args.options.now.constructs.gfm_autolink_literal c.args.start.now c.args.front.size (c.requires.verbatim verbatim))
+
+pub text_row-requires-clause-bare : goal.text_row-requires-clause-bare
+text_row-requires-clause-bare c verbatim on =
+    subst (λ bytes. list_any (λ b. b == 64) bytes ≡ false) (sym c.text_before-text.ensures)
+    (front_bare c.args.options.now.constructs.gfm_autolink_literal c.args.start.now c.args.front.size (c.requires.verbatim verbatim) on)
 
 pub returns-then-is_blank_from-clause-rows : goal.returns-then-is_blank_from-clause-rows
 returns-then-is_blank_from-clause-rows c = λ names p ds leads at content place.

@@ -11,6 +11,6 @@ loop-at-preserved c =
         | inl before ↦ c.loop-at.invariant.1 k before
         | inr after ↦
             let here : k ≡ at = omega (arith, lt, after) in
-            ap (stops_with c.args.has_literals true c.args.set c.args.bytes.now) here ∙ sym c.stops_at.ensures ∙ c.if-stops_at.false
+            ap (stops_with c.args.has_literals true c.args.stops c.args.bytes.now) here ∙ sym c.stops_at.ensures ∙ c.if-stops_at.false
       ],
     )

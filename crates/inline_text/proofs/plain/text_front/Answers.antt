@@ -49,5 +49,10 @@ returns c =
           inl (text_stops bytes size is (white_stops bytes size stop lt c.without_white.ensures.within first.within c.without_white.ensures.white ending));
       ascii = ascii;
       ending = text_end bytes size is;
-      verbatim = λ is k lt. c.next_start-stop.ensures.verbatim is k (omega (arith, lt, c.without_white.ensures.within));
+      verbatim = λ is.
+          let are = c.next_start-stop.ensures.verbatim is in
+          record {
+            same = λ k lt. are.same k (omega (arith, lt, c.without_white.ensures.within));
+            bare = λ k lt. are.bare k (omega (arith, lt, c.without_white.ensures.within));
+          };
     }

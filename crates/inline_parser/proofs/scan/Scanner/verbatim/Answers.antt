@@ -1,5 +1,6 @@
-use Rattle.std.proofs.Common.{◌≡◌, ℕ, List, subst, sym}
-use Rattle.inline_parser.proofs.Prelude.{encode, front_same, IsAfter, read_tokens, Shows, text_items}
+use Rattle.std.proofs.Common.{◌≡◌, ◌==◌, ℕ, List, false, subst, sym}
+use Rattle.std.specs.List.{list_any}
+use Rattle.inline_parser.proofs.Prelude.{encode, front_bare, front_same, IsAfter, read_tokens, Shows, text_items}
 use Rattle.inline_parser.proofs.Placed.{place_after, labels_after}
 use Rattle.inline_parser.proofs.scan.Scanner.verbatim.Goals as goal
 
@@ -7,7 +8,10 @@ pub invariant_of-verbatim : goal.invariant_of-verbatim
 invariant_of-verbatim g c = record {
   same =
       subst (λ (bytes : List ℕ). encode bytes ≡ bytes) (sym c.text_before-text.ensures)
-      (front_same c.args.self.now.rest.now c.args.size c.requires.verbatim);
+      (front_same c.args.has_literals c.args.self.now.rest.now c.args.size c.requires.verbatim);
+  bare = λ on.
+      subst (λ (bytes : List ℕ). list_any (λ b. b == 64) bytes ≡ false) (sym c.text_before-text.ensures)
+      (front_bare c.args.has_literals c.args.self.now.rest.now c.args.size c.requires.verbatim on);
 }
 
 pub returns-clause-placed : goal.returns-clause-placed
