@@ -56,3 +56,8 @@ pub mod FenceStates
 pub mod FenceLines
 pub mod FenceInfo
 pub mod CodeFencedReads
+pub mod AttemptTurns
+pub mod FlowFails
+pub mod FlowChoiceReads
+pub mod TextFails
+pub mod TextChoiceReads

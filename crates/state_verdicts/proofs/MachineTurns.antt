@@ -1,5 +1,5 @@
 -- Reading by the states of any machine, turn by turn.
-use Rattle.std.proofs.Common.{◌≡◌, ◌∙◌, Bool, true, false, if◌then◌else◌, Some, None, refl, sym, ap, subst, ℕ}
+use Rattle.std.proofs.Common.{◌≡◌, ◌∙◌, Bool, true, false, if◌then◌else◌, Some, None, ◌⊎◌, inl, inr, refl, sym, ap, subst, ℕ}
 use Rattle.engine_events.specs.declared.place.Point.{Point}
 use Rattle.engine_states.specs.declared.state.Name.{Name}
 use Rattle.engine_states.specs.declared.state.State.{State}
@@ -102,6 +102,38 @@ module _ {W : Type 0} (bodies : Name → Body W) (text : Text) where
     there = λ d w k. on_retry n c d w (tries ok nok at start) h (ahead at e d ok nok start w r k);
     only = λ d w k. behind at e d ok nok start w r (subst (λ (z : Effect W). RunsOn z d w) h (from_retry n c d w k));
   }
+
+  -- a state whose attempt goes well, and what comes after it
+  pub after_good : (n : Name) (c at d e : Config W) (ok nok start : State) (w : Bool) → run (bodies n) c ≡ tries ok nok at start
+      → ReadsBy bodies text at start d true → ReadsBy bodies text d ok e w → ReadsBy bodies text c (states.Retry n) e w
+  unfolding ReadsBy
+  after_good n c at d e ok nok start w h r k = on_retry n c e w (tries ok nok at start) h (first r k)
+
+  -- a state whose attempt fails, and what comes in its place
+  pub after_bad : (n : Name) (c at d e : Config W) (ok nok start : State) (w : Bool) → run (bodies n) c ≡ tries ok nok at start
+      → ReadsBy bodies text at start d false → ReadsBy bodies text (hand_on at d) nok e w → ReadsBy bodies text c (states.Retry n) e w
+  unfolding ReadsBy
+  after_bad n c at d e ok nok start w h r k = on_retry n c e w (tries ok nok at start) h (second r k)
+
+  -- what a state that makes an attempt comes to, it comes to in one of these ways
+  pub record Good (at : Config W) (ok start : State) (e : Config W) (w : Bool) : Type 0 where
+    pub mid : Config W
+    pub attempt : ReadsBy bodies text at start mid true
+    pub on : ReadsBy bodies text mid ok e w
+
+  pub record Bad (at : Config W) (nok start : State) (e : Config W) (w : Bool) : Type 0 where
+    pub mid : Config W
+    pub attempt : ReadsBy bodies text at start mid false
+    pub on : ReadsBy bodies text (hand_on at mid) nok e w
+
+  parted : (at e : Config W) (ok nok start : State) (w : Bool) → RunsOn (tries ok nok at start) e w → Good at ok start e w ⊎ Bad at nok start e w
+  unfolding ReadsBy
+  parted at e ok nok start w (first {d = d} r k) = inl (record { mid = d; attempt = r; on = k })
+  parted at e ok nok start w (second {d = d} r k) = inr (record { mid = d; attempt = r; on = k })
+
+  pub by_attempt : (n : Name) (c at e : Config W) (ok nok start : State) (w : Bool) → run (bodies n) c ≡ tries ok nok at start
+      → ReadsBy bodies text c (states.Retry n) e w → Good at ok start e w ⊎ Bad at nok start e w
+  by_attempt n c at e ok nok start w h r = parted at e ok nok start w (subst (λ (z : Effect W). RunsOn z e w) h (from_retry n c e w r))
 
   -- back at the start of a look ahead
   looked : (at d e : Config W) (ok nok start : State) (v w : Bool) → ReadsBy bodies text at start d v → RunsOn (checks ok nok at start) e w

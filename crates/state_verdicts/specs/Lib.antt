@@ -35,3 +35,6 @@ pub mod CodeFenced
 pub mod DocumentVerdicts
 pub mod Frontmatter
 pub mod Bom
+pub mod Attempts
+pub mod FlowChoices
+pub mod TextChoices

@@ -9,6 +9,7 @@ pub mod character_reference;
 pub mod code_fenced;
 pub mod code_indented;
 pub mod code_text;
+pub mod flow;
 pub mod frontmatter;
 pub mod gfm_label_start_footnote;
 pub mod gfm_task_list_item;

@@ -1,5 +1,6 @@
 //! The choices of a text.
 ghost use Rattle.state_verdicts.specs.Text.{BackslashChoice, ChoiceLaw, DataChoice, TextEndVerdict};
+ghost use Rattle.state_verdicts.specs.TextChoices.{TextChoice, TextFailsLaw};
 
 /// A state that attempts a construct at a byte has the outcome of reading on: after the construct,
 /// or with the next choice at the same place.
@@ -22,4 +23,16 @@ pub fn text_data_choice<T>()
 /// are to run last.
 pub fn text_end_verdict<T>()
     ensures { TextEndVerdict T }
+{}
+
+/// An attempt at a construct that may not begin with the byte at hand fails, but for literals, which
+/// look at letters. So an attempt that a text leaves out could not have gone well.
+pub fn text_fails_law<T>()
+    ensures { TextFailsLaw T }
+{}
+
+/// Before each part, a text attempts exactly the constructs that may begin with the byte, in order, and
+/// goes on before the next part after the first that goes well. Where none does, data comes.
+pub fn text_first_byte_choice<T>()
+    ensures { TextChoice T }
 {}
