@@ -417,7 +417,7 @@ def verdict_gaps():
     there = [name for file in names_in(VERDICTS) for name in re.findall(r"(?m)^pub fn (\w+_(?:verdict|choice))\b", text_of(f"{VERDICTS}/{file}"))]
     yield from (f"{PROVED} lists {it}, which {VERDICTS} lacks" for it in said if it not in there)
     yield from (f"{PROVED} lists {it} {said.count(it)} times, not once" for it in there if said.count(it) != 1)
-    rows = [row for row in rows if row[0] != "text"]
+    rows = [row for row in rows if row[0] not in ("flow", "text")]
     whole = {row[0] for row in rows if row[1].startswith("all") or "whole" in row[1]}
     sentence = f"Of {NUMBERS[len({it for row in rows for it in row[0].split(', ')})]} constructs attempts agree with the definition there: all of {NUMBERS[len(whole)]},"
     if sentence not in text_of("README.md"):

@@ -100,7 +100,7 @@ module _ {T : Type 0} (here : InLine T) (once : SkipsOnce here.text) (few : leng
     o.over.ends,
     o.over.sees,
   )
-  found false (d, g) = (d, fails x text c d (states.Retry start) g)
+  found false (d, g, f) = (d, fails x text c d (states.Retry start) g)
 
   reads : Sees text p here.codes → BlankVerdict here (list_all is_white (line here))
   reads s =

@@ -271,7 +271,7 @@ module _ {T : Type 0} (here : InLine T) (once : SkipsOnce here.text) (few : leng
           o.over.ends,
           subst (λ (l : List ℕ). Sees text o.end l) (sym (ap after_line is ∙ after_more m cs fence.inner)) o.over.sees,
         )
-    by_end false (d, g) = (d, fails x text c0 d begins (and_on x text goes_first g))
+    by_end false (d, g, left) = (d, fails x text c0 d begins (and_on x text goes_first g))
 
     begun : ClosingVerdict here (is_run k.size m (line here))
     begun =

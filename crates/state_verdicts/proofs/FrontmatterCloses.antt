@@ -173,7 +173,11 @@ module _ {T V : Type 0} (here : InDocument T V) (once : SkipsOnce here.text) (fe
   begins = states.Retry start
 
   stops : run (bodies start) c0 ≡ plain c0 states.Nok → ClosingVerdict here false
-  stops h = (c0, fails bodies text c0 c0 begins (does bodies text start c0 c0 states.Nok h))
+  stops h = (
+    c0,
+    fails bodies text c0 c0 begins (does bodies text start c0 c0 states.Nok h),
+    record { size = k.size; columns = k.size_c; kept = refl; map = refl; resolvers = refl },
+  )
 
   none_by : (l : List ℕ) → line here ≡ l → run_length m l ≡ 0 → ClosingVerdict here false → ClosingVerdict here (is_metadata_fence m (line here))
   none_by l e h v = subst (λ (is : Bool). ClosingVerdict here is) (sym (ap (is_metadata_fence m) e ∙ no_fence m l h)) v
@@ -253,11 +257,16 @@ module _ {T V : Type 0} (here : InDocument T V) (once : SkipsOnce here.text) (fe
             map = o.here.map;
             resolvers = o.here.resolvers;
           },
+          o.apart,
           subst (λ (l : List ℕ). Sees text o.mid l) rest o.middle,
           o.over.ends,
           subst (λ (l : List ℕ). Sees text o.end l) (sym (ap after_line is ∙ after_more m cs fence.inner)) o.over.sees,
         )
-    by_end false found (d, g) = (d, fails bodies text c0 d begins (and_on bodies text goes_first g))
+    by_end false found (d, g, left) = (
+      d,
+      fails bodies text c0 d begins (and_on bodies text goes_first g),
+      record { size = min left.size no_limit; columns = left.columns; kept = left.kept; map = left.map; resolvers = left.resolvers },
+    )
 
     begun : ClosingVerdict here (is_metadata_fence m (line here))
     begun =

@@ -300,7 +300,7 @@ module _ {T V : Type 0} (here : InDocument T V) (once : SkipsOnce here.text) (fe
           o.over.ends,
           subst (λ (l : List ℕ). Sees text o.end l) (sym (ap after_line is ∙ after_more m cs inner)) o.over.sees,
         )
-    by_end false found (d, g) = (d, fails bodies text c0 d begins (and_on bodies text goes_first g))
+    by_end false found (d, g, left) = (d, fails bodies text c0 d begins (and_on bodies text goes_first g))
 
     begun : OpeningVerdict here (if has_ending here.codes then byte_if (is_metadata_fence m (line here)) m else None)
     begun =

@@ -327,7 +327,7 @@ module _ {T : Type 0} (here : InLine T) (once : SkipsOnce here.text) (few : leng
             fails x text c0 o.config begins (and_on x text goes_first (and_on x text o.goes
                 (does x text after o.config o.config states.Nok (after_is false h)))),
           )
-      by_end false (d, g) = (d, fails x text c0 d begins (and_on x text goes_first g))
+      by_end false (d, g, left) = (d, fails x text c0 d begins (and_on x text goes_first g))
 
       begun : UnderlineVerdict here (if is_there then rank_if (list_all is_white (after_run m (line_of cs))) rank else None)
       begun =

@@ -45,6 +45,8 @@ pub mod ColumnReads
 pub mod CodeIndentedReads
 pub mod FrontmatterReads
 pub mod FrontmatterCloses
+pub mod FrontmatterLines
+pub mod FrontmatterWhole
 pub mod BomReads
 pub mod BreakTexts
 pub mod ThematicBreakStates

@@ -103,6 +103,21 @@ module _ {W : Type 0} (bodies : Name → Body W) (text : Text) where
     only = λ d w k. behind at e d ok nok start w r (subst (λ (z : Effect W). RunsOn z d w) h (from_retry n c d w k));
   }
 
+  behind_bad : (at d e : Config W) (ok nok start : State) (w : Bool) → ReadsBy bodies text at start d false → RunsOn (tries ok nok at start) e w
+      → ReadsBy bodies text (hand_on at d) nok e w
+  unfolding ReadsBy
+  behind_bad at d e ok nok start w r (first q k) = absurd (let f : false ≡ true = (one_outcome r q).1 in cc)
+  behind_bad at d e ok nok start w r (second q k) = subst (λ (z : Config W). ReadsBy bodies text (hand_on at z) nok e w) (sym (one_outcome r q).0) k
+
+  -- a state whose attempt fails goes on in its place
+  pub missed : (n : Name) (c at e : Config W) (ok nok start : State) → run (bodies n) c ≡ tries ok nok at start → ReadsBy bodies text at start e false
+      → GoesOnBy bodies text c (states.Retry n) (hand_on at e) nok
+  unfolding ReadsBy
+  missed n c at e ok nok start h r = record {
+    there = λ d w k. on_retry n c d w (tries ok nok at start) h (second r k);
+    only = λ d w k. behind_bad at e d ok nok start w r (subst (λ (z : Effect W). RunsOn z d w) h (from_retry n c d w k));
+  }
+
   -- a state whose attempt goes well, and what comes after it
   pub after_good : (n : Name) (c at d e : Config W) (ok nok start : State) (w : Bool) → run (bodies n) c ≡ tries ok nok at start
       → ReadsBy bodies text at start d true → ReadsBy bodies text d ok e w → ReadsBy bodies text c (states.Retry n) e w

@@ -73,10 +73,21 @@ module _ {W : Type 0} (bodies : Name → Body W) (spaces : ReadsWhite bodies) (t
     pub middle : Sees text mid (drop (count codes) codes)
     pub over : LineOver bodies text after config end codes
 
+  -- what is left where the line is none: of what is kept, only the size of the run and the columns that may follow have changed
+  pub record Failed (d : Config W) : Type 0 where
+    pub size : ℕ
+    pub columns : ℕ
+    pub kept : d.tokenize_state ≡ spaced columns (r.kept size)
+    pub map : d.map ≡ c0.map
+    pub resolvers : d.resolvers ≡ c0.resolvers
+
+  failed : {n : ℕ} {es : List Event} {c : Config W} {p : Point} → Held n es c p → Failed c
+  failed {n = n} h = record { size = n; columns = h.columns; kept = h.here.kept; map = h.here.map; resolvers = h.here.resolvers }
+
   -- what reading comes to
   abbrev pub Outcome : Bool → Config W → ℕ → List Event → List ℕ → Type 0
   Outcome true c n es codes = Well c n es codes
-  Outcome false c n es codes = (d : Config W) × GoesOnBy bodies text c (states.Retry r.sequence) d states.Nok
+  Outcome false c n es codes = (d : Config W) × GoesOnBy bodies text c (states.Retry r.sequence) d states.Nok × Failed d
 
   -- so many bytes were read, and with those of the line it is such a line
   abbrev pub fits : ℕ → List ℕ → Bool
@@ -109,7 +120,7 @@ module _ {W : Type 0} (bodies : Name → Body W) (spaces : ReadsWhite bodies) (t
       middle = subst (λ (i : ℕ). Sees text p (drop i codes)) (sym none) s;
       over = o.over;
     }
-    of_spaces false (d, o) = (d, o)
+    of_spaces false (d, o, f) = (d, o, record { size = n; columns = f.columns; kept = f.kept; map = f.map; resolvers = f.resolvers })
 
     -- the run ends here
     ends_by : Outcome (r.long n && blank bodies text after codes) c n es codes → Outcome (fits n codes) c n es codes
@@ -118,7 +129,7 @@ module _ {W : Type 0} (bodies : Name → Body W) (spaces : ReadsWhite bodies) (t
         ∙ sym (ap (λ (i : ℕ). r.long (n + i) && (list_all is_white (drop i (line_of codes)) && (after.may_end || has_ending codes))) none)) o
 
     too_short : (v : Option ℕ) → c.current ≡ v → has (λ b. b == m) v ≡ false → r.long n ≡ false → Outcome false c n es codes
-    too_short v e k l = (c, does bodies text r.sequence c c states.Nok (r.short h.columns n c v h.here.kept e k l))
+    too_short v e k l = (c, does bodies text r.sequence c c states.Nok (r.short h.columns n c v h.here.kept e k l), failed h)
 
   -- at the end of the text
   at_none : (n : ℕ) (es : List Event) (c : Config W) (p : Point) (h : Held n es c p) → text.byte (text.start p) ≡ None → (long : Bool) → r.long n ≡ long
@@ -137,6 +148,7 @@ module _ {W : Type 0} (bodies : Name → Body W) (spaces : ReadsWhite bodies) (t
             does bodies text r.sequence c c states.Nok
                 (r.ends h.columns n c h.here.kept (end_at h.at e) l
                 ∙ ap (λ (b : Bool). if b then plain (with_exit r.name c) (states.Retry after.name) else plain c states.Nok) k),
+            failed h,
           )
   at_none n es c p h e false l = too_short n es c p [] h (nothing e) refl None (end_at h.at e) refl l
 
@@ -209,7 +221,7 @@ module _ {W : Type 0} (bodies : Name → Body W) (spaces : ReadsWhite bodies) (t
           stands = o.over.stands;
         };
       }
-  from_more false n es c d code cs is g (f, o) = (f, and_on bodies text g o)
+  from_more false n es c d code cs is g (f, o, z) = (f, and_on bodies text g o, z)
 
   longer_is : (n b : ℕ) (es : List Event) (c : Config W) (p q : Point) (h : Held n es c p) → text.byte (text.start p) ≡ Some (as_byte b q) → (b == m) ≡ true
       → Held (n + 1) es (feed text (past_byte (record c { tokenize_state = spaced h.columns (r.kept (n + 1)) }))) q

@@ -99,9 +99,16 @@ module _ {W : Type 0} (bodies : Name → Body W) (text : Text) (after : WantsEnd
     pub apart : is_feed c.previous ≡ false → is_feed config.previous ≡ false
     pub over : LineOver config end codes
 
+  -- what is left where it fails: of what is kept, only the columns that may follow have changed
+  pub record Failed (c0 d : Config W) (k : KeptState) : Type 0 where
+    pub columns : ℕ
+    pub kept : d.tokenize_state ≡ spaced columns k
+    pub map : d.map ≡ c0.map
+    pub resolvers : d.resolvers ≡ c0.resolvers
+
   abbrev pub SpacedIf : Bool → Config W → Config W → Name → List Event → KeptState → Point → List ℕ → Type 0
   SpacedIf true c0 c s es k p codes = Spaced c0 c s es k p codes
-  SpacedIf false c0 c s es k p codes = (d : Config W) × GoesOnBy bodies text c (states.Retry s) d states.Nok
+  SpacedIf false c0 c s es k p codes = (d : Config W) × GoesOnBy bodies text c (states.Retry s) d states.Nok × Failed c0 d k
 
   module _ (spaces : ReadsWhite bodies) (once : SkipsOnce text) (c0 c d : Config W) (s : Name) (es : List Event) (w : ℕ) (k : KeptState) (p : Point)
       (at : AtHand text d p) (here : Here text c0 es (spaced w k) d) (same : d.previous ≡ c.previous) where
@@ -129,6 +136,7 @@ module _ {W : Type 0} (bodies : Name → Body W) (text : Text) (after : WantsEnd
         by_end false o = (
           d,
           and_on bodies text (does bodies text s c d (states.Retry after.name) e) (does bodies text after.name d d states.Nok o),
+          record { columns = w; kept = here.kept; map = here.map; resolvers = here.resolvers },
         )
 
     -- over white space
@@ -171,7 +179,16 @@ module _ {W : Type 0} (bodies : Name → Body W) (text : Text) (after : WantsEnd
         apart = λ h. attempt.there.apart;
         over = record { ends = o.ends; sees = subst (λ (ds : List ℕ). Sees text attempt.end ds) (after_bare (code ∷ cs)) o.sees; stands = o.stands };
       }
-      by_end e false o = (last, and_on bodies text (goes_there e) (does bodies text after.name last last states.Nok o))
+      by_end e false o = (
+        last,
+        and_on bodies text (goes_there e) (does bodies text after.name last last states.Nok o),
+        record {
+          columns = attempt.columns;
+          kept = attempt.there.here.kept;
+          map = attempt.there.here.map;
+          resolvers = attempt.there.here.resolvers;
+        },
+      )
 
       pub over_white : tried_there → SpacedIf (blank (code ∷ cs)) c0 c s es k p (code ∷ cs)
       over_white e =
