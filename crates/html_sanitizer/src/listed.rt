@@ -29,6 +29,9 @@ use std::alloc::{AllocError, Allocator};
 /// - Before an own element begins, raw elements that can't hold it end.
 /// - A closing tag ends no element that the page's own element around it is in.
 ///
+/// The page is taken as it is: a tag of its own that no safe page has is printed, too. So it has to
+/// come from a printer of safe pages.
+///
 /// Time is linear in the page. The only error is out of memory.
 pub fn listed_html<A: Allocator + Clone, T: Tables>(
     alloc: A,
