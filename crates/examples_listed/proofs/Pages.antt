@@ -78,3 +78,23 @@ row_14 : page_of (codes "<p>a &amp; b</p>\n<hr />\n")
     ≡ codes "<p>a &amp; b</p>\n<hr />\n"
 unfolding lists
 row_14 = refl
+
+row_15 : page_of (codes "<p><>&lt;b&gt;</p>")
+    ≡ codes "<p><b></b>"
+unfolding lists
+row_15 = refl
+
+row_16 : page_of (codes "<p>a</p></p><>&lt;b&gt;")
+    ≡ codes "<p>a</p></p><b></b>"
+unfolding lists
+row_16 = refl
+
+row_17 : page_of (codes "<>a\"</>b")
+    ≡ codes "b"
+unfolding lists
+row_17 = refl
+
+row_18 : page_of (codes "<h2><em><>&lt;h1&gt;a&lt;/h1&gt;</></em></h2><>&lt;h1&gt;b&lt;/h1&gt;</>")
+    ≡ codes "<h2><em>a</em></h2><h1>b</h1>"
+unfolding lists
+row_18 = refl

@@ -8,13 +8,14 @@ use Rattle.std.proofs.lemmas.List.{length-append, take-append-drop}
 use Rattle.definition_text.specs.Bytes.{begins_with, after_all}
 use Rattle.definition_text.specs.Content.{Part, part}
 use Rattle.definition_text.specs.Lines.{ends_line}
-use Rattle.html_safe_page.specs.Table.{start_rows, void_rows}
+use Rattle.html_safe_page.specs.Table.{start_rows_of, void_rows_of}
+use Rattle.html_safe_page.specs.declared.table.TagTable.{TagTable}
 use Rattle.html_safe_page.specs.SafePage.{spell_kind, spell_letter, Attribute, Tag, spell_tag, void_end, Items, End, Letter, Void, Element, spell_before, spell}
 use Rattle.html_safe_page.specs.SafePage.{is_tag_of}
 use Rattle.html_safe_page.specs.Reader.{read_text, tag_of}
 use Rattle.html_safe_page.proofs.Text.{by_kind, plain_other}
 use Rattle.html_safe_page.proofs.Spelled.{is_word_byte, starts_word, same_bytes}
-use Rattle.html_safe_page.proofs.Pages.{start_worded, void_worded}
+use Rattle.html_safe_page.proofs.Pages.{start_worded_by, void_worded_by}
 use Rattle.html_safe_page.proofs.Inserted.{spelled_append}
 use Rattle.html_listed.specs.PageParts.{Raw, is_in_text, is_in_tag, after_tag, after_element, raw_run, page_parts_after, page_parts}
 use Rattle.html_listed.specs.Mixed.{tags_of}
@@ -107,147 +108,148 @@ line_passed b bs h =
     let one : 1 + n ≡ suc n = omega arith in
     ap (λ n. drop n (b ∷ bs)) (cond-true (ends_line b) (1 + n) 0 h ∙ one)
 
--- the first element, which has no name, and the items after it, once line endings are passed
-record IsNamelessAhead (items : Items) (after : List ℕ) : Type 0 where
-  inside : Items
-  later : Items
-  letters : are_letters inside ≡ true
-  marked : is_marked later ≡ true
-  smaller : size inside + size later + 1 ≤ size items
-  own : tags_of later ≡ tags_of items
-  spelling : after_all ends_line (spell_before items after) ≡ spell_before (Element nameless inside later) after
+module _ (table : TagTable) where
+  -- the first element, which has no name, and the items after it, once line endings are passed
+  record IsNamelessAhead (items : Items) (after : List ℕ) : Type 0 where
+    inside : Items
+    later : Items
+    letters : are_letters inside ≡ true
+    marked : is_marked table later ≡ true
+    smaller : size inside + size later + 1 ≤ size items
+    own : tags_of later ≡ tags_of items
+    spelling : after_all ends_line (spell_before items after) ≡ spell_before (Element nameless inside later) after
 
-abbrev IsAhead : Items → List ℕ → Type 0
-IsAhead items after = (begins_with (codes "<>") (after_all ends_line (spell_before items after)) ≡ false) ⊎ IsNamelessAhead items after
+  abbrev IsAhead : Items → List ℕ → Type 0
+  IsAhead items after = (begins_with (codes "<>") (after_all ends_line (spell_before items after)) ≡ false) ⊎ IsNamelessAhead items after
 
-after_line : (b : ℕ) (items : Items) (after : List ℕ) → ends_line b ≡ true → spell_letter b ≡ b ∷ [] → IsAhead items after → IsAhead (Letter b items) after
-after_line b items after h s a =
-    let passes : after_all ends_line (spell_before (Letter b items) after) ≡ after_all ends_line (spell_before items after) =
-    ap (λ x. after_all ends_line (x ++ spell_before items after)) s ∙ line_passed b (spell_before items after) h in
-    elim a [
-      | inl e ↦ inl (ap (begins_with (codes "<>")) passes ∙ e)
-      | inr r ↦ inr (record {
-        inside = r.inside;
-        later = r.later;
-        letters = r.letters;
-        marked = r.marked;
-        smaller = omega arith;
-        own = r.own;
-        spelling = passes ∙ r.spelling;
-      })
-    ]
-
-ahead : (items : Items) (after : List ℕ) → is_marked items ≡ true → IsStop after → IsAhead items after
-ahead End after h stop = elim stop [
-  | inl e ↦ inl (ap (λ x. begins_with (codes "<>") (after_all ends_line x)) e)
-  | inr r ↦ inl (ap (λ x. begins_with (codes "<>") (after_all ends_line x)) r.1)
-]
-ahead (Letter b items) after h stop =
-    elim (cases_Bool (ends_line b)) [
-      | inl e ↦ elim (or_cases (eqb b 10) (eqb b 13) e) [
-        | inl feed ↦ after_line b items after e (ap spell_letter (eqb-true b 10 feed) ∙ ap (λ b. b ∷ []) (sym (eqb-true b 10 feed))) (ahead items after h stop)
-        | inr return ↦
-            after_line b items after e (ap spell_letter (eqb-true b 13 return) ∙ ap (λ b. b ∷ []) (sym (eqb-true b 13 return))) (ahead items after h stop)
+  after_line : (b : ℕ) (items : Items) (after : List ℕ) → ends_line b ≡ true → spell_letter b ≡ b ∷ [] → IsAhead items after → IsAhead (Letter b items) after
+  after_line b items after h s a =
+      let passes : after_all ends_line (spell_before (Letter b items) after) ≡ after_all ends_line (spell_before items after) =
+      ap (λ x. after_all ends_line (x ++ spell_before items after)) s ∙ line_passed b (spell_before items after) h in
+      elim a [
+        | inl e ↦ inl (ap (begins_with (codes "<>")) passes ∙ e)
+        | inr r ↦ inr (record {
+          inside = r.inside;
+          later = r.later;
+          letters = r.letters;
+          marked = r.marked;
+          smaller = omega arith;
+          own = r.own;
+          spelling = passes ∙ r.spelling;
+        })
       ]
-      | inr e ↦
-          let x = spell_before items after in
-          inl (by_kind (λ b. ends_line b ≡ false → begins_with (codes "<>") (after_all ends_line (spell_letter b ++ x)) ≡ false)
-          (λ _. refl) (λ _. refl) (λ _. refl) (λ _. refl)
-          (λ b k e.
-          ap (λ kind. begins_with (codes "<>") (after_all ends_line (spell_kind kind b ++ x))) k
-          ∙ ap (begins_with (codes "<>")) (not_passed b x e)
-          ∙ other_first 60 b _ (plain_other b 60 k refl))
-          b e)
-    ]
-ahead (Void t items) after h stop =
-    let parts = and_parts (is_tag_of void_rows t) (is_marked items) h in
-    let rest = void_end ++ (62 ∷ spell_before items after) in
-    inl (no_nameless (spell_tag t rest) (tag_starts t rest (void_worded t parts.0)))
-ahead (Element t inside items) after h stop =
-    let own = is_tag_of start_rows t && is_marked inside in
-    let parts = and_parts (cond (is_nameless t) (are_letters inside) own) (is_marked items) h in
-    elim (cases_Bool (is_nameless t)) [
-      | inl e ↦ inr (record {
-        inside = inside;
-        later = items;
-        letters = sym (cond-true (is_nameless t) (are_letters inside) own e) ∙ parts.0;
-        marked = parts.1;
-        smaller = omega arith;
-        own = sym (cond-true (is_nameless t) (tags_of items) (Element t (tags_of inside) (tags_of items)) e);
-        spelling = ap (λ t. spell_before (Element t inside items) after) (is_the_nameless t e);
+
+  ahead : (items : Items) (after : List ℕ) → is_marked table items ≡ true → IsStop after → IsAhead items after
+  ahead End after h stop = elim stop [
+    | inl e ↦ inl (ap (λ x. begins_with (codes "<>") (after_all ends_line x)) e)
+    | inr r ↦ inl (ap (λ x. begins_with (codes "<>") (after_all ends_line x)) r.1)
+  ]
+  ahead (Letter b items) after h stop =
+      elim (cases_Bool (ends_line b)) [
+        | inl e ↦ elim (or_cases (eqb b 10) (eqb b 13) e) [
+          | inl feed ↦ after_line b items after e (ap spell_letter (eqb-true b 10 feed) ∙ ap (λ b. b ∷ []) (sym (eqb-true b 10 feed))) (ahead items after h stop)
+          | inr return ↦
+              after_line b items after e (ap spell_letter (eqb-true b 13 return) ∙ ap (λ b. b ∷ []) (sym (eqb-true b 13 return))) (ahead items after h stop)
+        ]
+        | inr e ↦
+            let x = spell_before items after in
+            inl (by_kind (λ b. ends_line b ≡ false → begins_with (codes "<>") (after_all ends_line (spell_letter b ++ x)) ≡ false)
+            (λ _. refl) (λ _. refl) (λ _. refl) (λ _. refl)
+            (λ b k e.
+            ap (λ kind. begins_with (codes "<>") (after_all ends_line (spell_kind kind b ++ x))) k
+            ∙ ap (begins_with (codes "<>")) (not_passed b x e)
+            ∙ other_first 60 b _ (plain_other b 60 k refl))
+            b e)
+      ]
+  ahead (Void t items) after h stop =
+      let parts = and_parts (is_tag_of (void_rows_of table) t) (is_marked table items) h in
+      let rest = void_end ++ (62 ∷ spell_before items after) in
+      inl (no_nameless (spell_tag t rest) (tag_starts t rest ((void_worded_by table) t parts.0)))
+  ahead (Element t inside items) after h stop =
+      let own = is_tag_of (start_rows_of table) t && is_marked table inside in
+      let parts = and_parts (cond (is_nameless t) (are_letters inside) own) (is_marked table items) h in
+      elim (cases_Bool (is_nameless t)) [
+        | inl e ↦ inr (record {
+          inside = inside;
+          later = items;
+          letters = sym (cond-true (is_nameless t) (are_letters inside) own e) ∙ parts.0;
+          marked = parts.1;
+          smaller = omega arith;
+          own = sym (cond-true (is_nameless t) (tags_of items) (Element t (tags_of inside) (tags_of items)) e);
+          spelling = ap (λ t. spell_before (Element t inside items) after) (is_the_nameless t e);
+        })
+        | inr e ↦
+            let named = and_parts (is_tag_of (start_rows_of table) t) (is_marked table inside) (sym (cond-false (is_nameless t) (are_letters inside) own e) ∙ parts.0) in
+            let rest = 62 ∷ spell_before inside (60 ∷ 47 ∷ (t.name ++ (62 ∷ spell_before items after))) in
+            inl (no_nameless (spell_tag t rest) (tag_starts t rest ((start_worded_by table) t named.0)))
+      ]
+
+  -- ---- the items after elements without a name
+
+  -- bytes are some last ones of these items
+  pub record AreLater (items : Items) (after bytes : List ℕ) : Type 0 where
+    pub later : Items
+    pub marked : is_marked table later ≡ true
+    pub smaller : size later ≤ size items
+    pub own : tags_of later ≡ tags_of items
+    pub spelling : bytes ≡ spell_before later after
+
+  letters_in_text : (items : Items) → are_letters items ≡ true → list_all is_in_text (spell items) ≡ true
+  letters_in_text End h = refl
+  letters_in_text (Letter b items) h = in_both is_in_text (spell_letter b) (spell items) (letter_in_text b) (letters_in_text items h)
+  letters_in_text (Void t items) h = absurd (false≢true h)
+  letters_in_text (Element t inside items) h = absurd (false≢true h)
+
+  element_passed : (inside items : Items) (after : List ℕ) → are_letters inside ≡ true
+      → after_element (spell_before (Element nameless inside items) after) ≡ spell_before items after
+  element_passed inside items after h =
+      let end = 60 ∷ 47 ∷ 62 ∷ spell_before items after in
+      ap (λ x. after_tag (after_all is_in_text x)) (spelled_append inside [] end)
+      ∙ ap after_tag (passed is_in_text (spell inside) 60 (47 ∷ 62 ∷ spell_before items after) (letters_in_text inside h) refl)
+
+  cond_rest : (t : Bool) (p q : Part) → (cond t p q).rest ≡ cond t p.rest q.rest
+  cond_rest true p q = refl
+  cond_rest false p q = refl
+
+  -- what a run leaves, given what follows its first element
+  abbrev left_by : ℕ → List ℕ → List ℕ
+  left_by most rest = cond (begins_with (codes "<>") (after_all ends_line rest)) (raw_run most (after_all ends_line rest)).rest rest
+
+  run_left : (most : ℕ) (bytes : List ℕ) → (raw_run (suc most) bytes).rest ≡ left_by most (after_element bytes)
+  run_left most bytes =
+      let rest = after_element bytes in
+      let others = raw_run most (after_all ends_line rest) in
+      let text = take_while is_in_text (drop 2 bytes) in
+      cond_rest (begins_with (codes "<>") (after_all ends_line rest)) (part (text ++ take_while ends_line rest ++ others.text) others.rest) (part text rest)
+
+  -- an element, given what a run leaves that begins with the next one
+  run_first : (most : ℕ) (inside items : Items) (after : List ℕ) → are_letters inside ≡ true → is_marked table items ≡ true → IsStop after
+      → ((r : IsNamelessAhead items after) → AreLater items after (raw_run most (spell_before (Element nameless r.inside r.later) after)).rest)
+      → AreLater items after (raw_run (suc most) (spell_before (Element nameless inside items) after)).rest
+  run_first most inside items after h m stop more =
+      let x = spell_before items after in
+      let begins = begins_with (codes "<>") (after_all ends_line x) in
+      let others = (raw_run most (after_all ends_line x)).rest in
+      let bytes = spell_before (Element nameless inside items) after in
+      subst (AreLater items after) (sym (run_left most bytes ∙ ap (left_by most) (element_passed inside items after h)))
+      (elim (ahead items after m stop) [
+        | inl e ↦ record { later = items; marked = m; smaller = omega arith; own = refl; spelling = cond-false begins others x e }
+        | inr r ↦
+            let found : begins ≡ true = ap (begins_with (codes "<>")) r.spelling in
+            subst (AreLater items after) (sym (cond-true begins others x found ∙ ap (λ y. (raw_run most y).rest) r.spelling)) (more r)
+      ])
+
+  pub run_items : (most : ℕ) (inside items : Items) (after : List ℕ) → are_letters inside ≡ true → is_marked table items ≡ true → IsStop after
+      → AreLater items after (raw_run (suc most) (spell_before (Element nameless inside items) after)).rest
+  run_items zero inside items after h m stop =
+      run_first zero inside items after h m stop (λ r. record {
+        later = Element nameless r.inside r.later;
+        marked = and_from (are_letters r.inside) (is_marked table r.later) r.letters r.marked;
+        smaller = r.smaller;
+        own = r.own;
+        spelling = refl;
       })
-      | inr e ↦
-          let named = and_parts (is_tag_of start_rows t) (is_marked inside) (sym (cond-false (is_nameless t) (are_letters inside) own e) ∙ parts.0) in
-          let rest = 62 ∷ spell_before inside (60 ∷ 47 ∷ (t.name ++ (62 ∷ spell_before items after))) in
-          inl (no_nameless (spell_tag t rest) (tag_starts t rest (start_worded t named.0)))
-    ]
-
--- ---- the items after elements without a name
-
--- bytes are some last ones of these items
-pub record AreLater (items : Items) (after bytes : List ℕ) : Type 0 where
-  pub later : Items
-  pub marked : is_marked later ≡ true
-  pub smaller : size later ≤ size items
-  pub own : tags_of later ≡ tags_of items
-  pub spelling : bytes ≡ spell_before later after
-
-letters_in_text : (items : Items) → are_letters items ≡ true → list_all is_in_text (spell items) ≡ true
-letters_in_text End h = refl
-letters_in_text (Letter b items) h = in_both is_in_text (spell_letter b) (spell items) (letter_in_text b) (letters_in_text items h)
-letters_in_text (Void t items) h = absurd (false≢true h)
-letters_in_text (Element t inside items) h = absurd (false≢true h)
-
-element_passed : (inside items : Items) (after : List ℕ) → are_letters inside ≡ true
-    → after_element (spell_before (Element nameless inside items) after) ≡ spell_before items after
-element_passed inside items after h =
-    let end = 60 ∷ 47 ∷ 62 ∷ spell_before items after in
-    ap (λ x. after_tag (after_all is_in_text x)) (spelled_append inside [] end)
-    ∙ ap after_tag (passed is_in_text (spell inside) 60 (47 ∷ 62 ∷ spell_before items after) (letters_in_text inside h) refl)
-
-cond_rest : (t : Bool) (p q : Part) → (cond t p q).rest ≡ cond t p.rest q.rest
-cond_rest true p q = refl
-cond_rest false p q = refl
-
--- what a run leaves, given what follows its first element
-abbrev left_by : ℕ → List ℕ → List ℕ
-left_by most rest = cond (begins_with (codes "<>") (after_all ends_line rest)) (raw_run most (after_all ends_line rest)).rest rest
-
-run_left : (most : ℕ) (bytes : List ℕ) → (raw_run (suc most) bytes).rest ≡ left_by most (after_element bytes)
-run_left most bytes =
-    let rest = after_element bytes in
-    let others = raw_run most (after_all ends_line rest) in
-    let text = take_while is_in_text (drop 2 bytes) in
-    cond_rest (begins_with (codes "<>") (after_all ends_line rest)) (part (text ++ take_while ends_line rest ++ others.text) others.rest) (part text rest)
-
--- an element, given what a run leaves that begins with the next one
-run_first : (most : ℕ) (inside items : Items) (after : List ℕ) → are_letters inside ≡ true → is_marked items ≡ true → IsStop after
-    → ((r : IsNamelessAhead items after) → AreLater items after (raw_run most (spell_before (Element nameless r.inside r.later) after)).rest)
-    → AreLater items after (raw_run (suc most) (spell_before (Element nameless inside items) after)).rest
-run_first most inside items after h m stop more =
-    let x = spell_before items after in
-    let begins = begins_with (codes "<>") (after_all ends_line x) in
-    let others = (raw_run most (after_all ends_line x)).rest in
-    let bytes = spell_before (Element nameless inside items) after in
-    subst (AreLater items after) (sym (run_left most bytes ∙ ap (left_by most) (element_passed inside items after h)))
-    (elim (ahead items after m stop) [
-      | inl e ↦ record { later = items; marked = m; smaller = omega arith; own = refl; spelling = cond-false begins others x e }
-      | inr r ↦
-          let found : begins ≡ true = ap (begins_with (codes "<>")) r.spelling in
-          subst (AreLater items after) (sym (cond-true begins others x found ∙ ap (λ y. (raw_run most y).rest) r.spelling)) (more r)
-    ])
-
-pub run_items : (most : ℕ) (inside items : Items) (after : List ℕ) → are_letters inside ≡ true → is_marked items ≡ true → IsStop after
-    → AreLater items after (raw_run (suc most) (spell_before (Element nameless inside items) after)).rest
-run_items zero inside items after h m stop =
-    run_first zero inside items after h m stop (λ r. record {
-      later = Element nameless r.inside r.later;
-      marked = and_from (are_letters r.inside) (is_marked r.later) r.letters r.marked;
-      smaller = r.smaller;
-      own = r.own;
-      spelling = refl;
-    })
-run_items (suc most) inside items after h m stop =
-    run_first (suc most) inside items after h m stop (λ r.
-    let more = run_items most r.inside r.later after r.letters r.marked stop in
-    record { later = more.later; marked = more.marked; smaller = omega arith; own = more.own ∙ r.own; spelling = more.spelling })
+  run_items (suc most) inside items after h m stop =
+      run_first (suc most) inside items after h m stop (λ r.
+      let more = run_items most r.inside r.later after r.letters r.marked stop in
+      record { later = more.later; marked = more.marked; smaller = omega arith; own = more.own ∙ r.own; spelling = more.spelling })

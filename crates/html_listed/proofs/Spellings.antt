@@ -9,7 +9,8 @@ use Rattle.definition_inline.specs.HtmlTags.{is_tag_name_byte}
 use Rattle.html_safe_page.specs.SafePage.{kind, spell_kind, spell_letter, Attribute, Tag, spell_tag, Items, End, Letter, Void, Element, void_end, spell_before}
 use Rattle.html_safe_page.proofs.Text.{by_kind, is_plain, plain_other}
 use Rattle.html_safe_page.proofs.Spelled.{is_word_byte, is_word, starts_word, is_worded_list, is_worded, same_bytes, tags_same}
-use Rattle.html_safe_page.proofs.Pages.{start_worded, void_worded}
+use Rattle.html_safe_page.proofs.Pages.{start_worded_by, void_worded_by}
+use Rattle.html_safe_page.specs.declared.table.TagTable.{TagTable}
 use Rattle.html_listed.specs.Listing.{is_in, is_listed, free_names, heading_names, void_names, PartRow, part_rows, is_part, listed_attributes}
 use Rattle.html_listed.specs.ListedPage.{url_names, attribute_names, are_some_of, is_listed_tag, is_listed_start, is_listed_void, is_start, is_void, have_tags}
 use Rattle.html_listed.specs.Laws.{is_name, has_names, OneSpelling, OneListedReading}
@@ -157,7 +158,7 @@ items_same (Element t ia xs) (Element u ib bs) x y ha hb mx my e =
 -- ---- tests that pass words
 
 -- items pass weaker tests, too
-weaker_tags : (start void more_start more_void : Tag → Bool) → ((t : Tag) → start t ≡ true → more_start t ≡ true)
+pub weaker_tags : (start void more_start more_void : Tag → Bool) → ((t : Tag) → start t ≡ true → more_start t ≡ true)
     → ((t : Tag) → void t ≡ true → more_void t ≡ true) → (items : Items) → have_tags start void items ≡ true
     → have_tags more_start more_void items ≡ true
 weaker_tags start void more_start more_void f g End h = refl
@@ -293,21 +294,23 @@ tag_is_worded t h =
     (some_are_words (attribute_names t.name) t.attributes
     (list_all-append is_word (url_names t.name) listed_attributes ∙ and_from _ (list_all is_word listed_attributes) (url_words t.name) attribute_words) more.0)
 
-start_is_worded : (t : Tag) → is_start t ≡ true → is_worded t ≡ true
-start_is_worded t h =
+start_is_worded : (table : TagTable) (t : Tag) → is_start table t ≡ true → is_worded t ≡ true
+start_is_worded table t h =
     elim (or_cases (is_listed_start t) _ h) [
       | inl e ↦ tag_is_worded t (and_parts (not (is_in void_names t.name)) (is_listed_tag t) e).1
-      | inr e ↦ start_worded t e
+      | inr e ↦ start_worded_by table t e
     ]
 
-void_is_worded : (t : Tag) → is_void t ≡ true → is_worded t ≡ true
-void_is_worded t h =
+void_is_worded : (table : TagTable) (t : Tag) → is_void table t ≡ true → is_worded t ≡ true
+void_is_worded table t h =
     elim (or_cases (is_listed_void t) _ h) [
       | inl e ↦ tag_is_worded t (and_parts (is_in void_names t.name) (is_listed_tag t) e).1
-      | inr e ↦ void_worded t e
+      | inr e ↦ void_worded_by table t e
     ]
 
 pub one_listed_reading : OneListedReading
-one_listed_reading page a b ra rb =
-    (items_same a b [] [] (weaker_tags is_start is_void is_worded is_worded start_is_worded void_is_worded a ra.0)
-    (weaker_tags is_start is_void is_worded is_worded start_is_worded void_is_worded b rb.0) refl refl (ra.1 ∙ sym rb.1)).0
+one_listed_reading table page a b ra rb =
+    let start = is_start table in
+    let void = is_void table in
+    (items_same a b [] [] (weaker_tags start void is_worded is_worded (start_is_worded table) (void_is_worded table) a ra.0)
+    (weaker_tags start void is_worded is_worded (start_is_worded table) (void_is_worded table) b rb.0) refl refl (ra.1 ∙ sym rb.1)).0

@@ -3,10 +3,11 @@ use Rattle.std.proofs.Common.{◌≡◌, ℕ, Bool, true, false, ◌&&◌, List,
 use Rattle.std.proofs.lemmas.Bool.{cond_both, false≢true, and_parts}
 use Rattle.markdown_compile_options.specs.declared.configuration.CompileOptions.{CompileOptions}
 use Rattle.definition_inline.specs.CharacterReference.{Names}
-use Rattle.html_safe_page.specs.Table.{start_rows, void_rows}
-use Rattle.html_safe_page.specs.SafePage.{spell_letter, spell_tag, Items, End, Letter, Void, Element, void_end, spell_before, spell, is_tag_of, is_safe}
+use Rattle.html_safe_page.specs.Table.{start_rows_of, void_rows_of}
+use Rattle.html_safe_page.specs.declared.table.TagTable.{TagTable}
+use Rattle.html_safe_page.specs.SafePage.{spell_letter, spell_tag, Items, End, Letter, Void, Element, void_end, spell_before, spell, is_tag_of, is_safe_by}
 use Rattle.html_safe_page.proofs.Spelled.{is_word, is_worded_list}
-use Rattle.html_safe_page.proofs.Pages.{start_worded, void_worded}
+use Rattle.html_safe_page.proofs.Pages.{start_worded_by, void_worded_by}
 use Rattle.html_safe_page.proofs.Sound.{tag_append}
 use Rattle.html_safe_page.proofs.Inserted.{spelled_append}
 use Rattle.html_listed.specs.Listing.{is_in, heading_names}
@@ -30,9 +31,9 @@ has_room name out in_heading around =
     let s = clear out in_heading around in
     cond_both (is_in heading_names name) (ended_to heading_names s) s (λ t. t ≡ s) (λ _. refl) (λ _. refl)
 
-module _ (names : Names) (options : CompileOptions) where
+module _ (table : TagTable) (names : Names) (options : CompileOptions) where
   -- items are printed as they are
-  as_spelled : (items : Items) (after out : List ℕ) (in_heading : Bool) (around : List Level) → is_safe items ≡ true
+  as_spelled : (items : Items) (after out : List ℕ) (in_heading : Bool) (around : List Level) → is_safe_by table items ≡ true
       → run names options (clear out in_heading around) (spell_before items after)
       ≡ run names options (clear (out ++ spell items) in_heading around) after
   as_spelled End after out in_heading around h = ap (λ s. run names options s after) (says_nothing (clear out in_heading around))
@@ -41,8 +42,8 @@ module _ (names : Names) (options : CompileOptions) where
       ∙ as_spelled items after (out ++ spell_letter b) in_heading around h
       ∙ ap (λ x. run names options (clear x in_heading around) after) (append_assoc out (spell_letter b) (spell items))
   as_spelled (Void t items) after out in_heading around h =
-      let parts = and_parts (is_tag_of void_rows t) (is_safe items) h in
-      let worded = void_worded t parts.0 in
+      let parts = and_parts (is_tag_of (void_rows_of table) t) (is_safe_by table items) h in
+      let worded = (void_worded_by table) t parts.0 in
       let inside = spell_tag t void_end in
       let x = spell_before items after in
       let bytes = in_brackets inside in
@@ -56,9 +57,9 @@ module _ (names : Names) (options : CompileOptions) where
       (append_assoc out bytes (spell items)
       ∙ ap (λ y. out ++ (60 ∷ y)) (append_assoc inside (62 ∷ []) (spell items) ∙ sym (tag_append t void_end (62 ∷ spell items))))
   as_spelled (Element t inside items) after out in_heading around h =
-      let parts = and_parts (is_tag_of start_rows t) (is_safe inside && is_safe items) h in
-      let both = and_parts (is_safe inside) (is_safe items) parts.1 in
-      let worded = start_worded t parts.0 in
+      let parts = and_parts (is_tag_of (start_rows_of table) t) (is_safe_by table inside && is_safe_by table items) h in
+      let both = and_parts (is_safe_by table inside) (is_safe_by table items) parts.1 in
+      let worded = (start_worded_by table) t parts.0 in
       let word = (and_parts (is_word t.name) (is_worded_list t.attributes) worded).0 in
       let bytes = spell_tag t [] in
       let start = in_brackets bytes in
@@ -88,7 +89,7 @@ module _ (names : Names) (options : CompileOptions) where
       ∙ ap (λ y. 60 ∷ spell_tag t (62 ∷ spell_before inside (60 ∷ 47 ∷ y))) (append_assoc t.name (62 ∷ []) rest)))
 
 pub unmarked_law : UnmarkedLaw
-unmarked_law names options page safe =
+unmarked_law names options table page safe =
     let items = safe.0 in
-    let whole = ap (run names options nothing_open) (sym safe.1.1) ∙ as_spelled names options items [] [] false [] safe.1.0 in
+    let whole = ap (run names options nothing_open) (sym safe.1.1) ∙ as_spelled table names options items [] [] false [] safe.1.0 in
     ap (λ t. let u = all_ended t in u.out) whole ∙ safe.1.1

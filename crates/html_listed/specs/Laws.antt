@@ -6,7 +6,8 @@ use Rattle.definition_text.specs.Ascii.{ampersand, less_than}
 use Rattle.definition_text.specs.Encode.{encode, plain}
 use Rattle.definition_inline.specs.CharacterReference.{Names}
 use Rattle.definition_inline.specs.HtmlTags.{is_tag_name_byte}
-use Rattle.html_safe_page.specs.SafePage.{Tag, Items, spell, IsSafePage}
+use Rattle.html_safe_page.specs.SafePage.{Tag, Items, spell, IsSafePageBy}
+use Rattle.html_safe_page.specs.declared.table.TagTable.{TagTable}
 use Rattle.html_listed.specs.Listed.{listed, sanitized}
 use Rattle.html_listed.specs.ListedPage.{is_listed_start, is_listed_void, have_tags, IsReadingWith, IsListedReading}
 use Rattle.html_listed.specs.MarkedPage.{IsMarkedPage}
@@ -31,13 +32,13 @@ OneSpelling = (a b : Items) → IsTrue (have_tags has_names has_names a) → IsT
 
 -- a listed page has one reading
 abbrev pub OneListedReading : Type 0
-OneListedReading = (page : List ℕ) (a b : Items) → IsListedReading page a → IsListedReading page b → a ≡ b
+OneListedReading = (table : TagTable) (page : List ℕ) (a b : Items) → IsListedReading table page a → IsListedReading table page b → a ≡ b
 
 -- a page has a reading as a listed page, and no other
-pub record HasOneListedReading (page : List ℕ) : Type 0 where
+pub record HasOneListedReading (table : TagTable) (page : List ℕ) : Type 0 where
   pub items : Items
-  pub is_reading : IsListedReading page items
-  pub is_only : (other : Items) → IsListedReading page other → other ≡ items
+  pub is_reading : IsListedReading table page items
+  pub is_only : (other : Items) → IsListedReading table page other → other ≡ items
 
 -- ---- options
 
@@ -50,24 +51,24 @@ pub record HaveSafeProtocols (options : CompileOptions) : Type 0 where
 
 -- under such options a safe page with raw HTML as text in elements without a name becomes a listed page, by any names of references
 abbrev pub ListedLaw : Type 0
-ListedLaw = (names : Names) (options : CompileOptions) (page : List ℕ) → HaveSafeProtocols options → IsMarkedPage page
-    → HasOneListedReading (listed names options page)
+ListedLaw = (names : Names) (options : CompileOptions) (table : TagTable) (page : List ℕ) → HaveSafeProtocols options → IsMarkedPage table page
+    → HasOneListedReading table (listed names options page)
 
 -- a page is made of these tags of the page's own and of raw tags of the list, each where it may stand
-pub record IsMixedPage (tags : Items) (page : List ℕ) : Type 0 where
+pub record IsMixedPage (table : TagTable) (tags : Items) (page : List ℕ) : Type 0 where
   pub items : Mixed
   pub spelling : spell (all_items items) ≡ page
-  pub stands : IsTrue (stand_in (level false []) items)
+  pub stands : IsTrue (stand_in table (level false []) items)
   pub own : own_items items ≡ tags
 
 -- it keeps all tags of its own, in their order and one in the other as they were, and raw tags stand where they may
 abbrev pub StandingLaw : Type 0
-StandingLaw = (names : Names) (options : CompileOptions) (page : List ℕ) → HaveSafeProtocols options → (marked : IsMarkedPage page)
-    → IsMixedPage (tags_of marked.0) (listed names options page)
+StandingLaw = (names : Names) (options : CompileOptions) (table : TagTable) (page : List ℕ) → HaveSafeProtocols options → (marked : IsMarkedPage table page)
+    → IsMixedPage table (tags_of marked.0) (listed names options page)
 
 -- a safe page without raw HTML stays as it is
 abbrev pub UnmarkedLaw : Type 0
-UnmarkedLaw = (names : Names) (options : CompileOptions) (page : List ℕ) → IsSafePage page → listed names options page ≡ page
+UnmarkedLaw = (names : Names) (options : CompileOptions) (table : TagTable) (page : List ℕ) → IsSafePageBy table page → listed names options page ≡ page
 
 -- ---- any HTML
 
@@ -81,7 +82,7 @@ pub record IsSanitized (page : List ℕ) : Type 0 where
   pub items : Items
   pub is_reading : IsReadingWith is_listed_start is_listed_void page items
   pub stands : IsTrue (stand [] items)
-  pub is_only : (other : Items) → IsListedReading page other → other ≡ items
+  pub is_only : (table : TagTable) (other : Items) → IsListedReading table page other → other ≡ items
 
 -- under such options what is kept of any HTML, by any names of references, is such a page
 abbrev pub SanitizedLaw : Type 0

@@ -3,7 +3,8 @@ use Rattle.std.specs.Prelude.{◌≡◌, ℕ, Bool, true, false, not, if◌then�
 use Rattle.std.specs.List.{list_all}
 use Rattle.std.specs.Str.{bytes_eq}
 use Rattle.definition_page.specs.Urls.{permits, href_protocols, src_protocols}
-use Rattle.html_safe_page.specs.Table.{start_rows, void_rows}
+use Rattle.html_safe_page.specs.Table.{start_rows_of, void_rows_of}
+use Rattle.html_safe_page.specs.declared.table.TagTable.{TagTable}
 use Rattle.html_safe_page.specs.SafePage.{Attribute, Tag, Items, End, Letter, Void, Element, spell, is_tag_of}
 use Rattle.html_listed.specs.Listing.{is_in, is_listed, void_names, listed_attributes}
 
@@ -43,13 +44,13 @@ is_listed_start tag = not (is_in void_names tag.name) && is_listed_tag tag
 abbrev pub is_listed_void : Tag → Bool
 is_listed_void tag = is_in void_names tag.name && is_listed_tag tag
 
--- a start tag of the list, or one that a safe page has
-abbrev pub is_start : Tag → Bool
-is_start tag = is_listed_start tag || is_tag_of start_rows tag
+-- a start tag of the list, or one that a safe page has by a table
+abbrev pub is_start : TagTable → Tag → Bool
+is_start table tag = is_listed_start tag || is_tag_of (start_rows_of table) tag
 
 -- and a void tag
-abbrev pub is_void : Tag → Bool
-is_void tag = is_listed_void tag || is_tag_of void_rows tag
+abbrev pub is_void : TagTable → Tag → Bool
+is_void table tag = is_listed_void tag || is_tag_of (void_rows_of table) tag
 
 -- ---- pages
 
@@ -69,9 +70,9 @@ abbrev pub IsPageWith : (Tag → Bool) → (Tag → Bool) → List ℕ → Type 
 IsPageWith start void page = (items : Items) × IsReadingWith start void page items
 
 -- items with tags of the list or of safe pages are a reading of a page
-abbrev pub IsListedReading : List ℕ → Items → Type 0
-IsListedReading page items = IsReadingWith is_start is_void page items
+abbrev pub IsListedReading : TagTable → List ℕ → Items → Type 0
+IsListedReading table page items = IsReadingWith (is_start table) (is_void table) page items
 
 -- a page has such a reading: it is a safe page with elements of the list, too
-abbrev pub IsListedPage : List ℕ → Type 0
-IsListedPage page = IsPageWith is_start is_void page
+abbrev pub IsListedPage : TagTable → List ℕ → Type 0
+IsListedPage table page = IsPageWith (is_start table) (is_void table) page

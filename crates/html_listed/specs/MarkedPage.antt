@@ -1,7 +1,8 @@
 -- A page with raw HTML as text in elements without a name.
 use Rattle.std.specs.Prelude.{◌≡◌, ℕ, Bool, true, false, if◌then◌else◌, ◌&&◌, List, [], ◌∷◌, IsTrue}
 use Rattle.std.specs.Str.{bytes_eq}
-use Rattle.html_safe_page.specs.Table.{start_rows, void_rows}
+use Rattle.html_safe_page.specs.Table.{start_rows_of, void_rows_of}
+use Rattle.html_safe_page.specs.declared.table.TagTable.{TagTable}
 use Rattle.html_safe_page.specs.SafePage.{Attribute, Tag, Items, End, Letter, Void, Element, spell, is_tag_of}
 
 abbrev pub has_none : List Attribute → Bool
@@ -19,14 +20,14 @@ are_letters (Letter b items) = are_letters items
 are_letters (Void tag items) = false
 are_letters (Element tag inside items) = false
 
--- items of a safe page, and elements without a name that hold letters only
-abbrev pub is_marked : Items → Bool
-is_marked End = true
-is_marked (Letter b items) = is_marked items
-is_marked (Void tag items) = is_tag_of void_rows tag && is_marked items
-is_marked (Element tag inside items) =
-    (if is_nameless tag then are_letters inside else is_tag_of start_rows tag && is_marked inside) && is_marked items
+-- items of a safe page by a table, and elements without a name that hold letters only
+abbrev pub is_marked : TagTable → Items → Bool
+is_marked table End = true
+is_marked table (Letter b items) = is_marked table items
+is_marked table (Void tag items) = is_tag_of (void_rows_of table) tag && is_marked table items
+is_marked table (Element tag inside items) =
+    (if is_nameless tag then are_letters inside else is_tag_of (start_rows_of table) tag && is_marked table inside) && is_marked table items
 
 -- such items are a reading of a page
-abbrev pub IsMarkedPage : List ℕ → Type 0
-IsMarkedPage page = (items : Items) × IsTrue (is_marked items) × (spell items ≡ page)
+abbrev pub IsMarkedPage : TagTable → List ℕ → Type 0
+IsMarkedPage table page = (items : Items) × IsTrue (is_marked table items) × (spell items ≡ page)

@@ -1,7 +1,8 @@
 -- Where elements stand in a page whose raw HTML is kept by the list, given which are the page's own and which are raw.
 use Rattle.std.specs.Prelude.{ℕ, Bool, true, not, if◌then◌else◌, ◌&&◌, ◌||◌, List, [], ◌∷◌}
 use Rattle.std.specs.List.{list_any}
-use Rattle.html_safe_page.specs.Table.{start_rows, void_rows}
+use Rattle.html_safe_page.specs.Table.{start_rows_of, void_rows_of}
+use Rattle.html_safe_page.specs.declared.table.TagTable.{TagTable}
 use Rattle.html_safe_page.specs.SafePage.{Tag, Items, End, Letter, Void, Element, join, is_tag_of}
 use Rattle.html_listed.specs.Listing.{is_in, heading_names}
 use Rattle.html_listed.specs.ListedPage.{is_listed_start, is_listed_void}
@@ -57,13 +58,13 @@ raw_may_begin l name = may_begin l.names name && not (l.in_heading && is_in head
 abbrev pub level_in : Level → List ℕ → Level
 level_in l name = level (l.in_heading || is_in heading_names name || list_any (is_in heading_names) l.names) []
 
--- own tags are those of safe pages, raw ones are of the list, and each stands where it may
-abbrev pub stand_in : Level → Mixed → Bool
-stand_in l Done = true
-stand_in l (Char b items) = stand_in l items
-stand_in l (OwnTag tag items) = (is_tag_of void_rows tag && not (begins_with_frame l.names)) && stand_in l items
-stand_in l (OwnElement tag inside items) =
-    (is_tag_of start_rows tag && own_may_begin l.names tag.name) && (stand_in (level_in l tag.name) inside && stand_in l items)
-stand_in l (RawTag tag items) = (is_listed_void tag && not (begins_with_frame l.names)) && stand_in l items
-stand_in l (RawElement tag inside items) =
-    (is_listed_start tag && raw_may_begin l tag.name) && (stand_in (level l.in_heading (tag.name ∷ l.names)) inside && stand_in l items)
+-- own tags are those of safe pages by a table, raw ones are of the list, and each stands where it may
+abbrev pub stand_in : TagTable → Level → Mixed → Bool
+stand_in table l Done = true
+stand_in table l (Char b items) = stand_in table l items
+stand_in table l (OwnTag tag items) = (is_tag_of (void_rows_of table) tag && not (begins_with_frame l.names)) && stand_in table l items
+stand_in table l (OwnElement tag inside items) =
+    (is_tag_of (start_rows_of table) tag && own_may_begin l.names tag.name) && (stand_in table (level_in l tag.name) inside && stand_in table l items)
+stand_in table l (RawTag tag items) = (is_listed_void tag && not (begins_with_frame l.names)) && stand_in table l items
+stand_in table l (RawElement tag inside items) =
+    (is_listed_start tag && raw_may_begin l tag.name) && (stand_in table (level l.in_heading (tag.name ∷ l.names)) inside && stand_in table l items)

@@ -14,7 +14,8 @@ pub fn one_listed_reading_law()
 {}
 
 /// A safe page with raw HTML as text in elements without a name becomes a listed page, which has
-/// one reading. The options permit only safe protocols; the names of references may be any.
+/// one reading, by either table of tags. The options permit only safe protocols; the names of
+/// references may be any.
 #[tactic(auto, using(crate::proofs::Listed::listed_law))]
 pub fn listed_law()
     ensures { ListedLaw }
@@ -28,7 +29,6 @@ pub fn standing_law()
 {}
 
 /// A safe page without raw HTML stays as it is.
-#[tactic(auto, using(crate::proofs::Unmarked::unmarked_law))]
 pub fn unmarked_law()
     ensures { UnmarkedLaw }
 {}

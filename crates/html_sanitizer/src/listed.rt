@@ -8,7 +8,8 @@ ghost use Rattle.html_listed.specs.MarkedPage.{IsMarkedPage};
 ghost use Rattle.html_listed.specs.Mixed.{tags_of};
 ghost use Rattle.html_listed.specs.PageParts.{is_in_text};
 ghost use Rattle.html_listed.specs.State.{says, with_room, entered, left, all_ended};
-ghost use Rattle.html_safe_page.specs.SafePage.{IsSafePage};
+ghost use Rattle.html_safe_page.specs.SafePage.{IsSafePageBy};
+ghost use Rattle.html_safe_page.specs.declared.table.TagTable.{TagTable};
 ghost use Rattle.html_sanitizer.specs.Elements.{first_name, in_brackets, own_printed, parts_after};
 ghost use Rattle.html_sanitizer.specs.Page.{page_state};
 
@@ -28,6 +29,9 @@ use std::alloc::{AllocError, Allocator};
 /// - Before an own element begins, raw elements that can't hold it end.
 /// - A closing tag ends no element that the page's own element around it is in.
 ///
+/// The page is taken as it is: a tag of its own that no safe page has is printed, too. So it has to
+/// come from a printer of safe pages.
+///
 /// Time is linear in the page. The only error is out of memory.
 pub fn listed_html<A: Allocator + Clone, T: Tables>(
     alloc: A,
@@ -36,10 +40,11 @@ pub fn listed_html<A: Allocator + Clone, T: Tables>(
     tables: &T,
 ) -> Result<String<A>, AllocError>
     ensures page { IfOk result (λ html. string_bytes html ≡ listed (T.reference_of tables.now) options.now page.now) }
-    ensures listed { HaveSafeProtocols options.now → IsMarkedPage page.now → IfOk result (λ html. HasOneListedReading (string_bytes html)) }
-    ensures standing { HaveSafeProtocols options.now → (marked : IsMarkedPage page.now)
-        → IfOk result (λ html. IsMixedPage (tags_of marked.0) (string_bytes html)) }
-    ensures unmarked { IsSafePage page.now → IfOk result (λ html. string_bytes html ≡ page.now) }
+    ensures listed { HaveSafeProtocols options.now → (table : TagTable) → IsMarkedPage table page.now
+        → IfOk result (λ html. HasOneListedReading table (string_bytes html)) }
+    ensures standing { HaveSafeProtocols options.now → (table : TagTable) → (marked : IsMarkedPage table page.now)
+        → IfOk result (λ html. IsMixedPage table (tags_of marked.0) (string_bytes html)) }
+    ensures unmarked { (table : TagTable) → IsSafePageBy table page.now → IfOk result (λ html. string_bytes html ≡ page.now) }
 {
     let mut out = Page::new(alloc.clone()?)?;
     let mut rest = push_letters(&mut out.out, page)?;

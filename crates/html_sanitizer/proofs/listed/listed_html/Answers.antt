@@ -57,28 +57,28 @@ returns-clause-page g c =
     (eqb-true (length rest) 0 (sym c.is_empty.ensures ∙ c.loop-rest-test.false))) ∙ c.loop-rest.invariant.2))
 
 pub returns-clause-listed : goal.returns-clause-listed
-returns-clause-listed g c = λ safe marked.
+returns-clause-listed g c = λ safe table marked.
     let names = g.T.Tables.reference_of c.args.tables.now in
     let rest = c.loop-rest.rest.now in
-    subst HasOneListedReading (sym (ap (λ (s : State). s.out)
+    subst (HasOneListedReading table) (sym (ap (λ (s : State). s.out)
     (c.in_ok-end_all.ensures ∙ ap all_ended (sym (page_done names c.args.options.now (page_state c.loop-rest.out) rest
     (eqb-true (length rest) 0 (sym c.is_empty.ensures ∙ c.loop-rest-test.false))) ∙ c.loop-rest.invariant.2))))
-    (listed_law names c.args.options.now c.args.page.now safe marked)
+    (listed_law names c.args.options.now table c.args.page.now safe marked)
 
 pub returns-clause-standing : goal.returns-clause-standing
-returns-clause-standing g c = λ safe marked.
+returns-clause-standing g c = λ safe table marked.
     let names = g.T.Tables.reference_of c.args.tables.now in
     let rest = c.loop-rest.rest.now in
-    subst (IsMixedPage (tags_of marked.0)) (sym (ap (λ (s : State). s.out)
+    subst (IsMixedPage table (tags_of marked.0)) (sym (ap (λ (s : State). s.out)
     (c.in_ok-end_all.ensures ∙ ap all_ended (sym (page_done names c.args.options.now (page_state c.loop-rest.out) rest
     (eqb-true (length rest) 0 (sym c.is_empty.ensures ∙ c.loop-rest-test.false))) ∙ c.loop-rest.invariant.2))))
-    (standing_law names c.args.options.now c.args.page.now safe marked)
+    (standing_law names c.args.options.now table c.args.page.now safe marked)
 
 pub returns-clause-unmarked : goal.returns-clause-unmarked
-returns-clause-unmarked g c = λ safe.
+returns-clause-unmarked g c = λ table safe.
     let names = g.T.Tables.reference_of c.args.tables.now in
     let rest = c.loop-rest.rest.now in
     ap (λ (s : State). s.out)
     (c.in_ok-end_all.ensures ∙ ap all_ended (sym (page_done names c.args.options.now (page_state c.loop-rest.out) rest
     (eqb-true (length rest) 0 (sym c.is_empty.ensures ∙ c.loop-rest-test.false))) ∙ c.loop-rest.invariant.2))
-    ∙ unmarked_law names c.args.options.now c.args.page.now safe
+    ∙ unmarked_law names c.args.options.now table c.args.page.now safe
