@@ -1,7 +1,6 @@
-use Rattle.std.proofs.Common.{◌≡◌, subst}
+use Rattle.std.proofs.Common.{◌≡◌, false, subst}
 use Rattle.compile_blocks.proofs.Prelude.{inlines_of, OnOk, page_view}
 use Rattle.compile_blocks.proofs.Laid.{heading_laid}
-use Rattle.std.proofs.Common.{false}
 use Rattle.compile_blocks.proofs.printer.LeafPrinter.heading.Goals as goal
 
 pub returns-clause-printed : goal.returns-clause-printed
