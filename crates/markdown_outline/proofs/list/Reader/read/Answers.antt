@@ -1,4 +1,4 @@
-use Rattle.std.proofs.Common.{◌≡◌, ◌++◌, ◌∷◌, [], ◌∙◌, ℕ, List, drop, length, string_bytes, sym, ap, subst}
+use Rattle.std.proofs.Common.{◌≡◌, ◌∙◌, ℕ, List, drop, length, string_bytes, sym, ap, subst}
 use Rattle.engine_events.specs.Events.{point_of}
 use Rattle.event_grammar.specs.Trees.{Nodes, tree}
 use Rattle.compile_levels.specs.Siblings.{first_or, inside}
