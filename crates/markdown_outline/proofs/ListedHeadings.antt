@@ -19,8 +19,6 @@ use Rattle.compile_raw.specs.Sound.{AreSound}
 use Rattle.compile_raw.proofs.Sound.{inner_sound}
 use Rattle.event_meaning.specs.Blocks.{heading_atx_of, heading_setext_of}
 use Rattle.event_meaning.specs.Texts.{text_within}
-use Rattle.text_slugs.specs.Slugs.{HasSlugs}
-use Rattle.text_slugs.specs.declared.slugs.Slugs.{Slugs}
 use Rattle.markdown_outline.specs.Listed.{BeginsSound, HasHeadings, IsListed, Listed, begins_heading, headings_from, listed_at, outline_of}
 use Rattle.markdown_outline.specs.Rank.{page_heading, said_by}
 use Rattle.markdown_outline.specs.Said.{text_says}
@@ -83,15 +81,13 @@ module _ (bytes : List ℕ) (enter : Event) (after : List Event) (b : BeginsSoun
 
 module _ (names : Names) (bytes : List ℕ) (events : List Event) where
   -- the headings before an index, and those after it, are all; the slugs of those before are taken
-  pub record HasFront {A : Type 0} (slugs : Slugs A) (texts : List ℕ) (headings : List Heading) (i : ℕ) : Type 0 where
-    pub taken : List (List ℕ)
+  pub record HasFront (slugs : List (List ℕ)) (texts : List ℕ) (headings : List Heading) (i : ℕ) : Type 0 where
     pub done : List Listed
-    pub has_slugs : HasSlugs slugs taken
     pub has : HasHeadings texts headings done
-    pub all : done ++ headings_from names bytes taken i (drop i events) ≡ outline_of names bytes events
+    pub all : done ++ headings_from names bytes slugs i (drop i events) ≡ outline_of names bytes events
     pub begun : AllBegin bytes (drop i events)
 
-  pub no_front : {A : Type 0} (slugs : Slugs A) (texts : List ℕ) (headings : List Heading) → HasSlugs slugs [] → texts ≡ []
+  pub no_front : (slugs : List (List ℕ)) (texts : List ℕ) (headings : List Heading) → slugs ≡ [] → texts ≡ []
       → headings ≡ [] → AllBegin bytes events → HasFront slugs texts headings 0
   no_front slugs texts headings h empty none b =
       let nothing : HasHeadings texts [] [] =
@@ -103,15 +99,13 @@ module _ (names : Names) (bytes : List ℕ) (events : List Event) where
         utf8 = λ k d l. absurd (omega (arith, l));
       } in
       record {
-        taken = [];
         done = [];
-        has_slugs = h;
         has = subst (λ (hs : List Heading). HasHeadings texts hs []) (sym none) nothing;
-        all = refl;
+        all = ap (λ (taken : List (List ℕ)). headings_from names bytes taken 0 (drop 0 events)) h;
         begun = b;
       }
 
-  module _ {A : Type 0} (slugs : Slugs A) (texts : List ℕ) (headings : List Heading) (i : ℕ) (d : Event) (before : i < length events)
+  module _ (slugs : List (List ℕ)) (texts : List ℕ) (headings : List Heading) (i : ℕ) (d : Event) (before : i < length events)
       (h : HasFront slugs texts headings i) where
     abbrev left : List Event
     left = drop (i + 1) events
@@ -123,17 +117,15 @@ module _ (names : Names) (bytes : List ℕ) (events : List Event) where
     pub front_same : begins_heading (get_or events i d).kind (get_or events i d).name ≡ false → HasFront slugs texts headings (i + 1)
     front_same other =
         let e = get_or events i d in
-        let one = listed_at names bytes h.taken i e left in
-        let others = headings_from names bytes h.taken (i + 1) left in
-        let more = one ∷ headings_from names bytes (h.taken ++ one.slug ∷ []) (i + 1) left in
+        let one = listed_at names bytes slugs i e left in
+        let others = headings_from names bytes slugs (i + 1) left in
+        let more = one ∷ headings_from names bytes (slugs ++ one.slug ∷ []) (i + 1) left in
         record {
-          taken = h.taken;
           done = h.done;
-          has_slugs = h.has_slugs;
           has = h.has;
           all =
               ap (λ (ls : List Listed). h.done ++ ls)
-              (sym (ap (headings_from names bytes h.taken i) next ∙ cond-false (begins_heading e.kind e.name) more others other))
+              (sym (ap (headings_from names bytes slugs i) next ∙ cond-false (begins_heading e.kind e.name) more others other))
               ∙ h.all;
           begun = (subst (AllBegin bytes) next h.begun).1;
         }
@@ -146,36 +138,36 @@ module _ (names : Names) (bytes : List ℕ) (events : List Event) where
           subst (BeginsSound bytes e) (sym rest) ((subst (AllBegin bytes) next h.begun).0 (heading_enters e.kind e.name is))
 
       -- it begins a heading, which is listed
-      pub front_more : (new_slugs : Slugs A) (new_texts : List ℕ) (all : List Heading) (heading : Heading)
+      pub front_more : (new_slugs : List (List ℕ)) (new_texts : List ℕ) (all : List Heading) (heading : Heading)
           → begins_heading (get_or events i d).kind (get_or events i d).name ≡ true
-          → HasSlugs new_slugs (h.taken ++ (listed_at names bytes h.taken i (get_or events i d) after).slug ∷ [])
-          → IsListed texts new_texts heading (listed_at names bytes h.taken i (get_or events i d) after)
+          → new_slugs ≡ slugs ++ (listed_at names bytes slugs i (get_or events i d) after).slug ∷ []
+          → IsListed texts new_texts heading (listed_at names bytes slugs i (get_or events i d) after)
           → all ≡ headings ++ heading ∷ [] → HasFront new_slugs new_texts all (i + 1)
-      front_more new_slugs new_texts all heading is has_slugs listed items =
+      front_more new_slugs new_texts all heading is taken listed items =
           let e = get_or events i d in
-          let one = listed_at names bytes h.taken i e left in
-          let others = headings_from names bytes h.taken (i + 1) left in
-          let more = headings_from names bytes (h.taken ++ one.slug ∷ []) (i + 1) left in
+          let one = listed_at names bytes slugs i e left in
+          let others = headings_from names bytes slugs (i + 1) left in
+          let more = headings_from names bytes (slugs ++ one.slug ∷ []) (i + 1) left in
           record {
-            taken = h.taken ++ one.slug ∷ [];
             done = h.done ++ one ∷ [];
-            has_slugs = subst (λ (es : List Event). HasSlugs new_slugs (h.taken ++ (listed_at names bytes h.taken i e es).slug ∷ [])) rest has_slugs;
             has =
                 subst (λ (hs : List Heading). HasHeadings new_texts hs (h.done ++ one ∷ [])) (sym items)
                 (headings_more texts new_texts headings h.done heading one h.has
-                (subst (λ (es : List Event). IsListed texts new_texts heading (listed_at names bytes h.taken i e es)) rest listed));
+                (subst (λ (es : List Event). IsListed texts new_texts heading (listed_at names bytes slugs i e es)) rest listed));
             all =
-                append_assoc h.done (one ∷ []) more
+                ap (λ (slugs : List (List ℕ)). (h.done ++ one ∷ []) ++ headings_from names bytes slugs (i + 1) left)
+                (taken ∙ ap (λ (es : List Event). slugs ++ (listed_at names bytes slugs i e es).slug ∷ []) rest)
+                ∙ append_assoc h.done (one ∷ []) more
                 ∙ ap (λ (ls : List Listed). h.done ++ ls)
-                (sym (ap (headings_from names bytes h.taken i) next ∙ cond-true (begins_heading e.kind e.name) (one ∷ more) others is))
+                (sym (ap (headings_from names bytes slugs i) next ∙ cond-true (begins_heading e.kind e.name) (one ∷ more) others is))
                 ∙ h.all;
             begun = (subst (AllBegin bytes) next h.begun).1;
           }
 
   -- no event is left
-  pub all_headings : {A : Type 0} (slugs : Slugs A) (texts : List ℕ) (headings : List Heading) (i : ℕ) → length events ≤ i
+  pub all_headings : (slugs : List (List ℕ)) (texts : List ℕ) (headings : List Heading) (i : ℕ) → length events ≤ i
       → HasFront slugs texts headings i → HasHeadings texts headings (outline_of names bytes events)
   all_headings slugs texts headings i end h =
       let all : h.done ≡ outline_of names bytes events =
-      sym (append-nil h.done) ∙ ap (λ (ls : List Listed). h.done ++ ls) (sym (ap (headings_from names bytes h.taken i) (drop_all i events end))) ∙ h.all in
+      sym (append-nil h.done) ∙ ap (λ (ls : List Listed). h.done ++ ls) (sym (ap (headings_from names bytes slugs i) (drop_all i events end))) ∙ h.all in
       subst (HasHeadings texts headings) all h.has

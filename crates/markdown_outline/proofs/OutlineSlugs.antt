@@ -4,9 +4,9 @@ use Rattle.std.specs.List.{fold}
 use Rattle.std.proofs.lemmas.List.{append-nil}
 use Rattle.definition_inline.specs.CharacterReference.{Names}
 use Rattle.engine_events.specs.declared.event.Event.{Event}
-use Rattle.text_slugs.specs.Slugs.{with_slug}
+use Rattle.definition_page.specs.Slug.{next_slug, with_slug}
 use Rattle.markdown_outline.specs.Laws.{OutlineSlugsLaw}
-use Rattle.markdown_outline.specs.Listed.{Listed, begins_heading, headings_from, listed_at, next_slug}
+use Rattle.markdown_outline.specs.Listed.{Listed, begins_heading, headings_from, listed_at}
 
 abbrev texts_in : List Listed → List (List ℕ)
 texts_in hs = map (λ (h : Listed). h.text) hs

@@ -4,7 +4,7 @@ use Rattle.definition_inline.specs.CharacterReference.{Names}
 use Rattle.engine_events.specs.declared.event.Event.{Event}
 use Rattle.event_check.specs.Matches.{MatchesGrammar}
 use Rattle.event_meaning.specs.Spelled.{spelled}
-use Rattle.text_slugs.specs.Slugs.{slugs_of}
+use Rattle.definition_page.specs.Slug.{slugs_of}
 use Rattle.markdown_outline.specs.Listed.{Listed, outline_of}
 use Rattle.markdown_outline.specs.PageHeadings.{PageHeading, headings_in}
 

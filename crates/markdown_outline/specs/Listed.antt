@@ -10,11 +10,10 @@ use Rattle.engine_events.specs.declared.event.Name.{Name}
 use Rattle.engine_events.specs.declared.place.Point.{Point}
 use Rattle.definition_inline.specs.CharacterReference.{Names}
 use Rattle.definition_page.specs.Page.{PageLeaf}
+use Rattle.definition_page.specs.Slug.{next_slug}
 use Rattle.event_grammar.specs.Trees.{Nodes, Around, events_of, tree}
 use Rattle.compile_raw.specs.Sound.{IsSound}
 use Rattle.compile_levels.specs.Siblings.{size_inside, inside, first_or}
-use Rattle.text_slugs.specs.Slug.{slug_of}
-use Rattle.text_slugs.specs.Slugs.{first_free}
 use Rattle.markdown_outline.specs.Rank.{is_heading, page_heading, rank_of, said_by}
 use Rattle.markdown_outline.specs.declared.heading.Heading.{Heading}
 use Rattle.markdown_outline.specs.declared.heading.Range.{Range}
@@ -32,10 +31,6 @@ pub record Listed : Type 0 where
 abbrev pub begins_heading : Kind → Name → Bool
 begins_heading Enter name = is_heading name
 begins_heading Exit name = false
-
--- the slug of a text, where these are taken
-abbrev pub next_slug : List (List ℕ) → List ℕ → List ℕ
-next_slug taken text = first_free taken (slug_of text)
 
 -- where an event ends, by the events after its enter
 abbrev pub end_of : Event → List Event → Point

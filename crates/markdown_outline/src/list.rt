@@ -8,8 +8,8 @@ ghost use Rattle.inline_labels.specs.Table.{HasLabels};
 ghost use Rattle.compile_levels.specs.Siblings.{first_or};
 ghost use Rattle.compile_raw.specs.Sound.{AreSound};
 ghost use Rattle.compile_strings.specs.Columns.{AreCounted};
-ghost use Rattle.text_slugs.specs.Slugs.{HasSlugs};
-ghost use Rattle.markdown_outline.specs.Listed.{AreStored, BeginsSound, HasHeadings, IsListed, begins_heading, listed_at, next_slug, outline_of};
+ghost use Rattle.definition_page.specs.Slug.{next_slug, with_slug};
+ghost use Rattle.markdown_outline.specs.Listed.{AreStored, BeginsSound, HasHeadings, IsListed, begins_heading, listed_at, outline_of};
 ghost use Rattle.markdown_outline.specs.Said.{text_says};
 
 use crate::heading::{Heading, Outline, Range};
@@ -98,7 +98,7 @@ impl<A: Allocator + Clone> Reader<A> {
     /// No heading was read.
     fn new(alloc: A) -> Result<Reader<A>, AllocError>
         ensures texts { IfOk result (λ reader. string_bytes reader.texts ≡ []) }
-        ensures slugs { IfOk result (λ reader. HasSlugs reader.slugs []) }
+        ensures slugs { IfOk result (λ reader. reader.slugs ≡ []) }
         ensures counted { (bytes : List ℕ) → IfOk result (λ reader. AreCounted bytes reader.columns) }
     {
         Ok(Reader {
@@ -121,13 +121,13 @@ impl<A: Allocator + Clone> Reader<A> {
     ) -> Result<Heading, AllocError>
         requires { AreCounted source.now.bytes.now self.old.columns }
         ensures counted { AreCounted source.now.bytes.now self.new.columns }
-        ensures slugs { (taken : List (List ℕ)) → let names = T.reference_of source.now.tables.now in let bytes = source.now.bytes.now in
-            source.now.linked ≡ false → HasLabels source.now.definitions.now [] → BeginsSound bytes enter.now after.now → HasSlugs self.old.slugs taken →
-            OnOk result (HasSlugs self.new.slugs (taken ++ (listed_at names bytes taken index enter.now after.now).slug ∷ [])) }
-        ensures listed { (taken : List (List ℕ)) → let names = T.reference_of source.now.tables.now in let bytes = source.now.bytes.now in
-            source.now.linked ≡ false → HasLabels source.now.definitions.now [] → BeginsSound bytes enter.now after.now → HasSlugs self.old.slugs taken →
+        ensures slugs { let names = T.reference_of source.now.tables.now in let bytes = source.now.bytes.now in
+            source.now.linked ≡ false → HasLabels source.now.definitions.now [] → BeginsSound bytes enter.now after.now →
+            OnOk result (self.new.slugs ≡ self.old.slugs ++ (listed_at names bytes self.old.slugs index enter.now after.now).slug ∷ []) }
+        ensures listed { let names = T.reference_of source.now.tables.now in let bytes = source.now.bytes.now in
+            source.now.linked ≡ false → HasLabels source.now.definitions.now [] → BeginsSound bytes enter.now after.now →
             IfOk result (λ heading. IsListed (string_bytes self.old.texts) (string_bytes self.new.texts) heading
-            (listed_at names bytes taken index enter.now after.now)) }
+            (listed_at names bytes self.old.slugs index enter.now after.now)) }
     {
         let (node, _) = node_after(enter, after);
         self.say(source, node.inside)?;
@@ -170,11 +170,9 @@ impl<A: Allocator + Clone> Reader<A> {
     /// Stores the text of the last heading, and its slug after it.
     fn store(&mut self) -> Result<(Range, Range), AllocError>
         ensures columns { self.new.columns ≡ self.old.columns }
-        ensures slugs { (taken : List (List ℕ)) → HasSlugs self.old.slugs taken →
-            OnOk result (HasSlugs self.new.slugs (taken ++ next_slug taken (string_bytes self.old.text) ∷ [])) }
-        ensures stored { (taken : List (List ℕ)) → HasSlugs self.old.slugs taken →
-            IfOk result (λ ranges. AreStored (string_bytes self.old.texts) (string_bytes self.new.texts) (string_bytes self.old.text)
-            (next_slug taken (string_bytes self.old.text)) ranges.0 ranges.1) }
+        ensures slugs { OnOk result (self.new.slugs ≡ with_slug self.old.slugs (string_bytes self.old.text)) }
+        ensures stored { IfOk result (λ ranges. AreStored (string_bytes self.old.texts) (string_bytes self.new.texts) (string_bytes self.old.text)
+            (next_slug self.old.slugs (string_bytes self.old.text)) ranges.0 ranges.1) }
     {
         let start = self.texts.len();
         self.texts.push_str(self.text.as_str())?;

@@ -39,8 +39,8 @@ loop-index-preserved g c =
             let begun = front_begun names bytes events old.slugs (string_bytes old.texts) headings i _ before h _ rest is in
             let labels = c.in_ok-definitions.ensures in
             let more = front_more names bytes events old.slugs (string_bytes old.texts) headings i _ before h _ rest w.read.new.self.slugs
-            (string_bytes w.read.new.self.texts) w.push.new.self.items _ is (w.in_ok-heading.ensures.slugs h.taken refl labels begun h.has_slugs)
-            (w.in_ok-heading.ensures.listed h.taken refl labels begun h.has_slugs) w.in_ok-push.ensures.items in
+            (string_bytes w.read.new.self.texts) w.push.new.self.items _ is (w.in_ok-heading.ensures.slugs refl labels begun)
+            (w.in_ok-heading.ensures.listed refl labels begun) w.in_ok-push.ensures.items in
             subst (λ reader. HasFront names bytes events reader.slugs (string_bytes reader.texts) c.if-begins_heading.headings.items (i + 1)) (sym w.reader-is)
             (subst (λ all. HasFront names bytes events w.read.new.self.slugs (string_bytes w.read.new.self.texts) all.items (i + 1)) (sym w.headings-is) more),
       )

@@ -1,4 +1,4 @@
-use Rattle.std.proofs.Common.{◌≡◌, OnOk, string_bytes, ◌++◌, ap, subst, ◌∙◌}
+use Rattle.std.proofs.Common.{◌≡◌, OnOk, ◌++◌, ap, subst, ◌∙◌}
 use Rattle.html_contents.proofs.Prelude.{content_view, context_of, document, fold, found_rows, inlines, inlines_from, lay, linked_at, linked_by, output_view}
 use Rattle.html_contents.proofs.Prelude.{place_target, reading_of, rows_view, structure_pieces, text_tables}
 use Rattle.definition_inline.specs.Targets.{leads_to}
