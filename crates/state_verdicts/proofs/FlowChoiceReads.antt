@@ -1,6 +1,6 @@
 -- Flow attempts the blocks that may begin with the byte at hand, in order.
-use Rattle.std.proofs.Common.{◌≡◌, ◌∙◌, ℕ, Bool, true, false, ◌==◌, ◌||◌, if◌then◌else◌, List, [], ◌∷◌, Some, inl, inr, refl, sym, ap, subst}
-use Rattle.state_verdicts.proofs.BlockPrelude.{cases_Bool, Config, Context, eqb-true, Flows, GoesOn, is_space_or_tab, next, or_from, or_parts, plain, retry, run}
+use Rattle.std.proofs.Common.{◌≡◌, ℕ, true, false, ◌==◌, ◌||◌, List, [], ◌∷◌, Some, inl, inr, refl, sym, subst}
+use Rattle.state_verdicts.proofs.BlockPrelude.{cases_Bool, Config, Context, eqb-true, Flows, is_space_or_tab, next, or_from, or_parts, plain, retry, run}
 use Rattle.state_verdicts.proofs.BlockPrelude.{Text, tries}
 use Rattle.engine_states.specs.declared.state.Block.{Block as BlockName}
 use Rattle.engine_states.specs.declared.state.Block.TheVariants as state_block

@@ -1,9 +1,9 @@
 -- The lines of frontmatter, one after another, up to its closing fence.
-use Rattle.std.proofs.Common.{◌≡◌, ◌∙◌, ℕ, zero, suc, ◌+◌, ◌^◌, ◌<◌, ◌≤◌, Bool, true, false, not, ◌==◌, ◌&&◌, if◌then◌else◌, List, [], ◌∷◌, ◌++◌, drop, length}
+use Rattle.std.proofs.Common.{◌≡◌, ◌∙◌, ℕ, zero, suc, ◌^◌, ◌<◌, Bool, true, false, not, ◌==◌, if◌then◌else◌, List, [], ◌∷◌, ◌++◌, drop, length}
 use Rattle.std.proofs.Common.{Option, Some, None, inl, inr, refl, sym, ap, subst, arith, append_assoc, append-nil}
 use Rattle.state_verdicts.proofs.BlockPrelude.{after_line, as_byte, AtHand, byte, byte_of, cases_Bool, Config, Context, eqb-true, event, Event, feed, has}
 use Rattle.state_verdicts.proofs.BlockPrelude.{is_eol, is_feed, is_inner, KeptState, line_of, LineEnds, Name, nothing, past_byte, plain, Point, prefix_len, run, Sees}
-use Rattle.state_verdicts.proofs.BlockPrelude.{SkipsOnce, State, tab, Text, text_byte, tries, with_enter, with_exit}
+use Rattle.state_verdicts.proofs.BlockPrelude.{SkipsOnce, tab, Text, text_byte, tries, with_enter, with_exit}
 use Rattle.definition_block.specs.Frontmatter.{after_metadata_fence, is_metadata_fence}
 use Rattle.definition_text.specs.Lines.{TextLine, in_first_line, text_line}
 use Rattle.engine_events.specs.declared.event.Kind.TheVariants.{Enter, Exit}

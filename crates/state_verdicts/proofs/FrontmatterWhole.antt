@@ -1,7 +1,7 @@
 -- An attempt at frontmatter reads all of its lines where the definition has it, and fails elsewhere.
 use Rattle.std.proofs.Common.{◌≡◌, ◌∙◌, ℕ, ◌^◌, ◌<◌, Bool, true, false, not, ◌==◌, ◌&&◌, if◌then◌else◌, List, [], ◌∷◌, ◌++◌, drop, length, Option, Some, None, refl, sym}
 use Rattle.std.proofs.Common.{ap, subst, arith, append_assoc}
-use Rattle.state_verdicts.proofs.BlockPrelude.{after_line, as_byte, AtHand, byte, byte_of, Config, Context, eqb-true, event, Event, feed, has, is_inner, KeptState}
+use Rattle.state_verdicts.proofs.BlockPrelude.{after_line, as_byte, byte, byte_of, Config, Context, eqb-true, event, Event, has, is_inner, KeptState}
 use Rattle.state_verdicts.proofs.BlockPrelude.{line_of, LineEnds, Name, nothing, plain, Point, run, Sees, SkipsOnce, State, tab, Text, text_byte}
 use Rattle.state_verdicts.proofs.BlockPrelude.{with_exit}
 use Rattle.definition_block.specs.Frontmatter.{after_frontmatter, after_metadata_fence, is_metadata_fence}

@@ -1,5 +1,5 @@
 -- A text attempts the constructs that may begin with the byte at hand, in order.
-use Rattle.std.proofs.Common.{◌≡◌, ℕ, Bool, true, false, ◌==◌, ◌||◌, List, [], ◌∷◌, Option, Some, inl, inr, refl, sym, subst}
+use Rattle.std.proofs.Common.{◌≡◌, ℕ, Bool, true, false, ◌==◌, List, [], ◌∷◌, Option, Some, inl, inr, refl, sym, subst}
 use Rattle.state_verdicts.proofs.Prelude.{cases_Bool, Config, Context, eqb-true, Inlines, plain, run, Text, tries}
 use Rattle.engine_states.specs.declared.state.Inline.{Inline as InlineName}
 use Rattle.engine_states.specs.declared.state.Inline.TheVariants as state_inline

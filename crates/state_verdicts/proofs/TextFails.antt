@@ -1,11 +1,8 @@
 -- An attempt at a construct of a text fails at a byte with which the construct may not begin.
 use Rattle.std.proofs.Common.{◌≡◌, ℕ, Bool, true, false, ◌==◌, ◌||◌, List, Option, Some, refl}
-use Rattle.state_verdicts.proofs.Prelude.{Config, Context, Inlines, or_parts, plain, run, Text}
-use Rattle.engine_states.specs.declared.state.Inline.TheVariants as state_inline
-use Rattle.engine_states.specs.declared.state.Name.TheVariants.{Inline}
+use Rattle.state_verdicts.proofs.Prelude.{Config, Context, Inlines, or_parts, plain, run}
 use Rattle.engine_states.specs.declared.state.State.TheVariants as states
 use Rattle.state_inline.specs.Inlines.{bodies}
-use Rattle.state_verdicts.specs.Machines.{ReadsBy}
 use Rattle.state_verdicts.specs.TextChoices.{Attention, Autolink, Escape, Footnote, HardBreak, Html, Image, LabelEnd, Link, PartStart, Protocol, RawText}
 use Rattle.state_verdicts.specs.TextChoices.{Reference, TextFailsLaw, Www, begins, looks_at_byte, may_begin}
 use Rattle.state_verdicts.proofs.MachineTurns.{does, fails}
