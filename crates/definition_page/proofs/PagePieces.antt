@@ -171,7 +171,7 @@ module _ (good : Piece → Type 0) where
     address_good url text = element_good (address_tag m.compile url) (Says (Words text) ∷ []) (no_id_in_address m.compile url) (prints.said (Words text), tt)
 
     leaf_good : (part : InlineLeaf) → PiecesGood (leaf_pieces m.compile part)
-    leaf_good (RawHtml html) = says_good (html_says m.compile html)
+    leaf_good (RawHtml html) = says_good (html_says false m.compile html)
     leaf_good (Autolink is_email text) = address_good (address is_email text) text
     leaf_good (Literal kind text) = address_good (literal_address kind text) text
     leaf_good (TaskCheck done) = (prints.voids (check_tag m.compile done) (no_id_in_check m.compile done), tt)

@@ -35,7 +35,7 @@ code_line line = Words (map code_byte line.codes) ∷ Words (ending_text line.en
 
 -- a line of HTML with its ending; the columns that are left of a tab aren't printed
 abbrev pub html_line : CompileOptions → BlockLine → List PrintedPart
-html_line options line = raw_html options (bytes_of line.codes) ∷ Words (ending_text line.ending) ∷ []
+html_line options line = raw_html false options (bytes_of line.codes) ∷ Words (ending_text line.ending) ∷ []
 
 abbrev pub says : List PrintedPart → List Piece
 says parts = map Says parts

@@ -1,7 +1,8 @@
 -- What the inline structure of a content prints (CommonMark 6).
-use Rattle.std.specs.Prelude.{ℕ, Bool, true, false, if◌then◌else◌, ◌||◌, List, [], ◌∷◌, ◌++◌, Option, None, Some, String, string_bytes, codes, map}
+use Rattle.std.specs.Prelude.{ℕ, Bool, true, false, if◌then◌else◌, ◌&&◌, ◌||◌, not, List, [], ◌∷◌, ◌++◌, Option, None, Some, String, string_bytes, codes, map}
 use Rattle.std.specs.List.{flat_map}
 use Rattle.markdown_options.specs.declared.configuration.Constructs.{Constructs}
+use Rattle.markdown_compile_options.specs.RawHtml.{keeps_listed_html}
 use Rattle.markdown_compile_options.specs.declared.configuration.CompileOptions.{CompileOptions}
 use Rattle.definition_text.specs.Columns.{Code as ContentCode, bytes_of, bare}
 use Rattle.definition_text.specs.Content.{is_eol}
@@ -16,7 +17,7 @@ use Rattle.definition_page.specs.GfmTagfilter.{filter_if}
 use Rattle.definition_page.specs.GfmTaskListItem.{check_tag}
 use Rattle.definition_page.specs.Destinations.{link_destination, image_source}
 use Rattle.definition_page.specs.Urls.{percent, sanitize, permits, href_protocols, src_protocols}
-use Rattle.definition_page.specs.Tags.{PrintedPart, Words, AsItIs, EndOfLine, Attribute, attribute, Tag, tag, bare_tag}
+use Rattle.definition_page.specs.Tags.{PrintedPart, Words, AsItIs, Marked, EndOfLine, Attribute, attribute, Tag, tag, bare_tag}
 use Rattle.definition_page.specs.Pieces.{Piece, Open, Close, Void, Says, CallOf, CountOf}
 
 -- what is printed by: the constructs that are on, the options, the texts of named characters, what the definition of a label leads to, and the labels of the
@@ -30,9 +31,12 @@ pub record Meaning : Type 0 where
 
 -- ---- raw HTML
 
--- raw HTML is printed as it is where that is allowed, and otherwise as text
-abbrev pub raw_html : CompileOptions → List ℕ → PrintedPart
-raw_html options html = if options.allow_dangerous_html then AsItIs (filter_if options html) else Words html
+-- raw HTML, in the description of an image or not: it is kept by the list where that is allowed, though not in a description; printed as it is where that is
+-- allowed; and otherwise as text
+abbrev pub raw_html : Bool → CompileOptions → List ℕ → PrintedPart
+raw_html described options html =
+    if keeps_listed_html options && not described then Marked html
+    else (if options.allow_dangerous_html then AsItIs (filter_if options html) else Words html)
 
 -- the lines of raw HTML by its codes, each with the code of its ending
 pub record HtmlLine : Type 0 where
@@ -51,19 +55,20 @@ html_lines [] = []
 html_lines (c ∷ cs) = if is_eol c then html_text_line [] (c ∷ []) ∷ html_lines cs else in_first_line c (html_lines cs)
 
 -- a line, and its ending as it is
-abbrev pub html_line_says : CompileOptions → List ContentCode → List ContentCode → List PrintedPart
-html_line_says options line ending = raw_html options (bytes_of line) ∷ map EndOfLine ending
+abbrev pub html_line_says : Bool → CompileOptions → List ContentCode → List ContentCode → List PrintedPart
+html_line_says described options line ending = raw_html described options (bytes_of line) ∷ map EndOfLine ending
 
 -- a later line, without the spaces and tabs at its start (CommonMark 6.6)
-abbrev pub later_line_says : CompileOptions → HtmlLine → List PrintedPart
-later_line_says options l = html_line_says options (bare l.line) l.ending
+abbrev pub later_line_says : Bool → CompileOptions → HtmlLine → List PrintedPart
+later_line_says described options l = html_line_says described options (bare l.line) l.ending
 
-abbrev pub html_lines_say : CompileOptions → List HtmlLine → List PrintedPart
-html_lines_say options [] = []
-html_lines_say options (first ∷ others) = html_line_says options first.line first.ending ++ flat_map (later_line_says options) others
+abbrev pub html_lines_say : Bool → CompileOptions → List HtmlLine → List PrintedPart
+html_lines_say described options [] = []
+html_lines_say described options (first ∷ others) =
+    html_line_says described options first.line first.ending ++ flat_map (later_line_says described options) others
 
-abbrev pub html_says : CompileOptions → List ContentCode → List PrintedPart
-html_says options html = html_lines_say options (html_lines html)
+abbrev pub html_says : Bool → CompileOptions → List ContentCode → List PrintedPart
+html_says described options html = html_lines_say described options (html_lines html)
 
 -- ---- links
 
@@ -140,7 +145,7 @@ leaf_says options (Code text) = Words text ∷ []
 leaf_says options (Math text) = Words text ∷ []
 leaf_says options (Autolink is_email text) = Words text ∷ []
 leaf_says options (Literal kind text) = Words text ∷ []
-leaf_says options (Html html) = html_says options html
+leaf_says options (Html html) = html_says true options html
 leaf_says options EscapedBreak = []
 leaf_says options TrailingBreak = []
 leaf_says options (LineEnd code) = EndOfLine code ∷ []
@@ -160,6 +165,7 @@ leaf_pieces options (Code text) = element (bare_tag (codes "code")) (Says (Words
 leaf_pieces options (Math text) = element math_tag (Says (Words text) ∷ [])
 leaf_pieces options (Autolink is_email text) = element (address_tag options (address is_email text)) (Says (Words text) ∷ [])
 leaf_pieces options (Literal kind text) = element (address_tag options (literal_address kind text)) (Says (Words text) ∷ [])
+leaf_pieces options (Html html) = map Says (html_says false options html)
 leaf_pieces options EscapedBreak = Void (bare_tag (codes "br")) ∷ []
 leaf_pieces options TrailingBreak = Void (bare_tag (codes "br")) ∷ []
 leaf_pieces options (TaskCheck done) = Void (check_tag options done) ∷ []

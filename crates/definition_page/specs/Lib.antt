@@ -18,4 +18,4 @@ pub mod GfmLabelStartFootnote
 pub mod HeadingIds
 pub mod GfmFootnoteDefinition
 pub mod Layout
-pub mod Html
+pub mod PrintedPage

@@ -6,16 +6,24 @@ use Rattle.definition_text.specs.Columns.{Code}
 use Rattle.definition_text.specs.Encode.{encode, plain}
 use Rattle.definition_inline.specs.Strings.{eol_bytes}
 
--- a part of what is printed: text, in which the four bytes of HTML are references; HTML as it is; the code of a line ending; or a number
+-- a part of what is printed: text, in which the four bytes of HTML are references; HTML as it is; HTML that is kept by the list; the code of a line ending; or a
+-- number
 pub data PrintedPart : Type 0 where
   Words : List ℕ → PrintedPart
   AsItIs : List ℕ → PrintedPart
+  Marked : List ℕ → PrintedPart
   EndOfLine : Code → PrintedPart
   Number : ℕ → PrintedPart
+
+-- HTML that is kept by the list is printed as text in an element without a name, of which `listed` makes tags; where there is none, nothing
+abbrev pub marked : List ℕ → List ℕ
+marked [] = []
+marked (b ∷ bs) = codes "<>" ++ encode (b ∷ bs) ++ codes "</>"
 
 abbrev pub said_bytes : PrintedPart → List ℕ
 said_bytes (Words text) = encode text
 said_bytes (AsItIs html) = plain html
+said_bytes (Marked html) = marked html
 said_bytes (EndOfLine code) = eol_bytes code
 said_bytes (Number n) = decimal n
 

@@ -15,6 +15,7 @@ use Rattle.definition_page.specs.BlockPieces.{document_pieces}
 use Rattle.definition_page.specs.InlinePieces.{Meaning}
 use Rattle.definition_page.specs.Layout.{page_layout}
 use Rattle.definition_page.specs.Page as page
+use Rattle.definition_html.specs.Listed.{with_listed}
 use Rattle.event_grammar.specs.InGrammar.{node_name, kids_of}
 use Rattle.event_grammar.specs.References.{named}
 use Rattle.event_grammar.specs.Trees.{Node, Nodes, Nil, Cons, tree}
@@ -74,8 +75,17 @@ meaning_of names options p =
 abbrev pub default_ending : CompileOptions → List ℕ → List ℕ
 default_ending options bytes = ending_bytes (unwrap_or (first_line (without_mark bytes)).ending options.default_line_ending)
 
+-- a page as it is printed, with raw HTML that is kept by the list as text in elements without a name
+abbrev pub printed_page : Names → CompileOptions → List ℕ → page.Page → List ℕ
+printed_page names options bytes p = page_layout options (default_ending options bytes) (document_pieces (meaning_of names options p) p)
+
+-- the page of the nodes of a text as it is printed
+abbrev pub page_of_nodes : Names → CompileOptions → List ℕ → Nodes → List ℕ
+page_of_nodes names options bytes nodes = printed_page names options bytes (page_of names bytes nodes)
+
+-- its HTML, with its raw HTML by the list where the options keep it
 abbrev pub page_html : Names → CompileOptions → List ℕ → page.Page → List ℕ
-page_html names options bytes p = page_layout options (default_ending options bytes) (document_pieces (meaning_of names options p) p)
+page_html names options bytes p = with_listed names options (printed_page names options bytes p)
 
 -- the HTML of the nodes of a text
 abbrev pub html_of_nodes : Names → CompileOptions → List ℕ → Nodes → List ℕ

@@ -4,7 +4,7 @@ use Rattle.std.proofs.Common.{refl}
 use Rattle.markdown_compile_options.specs.declared.configuration.Options.{Options}
 use Rattle.markdown_options.specs.Defaults.{no_constructs, default_parse_options}
 use Rattle.markdown_compile_options.specs.Defaults.{default_options}
-use Rattle.definition_page.specs.Html.{html}
+use Rattle.markdown_definition.specs.Html.{html}
 use Rattle.examples_block.proofs.SmallTables.{small}
 
 abbrev on : Options

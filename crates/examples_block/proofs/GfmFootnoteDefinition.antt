@@ -9,7 +9,7 @@ use Rattle.caseless.proofs.Computing.{caseless}
 use Rattle.markdown_compile_options.specs.declared.configuration.Options.{Options}
 use Rattle.markdown_options.specs.Defaults.{default_constructs, default_parse_options}
 use Rattle.markdown_compile_options.specs.Defaults.{default_options}
-use Rattle.definition_page.specs.Html.{html}
+use Rattle.markdown_definition.specs.Html.{html}
 use Rattle.definition_page.specs.Urls.{href_protocols, src_protocols}
 use Rattle.examples_block.proofs.SmallTables.{small}
 

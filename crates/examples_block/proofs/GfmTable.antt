@@ -7,7 +7,7 @@ use Rattle.definition_block.specs.GfmTable.{cell, cells, delimiters}
 use Rattle.markdown_compile_options.specs.declared.configuration.Options.{Options}
 use Rattle.markdown_options.specs.Defaults.{default_constructs, default_parse_options}
 use Rattle.markdown_compile_options.specs.Defaults.{default_options}
-use Rattle.definition_page.specs.Html.{html}
+use Rattle.markdown_definition.specs.Html.{html}
 use Rattle.examples_block.proofs.SmallTables.{small}
 
 cells_0 : cells Whitespace (codes "| a | b |") ≡ cell (codes " a ") Punctuation Punctuation ∷ cell (codes " b ") Punctuation Punctuation ∷ []

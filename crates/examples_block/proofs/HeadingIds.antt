@@ -11,7 +11,7 @@ use Rattle.ucd_perl.proofs.Computing.{ucd_perl}
 use Rattle.ucd_props.proofs.Computing.{ucd_props}
 use Rattle.markdown_compile_options.specs.declared.configuration.Options.{Options}
 use Rattle.markdown_compile_options.specs.Defaults.{default_compile_options, default_options, gfm_options}
-use Rattle.definition_page.specs.Html.{html}
+use Rattle.markdown_definition.specs.Html.{html}
 use Rattle.definition_page.specs.Urls.{href_protocols, src_protocols}
 use Rattle.examples_block.proofs.SmallTables.{small}
 

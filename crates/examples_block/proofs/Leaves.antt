@@ -10,7 +10,7 @@ use Rattle.markdown_options.specs.declared.beside.Kind.TheVariants.{Whitespace}
 use Rattle.definition_block.specs.Tree.{blocks}
 use Rattle.definition_block.specs.Blocks.{Blocks}
 use Rattle.definition_block.specs.Definitions.{definitions}
-use Rattle.definition_page.specs.Html.{html}
+use Rattle.markdown_definition.specs.Html.{html}
 use Rattle.examples_block.proofs.SmallTables.{small}
 
 -- all blocks of CommonMark

@@ -8,7 +8,7 @@ use Rattle.definition_inline.specs.Decoded.{decode}
 use Rattle.definition_page.specs.TextTables.{TextTables}
 use Rattle.definition_page.specs.GfmTagfilter.{filtered_names, filter_tags}
 use Rattle.definition_page.specs.Urls.{sanitize, sanitized_with}
-use Rattle.definition_page.specs.Html.{html}
+use Rattle.markdown_definition.specs.Html.{html}
 use Rattle.examples_inline.proofs.Computing.{pages}
 use Rattle.examples_inline.specs.Pages.{find_text, names_text}
 

@@ -18,7 +18,7 @@ use Rattle.definition_page.specs.Pieces.{print}
 use Rattle.definition_page.specs.InlinePieces.{inline_pieces}
 use Rattle.definition_page.specs.Read.{reading, context_of, read}
 use Rattle.definition_page.specs.DocumentPieces.{meaning_of}
-use Rattle.definition_page.specs.Html.{html}
+use Rattle.markdown_definition.specs.Html.{html}
 
 -- ---- tables
 

@@ -2,7 +2,7 @@
 use Rattle.std.specs.Prelude.{ℕ, if◌then◌else◌, List, [], ◌∷◌, Option, None, Some, codes}
 use Rattle.std.specs.Str.{bytes_eq}
 use Rattle.markdown_compile_options.specs.Defaults.{default_compile_options}
-use Rattle.html_listed.specs.Listed.{listed, sanitized}
+use Rattle.definition_html.specs.Listed.{listed, sanitized}
 
 -- the texts of some names of references
 abbrev pub names : List ℕ → Option (List ℕ)

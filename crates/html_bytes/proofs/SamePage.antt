@@ -13,7 +13,7 @@ use Rattle.definition_page.specs.BlockPieces.{at_top, children_pieces, fresh_unl
 use Rattle.definition_page.specs.DocumentPieces.{default_ending}
 use Rattle.definition_page.specs.Read.{on_page, read_blocks, ends_blank}
 use Rattle.definition_page.specs.HeadingIds.{with_ids}
-use Rattle.definition_page.specs.Html.{html}
+use Rattle.definition_page.specs.PrintedPage.{printed_page}
 use Rattle.html_bytes.specs.Document.{document}
 use Rattle.html_bytes.specs.Pieces as bytes
 use Rattle.html_bytes.specs.Layout as bytes_layout
@@ -36,7 +36,7 @@ page_same options default ps bs same =
 
 -- the HTML of a text, by the definition and in bytes
 pub html_is : (tables : TextTables) (text : List ℕ) (options : Options)
-    → html tables text options ≡ old.marked_html tables (kind_before_text text) (without_mark text) options
+    → printed_page tables text options ≡ old.marked_html tables (kind_before_text text) (without_mark text) options
 html_is tables text options =
     let default = default_ending options (without_mark text) in
     let bs = blocks options.parse.constructs (kind_before_text text) (without_mark text) in

@@ -16,10 +16,10 @@ use Rattle.html_safe_page.specs.Reader.{read_text}
 use Rattle.html_safe_page.proofs.Spelled.{is_word, is_worded_list, same_bytes}
 use Rattle.html_safe_page.proofs.Pages.{start_worded_by, void_worded_by}
 use Rattle.html_safe_page.proofs.Sound.{tag_append}
-use Rattle.html_listed.specs.Listing.{is_in, heading_names}
-use Rattle.html_listed.specs.Raw.{raw_parts}
-use Rattle.html_listed.specs.State.{State, level, state, nothing_open, begins_with_frame, says, with_room, entered, left_to, left, all_ended}
-use Rattle.html_listed.specs.Listed.{raw_part, page_part, listed}
+use Rattle.definition_html.specs.Listing.{is_in, heading_names}
+use Rattle.definition_html.specs.Raw.{raw_parts}
+use Rattle.definition_html.specs.State.{State, level, state, nothing_open, begins_with_frame, says, with_room, entered, left_to, left, all_ended}
+use Rattle.definition_html.specs.Listed.{raw_part, page_part, listed}
 use Rattle.html_listed.specs.ListedPage.{IsListedReading}
 use Rattle.html_listed.specs.MarkedPage.{is_nameless, are_letters, is_marked, IsMarkedPage}
 use Rattle.html_listed.specs.Mixed.{own_may_begin, tags_of, all_items}

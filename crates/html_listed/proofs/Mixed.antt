@@ -8,7 +8,7 @@ use Rattle.html_safe_page.specs.SafePage.{spell_letter, spell_text, Tag, spell_t
 use Rattle.html_safe_page.specs.Closed.{element, void as void_bytes}
 use Rattle.html_safe_page.proofs.Closing.{encode_spelled}
 use Rattle.html_safe_page.proofs.Inserted.{spelled_append}
-use Rattle.html_listed.specs.State.{Level, level, begins_with_frame}
+use Rattle.definition_html.specs.State.{Level, level, begins_with_frame}
 use Rattle.html_listed.specs.ListedPage.{is_listed_start, is_listed_void, is_start, is_void, have_tags}
 use Rattle.html_listed.specs.Mixed.{Mixed, Done, Char, OwnTag, OwnElement, RawTag, RawElement, all_items, own_items, own_may_begin, raw_may_begin, level_in, stand_in}
 

@@ -17,7 +17,7 @@ use Rattle.html_safe_page.proofs.Text.{by_kind, plain_other}
 use Rattle.html_safe_page.proofs.Spelled.{is_word_byte, starts_word, same_bytes}
 use Rattle.html_safe_page.proofs.Pages.{start_worded_by, void_worded_by}
 use Rattle.html_safe_page.proofs.Inserted.{spelled_append}
-use Rattle.html_listed.specs.PageParts.{Raw, is_in_text, is_in_tag, after_tag, after_element, raw_run, page_parts_after, page_parts}
+use Rattle.definition_html.specs.PageParts.{Raw, is_in_text, is_in_tag, after_tag, after_element, raw_run, page_parts_after, page_parts}
 use Rattle.html_listed.specs.Mixed.{tags_of}
 use Rattle.html_listed.specs.MarkedPage.{has_none, is_nameless, are_letters, is_marked}
 use Rattle.html_listed.proofs.PageParts.{passed, skipped, other_first, in_both, letter_in_text, tag_starts}

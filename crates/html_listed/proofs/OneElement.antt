@@ -11,9 +11,9 @@ use Rattle.html_safe_page.specs.SafePage.{spell_letter, spell_text}
 use Rattle.html_safe_page.specs.Reader.{read_text}
 use Rattle.html_safe_page.proofs.Text.{read_spelled}
 use Rattle.html_safe_page.proofs.Closing.{encode_spelled}
-use Rattle.html_listed.specs.State.{nothing_open, all_ended}
-use Rattle.html_listed.specs.PageParts.{Raw, is_in_text, after_tag, after_element, raw_run, page_parts}
-use Rattle.html_listed.specs.Listed.{page_part}
+use Rattle.definition_html.specs.State.{nothing_open, all_ended}
+use Rattle.definition_html.specs.PageParts.{Raw, is_in_text, after_tag, after_element, raw_run, page_parts}
+use Rattle.definition_html.specs.Listed.{page_part}
 use Rattle.html_listed.specs.Laws.{OneElementLaw}
 use Rattle.html_listed.proofs.PageParts.{taken, passed, in_both, letter_in_text}
 use Rattle.html_listed.proofs.Nameless.{run_of, run_part}

@@ -4,9 +4,9 @@ use Rattle.std.proofs.Common.{append-nil}
 use Rattle.definition_text.specs.Encode.{encode}
 use Rattle.definition_page.specs.Tags.{end_tag}
 use Rattle.html_listed.specs.ListedPage.{is_listed_start, is_listed_void}
-use Rattle.html_listed.specs.Raw.{RawPart, Text, Begin, Empty, End, Single}
+use Rattle.definition_html.specs.Raw.{RawPart, Text, Begin, Empty, End, Single}
 use Rattle.html_listed.specs.Standing.{may_begin}
-use Rattle.html_listed.specs.State.{State, state, says, ended_of, all_ended}
+use Rattle.definition_html.specs.State.{State, state, says, ended_of, all_ended}
 use Rattle.html_listed.proofs.Tags.{IsTagWith}
 
 pub says_twice : (s : State) (a b : List ℕ) → says b (says a s) ≡ says (a ++ b) s

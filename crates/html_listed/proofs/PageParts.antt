@@ -14,8 +14,8 @@ use Rattle.html_safe_page.specs.SafePage.{spell_kind, spell_letter, spell_text, 
 use Rattle.html_safe_page.proofs.Text.{by_kind, plain_other, spell_text-append}
 use Rattle.html_safe_page.proofs.Spelled.{is_word_byte, is_word, word_bytes, starts_word, is_worded_list, is_worded, bytes_same, same_bytes}
 use Rattle.html_safe_page.proofs.Sound.{tag_append}
-use Rattle.html_listed.specs.PageParts.{Own, OwnVoid, OwnEnd, Byte, FoundPart, found_part, is_in_text, raw_run, raw_found}
-use Rattle.html_listed.specs.PageParts.{own_part, own_found, is_in_tag, page_parts_after, page_parts}
+use Rattle.definition_html.specs.PageParts.{Own, OwnVoid, OwnEnd, Byte, FoundPart, found_part, is_in_text, raw_run, raw_found}
+use Rattle.definition_html.specs.PageParts.{own_part, own_found, is_in_tag, page_parts_after, page_parts}
 
 -- ---- runs of bytes
 

@@ -12,10 +12,10 @@ use Rattle.definition_inline.specs.Decoded.{known_at}
 use Rattle.definition_inline.specs.HtmlTags.{is_tag_name_byte}
 use Rattle.definition_inline.specs.HtmlText.{html_end}
 use Rattle.definition_inline.specs.Strings.{eol_bytes}
-use Rattle.html_listed.specs.Listing.{is_in, is_listed, void_names}
-use Rattle.html_listed.specs.Attributes.{tag_bytes, code_bytes, written}
-use Rattle.html_listed.specs.Raw.{Text, Begin, Empty, End, Single, kept_tag, ends_at_once, open_part, name_of, token_part, FoundRaw}
-use Rattle.html_listed.specs.Raw.{token_to, reference_to, token_or_reference, or_code, raw_parts_after, raw_parts}
+use Rattle.definition_html.specs.Listing.{is_in, is_listed, void_names}
+use Rattle.definition_html.specs.Attributes.{tag_bytes, code_bytes, written}
+use Rattle.definition_html.specs.Raw.{Text, Begin, Empty, End, Single, kept_tag, ends_at_once, open_part, name_of, token_part, FoundRaw}
+use Rattle.definition_html.specs.Raw.{token_to, reference_to, token_or_reference, or_code, raw_parts_after, raw_parts}
 use Rattle.html_listed.specs.Laws.{HaveSafeProtocols}
 use Rattle.html_listed.proofs.Tags.{attributes_kept, start_listed, void_listed}
 use Rattle.html_listed.proofs.Open.{IsGood, AreGood}

@@ -4,9 +4,9 @@ use Rattle.std.specs.List.{list_all, fold}
 use Rattle.std.proofs.lemmas.Bool.{and_parts, not-true}
 use Rattle.markdown_compile_options.specs.declared.configuration.CompileOptions.{CompileOptions}
 use Rattle.definition_inline.specs.CharacterReference.{Names}
-use Rattle.html_listed.specs.State.{State, says}
-use Rattle.html_listed.specs.PageParts.{is_in_text, is_in_tag, own_part, page_parts}
-use Rattle.html_listed.specs.Listed.{page_part}
+use Rattle.definition_html.specs.State.{State, says}
+use Rattle.definition_html.specs.PageParts.{is_in_text, is_in_tag, own_part, page_parts}
+use Rattle.definition_html.specs.Listed.{page_part}
 use Rattle.html_listed.proofs.Open.{says_twice, says_nothing}
 use Rattle.html_listed.proofs.PageParts.{byte_part, tag_part}
 

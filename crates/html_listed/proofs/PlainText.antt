@@ -13,9 +13,9 @@ use Rattle.definition_text.specs.Encode.{encoded_byte, encode}
 use Rattle.definition_inline.specs.CharacterReference.{Names, reference_after}
 use Rattle.definition_inline.specs.Decoded.{known_text, known_at}
 use Rattle.definition_inline.specs.Strings.{eol_bytes}
-use Rattle.html_listed.specs.Raw.{Text, reference_to, token_or_reference, or_code, raw_parts_after}
-use Rattle.html_listed.specs.State.{State, says, nothing_open, all_ended}
-use Rattle.html_listed.specs.Listed.{raw_part}
+use Rattle.definition_html.specs.Raw.{Text, reference_to, token_or_reference, or_code, raw_parts_after}
+use Rattle.definition_html.specs.State.{State, says, nothing_open, all_ended}
+use Rattle.definition_html.specs.Listed.{raw_part}
 use Rattle.html_listed.specs.Laws.{are_plain, PlainTextLaw}
 use Rattle.html_listed.proofs.Open.{says_twice, says_nothing}
 

@@ -7,10 +7,10 @@ use Rattle.definition_inline.specs.CharacterReference.{Names}
 use Rattle.html_safe_page.specs.Table.{start_rows_of, void_rows_of}
 use Rattle.html_safe_page.specs.declared.table.TagTable.TheVariants.{Basic}
 use Rattle.html_safe_page.specs.SafePage.{Items, End, Letter, Void, Element, join, is_tag_of}
-use Rattle.html_listed.specs.Listing.{is_in, heading_names}
-use Rattle.html_listed.specs.Raw.{raw_parts}
-use Rattle.html_listed.specs.State.{level, nothing_open, all_ended, begins_with_frame}
-use Rattle.html_listed.specs.Listed.{raw_part, sanitized}
+use Rattle.definition_html.specs.Listing.{is_in, heading_names}
+use Rattle.definition_html.specs.Raw.{raw_parts}
+use Rattle.definition_html.specs.State.{level, nothing_open, all_ended, begins_with_frame}
+use Rattle.definition_html.specs.Listed.{raw_part, sanitized}
 use Rattle.html_listed.specs.ListedPage.{is_listed_start, is_listed_void, is_start, is_void, have_tags}
 use Rattle.html_listed.specs.Mixed.{Mixed, Done, Char, OwnTag, OwnElement, RawTag, RawElement, all_items, own_items, raw_may_begin, stand_in}
 use Rattle.html_listed.specs.Standing.{may_begin, stand}

@@ -11,7 +11,7 @@ use Rattle.html_safe_page.proofs.Text.{by_kind, is_plain, plain_other}
 use Rattle.html_safe_page.proofs.Spelled.{is_word_byte, is_word, starts_word, is_worded_list, is_worded, same_bytes, tags_same}
 use Rattle.html_safe_page.proofs.Pages.{start_worded_by, void_worded_by}
 use Rattle.html_safe_page.specs.declared.table.TagTable.{TagTable}
-use Rattle.html_listed.specs.Listing.{is_in, is_listed, free_names, heading_names, void_names, PartRow, part_rows, is_part, listed_attributes}
+use Rattle.definition_html.specs.Listing.{is_in, is_listed, free_names, heading_names, void_names, PartRow, part_rows, is_part, listed_attributes}
 use Rattle.html_listed.specs.ListedPage.{url_names, attribute_names, are_some_of, is_listed_tag, is_listed_start, is_listed_void, is_start, is_void, have_tags}
 use Rattle.html_listed.specs.Laws.{is_name, has_names, OneSpelling, OneListedReading}
 

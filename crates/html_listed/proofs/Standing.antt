@@ -10,8 +10,8 @@ use Rattle.std.proofs.lemmas.Bool.{not-true}
 use Rattle.std.proofs.lemmas.Bool.{leb-false, lt-ltb, le-ltb}
 use Rattle.std.proofs.lemmas.List.{length-append}
 use Rattle.html_safe_page.proofs.Spelled.{same_bytes}
-use Rattle.html_listed.specs.Listing.{is_in, is_part, parents_of, part_rows, heading_names, frame_names, deepest}
-use Rattle.html_listed.specs.State.{State, ended_to, count_to, begins_with_frame, without_frame, with_room}
+use Rattle.definition_html.specs.Listing.{is_in, is_part, parents_of, part_rows, heading_names, frame_names, deepest}
+use Rattle.definition_html.specs.State.{State, ended_to, count_to, begins_with_frame, without_frame, with_room}
 use Rattle.html_listed.specs.Standing.{is_right_in, may_stand, may_begin}
 use Rattle.html_listed.proofs.Open.{AreFit, names_ended, fit_ended}
 

@@ -18,8 +18,8 @@ use Rattle.html_safe_page.proofs.Spelled.{bytes_same}
 use Rattle.html_safe_page.proofs.Sound.{tag_append}
 use Rattle.html_safe_page.proofs.Closing.{encode_spelled}
 use Rattle.html_safe_page.proofs.Values.{value_spelled}
-use Rattle.html_listed.specs.Listing.{is_listed, is_in, void_names, listed_attributes}
-use Rattle.html_listed.specs.Attributes.{Written, first_of, if_written, url_bytes, url_attributes, kept}
+use Rattle.definition_html.specs.Listing.{is_listed, is_in, void_names, listed_attributes}
+use Rattle.definition_html.specs.Attributes.{Written, first_of, if_written, url_bytes, url_attributes, kept}
 use Rattle.html_listed.specs.ListedPage.{attribute_names, are_some_of, is_listed_value, is_listed_tag, is_listed_start, is_listed_void}
 use Rattle.html_listed.specs.Laws.{HaveSafeProtocols}
 

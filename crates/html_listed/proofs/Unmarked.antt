@@ -10,9 +10,9 @@ use Rattle.html_safe_page.proofs.Spelled.{is_word, is_worded_list}
 use Rattle.html_safe_page.proofs.Pages.{start_worded_by, void_worded_by}
 use Rattle.html_safe_page.proofs.Sound.{tag_append}
 use Rattle.html_safe_page.proofs.Inserted.{spelled_append}
-use Rattle.html_listed.specs.Listing.{is_in, heading_names}
-use Rattle.html_listed.specs.State.{State, Level, level, state, nothing_open, says, ended_to, with_room, entered, all_ended}
-use Rattle.html_listed.specs.Listed.{page_part}
+use Rattle.definition_html.specs.Listing.{is_in, heading_names}
+use Rattle.definition_html.specs.State.{State, Level, level, state, nothing_open, says, ended_to, with_room, entered, all_ended}
+use Rattle.definition_html.specs.Listed.{page_part}
 use Rattle.html_listed.specs.Laws.{UnmarkedLaw}
 use Rattle.html_listed.proofs.Open.{says_nothing}
 use Rattle.html_listed.proofs.PageParts.{letter_in_text, tag_in_tag, tag_starts, not_nothing, in_brackets, name_ahead, start_is_own, void_is_own, name_in_tag}

@@ -7,14 +7,14 @@ use Rattle.std.proofs.lemmas.Bool.{cases_Bool, cond_both, and_parts, and_from, t
 use Rattle.definition_page.specs.Tags.{Tag, start_tag, end_tag, void_tag}
 use Rattle.html_safe_page.specs.SafePage.{Items, End, join}
 use Rattle.html_safe_page.specs.declared.table.TagTable.{TagTable}
-use Rattle.html_listed.specs.Listing.{is_in, is_part, parents_of, heading_names, deepest}
+use Rattle.definition_html.specs.Listing.{is_in, is_part, parents_of, heading_names, deepest}
 use Rattle.html_listed.specs.ListedPage.{is_listed_start, is_listed_void}
 use Rattle.html_listed.specs.Mixed.{raw_may_begin}
-use Rattle.html_listed.specs.Raw.{RawPart, Text, Begin, Empty, End as Closing, Single}
+use Rattle.definition_html.specs.Raw.{RawPart, Text, Begin, Empty, End as Closing, Single}
 use Rattle.html_listed.specs.Standing.{may_begin}
-use Rattle.html_listed.specs.State.{State, Level, says, with_open, opened, ended_of, ended, all_ended, count_to, ended_to, begins_with_frame}
-use Rattle.html_listed.specs.State.{without_frame, with_room}
-use Rattle.html_listed.specs.Listed.{begun, begun_in, begun_heading, begins, raw_part}
+use Rattle.definition_html.specs.State.{State, Level, says, with_open, opened, ended_of, ended, all_ended, count_to, ended_to, begins_with_frame}
+use Rattle.definition_html.specs.State.{without_frame, with_room}
+use Rattle.definition_html.specs.Listed.{begun, begun_in, begun_heading, begins, raw_part}
 use Rattle.html_listed.proofs.Tags.{IsTagWith, element_spelled, void_spelled}
 use Rattle.html_listed.proofs.Open.{AreFit, names_ended, IsGood, AreGood, none_open}
 use Rattle.html_listed.proofs.Standing.{heading_is_no_part, has_room, part_fits, other_fits}

@@ -8,12 +8,12 @@ use Rattle.definition_inline.specs.CharacterReference.{Names}
 use Rattle.definition_inline.specs.HtmlTags.{is_tag_name_byte}
 use Rattle.html_safe_page.specs.SafePage.{Tag, Items, spell, IsSafePageBy}
 use Rattle.html_safe_page.specs.declared.table.TagTable.{TagTable}
-use Rattle.html_listed.specs.Listed.{listed, sanitized}
+use Rattle.definition_html.specs.Listed.{listed, sanitized}
 use Rattle.html_listed.specs.ListedPage.{is_listed_start, is_listed_void, have_tags, IsReadingWith, IsListedReading}
 use Rattle.html_listed.specs.MarkedPage.{IsMarkedPage}
 use Rattle.html_listed.specs.Mixed.{Mixed, all_items, own_items, tags_of, stand_in}
 use Rattle.html_listed.specs.Standing.{stand}
-use Rattle.html_listed.specs.State.{level}
+use Rattle.definition_html.specs.State.{level}
 
 -- ---- readings
 

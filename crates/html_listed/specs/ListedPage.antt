@@ -6,7 +6,7 @@ use Rattle.definition_page.specs.Urls.{permits, href_protocols, src_protocols}
 use Rattle.html_safe_page.specs.Table.{start_rows_of, void_rows_of}
 use Rattle.html_safe_page.specs.declared.table.TagTable.{TagTable}
 use Rattle.html_safe_page.specs.SafePage.{Attribute, Tag, Items, End, Letter, Void, Element, spell, is_tag_of}
-use Rattle.html_listed.specs.Listing.{is_in, is_listed, void_names, listed_attributes}
+use Rattle.definition_html.specs.Listing.{is_in, is_listed, void_names, listed_attributes}
 
 -- ---- tags of the list
 

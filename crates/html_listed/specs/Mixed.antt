@@ -4,11 +4,11 @@ use Rattle.std.specs.List.{list_any}
 use Rattle.html_safe_page.specs.Table.{start_rows_of, void_rows_of}
 use Rattle.html_safe_page.specs.declared.table.TagTable.{TagTable}
 use Rattle.html_safe_page.specs.SafePage.{Tag, Items, End, Letter, Void, Element, join, is_tag_of}
-use Rattle.html_listed.specs.Listing.{is_in, heading_names}
+use Rattle.definition_html.specs.Listing.{is_in, heading_names}
 use Rattle.html_listed.specs.ListedPage.{is_listed_start, is_listed_void}
 use Rattle.html_listed.specs.MarkedPage.{is_nameless}
 use Rattle.html_listed.specs.Standing.{may_begin}
-use Rattle.html_listed.specs.State.{Level, level, begins_with_frame}
+use Rattle.definition_html.specs.State.{Level, level, begins_with_frame}
 
 -- items of a page: letters, void tags and elements of the page's own, and raw ones
 pub data Mixed : Type 0 where

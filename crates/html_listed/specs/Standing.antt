@@ -2,8 +2,8 @@
 use Rattle.std.specs.Prelude.{ℕ, Bool, true, false, not, if◌then◌else◌, ◌&&◌, nat_lt, List, [], ◌∷◌, length}
 use Rattle.std.specs.List.{list_any}
 use Rattle.html_safe_page.specs.SafePage.{Items, End, Letter, Void, Element}
-use Rattle.html_listed.specs.Listing.{is_in, is_part, parents_of, heading_names, deepest}
-use Rattle.html_listed.specs.State.{begins_with_frame}
+use Rattle.definition_html.specs.Listing.{is_in, is_part, parents_of, heading_names, deepest}
+use Rattle.definition_html.specs.State.{begins_with_frame}
 
 -- a place is right in an element of one of these names
 abbrev pub is_right_in : List (List ℕ) → List (List ℕ) → Bool

@@ -4,41 +4,10 @@ use Rattle.std.specs.Option.{option_and_then, option_map, option_or}
 use Rattle.std.specs.Str.{bytes_eq}
 use Rattle.html_safe_page.specs.Table.{Row, start_rows_of, void_rows_of}
 use Rattle.html_safe_page.specs.declared.table.TagTable.{TagTable}
+pub use Rattle.definition_html.specs.Letters.{strip, replace, join_reference, join_kind, read_text}
 use Rattle.html_safe_page.specs.SafePage.{Kind, And, Quote, Less, Greater, Plain, kind, Attribute, Tag, Items, End, Letter, Void, Element, attribute_start}
 use Rattle.html_safe_page.specs.SafePage.{void_end, is_value}
 use Rattle.definition_text.specs.Ascii.{double_quote, ampersand, slash, less_than, greater_than}
-
--- ---- texts
-
--- what follows these bytes, if a text begins with them
-abbrev pub strip : List ℕ → List ℕ → Option (List ℕ)
-strip [] bs = Some bs
-strip (p ∷ ps) [] = None
-strip (p ∷ ps) (b ∷ bs) = if b == p then strip ps bs else None
-
--- a text with a letter in place of the rest of its reference
-abbrev pub replace : ℕ → Option (List ℕ) → Option (List ℕ)
-replace b rest = option_map (λ bs. b ∷ bs) rest
-
--- the text that follows `&`, with what that begins
-abbrev pub join_reference : List ℕ → Option (List ℕ)
-join_reference text =
-    option_or (replace ampersand (strip (codes "amp;") text))
-    (option_or (replace double_quote (strip (codes "quot;") text))
-    (option_or (replace less_than (strip (codes "lt;") text))
-    (replace greater_than (strip (codes "gt;") text))))
-
-abbrev pub join_kind : Kind → ℕ → List ℕ → Option (List ℕ)
-join_kind And b text = join_reference text
-join_kind Quote b text = None
-join_kind Less b text = None
-join_kind Greater b text = None
-join_kind Plain b text = Some (b ∷ text)
-
--- what a text stands for
-abbrev pub read_text : List ℕ → Option (List ℕ)
-read_text [] = Some []
-read_text (b ∷ bs) = option_and_then (join_kind (kind b) b) (read_text bs)
 
 -- ---- tags
 

@@ -4,39 +4,10 @@ use Rattle.std.specs.List.{list_any, list_all}
 use Rattle.std.specs.Str.{bytes_eq}
 use Rattle.definition_text.specs.Ascii.{space, double_quote, ampersand, slash, less_than, greater_than}
 use Rattle.definition_page.specs.Urls.{permits, href_protocols, src_protocols}
+pub use Rattle.definition_html.specs.Letters.{Kind, And, Quote, Less, Greater, Plain, kind, spell_kind, spell_letter, spell_text}
 use Rattle.html_safe_page.specs.Table.{Row, start_rows_of, void_rows_of}
 use Rattle.html_safe_page.specs.declared.table.TagTable.{TagTable}
 use Rattle.html_safe_page.specs.declared.table.TagTable.TheVariants.{Basic}
-
--- ---- letters
-
--- the four bytes that are spelled as references, and the others
-pub data Kind : Type 0 where
-  And : Kind
-  Quote : Kind
-  Less : Kind
-  Greater : Kind
-  Plain : Kind
-
-abbrev pub kind : ℕ → Kind
-kind b = if b == ampersand then And else (if b == double_quote then Quote
-    else (if b == less_than then Less else (if b == greater_than then Greater else Plain)))
-
-abbrev pub spell_kind : Kind → ℕ → List ℕ
-spell_kind And b = codes "&amp;"
-spell_kind Quote b = codes "&quot;"
-spell_kind Less b = codes "&lt;"
-spell_kind Greater b = codes "&gt;"
-spell_kind Plain b = b ∷ []
-
--- a byte of a text, as a page spells it: one of the four as its reference, any other as itself
-abbrev pub spell_letter : ℕ → List ℕ
-spell_letter b = spell_kind (kind b) b
-
--- a text, before other bytes
-abbrev pub spell_text : List ℕ → List ℕ → List ℕ
-spell_text [] after = after
-spell_text (b ∷ bs) after = spell_letter b ++ spell_text bs after
 
 -- ---- tags
 

@@ -10,7 +10,7 @@ use Rattle.definition_text.specs.Bytes.{begins_with, after_all}
 use Rattle.definition_text.specs.Columns.{Code}
 use Rattle.definition_text.specs.Content.{Part, part}
 use Rattle.definition_inline.specs.HtmlTags.{is_attribute_byte, begins_with_attribute}
-use Rattle.html_listed.specs.Attributes.{code_bytes}
+use Rattle.definition_html.specs.Attributes.{code_bytes}
 use Rattle.html_sanitizer.specs.Attributes.{is_space_code, after_space, is_unquoted_code, ahead, quoted, unquoted, split_value, Attribute, attribute}
 use Rattle.html_sanitizer.specs.Attributes.{SplitAttribute, split, with_value, named, split_attribute, begins_with_space, attribute_start, cut_then, cut_from}
 use Rattle.html_sanitizer.specs.Attributes.{cut}

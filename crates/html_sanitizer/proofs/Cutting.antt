@@ -18,7 +18,7 @@ use Rattle.definition_inline.specs.HtmlTags.{begins_attribute, is_attribute_byte
 use Rattle.definition_inline.specs.HtmlTags.{begins_with_attribute, quoted_value, unquoted_value, value, value_or, specification, has_attribute, attributes}
 use Rattle.definition_inline.specs.HtmlTags.{attribute as after_attribute, then_part}
 use Rattle.definition_inline.specs.HtmlText.{html_byte}
-use Rattle.html_listed.specs.Attributes.{tag_bytes, decoded, codes_at, is_quote, without_quotes, value_codes, written_attribute, with_others, written}
+use Rattle.definition_html.specs.Attributes.{tag_bytes, decoded, codes_at, is_quote, without_quotes, value_codes, written_attribute, with_others, written}
 use Rattle.html_sanitizer.specs.Attributes.{is_space_code, after_space, is_unquoted_code, ahead, quoted, unquoted, split_value, attribute}
 use Rattle.html_sanitizer.specs.Attributes.{SplitAttribute, split, with_value, named, split_attribute, begins_with_space, attribute_start, cut_then, cut_from}
 use Rattle.html_sanitizer.specs.Attributes.{cut}

@@ -7,9 +7,9 @@ use Rattle.std.specs.List.{list_all, list_any, prefix_len}
 use Rattle.std.proofs.lemmas.Bool.{cases_Bool, cond-true, cond-false, lt-ltb, le-ltb, leb-true, leb-false, and_parts, ne_eqb}
 use Rattle.std.proofs.lemmas.List.{take_all}
 use Rattle.definition_page.specs.Tags.{Tag, end_tag}
-use Rattle.html_listed.specs.Listing.{is_in, is_part, PartRow, part_rows, parents_by, parents_of, heading_names, frame_names}
-use Rattle.html_listed.specs.State.{State, state, level, says, with_open, opened, ended_of, ended, count_to, begins_with_frame, with_room}
-use Rattle.html_listed.specs.Listed.{begun, begun_in, begun_heading, begins}
+use Rattle.definition_html.specs.Listing.{is_in, is_part, PartRow, part_rows, parents_by, parents_of, heading_names, frame_names}
+use Rattle.definition_html.specs.State.{State, state, level, says, with_open, opened, ended_of, ended, count_to, begins_with_frame, with_room}
+use Rattle.definition_html.specs.Listed.{begun, begun_in, begun_heading, begins}
 use Rattle.html_safe_page.specs.Views.{onto, open_names}
 use Rattle.html_safe_page.proofs.Follow.{open_push}
 use Rattle.html_sanitizer.specs.Listing.{texts_of}

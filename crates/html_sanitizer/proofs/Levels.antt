@@ -3,9 +3,9 @@ use Rattle.std.proofs.Common.{◌≡◌, ℕ, suc, ◌+◌, Bool, true, false, n
 use Rattle.std.specs.Prelude.{nat_lt}
 use Rattle.std.specs.List.{list_any, prefix_len}
 use Rattle.std.proofs.lemmas.Bool.{cases_Bool, lt-ltb, le-ltb, ltb-true, ltb-false, ne_eqb}
-use Rattle.html_listed.specs.Listing.{is_in, heading_names}
-use Rattle.html_listed.specs.State.{state, level, count_to, entered, left, left_to}
-use Rattle.html_listed.specs.State as listed
+use Rattle.definition_html.specs.Listing.{is_in, heading_names}
+use Rattle.definition_html.specs.State.{state, level, count_to, entered, left, left_to}
+use Rattle.definition_html.specs.State as listed
 use Rattle.html_safe_page.specs.Views.{open_names}
 use Rattle.html_sanitizer.specs.Page.{level_of, levels_onto, levels_of}
 use Rattle.html_sanitizer.specs.declared.page.Level.{Level}

@@ -7,7 +7,7 @@ use Rattle.std.specs.List.{list_any, flat_map}
 use Rattle.std.specs.Option.{option_or}
 use Rattle.std.specs.Str.{bytes_eq}
 use Rattle.definition_text.specs.Bytes.{lower}
-use Rattle.html_listed.specs.Listing.{is_in, free_names, heading_names, void_names, PartRow, part_rows}
+use Rattle.definition_html.specs.Listing.{is_in, free_names, heading_names, void_names, PartRow, part_rows}
 use Rattle.html_sanitizer.specs.Listing.{texts_of, found_name, listed_name}
 
 or_step : (a b c d : Bool) → b ≡ (c || d) → (a || b) ≡ ((a || c) || d)

@@ -23,10 +23,10 @@ use Rattle.inline_links.specs.Codes.{IsCut}
 use Rattle.inline_links.proofs.Cuts.{cut_after}
 use Rattle.inline_links.proofs.Runs.{one_more}
 use Rattle.inline_references.proofs.Decoding.{known_has}
-use Rattle.html_listed.specs.Attributes.{tag_bytes, code_bytes}
-use Rattle.html_listed.specs.Raw.{RawPart, Text, token_part, found_raw, token_to, reference_to, token_or_reference, or_code, raw_parts_after}
-use Rattle.html_listed.specs.State.{State, says}
-use Rattle.html_listed.specs.Listed.{raw_part}
+use Rattle.definition_html.specs.Attributes.{tag_bytes, code_bytes}
+use Rattle.definition_html.specs.Raw.{RawPart, Text, token_part, found_raw, token_to, reference_to, token_or_reference, or_code, raw_parts_after}
+use Rattle.definition_html.specs.State.{State, says}
+use Rattle.definition_html.specs.Listed.{raw_part}
 use Rattle.html_listed.proofs.Open.{says_twice, says_nothing}
 use Rattle.html_sanitizer.specs.Sanitized.{page_after, is_mark, before_marks, after_marks, reference_part}
 use Rattle.html_sanitizer.proofs.Codes.{own_bytes, by_code, begins_bytes}

@@ -20,10 +20,10 @@ use Rattle.html_safe_page.specs.Machine.{is_mark, may_stand}
 use Rattle.html_safe_page.specs.Reader.{strip, join_kind, read_text}
 use Rattle.html_safe_page.proofs.Text.{by_kind, is_plain, plain_other, strip_sound}
 use Rattle.html_safe_page.proofs.Steps.{text_more}
-use Rattle.html_listed.specs.PageParts.{PagePart, FoundPart, is_in_text, is_in_tag, after_tag, raw_run, raw_found, own_part, own_found}
-use Rattle.html_listed.specs.PageParts.{page_parts_after, page_parts}
-use Rattle.html_listed.specs.State.{State, says, with_room, entered, left, all_ended}
-use Rattle.html_listed.specs.Listed.{page_part}
+use Rattle.definition_html.specs.PageParts.{PagePart, FoundPart, is_in_text, is_in_tag, after_tag, raw_run, raw_found, own_part, own_found}
+use Rattle.definition_html.specs.PageParts.{page_parts_after, page_parts}
+use Rattle.definition_html.specs.State.{State, says, with_room, entered, left, all_ended}
+use Rattle.definition_html.specs.Listed.{page_part}
 use Rattle.html_listed.proofs.Pass.{bytes_run}
 use Rattle.html_listed.proofs.Nameless.{run_part}
 use Rattle.html_sanitizer.specs.Elements.{is_letter, begins_marked, run_at, in_brackets, first_name, own_printed, parts_after}

@@ -9,11 +9,11 @@ use Rattle.definition_text.specs.Encode.{encode}
 use Rattle.definition_inline.specs.CharacterReference.{Names}
 use Rattle.definition_inline.specs.HtmlTags.{is_tag_name_byte, tag_name}
 use Rattle.definition_page.specs.Tags.{Tag, tag, tag_bytes, void_tag}
-use Rattle.html_listed.specs.Listing.{is_in, is_listed, void_names}
-use Rattle.html_listed.specs.Attributes.{code_bytes, kept}
-use Rattle.html_listed.specs.Raw.{Text, Begin, Empty, End, Single, kept_tag, ends_at_once, open_part, name_of, token_part}
-use Rattle.html_listed.specs.State.{State, says, with_open, opened, ended, with_room}
-use Rattle.html_listed.specs.Listed.{begins, raw_part}
+use Rattle.definition_html.specs.Listing.{is_in, is_listed, void_names}
+use Rattle.definition_html.specs.Attributes.{code_bytes, kept}
+use Rattle.definition_html.specs.Raw.{Text, Begin, Empty, End, Single, kept_tag, ends_at_once, open_part, name_of, token_part}
+use Rattle.definition_html.specs.State.{State, says, with_open, opened, ended, with_room}
+use Rattle.definition_html.specs.Listed.{begins, raw_part}
 use Rattle.html_sanitizer.specs.Attributes.{after_space, read_attribute, cut, rest_after}
 use Rattle.html_sanitizer.specs.Listing.{listed_name}
 use Rattle.html_sanitizer.proofs.Ends.{page_in}

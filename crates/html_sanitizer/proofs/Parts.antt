@@ -17,8 +17,8 @@ use Rattle.inline_leaves.specs.declared.leaf.Leaf.{Leaf}
 use Rattle.inline_leaves.specs.declared.leaf.LeafPart.{LeafPart}
 use Rattle.inline_leaves.specs.declared.leaf.LeafPart.TheVariants.{Escape, Character, Number, Code, Math, Unclosed, Autolink, Literal, Html, EscapedBreak}
 use Rattle.inline_leaves.specs.declared.leaf.LeafPart.TheVariants.{TrailingBreak, LineEnd, Spaces}
-use Rattle.html_listed.specs.Attributes.{tag_bytes}
-use Rattle.html_listed.specs.State.{State, says}
+use Rattle.definition_html.specs.Attributes.{tag_bytes}
+use Rattle.definition_html.specs.State.{State, says}
 use Rattle.html_sanitizer.specs.Sanitized.{page_after, reference_part}
 use Rattle.html_sanitizer.proofs.Ends.{page_in}
 use Rattle.html_sanitizer.proofs.Tokens.{AreBytes}

@@ -14,8 +14,8 @@ use Rattle.definition_inline.specs.CharacterReference.{Names}
 use Rattle.definition_inline.specs.Decoded.{decode}
 use Rattle.definition_page.specs.InlinePieces.{link_url, image_url}
 use Rattle.definition_page.specs.Tags.{attribute, attribute_bytes}
-use Rattle.html_listed.specs.Listing.{listed_attributes}
-use Rattle.html_listed.specs.Attributes.{Written, code_bytes, decoded, first_of, if_written, url_bytes, url_attributes, kept}
+use Rattle.definition_html.specs.Listing.{listed_attributes}
+use Rattle.definition_html.specs.Attributes.{Written, code_bytes, decoded, first_of, if_written, url_bytes, url_attributes, kept}
 use Rattle.html_sanitizer.specs.Attributes.{Attribute, read_attribute, named_attributes, first_value}
 use Rattle.html_sanitizer.proofs.Codes.{own_bytes}
 use Rattle.html_sanitizer.proofs.Reading.{first_read}

@@ -17,7 +17,7 @@ use Rattle.definition_text.specs.Content.{Part, part}
 use Rattle.definition_inline.specs.CharacterReference.{Names}
 use Rattle.definition_inline.specs.HtmlTags.{is_attribute_byte, is_tag_name_byte, is_tag_space, is_unquoted}
 use Rattle.definition_inline.specs.HtmlText.{html_byte}
-use Rattle.html_listed.specs.Attributes.{decoded, first_of}
+use Rattle.definition_html.specs.Attributes.{decoded, first_of}
 use Rattle.html_sanitizer.specs.Attributes.{is_space_code, after_space, is_unquoted_code, ahead, quoted, unquoted, split_value, Attribute, attribute}
 use Rattle.html_sanitizer.specs.Attributes.{SplitAttribute, split, with_value, named, split_attribute, part_of, read_attribute, first_value}
 use Rattle.html_sanitizer.specs.Attributes.{attribute_start, cut_then, cut_from, cut, rest_then, rest_from, rest_after}

@@ -23,9 +23,9 @@ use Rattle.definition_page.specs.Tags.{tag}
 use Rattle.inline_references.specs.Grammar.{IsWritten, name, digits, lower_x, upper_x}
 use Rattle.inline_references.proofs.Decoding.{known_written, known_has, decoded_known}
 use Rattle.inline_leaves.proofs.Codes.{plain_code}
-use Rattle.html_listed.specs.Listing.{is_in, is_listed, void_names}
-use Rattle.html_listed.specs.Attributes.{tag_bytes, code_bytes, written, kept}
-use Rattle.html_listed.specs.Raw.{Text, Begin, Empty, End, Single, kept_tag, ends_at_once, open_part, name_of, token_part}
+use Rattle.definition_html.specs.Listing.{is_in, is_listed, void_names}
+use Rattle.definition_html.specs.Attributes.{tag_bytes, code_bytes, written, kept}
+use Rattle.definition_html.specs.Raw.{Text, Begin, Empty, End, Single, kept_tag, ends_at_once, open_part, name_of, token_part}
 use Rattle.html_sanitizer.specs.Attributes.{after_space, Attribute, read_attribute, cut, rest_after}
 use Rattle.html_sanitizer.proofs.Codes.{own_bytes, by_code, IsEven, after_bytes, while_same, is_ink, begins_bytes, drop_bytes, space_bytes, attribute_bytes}
 use Rattle.html_sanitizer.proofs.Codes.{cut_bytes, rest_bytes}

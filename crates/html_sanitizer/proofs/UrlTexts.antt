@@ -7,7 +7,7 @@ use Rattle.inline_links.proofs.Runs.{one_more}
 use Rattle.definition_text.specs.Encode.{encode, plain_byte, plain}
 use Rattle.definition_page.specs.Urls.{percent, sanitize, permits, sanitized_with}
 use Rattle.definition_page.specs.InlinePieces.{permitted_url}
-use Rattle.html_listed.specs.Attributes.{is_left_out, url_bytes}
+use Rattle.definition_html.specs.Attributes.{is_left_out, url_bytes}
 use Rattle.html_sanitizer.specs.Urls.{replaced_byte, replaced}
 
 -- a URL where not all are allowed

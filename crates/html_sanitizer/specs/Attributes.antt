@@ -12,7 +12,7 @@ use Rattle.definition_inline.specs.CharacterReference.{Names}
 use Rattle.definition_inline.specs.HtmlTags.{is_attribute_byte, is_tag_space, is_unquoted, begins_with_attribute}
 use Rattle.definition_inline.specs.HtmlText.{html_byte}
 use Rattle.definition_page.specs.Tags as tags
-use Rattle.html_listed.specs.Attributes.{Written, decoded, first_of, if_written}
+use Rattle.definition_html.specs.Attributes.{Written, decoded, first_of, if_written}
 use Rattle.html_sanitizer.specs.declared.attributes.Written as code
 
 -- ---- one attribute

@@ -10,9 +10,9 @@ use Rattle.definition_inline.specs.CharacterReference.{Names}
 use Rattle.definition_inline.specs.GfmAutolinkLiteral.{ends_with}
 use Rattle.html_safe_page.specs.Machine.{is_mark}
 use Rattle.html_safe_page.specs.Reader.{read_text}
-use Rattle.html_listed.specs.PageParts.{raw_run, page_parts}
-use Rattle.html_listed.specs.State.{State, says, with_room, entered, left, all_ended}
-use Rattle.html_listed.specs.Listed.{page_part}
+use Rattle.definition_html.specs.PageParts.{raw_run, page_parts}
+use Rattle.definition_html.specs.State.{State, says, with_room, entered, left, all_ended}
+use Rattle.definition_html.specs.Listed.{page_part}
 
 -- ---- letters
 

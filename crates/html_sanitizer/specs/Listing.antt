@@ -2,8 +2,8 @@
 use Rattle.std.specs.Prelude.{ℕ, if◌then◌else◌, List, Option, None, Some, map}
 use Rattle.std.proofs.Common.{Bor}
 use Rattle.definition_text.specs.Bytes.{lower}
-use Rattle.html_listed.specs.Listing.{is_in, is_listed, part_row}
-use Rattle.html_listed.specs.Listing as listing
+use Rattle.definition_html.specs.Listing.{is_in, is_listed, part_row}
+use Rattle.definition_html.specs.Listing as listing
 use Rattle.html_sanitizer.specs.declared.listing.PartRow.{PartRow}
 
 -- texts as names

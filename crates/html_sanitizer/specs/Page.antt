@@ -1,7 +1,7 @@
 -- A page up to a place, as the state of the pass.
 use Rattle.std.specs.Prelude.{List, [], ◌∷◌, string_bytes}
-use Rattle.html_listed.specs.State.{State, state, level}
-use Rattle.html_listed.specs.State as listed
+use Rattle.definition_html.specs.State.{State, state, level}
+use Rattle.definition_html.specs.State as listed
 use Rattle.html_safe_page.specs.Views.{open_names}
 use Rattle.html_sanitizer.specs.declared.page.Level.{Level}
 use Rattle.html_sanitizer.specs.declared.page.Page.{Page}

@@ -6,9 +6,9 @@ use Rattle.definition_text.specs.Ascii.{ampersand, less_than}
 use Rattle.definition_text.specs.Content.{Part, part}
 use Rattle.definition_text.specs.Encode.{encode}
 use Rattle.definition_inline.specs.CharacterReference.{Names}
-use Rattle.html_listed.specs.Raw.{raw_parts}
-use Rattle.html_listed.specs.State.{State}
-use Rattle.html_listed.specs.Listed.{raw_part}
+use Rattle.definition_html.specs.Raw.{raw_parts}
+use Rattle.definition_html.specs.State.{State}
+use Rattle.definition_html.specs.Listed.{raw_part}
 
 -- the state after raw HTML
 abbrev pub page_after : Names → CompileOptions → State → List ℕ → State

@@ -5,7 +5,7 @@ ghost use Rattle.std.specs.Option.{option_copied};
 ghost use Rattle.definition_text.specs.Encode.{encode};
 ghost use Rattle.definition_inline.specs.HtmlTags.{begins_attribute, begins_with_attribute, is_attribute_byte};
 ghost use Rattle.definition_page.specs.Tags.{attribute, attribute_bytes};
-ghost use Rattle.html_listed.specs.Attributes.{code_bytes, decoded, first_of, if_written, kept, url_attributes, url_bytes};
+ghost use Rattle.definition_html.specs.Attributes.{code_bytes, decoded, first_of, if_written, kept, url_attributes, url_bytes};
 ghost use Rattle.html_sanitizer.specs.Attributes.{is_space_code, is_unquoted_code, after_space, split_value, split_attribute, begins_with_space};
 ghost use Rattle.html_sanitizer.specs.Attributes.{attribute_start, cut, rest_after};
 ghost use Rattle.html_sanitizer.specs.Attributes.{read_attribute, named_attributes, attributes_of, part_of, split_of, first_value};

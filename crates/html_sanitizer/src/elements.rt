@@ -3,7 +3,7 @@ ghost use Rattle.std.specs.Prelude.{◌≡◌, ◌++◌, ◌<◌, [], IfOk, IfSo
 ghost use Rattle.std.specs.List.{prefix_len, take_while};
 ghost use Rattle.definition_text.specs.Bytes.{after_all, begins_with};
 ghost use Rattle.definition_text.specs.Lines.{ends_line};
-ghost use Rattle.html_listed.specs.PageParts.{after_tag, is_in_tag, is_in_text};
+ghost use Rattle.definition_html.specs.PageParts.{after_tag, is_in_tag, is_in_text};
 ghost use Rattle.html_safe_page.specs.Reader.{read_text};
 ghost use Rattle.html_sanitizer.specs.Elements.{begins_marked, is_letter, read_after, run_at};
 

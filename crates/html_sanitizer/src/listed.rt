@@ -2,12 +2,12 @@
 ghost use Rattle.std.specs.Prelude.{◌≡◌, ◌++◌, ◌<◌, IfOk, OnOk, codes, length, string_bytes, true};
 ghost use Rattle.std.specs.List.{prefix_len, take_while};
 ghost use Rattle.definition_text.specs.Bytes.{after_all, begins_with, is_letter_or_digit};
-ghost use Rattle.html_listed.specs.Listed.{listed};
+ghost use Rattle.definition_html.specs.Listed.{listed};
 ghost use Rattle.html_listed.specs.Laws.{HasOneListedReading, HaveSafeProtocols, IsMixedPage};
 ghost use Rattle.html_listed.specs.MarkedPage.{IsMarkedPage};
 ghost use Rattle.html_listed.specs.Mixed.{tags_of};
-ghost use Rattle.html_listed.specs.PageParts.{is_in_text};
-ghost use Rattle.html_listed.specs.State.{says, with_room, entered, left, all_ended};
+ghost use Rattle.definition_html.specs.PageParts.{is_in_text};
+ghost use Rattle.definition_html.specs.State.{says, with_room, entered, left, all_ended};
 ghost use Rattle.html_safe_page.specs.SafePage.{IsSafePageBy};
 ghost use Rattle.html_safe_page.specs.declared.table.TagTable.{TagTable};
 ghost use Rattle.html_sanitizer.specs.Elements.{first_name, in_brackets, own_printed, parts_after};

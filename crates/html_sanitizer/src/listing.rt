@@ -5,7 +5,7 @@ ghost use Rattle.std.specs.List.{list_any};
 ghost use Rattle.std.specs.Option.{option_copied};
 ghost use Rattle.std.specs.Str.{bytes_eq};
 ghost use Rattle.definition_text.specs.Bytes.{lower};
-ghost use Rattle.html_listed.specs.Listing.{is_in, parents_by, parents_of};
+ghost use Rattle.definition_html.specs.Listing.{is_in, parents_by, parents_of};
 ghost use Rattle.html_sanitizer.specs.Listing.{texts_of, found_name, listed_name, row_of};
 
 /// Elements that may stand anywhere.

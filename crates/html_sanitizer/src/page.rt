@@ -3,10 +3,10 @@ ghost use Rattle.std.specs.Prelude.{◌≡◌, ℕ, ◌++◌, ◌∷◌, ◌<◌
 ghost use Rattle.definition_text.specs.Encode.{encode};
 ghost use Rattle.definition_page.specs.Tags.{Tag, end_tag};
 ghost use Rattle.std.specs.List.{list_any};
-ghost use Rattle.html_listed.specs.Listing.{is_in, heading_names};
-ghost use Rattle.html_listed.specs.State.{State, nothing_open, says, with_open, opened, ended, ended_to, all_ended, count_to, begins_with_frame};
-ghost use Rattle.html_listed.specs.State.{without_frame, with_room, entered, left};
-ghost use Rattle.html_listed.specs.Listed.{begins};
+ghost use Rattle.definition_html.specs.Listing.{is_in, heading_names};
+ghost use Rattle.definition_html.specs.State.{State, nothing_open, says, with_open, opened, ended, ended_to, all_ended, count_to, begins_with_frame};
+ghost use Rattle.definition_html.specs.State.{without_frame, with_room, entered, left};
+ghost use Rattle.definition_html.specs.Listed.{begins};
 ghost use Rattle.html_safe_page.specs.Views.{open_names};
 ghost use Rattle.html_sanitizer.specs.Listing.{texts_of};
 ghost use Rattle.html_sanitizer.specs.Page.{page_state};

@@ -6,9 +6,9 @@ ghost use Rattle.definition_text.specs.Bytes.{after_all, begins_with, without_sl
 ghost use Rattle.definition_inline.specs.Decoded.{known_at};
 ghost use Rattle.definition_inline.specs.HtmlTags.{is_tag_name_byte, tag_name};
 ghost use Rattle.definition_page.specs.Tags.{tag, tag_bytes};
-ghost use Rattle.html_listed.specs.Attributes.{kept};
-ghost use Rattle.html_listed.specs.Listed.{raw_part};
-ghost use Rattle.html_listed.specs.Raw.{open_part, token_part};
+ghost use Rattle.definition_html.specs.Attributes.{kept};
+ghost use Rattle.definition_html.specs.Listed.{raw_part};
+ghost use Rattle.definition_html.specs.Raw.{open_part, token_part};
 ghost use Rattle.html_sanitizer.specs.Attributes.{attributes_of, read_attribute};
 ghost use Rattle.html_sanitizer.specs.Page.{page_state};
 ghost use Rattle.html_sanitizer.specs.Sanitized.{reference_part};

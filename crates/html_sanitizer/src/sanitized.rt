@@ -4,7 +4,7 @@ ghost use Rattle.std.specs.List.{position_or_len};
 ghost use Rattle.definition_text.specs.Ascii.{less_than};
 ghost use Rattle.definition_text.specs.Bytes.{begins_with};
 ghost use Rattle.definition_text.specs.Encode.{encode};
-ghost use Rattle.html_listed.specs.Listed.{sanitized};
+ghost use Rattle.definition_html.specs.Listed.{sanitized};
 ghost use Rattle.html_listed.specs.Laws.{HaveSafeProtocols, IsSanitized};
 ghost use Rattle.inline_links.specs.Codes.{IsRest, IsShorterRest};
 ghost use Rattle.markdown_options.specs.Defaults.{default_constructs};

@@ -2,7 +2,7 @@
 ghost use Rattle.std.specs.Prelude.{◌≡◌, ◌++◌, ◌<◌, OnOk, string_bytes};
 ghost use Rattle.definition_text.specs.Encode.{encode};
 ghost use Rattle.definition_page.specs.InlinePieces.{image_url, link_url};
-ghost use Rattle.html_listed.specs.Attributes.{code_bytes, url_bytes};
+ghost use Rattle.definition_html.specs.Attributes.{code_bytes, url_bytes};
 ghost use Rattle.html_sanitizer.specs.Urls.{replaced};
 
 use html_escape::{push_sanitized, push_sanitized_with_protocols};

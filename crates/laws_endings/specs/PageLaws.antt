@@ -6,7 +6,7 @@ use Rattle.markdown_compile_options.specs.declared.configuration.Options.{Option
 use Rattle.definition_text.specs.Ascii.{line_feed, ampersand}
 use Rattle.definition_page.specs.TextTables.{TextTables}
 use Rattle.definition_page.specs.OptionTexts.{text_or}
-use Rattle.definition_page.specs.Html.{html}
+use Rattle.definition_page.specs.PrintedPage.{printed_page}
 use Rattle.laws_endings.specs.Endings.{with_ending}
 use Rattle.laws_endings.specs.Laws.{HasNoReturn}
 
@@ -43,4 +43,4 @@ OptionsHoldNoFeed options = FootnotesHoldNoFeed options × LinksHoldNoFeed optio
 abbrev pub EndingPageLaw : Type 0
 EndingPageLaw =
     (e : LineEnding) (tables : TextTables) (text : List ℕ) (options : Options) → EndsInFeeds text → OptionsHoldNoFeed options
-    → html tables (with_ending e text) options ≡ with_ending e (html tables text options)
+    → printed_page tables (with_ending e text) options ≡ with_ending e (printed_page tables text options)

@@ -4,7 +4,7 @@ use Rattle.markdown_compile_options.specs.declared.configuration.Options.{Option
 use Rattle.definition_text.specs.Encode.{encode}
 use Rattle.definition_text.specs.Lines.{has_mark}
 use Rattle.definition_page.specs.TextTables.{TextTables}
-use Rattle.definition_page.specs.Html.{html}
+use Rattle.definition_page.specs.PrintedPage.{printed_page}
 use Rattle.laws_escape.specs.Escaped.{with_backslashes, IsTrimmedLine}
 
 -- a line that isn't empty, has no tab, no space at either end and no byte order mark at its front, escaped: its page is a paragraph that says the line,
@@ -13,4 +13,4 @@ abbrev pub EscapedPageLaw : Type 0
 EscapedPageLaw =
     (tables : TextTables) (line : List ℕ) (options : Options) → options.parse.constructs.character_escape ≡ true
     → line ≢ [] → IsTrimmedLine line → has_mark line ≡ false
-    → html tables (with_backslashes line) options ≡ codes "<p>" ++ encode line ++ codes "</p>"
+    → printed_page tables (with_backslashes line) options ≡ codes "<p>" ++ encode line ++ codes "</p>"

@@ -8,7 +8,7 @@ use Rattle.definition_text.specs.Lines.{TextLine, lines, without_mark}
 use Rattle.definition_text.specs.Columns.{whole, is_blank, block_codes, trim}
 use Rattle.definition_text.specs.Encode.{encode}
 use Rattle.definition_page.specs.TextTables.{TextTables}
-use Rattle.definition_page.specs.Html.{html}
+use Rattle.definition_page.specs.PrintedPage.{printed_page}
 
 -- what a byte outside of tags shows: itself, but `<`, CR and LF show nothing
 abbrev pub visible_byte : ℕ → List ℕ
@@ -36,4 +36,4 @@ all_said_by ls = flat_map said_by (filter is_not_blank ls)
 abbrev pub VisibleLaw : Type 0
 VisibleLaw =
     (tables : TextTables) (text : List ℕ) (options : Options) → All (λ b. b < 256) text → options.parse.constructs ≡ no_constructs
-    → visible false (html tables text options) ≡ all_said_by (lines (without_mark text))
+    → visible false (printed_page tables text options) ≡ all_said_by (lines (without_mark text))

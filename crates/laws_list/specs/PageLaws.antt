@@ -7,7 +7,7 @@ use Rattle.definition_text.specs.Lines.{first_line, has_mark}
 use Rattle.definition_block.specs.Tree.{blocks}
 use Rattle.definition_block.specs.Lists.{group_items}
 use Rattle.definition_page.specs.TextTables.{TextTables}
-use Rattle.definition_page.specs.Html.{html}
+use Rattle.definition_page.specs.PrintedPage.{printed_page}
 use Rattle.laws_block.specs.Looseness.{AreApart, SomeAre}
 use Rattle.laws_quote.specs.Laws.{HasNoTab}
 use Rattle.laws_quote.specs.Squeeze.{squeeze}
@@ -34,4 +34,4 @@ list_around page = codes "<ul><li>" ++ page ++ codes "</li></ul>"
 abbrev pub ListPageLaw : Type 0
 ListPageLaw =
     (tables : TextTables) (text : List ℕ) (options : Options) → IsListable text options.parse.constructs
-    → squeeze (html tables (list_lines text) options) ≡ squeeze (list_around (html tables text options))
+    → squeeze (printed_page tables (list_lines text) options) ≡ squeeze (list_around (printed_page tables text options))

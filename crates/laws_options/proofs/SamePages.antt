@@ -16,7 +16,7 @@ use Rattle.definition_page.specs.DocumentPieces.{meaning_of, pieces, default_end
 use Rattle.definition_page.specs.Page.{Page}
 use Rattle.definition_page.specs.Read.{read}
 use Rattle.definition_page.specs.Layout.{page_layout}
-use Rattle.definition_page.specs.Html.{html}
+use Rattle.definition_page.specs.PrintedPage.{printed_page}
 use Rattle.laws_options.specs.Laws.{printing_by, TagfilterLaw, ImageSourceLaw, DefaultEndingLaw, IdPrefixLaw}
 use Rattle.laws_options.proofs.Alike.{Alike, same_document}
 use Rattle.laws_options.proofs.Layouts.{CallAlike, same_layout}
@@ -24,7 +24,7 @@ use Rattle.laws_options.proofs.Layouts.{CallAlike, same_layout}
 -- options that print alike, call alike, and add the same endings
 same_page : (tables : TextTables) (text : List ℕ) (options : Options) (compile : CompileOptions) → Alike compile options.compile
     → CallAlike compile options.compile → default_ending (printing_by compile options) (without_mark text) ≡ default_ending options (without_mark text)
-    → html tables text (printing_by compile options) ≡ html tables text options
+    → printed_page tables text (printing_by compile options) ≡ printed_page tables text options
 same_page tables text options compile alike call ending =
     let page : Page = read tables options.parse text in
     let default = default_ending options (without_mark text) in

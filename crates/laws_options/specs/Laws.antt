@@ -5,7 +5,7 @@ use Rattle.markdown_compile_options.specs.declared.configuration.CompileOptions.
 use Rattle.markdown_compile_options.specs.declared.configuration.Options.{Options}
 use Rattle.definition_text.specs.Lines.{without_mark, first_line}
 use Rattle.definition_page.specs.TextTables.{TextTables}
-use Rattle.definition_page.specs.Html.{html}
+use Rattle.definition_page.specs.PrintedPage.{printed_page}
 
 -- the same options, with other ones of printing
 abbrev pub printing_by : CompileOptions → Options → Options
@@ -31,22 +31,22 @@ with_id_prefix_of other options = printing_by (record options.compile { heading_
 abbrev pub TagfilterLaw : Type 0
 TagfilterLaw =
     (tables : TextTables) (text : List ℕ) (options : Options) (filter : Bool) → options.compile.allow_dangerous_html ≡ false
-    → html tables text (with_tagfilter filter options) ≡ html tables text options
+    → printed_page tables text (with_tagfilter filter options) ≡ printed_page tables text options
 
 -- where dangerous protocols are allowed, a page is the same whether any source of an image is allowed or not (CommonMark 6.4)
 abbrev pub ImageSourceLaw : Type 0
 ImageSourceLaw =
     (tables : TextTables) (text : List ℕ) (options : Options) (any : Bool) → options.compile.allow_dangerous_protocol ≡ true
-    → html tables text (with_any_source any options) ≡ html tables text options
+    → printed_page tables text (with_any_source any options) ≡ printed_page tables text options
 
 -- where the first line of a text has an ending, its page is the same whatever the default ending (CommonMark 2.1)
 abbrev pub DefaultEndingLaw : Type 0
 DefaultEndingLaw =
     (tables : TextTables) (text : List ℕ) (options : Options) (ending : LineEnding) → is_some (first_line (without_mark text)).ending ≡ true
-    → html tables text (with_default_ending ending options) ≡ html tables text options
+    → printed_page tables text (with_default_ending ending options) ≡ printed_page tables text options
 
 -- where headings have no ids, a page is the same whatever these would begin with (in neither standard)
 abbrev pub IdPrefixLaw : Type 0
 IdPrefixLaw =
     (tables : TextTables) (text : List ℕ) (options : Options) (other : CompileOptions) → options.compile.heading_ids ≡ false
-    → html tables text (with_id_prefix_of other options) ≡ html tables text options
+    → printed_page tables text (with_id_prefix_of other options) ≡ printed_page tables text options

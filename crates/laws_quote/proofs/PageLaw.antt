@@ -22,7 +22,7 @@ use Rattle.definition_page.specs.BlockPieces.{at_top, inside, fresh_unless, chil
 use Rattle.definition_page.specs.DocumentPieces.{pieces, default_ending}
 use Rattle.definition_page.specs.Read as read
 use Rattle.definition_page.specs.Read.{Reading, on_page, in_container, read_blocks, ends_blank, page_with, read_after}
-use Rattle.definition_page.specs.Html.{html}
+use Rattle.definition_page.specs.PrintedPage.{printed_page}
 use Rattle.definition_page.specs.Layout.{layout, page_layout}
 use Rattle.definition_page.proofs.PlainLayout.{plain_page}
 use Rattle.laws_block.proofs.TextLines.{join-without_last}
@@ -152,7 +152,7 @@ added_ending-quoted options text =
 -- the page of a text without a byte order mark and without footnotes
 pub html_unmarked : (tables : TextTables) (text : List ℕ) (options : Options) → has_mark text ≡ false → options.parse.constructs.gfm_footnote_definition ≡ false
     → let kids = tree.blocks options.parse.constructs Whitespace text in
-    html tables text options ≡ page_bytes tables options (added_ending options text) (document_definitions kids) kids
+    printed_page tables text options ≡ page_bytes tables options (added_ending options text) (document_definitions kids) kids
 html_unmarked tables text options unmarked off =
     let kids = tree.blocks options.parse.constructs Whitespace text in
     let default = added_ending options text in
@@ -209,11 +209,11 @@ same_around (suc n) one other e =
     same_around n (quote_around one) (quote_around other) (squeeze_around one ∙ ap kept_around e ∙ sym (squeeze_around other))
 
 pages_around : (tables : TextTables) (options : Options) (n : ℕ) (text : List ℕ) → IsQuotable text options.parse.constructs
-    → squeeze (html tables (iterate quote_lines n text) options) ≡ squeeze (iterate quote_around n (html tables text options))
+    → squeeze (printed_page tables (iterate quote_lines n text) options) ≡ squeeze (iterate quote_around n (printed_page tables text options))
 pages_around tables options zero text h = refl
 pages_around tables options (suc n) text h =
     pages_around tables options n (quote_lines text) (quotable_again text options.parse.constructs h)
-    ∙ same_around n (html tables (quote_lines text) options) (quote_around (html tables text options)) (quote_page_law tables text options h)
+    ∙ same_around n (printed_page tables (quote_lines text) options) (quote_around (printed_page tables text options)) (quote_page_law tables text options h)
 
 pub quote_pages_law : QuotePagesLaw
 quote_pages_law tables text options n h = pages_around tables options n text h

@@ -5,7 +5,7 @@ use Rattle.markdown_options.specs.declared.configuration.Constructs.{Constructs}
 use Rattle.markdown_compile_options.specs.declared.configuration.Options.{Options}
 use Rattle.definition_text.specs.Lines.{has_mark}
 use Rattle.definition_page.specs.TextTables.{TextTables}
-use Rattle.definition_page.specs.Html.{html}
+use Rattle.definition_page.specs.PrintedPage.{printed_page}
 use Rattle.laws_quote.specs.Quoted.{quote_lines}
 use Rattle.laws_quote.specs.Laws.{HasNoTab}
 use Rattle.laws_quote.specs.Squeeze.{squeeze}
@@ -25,13 +25,13 @@ quote_around page = codes "<blockquote>" ++ page ++ codes "</blockquote>"
 abbrev pub QuotePageLaw : Type 0
 QuotePageLaw =
     (tables : TextTables) (text : List ℕ) (options : Options) → IsQuotable text options.parse.constructs
-    → squeeze (html tables (quote_lines text) options) ≡ squeeze (quote_around (html tables text options))
+    → squeeze (printed_page tables (quote_lines text) options) ≡ squeeze (quote_around (printed_page tables text options))
 
 -- the same where `> ` stands n times before every line: n block quotes, one in another
 abbrev pub QuotePagesLaw : Type 0
 QuotePagesLaw =
     (tables : TextTables) (text : List ℕ) (options : Options) (n : ℕ) → IsQuotable text options.parse.constructs
-    → squeeze (html tables (iterate quote_lines n text) options) ≡ squeeze (iterate quote_around n (html tables text options))
+    → squeeze (printed_page tables (iterate quote_lines n text) options) ≡ squeeze (iterate quote_around n (printed_page tables text options))
 
 -- what is dropped is a whole run at the start or the end, after `>` or before `<`, and no other
 abbrev pub SqueezeRows : Type 0

@@ -5,7 +5,7 @@ use Rattle.markdown_compile_options.specs.declared.configuration.Options.{Option
 use Rattle.definition_text.specs.Lines.{first_line, without_mark}
 use Rattle.definition_page.specs.TextTables.{TextTables}
 use Rattle.definition_page.specs.DocumentPieces.{meaning_of, default_ending}
-use Rattle.definition_page.specs.Html.{html}
+use Rattle.definition_page.specs.PrintedPage.{printed_page}
 use Rattle.definition_page.specs.Read.{read}
 use Rattle.html_safe_page.specs.declared.table.TagTable.{TagTable}
 use Rattle.html_safe_page.specs.declared.table.TagTable.TheVariants.{Extended}
@@ -22,12 +22,12 @@ alone table page p = record { items = p.0; is_reading = p.1; is_only = λ other 
 
 -- by a table that has what the options print
 safe_by : (table : TagTable) (tables : TextTables) (text : List ℕ) (options : Options) → Fits options.compile table → AreSafe options.compile
-    → HasOneReadingBy table (html tables text options)
+    → HasOneReadingBy table (printed_page tables text options)
 safe_by table tables text options fits safe =
     let page = read tables options.parse text in
     let default = default_ending options (without_mark text) in
     let ending = unwrap_or (first_line (without_mark text)).ending options.compile.default_line_ending in
-    alone table (html tables text options)
+    alone table (printed_page tables text options)
     (page_is_safe table default (ending_is_text ending) (meaning_of tables options page) safe fits page (page_is_readable tables options.parse text))
 
 pub safe_page_law : SafePageLaw

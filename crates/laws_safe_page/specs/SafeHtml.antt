@@ -4,7 +4,7 @@ use Rattle.std.specs.Option.{is_some}
 use Rattle.markdown_compile_options.specs.declared.configuration.CompileOptions.{CompileOptions}
 use Rattle.markdown_compile_options.specs.declared.configuration.Options.{Options}
 use Rattle.definition_page.specs.TextTables.{TextTables}
-use Rattle.definition_page.specs.Html.{html}
+use Rattle.definition_page.specs.PrintedPage.{printed_page}
 use Rattle.html_safe_page.specs.declared.table.TagTable.{TagTable}
 use Rattle.html_safe_page.specs.declared.table.TagTable.TheVariants.{Basic, Extended}
 use Rattle.html_safe_page.specs.SafePage.{Items, IsReadingBy}
@@ -34,8 +34,8 @@ HasOneReading page = HasOneReadingBy Basic page
 -- under safe options the HTML of every text, by any tables, is a safe page by the table of the options
 abbrev pub SafePageLaw : Type 0
 SafePageLaw =
-    (tables : TextTables) (text : List ℕ) (options : Options) → AreSafe options.compile → HasOneReadingBy (table_of options.compile) (html tables text options)
+    (tables : TextTables) (text : List ℕ) (options : Options) → AreSafe options.compile → HasOneReadingBy (table_of options.compile) (printed_page tables text options)
 
 -- and by the extended table whatever the other options are
 abbrev pub ExtendedPageLaw : Type 0
-ExtendedPageLaw = (tables : TextTables) (text : List ℕ) (options : Options) → AreSafe options.compile → HasOneReadingBy Extended (html tables text options)
+ExtendedPageLaw = (tables : TextTables) (text : List ℕ) (options : Options) → AreSafe options.compile → HasOneReadingBy Extended (printed_page tables text options)

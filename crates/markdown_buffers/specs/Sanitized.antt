@@ -2,7 +2,7 @@
 use Rattle.std.specs.Prelude.{◌≡◌, ◌≤◌, ◌<◌, ◌↔◌, ℕ, List, length}
 use Rattle.markdown_compile_options.specs.declared.configuration.CompileOptions.{CompileOptions}
 use Rattle.markdown_tables.specs.Builtin.{builtin_tables}
-use Rattle.html_listed.specs.Listed.{sanitized}
+use Rattle.definition_html.specs.Listed.{sanitized}
 use Rattle.markdown_c_options.specs.declared.flat_options.FlatOptions.{FlatOptions}
 use Rattle.markdown_c_options.specs.Switches.{options_of_numbers}
 use Rattle.markdown_buffers.specs.Pages.{HoldsPage}

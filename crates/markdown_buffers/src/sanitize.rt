@@ -1,5 +1,5 @@
 //! From any HTML to a page in the caller's buffer, by the list of elements and attributes that are kept.
-ghost use Rattle.html_listed.specs.Listed.{sanitized};
+ghost use Rattle.definition_html.specs.Listed.{sanitized};
 ghost use Rattle.markdown_tables.specs.Builtin.{builtin_tables};
 ghost use Rattle.markdown_c_options.specs.FlatOptions.{IsKnown};
 ghost use Rattle.markdown_buffers.specs.Sanitized.{compile_options_of, StoresSanitized};

@@ -11,6 +11,7 @@ default_compile_options = record {
   allow_any_img_src = false;
   allow_dangerous_html = false;
   allow_dangerous_protocol = false;
+  allow_listed_html = false;
   default_line_ending = LineFeed;
   gfm_footnote_back_label = None;
   gfm_footnote_clobber_prefix = None;

@@ -1,2 +1,3 @@
 pub mod Mdx
 pub mod Defaults
+pub mod RawHtml

@@ -1,6 +1,7 @@
 //! How HTML is printed, and the options of a call.
 ghost use Rattle.std.specs.Prelude.{◌≡◌};
 ghost use Rattle.markdown_options.specs.Mdx.{has_mdx};
+ghost use Rattle.markdown_compile_options.specs.RawHtml.{keeps_listed_html};
 ghost use Rattle.markdown_compile_options.specs.Defaults.{default_compile_options, gfm_compile_options, default_options, gfm_options};
 
 use markdown_options::{LineEnding, ParseOptions};
@@ -16,6 +17,9 @@ pub struct CompileOptions {
     pub allow_dangerous_html: bool,
     /// Whether links and images may have any protocol, such as `javascript`.
     pub allow_dangerous_protocol: bool,
+    /// Whether HTML of the text is kept by a list of elements and attributes (`html_listed`), and the
+    /// rest of it encoded. It changes nothing where HTML is printed as it is.
+    pub allow_listed_html: bool,
     /// The line ending that is printed if the text has none.
     pub default_line_ending: LineEnding,
     /// The label of a link back to a footnote's call, for screen readers. The default is
@@ -61,6 +65,14 @@ impl CompileOptions {
             ..CompileOptions::default()
         }
     }
+
+    /// Returns whether HTML of the text is kept by the list: where that is allowed, and HTML isn't
+    /// printed as it is.
+    pub fn keeps_listed_html(&self) -> bool
+        ensures { result ≡ keeps_listed_html self.now }
+    {
+        self.allow_listed_html && !self.allow_dangerous_html
+    }
 }
 
 /// Safe output, line feeds, and the default texts.
@@ -72,6 +84,7 @@ impl Default for CompileOptions {
             allow_any_img_src: false,
             allow_dangerous_html: false,
             allow_dangerous_protocol: false,
+            allow_listed_html: false,
             default_line_ending: LineEnding::default(),
             gfm_footnote_back_label: None,
             gfm_footnote_clobber_prefix: None,

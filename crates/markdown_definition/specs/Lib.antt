@@ -9,7 +9,9 @@ pub use Rattle.definition_inline.specs.CharacterReference
 pub use Rattle.definition_block.specs.Blocks
 pub use Rattle.definition_block.specs.Tree
 pub use Rattle.definition_block.specs.Lists
-pub use Rattle.definition_page.specs.Html
+pub mod Html
+pub use Rattle.definition_page.specs.PrintedPage
+pub use Rattle.definition_html.specs.Listed
 pub use Rattle.definition_page.specs.Read
 pub use Rattle.definition_page.specs.Page
 pub use Rattle.definition_page.specs.BlockPieces

@@ -1,7 +1,7 @@
 -- The HTML of events that spell the page of a text is the HTML of the text.
 use Rattle.std.proofs.Common.{◌≡◌, ℕ, List}
 use Rattle.markdown_compile_options.specs.declared.configuration.Options.{Options}
-use Rattle.definition_page.specs.Html.{html}
+use Rattle.markdown_definition.specs.Html.{html}
 use Rattle.definition_page.specs.TextTables.{TextTables}
 use Rattle.engine_events.specs.declared.event.Event.{Event}
 use Rattle.event_meaning.specs.Spelled.{html_of_events, spelled}

@@ -1,7 +1,7 @@
 //! A text to its events, and these to the page that they spell.
 ghost use Rattle.std.specs.Prelude.{◌≡◌, ◌≤◌, IfErr, IfOk, false, length, string_bytes};
 ghost use Rattle.markdown_options.specs.Mdx.{has_mdx};
-ghost use Rattle.definition_page.specs.Html.{html};
+ghost use Rattle.markdown_definition.specs.Html.{html};
 ghost use Rattle.definition_page.specs.TextTables.{text_tables};
 ghost use Rattle.event_check.specs.declared.error.CompileError.TheVariants.{Memory};
 ghost use Rattle.markdown_html.specs.Page.{IsPageOfEvents};

@@ -3,7 +3,7 @@ use Rattle.std.proofs.Common.{◌≡◌, ℕ, List, map, refl, sym, ap, ◌∙�
 use Rattle.markdown_compile_options.specs.declared.configuration.Options.{Options}
 use Rattle.parse_alike.proofs.Prelude.{AreFootnotesAlike, ArePagesAlike, Meaning, normal_label, Page, read, TextTables, without_mark}
 use Rattle.definition_page.specs.DocumentPieces as document
-use Rattle.definition_page.specs.Html.{html}
+use Rattle.markdown_definition.specs.Html.{html}
 use Rattle.event_meaning.specs.Spelled as events
 use Rattle.parse_alike.specs.Spelled.{IsPageOfText, PagesOfTextsPrintTheirHtml}
 use Rattle.parse_alike.proofs.Definition.{alike_definitions_mean_the_same}

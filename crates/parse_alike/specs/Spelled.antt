@@ -4,7 +4,7 @@ use Rattle.markdown_compile_options.specs.Defaults.{default_compile_options}
 use Rattle.markdown_compile_options.specs.declared.configuration.Options.{Options}
 use Rattle.markdown_options.specs.declared.configuration.ParseOptions.{ParseOptions}
 use Rattle.definition_page.specs.DocumentPieces as document
-use Rattle.definition_page.specs.Html.{html}
+use Rattle.markdown_definition.specs.Html.{html}
 use Rattle.definition_page.specs.InlinePieces.{Meaning}
 use Rattle.definition_page.specs.Page.{Page}
 use Rattle.definition_page.specs.Read.{read}

@@ -2,7 +2,7 @@ use Rattle.std.proofs.Common.{◌≡◌, ◌++◌, ℕ, List, string_bytes, ap, 
 use Rattle.std.specs.Prelude.{OnOk}
 use Rattle.definition_inline.specs.Decoded.{decode}
 use Rattle.definition_page.specs.Tags.{attribute, attribute_bytes}
-use Rattle.html_listed.specs.Attributes.{code_bytes}
+use Rattle.definition_html.specs.Attributes.{code_bytes}
 use Rattle.html_sanitizer.proofs.attributes.push_attribute.Goals as goal
 
 pub returns : goal.returns

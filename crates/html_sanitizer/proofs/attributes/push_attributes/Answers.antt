@@ -2,8 +2,8 @@ use Rattle.std.proofs.Common.{◌≡◌, ◌++◌, ℕ, List, string_bytes, sym,
 use Rattle.std.specs.Prelude.{OnOk, map}
 use Rattle.std.specs.List.{flat_map}
 use Rattle.definition_page.specs.Tags.{attribute_bytes}
-use Rattle.html_listed.specs.Listing.{listed_attributes}
-use Rattle.html_listed.specs.Attributes.{url_attributes}
+use Rattle.definition_html.specs.Listing.{listed_attributes}
+use Rattle.definition_html.specs.Attributes.{url_attributes}
 use Rattle.html_sanitizer.specs.Attributes.{attributes_of, named_attributes, read_attribute}
 use Rattle.html_sanitizer.proofs.Printing.{kept_printed}
 use Rattle.html_sanitizer.proofs.attributes.push_attributes.Goals as goal

@@ -3,7 +3,7 @@ use Rattle.std.specs.Prelude.{OnOk}
 use Rattle.std.specs.List.{flat_map}
 use Rattle.std.proofs.lemmas.List.{append-nil}
 use Rattle.definition_page.specs.Tags.{attribute_bytes}
-use Rattle.html_listed.specs.Attributes.{if_written}
+use Rattle.definition_html.specs.Attributes.{if_written}
 use Rattle.html_sanitizer.specs.Attributes.{attributes_of}
 use Rattle.html_sanitizer.proofs.Printing.{if_some, if_none}
 use Rattle.html_sanitizer.proofs.attributes.push_if_written.Goals as goal

@@ -1,7 +1,7 @@
 use Rattle.std.proofs.Common.{◌≡◌, ◌++◌, ◌∷◌, [], string_bytes, sym, ap, ◌∙◌, arith, refl}
 use Rattle.std.proofs.lemmas.Grind.{common_steps}
 use Rattle.definition_page.specs.Tags.{attribute, attribute_bytes}
-use Rattle.html_listed.specs.Attributes.{code_bytes}
+use Rattle.definition_html.specs.Attributes.{code_bytes}
 use Rattle.html_sanitizer.proofs.Printing.{attribute_printed, bytes_own}
 use Rattle.html_sanitizer.proofs.Marks.{are_bytes}
 use Rattle.html_sanitizer.proofs.attributes.push_text_attribute.Goals as goal

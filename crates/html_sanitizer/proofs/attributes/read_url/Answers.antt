@@ -1,7 +1,7 @@
 use Rattle.std.proofs.Common.{◌≡◌, ◌++◌, ℕ, List, string_bytes, ap, subst, ◌∙◌}
 use Rattle.std.specs.Prelude.{OnOk}
 use Rattle.definition_inline.specs.Decoded.{decode}
-use Rattle.html_listed.specs.Attributes.{code_bytes, url_bytes}
+use Rattle.definition_html.specs.Attributes.{code_bytes, url_bytes}
 use Rattle.html_sanitizer.proofs.attributes.read_url.Goals as goal
 
 pub returns : goal.returns

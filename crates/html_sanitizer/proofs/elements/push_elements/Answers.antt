@@ -2,7 +2,7 @@ use Rattle.std.proofs.Common.{◌++◌, ap, arith, codes, length, rules, string_
 use Rattle.std.specs.List.{take_while}
 use Rattle.definition_text.specs.Bytes.{after_all, begins_with}
 use Rattle.definition_text.specs.Lines.{ends_line}
-use Rattle.html_listed.specs.PageParts.{after_tag}
+use Rattle.definition_html.specs.PageParts.{after_tag}
 use Rattle.html_sanitizer.proofs.Nameless.{IsInRun, whole_run, run_goes_on, after_less, next_less}
 use Rattle.html_sanitizer.proofs.elements.push_elements.Goals as goal
 

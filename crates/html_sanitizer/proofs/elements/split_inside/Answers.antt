@@ -1,7 +1,7 @@
 use Rattle.std.proofs.Common.{arith, sym, ap, subst, ◌∙◌}
 use Rattle.std.specs.List.{prefix_len}
 use Rattle.std.specs.Str.{IsCharBoundary}
-use Rattle.html_listed.specs.PageParts.{is_in_tag}
+use Rattle.definition_html.specs.PageParts.{is_in_tag}
 use Rattle.html_sanitizer.proofs.Nameless.{tag_boundary}
 use Rattle.html_sanitizer.proofs.elements.split_inside.Goals as goal
 

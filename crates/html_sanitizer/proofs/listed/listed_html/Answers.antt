@@ -5,8 +5,8 @@ use Rattle.definition_text.specs.Bytes.{begins_with}
 use Rattle.html_safe_page.specs.Views.{open_names}
 use Rattle.html_listed.specs.Laws.{HasOneListedReading, IsMixedPage}
 use Rattle.html_listed.specs.Mixed.{tags_of}
-use Rattle.html_listed.specs.PageParts.{is_in_text}
-use Rattle.html_listed.specs.State.{State, says, all_ended}
+use Rattle.definition_html.specs.PageParts.{is_in_text}
+use Rattle.definition_html.specs.State.{State, says, all_ended}
 use Rattle.html_listed.proofs.Listed.{listed_law, standing_law}
 use Rattle.html_listed.proofs.Unmarked.{unmarked_law}
 use Rattle.html_sanitizer.specs.Elements.{parts_after}

@@ -2,7 +2,7 @@ use Rattle.std.proofs.Common.{◌≡◌, codes, length, true}
 use denote.Text.{Utf8}
 use denote.Shadow.{shadow}
 use Rattle.definition_text.specs.Bytes.{begins_with}
-use Rattle.html_listed.specs.State.{nothing_open}
+use Rattle.definition_html.specs.State.{nothing_open}
 use Rattle.html_sanitizer.specs.Elements.{parts_after}
 use Rattle.html_sanitizer.specs.Page.{page_state}
 use Rattle.html_sanitizer.proofs.listed.listed_html.Given as goal

@@ -1,5 +1,5 @@
 use Rattle.std.proofs.Common.{◌≡◌, drop}
-use Rattle.html_listed.specs.Listing.{is_in}
+use Rattle.definition_html.specs.Listing.{is_in}
 use Rattle.html_sanitizer.specs.Listing.{texts_of}
 use Rattle.html_sanitizer.proofs.listing.is_in.Given as goal
 

@@ -1,5 +1,5 @@
 use Rattle.std.proofs.Common.{◌≡◌, drop, map}
-use Rattle.html_listed.specs.Listing.{parents_by}
+use Rattle.definition_html.specs.Listing.{parents_by}
 use Rattle.html_sanitizer.specs.Listing.{row_of}
 use Rattle.html_sanitizer.proofs.listing.parents_by.Given as goal
 

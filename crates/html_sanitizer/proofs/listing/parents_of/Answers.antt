@@ -1,4 +1,4 @@
-use Rattle.html_listed.specs.Listing.{part_rows}
+use Rattle.definition_html.specs.Listing.{part_rows}
 use Rattle.html_sanitizer.proofs.listing.parents_of.Goals as goal
 
 pub returns : goal.returns

@@ -4,9 +4,9 @@ use Rattle.std.specs.Option.{option_copied}
 use Rattle.definition_text.specs.Bytes.{after_all, begins_with, without_slash}
 use Rattle.definition_text.specs.Encode.{encode}
 use Rattle.definition_inline.specs.HtmlTags.{is_tag_name_byte, tag_name}
-use Rattle.html_listed.specs.Raw.{RawPart}
-use Rattle.html_listed.specs.State.{State, says}
-use Rattle.html_listed.specs.Listed.{raw_part}
+use Rattle.definition_html.specs.Raw.{RawPart}
+use Rattle.definition_html.specs.State.{State, says}
+use Rattle.definition_html.specs.Listed.{raw_part}
 use Rattle.html_sanitizer.specs.Listing.{listed_name}
 use Rattle.html_sanitizer.specs.Page.{page_state}
 use Rattle.html_sanitizer.proofs.Marks.{are_bytes}

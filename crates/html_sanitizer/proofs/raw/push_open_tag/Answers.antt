@@ -3,9 +3,9 @@ use Rattle.std.specs.Prelude.{OnOk, map}
 use Rattle.definition_text.specs.Bytes.{begins_with}
 use Rattle.definition_page.specs.Tags.{tag, tag_bytes}
 use Rattle.html_safe_page.specs.Views.{open_names}
-use Rattle.html_listed.specs.Attributes.{kept}
-use Rattle.html_listed.specs.Listing.{void_names}
-use Rattle.html_listed.specs.State.{State, opened}
+use Rattle.definition_html.specs.Attributes.{kept}
+use Rattle.definition_html.specs.Listing.{void_names}
+use Rattle.definition_html.specs.State.{State, opened}
 use Rattle.html_sanitizer.specs.Attributes.{after_space, attributes_of, cut, read_attribute}
 use Rattle.html_sanitizer.specs.Page.{page_state}
 use Rattle.html_sanitizer.proofs.Opening.{void_printed, placeless, placed}

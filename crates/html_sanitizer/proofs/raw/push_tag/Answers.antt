@@ -2,7 +2,7 @@ use Rattle.std.proofs.Common.{◌≡◌, ◌++◌, ◌∷◌, [], ℕ, List, str
 use Rattle.std.specs.Prelude.{OnOk, map}
 use Rattle.std.specs.List.{flat_map}
 use Rattle.definition_page.specs.Tags.{attribute_bytes}
-use Rattle.html_listed.specs.Attributes.{kept}
+use Rattle.definition_html.specs.Attributes.{kept}
 use Rattle.html_sanitizer.specs.Attributes.{attributes_of, read_attribute}
 use Rattle.html_sanitizer.proofs.raw.push_tag.Goals as goal
 

@@ -3,7 +3,7 @@ use Rattle.std.proofs.lemmas.Bool.{eqb-true}
 use Rattle.inline_links.specs.Codes.{IsRest}
 use Rattle.definition_text.specs.Encode.{encode}
 use Rattle.html_safe_page.specs.Views.{open_names}
-use Rattle.html_listed.specs.State.{says}
+use Rattle.definition_html.specs.State.{says}
 use Rattle.html_sanitizer.specs.Page.{page_state}
 use Rattle.html_sanitizer.specs.Sanitized.{page_after, before_marks, begins_with_mark}
 use Rattle.html_sanitizer.proofs.Ends.{page_in}

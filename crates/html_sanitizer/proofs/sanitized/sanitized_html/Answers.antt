@@ -1,5 +1,5 @@
 use Rattle.std.proofs.Common.{ap, subst, sym, ◌∙◌}
-use Rattle.html_listed.specs.State.{State, all_ended}
+use Rattle.definition_html.specs.State.{State, all_ended}
 use Rattle.html_listed.specs.Laws.{IsSanitized}
 use Rattle.html_listed.proofs.Sanitized.{sanitized_law}
 use Rattle.html_sanitizer.specs.Sanitized.{page_after}

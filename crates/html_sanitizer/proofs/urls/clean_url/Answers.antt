@@ -1,6 +1,6 @@
 use Rattle.std.proofs.Common.{◌≡◌, ◌∷◌, [], ℕ, List, string_bytes, arith, sym, ap, subst, ◌∙◌}
 use Rattle.std.specs.Prelude.{OnOk}
-use Rattle.html_listed.specs.Attributes.{url_bytes}
+use Rattle.definition_html.specs.Attributes.{url_bytes}
 use Rattle.html_sanitizer.specs.Urls.{replaced}
 use Rattle.html_sanitizer.proofs.UrlTexts.{url_replaced}
 use Rattle.html_sanitizer.proofs.Printing.{bytes_own}

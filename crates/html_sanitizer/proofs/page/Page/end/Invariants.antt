@@ -1,5 +1,5 @@
 use Rattle.std.proofs.Common.{◌≡◌}
-use Rattle.html_listed.specs.State.{ended}
+use Rattle.definition_html.specs.State.{ended}
 use Rattle.html_sanitizer.specs.Page.{page_state}
 use Rattle.html_sanitizer.proofs.page.Page.end.Given as goal
 

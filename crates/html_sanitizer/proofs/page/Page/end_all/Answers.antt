@@ -1,6 +1,6 @@
 use Rattle.std.proofs.Common.{◌≡◌, ℕ, sym, subst, ◌∙◌}
 use Rattle.std.specs.Prelude.{OnOk}
-use Rattle.html_listed.specs.State.{ended}
+use Rattle.definition_html.specs.State.{ended}
 use Rattle.html_sanitizer.specs.Page.{page_state}
 use Rattle.html_sanitizer.proofs.Ends.{length_open}
 use Rattle.html_sanitizer.proofs.page.Page.end_all.Goals as goal

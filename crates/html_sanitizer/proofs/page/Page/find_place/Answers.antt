@@ -1,6 +1,6 @@
 use Rattle.std.proofs.Common.{not, sym, ap, refl, ◌∙◌}
 use Rattle.html_safe_page.specs.Views.{open_names}
-use Rattle.html_listed.specs.State.{count_to}
+use Rattle.definition_html.specs.State.{count_to}
 use Rattle.html_sanitizer.specs.Listing.{texts_of}
 use Rattle.html_sanitizer.specs.Page.{page_state}
 use Rattle.html_sanitizer.proofs.Ends.{not_empty, empty_texts, place_free, place_none, place_part}

@@ -1,6 +1,6 @@
 use Rattle.std.proofs.Common.{ap, ◌∙◌}
-use Rattle.html_listed.specs.Listing.{heading_names}
-use Rattle.html_listed.specs.State.{count_to}
+use Rattle.definition_html.specs.Listing.{heading_names}
+use Rattle.definition_html.specs.State.{count_to}
 use Rattle.html_safe_page.specs.Views.{open_names}
 use Rattle.html_sanitizer.proofs.Levels.{any_open}
 use Rattle.html_sanitizer.proofs.page.Page.has_heading.Goals as goal

@@ -1,5 +1,5 @@
 use Rattle.std.proofs.Common.{sym, ◌∙◌}
-use Rattle.html_listed.specs.Listing.{frame_names}
+use Rattle.definition_html.specs.Listing.{frame_names}
 use Rattle.html_sanitizer.proofs.Ends.{frame_last}
 use Rattle.html_sanitizer.proofs.page.Page.is_in_frame.Goals as goal
 

@@ -1,5 +1,5 @@
 use Rattle.std.proofs.Common.{◌&&◌, ap, sym, ◌∙◌}
-use Rattle.html_listed.specs.Listing.{is_in, heading_names}
+use Rattle.definition_html.specs.Listing.{is_in, heading_names}
 use Rattle.html_sanitizer.proofs.page.Page.is_second_heading.Goals as goal
 
 pub returns-then-self : goal.returns-then-self

@@ -1,8 +1,8 @@
 use Rattle.std.proofs.Common.{◌≡◌, sym, ap, subst, ◌∙◌}
 use Rattle.std.specs.Prelude.{OnOk}
 use Rattle.std.proofs.lemmas.Bool.{cond-true, cond-false}
-use Rattle.html_listed.specs.Listing.{is_in, heading_names}
-use Rattle.html_listed.specs.State.{State, ended_to, without_frame}
+use Rattle.definition_html.specs.Listing.{is_in, heading_names}
+use Rattle.definition_html.specs.State.{State, ended_to, without_frame}
 use Rattle.html_sanitizer.specs.Page.{page_state}
 use Rattle.html_sanitizer.proofs.page.Page.make_room.Goals as goal
 

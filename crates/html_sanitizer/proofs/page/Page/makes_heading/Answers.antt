@@ -1,6 +1,6 @@
 use Rattle.std.proofs.Common.{◌||◌, ap, sym, ◌∙◌}
 use Rattle.std.specs.List.{list_any}
-use Rattle.html_listed.specs.Listing.{is_in, heading_names}
+use Rattle.definition_html.specs.Listing.{is_in, heading_names}
 use Rattle.html_safe_page.specs.Views.{open_names}
 use Rattle.html_sanitizer.proofs.page.Page.makes_heading.Goals as goal
 

@@ -2,7 +2,7 @@
 use Rattle.std.specs.Prelude.{ℕ, zero, suc, ◌+◌, Bool, false, not, if◌then◌else◌, ◌||◌, nat_lt, List, [], ◌∷◌, ◌++◌, codes, length}
 use Rattle.std.specs.List.{list_any, prefix_len}
 use Rattle.definition_page.specs.Tags.{Tag, start_tag, end_tag}
-use Rattle.html_listed.specs.Listing.{is_in, heading_names, frame_names}
+use Rattle.definition_html.specs.Listing.{is_in, heading_names, frame_names}
 
 -- an element of the page: whether it is a heading or in one, and the raw elements that are open in it, the last one first
 pub record Level : Type 0 where

@@ -18,7 +18,7 @@ use Rattle.definition_inline.specs.HtmlText.{html_byte}
 use Rattle.definition_inline.specs.Strings.{eol_bytes}
 use Rattle.definition_page.specs.InlinePieces.{link_url, image_url}
 use Rattle.definition_page.specs.Tags.{Attribute, attribute}
-use Rattle.html_listed.specs.Listing.{listed_attributes}
+use Rattle.definition_html.specs.Listing.{listed_attributes}
 
 -- Raw HTML is a list of codes, in which CR LF is one. The grammar of tags reads its bytes, in which each line ending is 10. Both have the same length.
 abbrev pub tag_bytes : List Code → List ℕ

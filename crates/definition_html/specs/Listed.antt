@@ -1,13 +1,14 @@
 -- A safe page in which raw HTML stands as text in elements without a name, to one in which listed tags are tags. It knows nothing of Markdown.
 use Rattle.std.specs.Prelude.{ℕ, zero, suc, if◌then◌else◌, nat_le, List, [], ◌∷◌, length}
 use Rattle.std.specs.List.{fold}
+use Rattle.markdown_compile_options.specs.RawHtml.{keeps_listed_html}
 use Rattle.markdown_compile_options.specs.declared.configuration.CompileOptions.{CompileOptions}
 use Rattle.definition_inline.specs.CharacterReference.{Names}
 use Rattle.definition_page.specs.Tags.{Tag, void_tag}
-use Rattle.html_listed.specs.Listing.{is_in, is_part, parents_of, heading_names, deepest}
-use Rattle.html_listed.specs.Raw.{RawPart, Text, Begin, Empty, End, Single, raw_parts}
-use Rattle.html_listed.specs.State.{State, nothing_open, says, opened, ended, ended_to, all_ended, count_to, with_room, entered, left}
-use Rattle.html_listed.specs.PageParts.{PagePart, Own, OwnVoid, OwnEnd, Raw, Byte, page_parts}
+use Rattle.definition_html.specs.Listing.{is_in, is_part, parents_of, heading_names, deepest}
+use Rattle.definition_html.specs.Raw.{RawPart, Text, Begin, Empty, End, Single, raw_parts}
+use Rattle.definition_html.specs.State.{State, nothing_open, says, opened, ended, ended_to, all_ended, count_to, with_room, entered, left}
+use Rattle.definition_html.specs.PageParts.{PagePart, Own, OwnVoid, OwnEnd, Raw, Byte, page_parts}
 
 -- ---- the parts of raw HTML
 
@@ -51,6 +52,10 @@ page_part names options s (Byte b) = says (b ∷ []) s
 -- a page with its raw HTML by the list
 abbrev pub listed : Names → CompileOptions → List ℕ → List ℕ
 listed names options page = let s = all_ended (fold (page_part names options) nothing_open (page_parts page)) in s.out
+
+-- a page as it is printed by these options, with its raw HTML by the list where they keep it
+abbrev pub with_listed : Names → CompileOptions → List ℕ → List ℕ
+with_listed names options page = if keeps_listed_html options then listed names options page else page
 
 -- ---- any HTML
 

@@ -6,7 +6,7 @@ use Rattle.definition_text.specs.Bytes.{is_letter_or_digit, begins_with, after_a
 use Rattle.definition_text.specs.Content.{Part, part}
 use Rattle.definition_text.specs.Lines.{ends_line}
 use Rattle.definition_inline.specs.GfmAutolinkLiteral.{ends_with}
-use Rattle.html_safe_page.specs.Reader.{read_text}
+use Rattle.definition_html.specs.Letters.{read_text}
 
 -- a start tag and a void tag of the page's own by their bytes and names, an end tag, raw HTML, and another byte
 pub data PagePart : Type 0 where

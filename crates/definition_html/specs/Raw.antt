@@ -12,8 +12,8 @@ use Rattle.definition_inline.specs.HtmlTags.{is_tag_name_byte, tag_name, tag_spa
 use Rattle.definition_inline.specs.HtmlText.{html_end}
 use Rattle.definition_inline.specs.Strings.{eol_bytes}
 use Rattle.definition_page.specs.Tags.{Tag, tag}
-use Rattle.html_listed.specs.Listing.{is_in, is_listed, void_names}
-use Rattle.html_listed.specs.Attributes.{tag_bytes, code_bytes, written, kept}
+use Rattle.definition_html.specs.Listing.{is_in, is_listed, void_names}
+use Rattle.definition_html.specs.Attributes.{tag_bytes, code_bytes, written, kept}
 
 -- what raw HTML is made of: text as it is printed, a start tag, one whose element ends at once, an end tag by its name, and a void tag
 pub data RawPart : Type 0 where
