@@ -254,5 +254,5 @@ fn push_html_text<A: Allocator>(
 ) -> Result<(), AllocError>
     ensures { escape.Prints result out.old out.new (html_of options.now (raw_lines (Chunk text.now ∷ []))) }
 {
-    push_html(out, options, text)
+    push_html(out, options, false, text)
 }

@@ -13,7 +13,7 @@ use Rattle.html_bytes.specs.Layout.{LayoutState, lay}
 use Rattle.definition_page.specs.Tags.{PrintedPart, Words, Tag, bare_tag}
 use Rattle.definition_page.specs.Pieces as page
 use Rattle.definition_page.specs.GfmTaskListItem.{check_tag}
-use Rattle.definition_page.specs.InlinePieces.{Meaning, address, literal_address, address_tag, math_tag, leaf_says, leaf_pieces, element, span_name}
+use Rattle.definition_page.specs.InlinePieces.{Meaning, address, literal_address, address_tag, math_tag, html_says, leaf_says, leaf_pieces, element, span_name}
 use Rattle.definition_page.specs.InlinePieces.{link_tag, image_tag, description}
 use Rattle.definition_page.specs.InlinePieces.{part_counts, inline_counts, part_pieces, inline_pieces}
 use Rattle.html_bytes.specs.Pieces.{Piece, piece_bytes, in_bytes, piece_html}
@@ -105,7 +105,7 @@ module _ (options : CompileOptions) (default : List ℕ) where
   leaf_added compile (inline.Math text) = tagged_added math_tag text
   leaf_added compile (inline.Autolink is_email text) = tagged_added (address_tag compile (address is_email text)) text
   leaf_added compile (inline.Literal kind text) = tagged_added (address_tag compile (literal_address kind text)) text
-  leaf_added compile (inline.Html html) = says_added (leaf_says compile (inline.Html html))
+  leaf_added compile (inline.Html html) = says_added (html_says false compile html)
   leaf_added compile inline.EscapedBreak = void_added (bare_tag (codes "br"))
   leaf_added compile inline.TrailingBreak = void_added (bare_tag (codes "br"))
   leaf_added compile (inline.LineEnd code) = says_added (leaf_says compile (inline.LineEnd code))

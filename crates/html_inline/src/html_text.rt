@@ -17,17 +17,18 @@ use inline_leaves::space::white_size;
 use markdown_compile_options::CompileOptions;
 use std::alloc::{AllocError, Allocator};
 
-/// Prints raw HTML in a text (CommonMark 6.6).
+/// Prints raw HTML in a text, or in the description of an image (CommonMark 6.6).
 pub(crate) fn push_html_text<A: Allocator>(
     out: &mut String<A>,
     compile: &CompileOptions,
+    described: bool,
     html: &str,
 ) -> Result<(), AllocError>
-    ensures { Prints result out.old out.new (say_bytes (html_says compile.now (content_codes html.now))) }
+    ensures { Prints result out.old out.new (say_bytes (html_says described compile.now (content_codes html.now))) }
 {
-    let mut rest = push_line(out, compile, html)?;
+    let mut rest = push_line(out, compile, described, html)?;
     while !rest.is_empty() {
-        rest = push_line(out, compile, without_indent(rest))?;
+        rest = push_line(out, compile, described, without_indent(rest))?;
     }
     Ok(())
 }
@@ -45,15 +46,16 @@ fn without_indent(text: &str) -> &str
 fn push_line<'a, A: Allocator>(
     out: &mut String<A>,
     compile: &CompileOptions,
+    described: bool,
     html: &'a str,
 ) -> Result<&'a str, AllocError>
-    ensures printed { Prints result out.old out.new (first_bytes compile.now (html_lines (content_codes html.now))) }
+    ensures printed { Prints result out.old out.new (first_bytes described compile.now (html_lines (content_codes html.now))) }
     ensures rest { IfOk result (λ rest. html_lines (content_codes rest.now) ≡ drop 1 (html_lines (content_codes html.now))) }
     ensures within { IfOk result (λ rest. length rest.now ≤ length html.now) }
     ensures shorter { IfOk result (λ rest. 0 < length html.now → length rest.now < length html.now) }
 {
     let size = line_size(html.as_bytes());
-    push_html(out, compile, text_before(html, size))?;
+    push_html(out, compile, described, text_before(html, size))?;
     let rest = push_ending(out, &html[size..])?;
     Ok(rest)
 }

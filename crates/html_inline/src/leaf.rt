@@ -40,7 +40,7 @@ pub(crate) fn push_description<A: Allocator>(
         LeafPart::Unclosed(text) => push_encoded(out, text),
         LeafPart::Autolink { text, .. } => push_encoded(out, text),
         LeafPart::Literal { text, .. } => push_encoded(out, text),
-        LeafPart::Html(html) => push_html_text(out, compile, html),
+        LeafPart::Html(html) => push_html_text(out, compile, true, html),
         LeafPart::LineEnd(ending) => out.push_str(ending.as_str()),
         LeafPart::EscapedBreak => Ok(()),
         LeafPart::TrailingBreak => Ok(()),
@@ -68,7 +68,7 @@ pub(crate) fn push_leaf<A: Allocator + Clone, T: Tables>(
             push_autolink(out, room, printing.compile, email, text)
         }
         LeafPart::Literal { kind, text } => push_literal(out, room, printing.compile, kind, text),
-        LeafPart::Html(html) => push_html_text(out, printing.compile, html),
+        LeafPart::Html(html) => push_html_text(out, printing.compile, false, html),
         LeafPart::LineEnd(ending) => out.push_str(ending.as_str()),
         LeafPart::EscapedBreak => out.push_str("<br />"),
         LeafPart::TrailingBreak => out.push_str("<br />"),

@@ -22,7 +22,7 @@ code_of ls = flat_map code_line_bytes ls
 
 -- lines of HTML with their endings; the columns that are left of a tab aren't printed
 abbrev pub html_line_bytes : CompileOptions → BlockLine → List ℕ
-html_line_bytes options line = raw_bytes options (bytes_of line.codes) ++ ending_text line.ending
+html_line_bytes options line = raw_bytes false options (bytes_of line.codes) ++ ending_text line.ending
 
 abbrev pub html_of : CompileOptions → List BlockLine → List ℕ
 html_of options ls = flat_map (html_line_bytes options) ls

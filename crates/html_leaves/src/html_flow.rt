@@ -72,7 +72,7 @@ fn push_html_line<A: Allocator>(
     options: &CompileOptions,
     text: &str,
 ) -> Result<(), AllocError>
-    ensures { (owed : ℕ) → escape.Prints result out.old out.new (raw_bytes options.now (bytes_of (replicate owed tab_column ++ text.now))) }
+    ensures { (owed : ℕ) → escape.Prints result out.old out.new (raw_bytes false options.now (bytes_of (replicate owed tab_column ++ text.now))) }
 {
-    push_html(out, options, text)
+    push_html(out, options, false, text)
 }
