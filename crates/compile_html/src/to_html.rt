@@ -22,6 +22,7 @@ use compile_blocks::Source;
 use compile_written::{footnote_labels, loose_lists, read_definitions};
 use engine_events::event::Event;
 use event_check::{Checked, CompileError, check_events};
+use html_sanitizer::with_listed;
 use markdown_compile_options::CompileOptions;
 use markdown_options::{Constructs, LineEnding, Tables};
 use std::alloc::{AllocError, Allocator};
@@ -84,11 +85,13 @@ pub fn compile_checked<T: Tables, A: Allocator + Clone>(
         links: &links,
         footnotes: &footnotes,
     };
-    let html = print(alloc, &source)?;
+    let page = print(alloc.clone()?, &source)?;
+    let html = with_listed(alloc, page, options, tables)?;
     Ok(html)
 }
 
-/// Prints the page of a list by what is known of it.
+/// Prints the page of a list by what is known of it: raw HTML that is kept by the list stands on it as
+/// text in elements without a name.
 fn print<T: Tables, A: Allocator + Clone>(
     alloc: A,
     source: &Source<'_, T, A>,

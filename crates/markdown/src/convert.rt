@@ -17,6 +17,7 @@ use block_parser::{BlockRows, block_rows};
 use block_targets::{definition_contents, document_definitions, document_footnotes};
 use html_contents::Texts;
 use html_page::print_rows;
+use html_sanitizer::with_listed;
 use markdown_compile_options::Options;
 use markdown_devices::SIZE_MAX;
 use markdown_options::{Kind, LineEnding, Message, Tables};
@@ -100,11 +101,13 @@ pub fn to_html_with_tables<T: Tables, A: Allocator + Clone>(
     ensures memory { IfErr result IsOutOfMemory }
 {
     let (before, text) = without_mark(value);
-    let page = page_after(alloc, before, text, options, tables)?;
-    Ok(page)
+    let page = page_after(alloc.clone()?, before, text, options, tables)?;
+    let html = with_listed(alloc, page, &options.compile, tables)?;
+    Ok(html)
 }
 
-/// The HTML of a text whose byte order mark is removed, after a character of a kind.
+/// The page of a text whose byte order mark is removed, after a character of a kind, as it is
+/// printed: raw HTML that is kept by the list stands on it as text in elements without a name.
 fn page_after<'a, T: Tables, A: Allocator + Clone>(
     alloc: A,
     before: Kind,

@@ -10,6 +10,7 @@ pub fn options_of(alloc: Global, letters: &str) -> CompileOptions {
         allow_dangerous_html: letters.contains('h'),
         allow_dangerous_protocol: letters.contains('p'),
         allow_any_img_src: letters.contains('i'),
+        allow_listed_html: letters.contains('l'),
         gfm_tagfilter: letters.contains('t'),
         gfm_task_list_item_checkable: letters.contains('c'),
         default_line_ending: ending_of(letters),
