@@ -44,7 +44,10 @@ fn ending_of(letters: &str) -> LineEnding {
 
 /// Whether all pages by these letters are safe.
 pub fn are_safe(letters: &str) -> bool {
-    !letters.contains('h') && !letters.contains('p') && !letters.contains('i')
+    !letters.contains('h')
+        && !letters.contains('p')
+        && !letters.contains('i')
+        && !letters.contains('l')
 }
 
 /// The table of tags by which pages by these letters are safe.
