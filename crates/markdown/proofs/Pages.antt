@@ -36,8 +36,8 @@ pub listed_page : (tables : TextTables) (options : Options) (text page : List �
 listed_page tables options text page is safe = subst (HasOneListedReading (table_of options.compile)) (sym is) (listed_page_law tables text options safe)
 
 pub quotes_page : (tables : TextTables) (options : Options) (value page : List ℕ) → page ≡ html tables value options → QuotesPage tables options value page
-quotes_page tables options value page is text same quotable =
-    ap squeeze (is ∙ ap (λ t. html tables t options) same) ∙ quote_page_law tables text options quotable
+quotes_page tables options value page is text same off quotable =
+    ap squeeze (is ∙ ap (λ t. html tables t options) same) ∙ quote_page_law tables text options off quotable
 
 pub says_escaped_line : (tables : TextTables) (options : Options) (value page : List ℕ) → page ≡ html tables value options
     → SaysEscapedLine options value page
@@ -45,9 +45,9 @@ says_escaped_line tables options value page is line same escapes some trimmed no
     is ∙ ap (λ t. html tables t options) same ∙ escaped_page_law tables line options escapes some trimmed no_mark
 
 pub ends_page : (tables : TextTables) (options : Options) (value page : List ℕ) → page ≡ html tables value options → EndsPage tables options value page
-ends_page tables options value page is e text same feeds notes =
-    is ∙ ap (λ t. html tables t options) same ∙ ending_page_law e tables text options feeds notes
+ends_page tables options value page is e text same off feeds notes =
+    is ∙ ap (λ t. html tables t options) same ∙ ending_page_law e tables text options off feeds notes
 
 pub lists_page : (tables : TextTables) (options : Options) (value page : List ℕ) → page ≡ html tables value options → ListsPage tables options value page
-lists_page tables options value page is text same listable =
-    ap squeeze (is ∙ ap (λ t. html tables t options) same) ∙ list_page_law tables text options listable
+lists_page tables options value page is text same off listable =
+    ap squeeze (is ∙ ap (λ t. html tables t options) same) ∙ list_page_law tables text options off listable
