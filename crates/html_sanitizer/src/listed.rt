@@ -64,7 +64,7 @@ pub fn with_listed<A: Allocator + Clone, T: Tables>(
     options: &CompileOptions,
     tables: &T,
 ) -> Result<String<A>, AllocError>
-    ensures page { IfOk result (λ html. string_bytes html ≡ with_listed (T.reference_of tables.now) options.now (string_bytes page.entry)) }
+    ensures page { IfOk result (λ html. string_bytes html ≡ with_listed (T.reference_of tables.now) options.now (string_bytes page)) }
 {
     if options.keeps_listed_html() {
         return listed_html(alloc, page.as_str(), options, tables);
