@@ -40,7 +40,7 @@ returns-clause-page g c = λ given.
     let N : Names → Type 0 = λ names. string_bytes c.in_ok-html.html ≡ html_of_events names options bytes events in
     subst N by (
     subst H (sym same)
-    (c.in_ok-html.ensures ∙ ap (with_listed names options) (c.in_ok-page.ensures m ds ns
+    (c.in_ok-html.ensures.page ∙ ap (with_listed names options) (c.in_ok-page.ensures m ds ns
     (record {
       names_are = refl;
       compile = refl;

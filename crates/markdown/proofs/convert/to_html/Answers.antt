@@ -20,7 +20,7 @@ pub returns-clause-safe : goal.returns-clause-safe
 returns-clause-safe g c =
     IfOk-weaker c.to_html_with_options.result _ _ (λ page has. has default_are_safe refl)
     (subst (λ options. IfOk c.to_html_with_options.result (λ page. AreSafe options.compile → keeps_listed_html options.compile ≡ false
-        → HasOneReadingBy (table_of options.compile) (string_bytes page))) c.default.ensures c.to_html_with_options.ensures.safe)
+    → HasOneReadingBy (table_of options.compile) (string_bytes page))) c.default.ensures c.to_html_with_options.ensures.safe)
 
 pub returns-clause-quotes : goal.returns-clause-quotes
 returns-clause-quotes g c =

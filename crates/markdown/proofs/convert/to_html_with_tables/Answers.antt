@@ -9,7 +9,7 @@ pub returns-clause-page : goal.returns-clause-page
 returns-clause-page g c =
     let tables = text_tables (g.T.Tables.reference_of c.args.tables.now) (g.T.Tables.punctuation_of c.args.tables.now) in
     let mark = c.without_mark-before in
-    c.in_ok-html.ensures
+    c.in_ok-html.ensures.page
     ∙ ap (with_listed tables.names c.args.options.now.compile)
     (marked_page tables c.args.options.now c.args.value.now mark.result.0 mark.result.1.now
     (string_bytes c.in_ok-page.page) mark.ensures.kind mark.ensures.text c.in_ok-page.ensures)
