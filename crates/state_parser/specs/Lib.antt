@@ -1,3 +1,5 @@
+pub mod Labels
 pub mod Refusal
+pub mod Starts
 pub mod TextLaws
 pub mod WholeParts

@@ -1,8 +1,10 @@
 //! The events of a text by the machines.
-ghost use Rattle.std.specs.Prelude.{IfErr, IfOk, IfSome, length};
+ghost use Rattle.std.specs.Prelude.{◌≡◌, IfErr, IfOk, IfSome, OnOk, length};
 ghost use Rattle.markdown_options.specs.Messages.{IsOutOfMemory};
+ghost use Rattle.markdown_engine.specs.Context.{context};
 ghost use Rattle.markdown_engine.specs.Machine.{AreCuts};
 ghost use Rattle.markdown_engine.specs.Order.{AreInOrder, IsBalanced};
+ghost use Rattle.state_parser.specs.Labels.{with_labels};
 ghost use Rattle.state_parser.specs.Refusal.{IsRefusal, IsUnreadable};
 
 use crate::blocks::read_blocks;
@@ -28,7 +30,7 @@ fn unreadable() -> Message
     }
 }
 
-/// Adds the labels that are defined.
+/// Puts in the labels of the definitions and of the footnote definitions of a document.
 fn define<T: Tables, A: Allocator + Clone>(
     parse_state: &mut ParseState<'_, T, A>,
     alloc: &A,
