@@ -2,7 +2,8 @@
 use Rattle.std.proofs.Common.{◌≡◌, ◌≢◌, ◌↔◌, ℕ, List, [], ◌∷◌, ◌++◌, Bool, true, false, not, ◌&&◌, eqb, refl, sym, ap, ◌∙◌, subst, append_assoc}
 use Rattle.std.specs.Str.{bytes_eq}
 use Rattle.std.proofs.lemmas.Bool.{true≢false, false≢true, and_parts}
-use Rattle.html_safe_page.specs.SafePage.{Attribute, spell_attributes, Tag, spell_tag, void_end, spell_before}
+use Rattle.std.proofs.lemmas.List.{append-nil}
+use Rattle.html_safe_page.specs.SafePage.{Attribute, spell_attributes, Tag, spell_tag, void_end, End, spell_before}
 use Rattle.html_safe_page.specs.declared.table.TagTable.{TagTable}
 use Rattle.html_safe_page.proofs.Sound.{tag_append}
 use Rattle.html_safe_page.proofs.Spelled.{is_word, is_worded_list, is_worded, starts_word, same_bytes, bytes_same}
@@ -76,16 +77,16 @@ module _ (table : TagTable) where
       )
   end_leads name n ns false e l =
       λ rest h. step (is_start table) (is_void table) worded_start worded_void (n ∷ ns) (47 ∷ name) rest l h
-          (λ t k j _. no_slash t [] name (worded_start t k) j)
-          (λ t k j _. no_slash t void_end name (worded_void t k) j)
-          (λ m ms k j _. false≢true (e ∙ ap (λ x. bytes_eq name x) (sym (ap innermost k) ∙ ap tail j) ∙ bytes_same name))
+      (λ t k j _. no_slash t [] name (worded_start t k) j)
+      (λ t k j _. no_slash t void_end name (worded_void t k) j)
+      (λ m ms k j _. false≢true (e ∙ ap (λ x. bytes_eq name x) (sym (ap innermost k) ∙ ap tail j) ∙ bytes_same name))
 
   pub unopened : (name : List ℕ) (ns : List (List ℕ)) → lacks 62 (47 ∷ name) ≡ true → Leads table false (47 ∷ name) [] ns
   unopened name ns l =
       λ rest h. step (is_start table) (is_void table) worded_start worded_void [] (47 ∷ name) rest l h
-          (λ t k j _. no_slash t [] name (worded_start t k) j)
-          (λ t k j _. no_slash t void_end name (worded_void t k) j)
-          (λ m ms k _ _. cc)
+      (λ t k j _. no_slash t [] name (worded_start t k) j)
+      (λ t k j _. no_slash t void_end name (worded_void t k) j)
+      (λ m ms k _ _. cc)
 
   -- ---- void tags
 
@@ -103,13 +104,13 @@ module _ (table : TagTable) where
       )
   void_leads ns tag inside false l no_end_tag e h =
       λ rest r. step (is_start table) (is_void table) worded_start worded_void ns tag rest l r
-          (λ u k j _. no_start u inside (worded_start u k) (j ∙ e))
-          (λ u k j _. false≢true (h.1 (record {
-            tag = u;
-            passes = k;
-            spelling = before_end (spell_tag u []) inside (sym (void_spelled u) ∙ j ∙ e);
-          })))
-          (λ m ms _ j _. no_end_tag m (sym j))
+      (λ u k j _. no_start u inside (worded_start u k) (j ∙ e))
+      (λ u k j _. false≢true (h.1 (record {
+        tag = u;
+        passes = k;
+        spelling = before_end (spell_tag u []) inside (sym (void_spelled u) ∙ j ∙ e);
+      })))
+      (λ m ms _ j _. no_end_tag m (sym j))
 
   -- ---- start tags
 
@@ -129,9 +130,9 @@ module _ (table : TagTable) where
       → ((front : List ℕ) → tag ≢ front ++ void_end) → (IsTagOf (is_start table) [] tag → ⊥) → Leads table false tag ns ms
   no_start_leads ns ms tag l no_end_tag no_void none =
       λ rest r. step (is_start table) (is_void table) worded_start worded_void ns tag rest l r
-          (λ u k j _. none (record { tag = u; passes = k; spelling = j }))
-          (λ u k j _. no_void (spell_tag u []) (sym j ∙ void_spelled u))
-          (λ m ms _ j _. no_end_tag m (sym j))
+      (λ u k j _. none (record { tag = u; passes = k; spelling = j }))
+      (λ u k j _. no_void (spell_tag u []) (sym j ∙ void_spelled u))
+      (λ m ms _ j _. no_end_tag m (sym j))
 
   -- ---- the page
 
@@ -139,4 +140,52 @@ module _ (table : TagTable) where
   page_rest page = (
     λ h. (h.items, (h.tags, ap (λ z. spell_before h.items z) (sym h.follows) ∙ h.spelling)),
     λ p. record { items = p.0; next = []; tags = p.1.0; spelling = p.1.1; follows = refl },
+  )
+
+  -- a page goes on after letters and a tag
+  pub goes_on : (ns ms : List (List ℕ)) (rest letters after tag next page : List ℕ) → rest ≡ letters ++ (60 ∷ after) → lacks 60 letters ≡ true
+      → IsText letters → after ≡ tag ++ (62 ∷ next) → Leads table true tag ns ms → IsRest table ns rest ↔ IsListedPage table page
+      → IsRest table ms next ↔ IsListedPage table page
+  goes_on ns ms rest letters after tag next page e l t k leads h =
+      let tagged = λ (z : List ℕ). IsRest table ns (60 ∷ z) in (
+        λ r. h.0 (subst (IsRest table ns) (sym e)
+            (letters_on (is_start table) (is_void table) ns letters (60 ∷ after) t (subst tagged (sym k) ((leads next).1 r)))),
+        λ p. (leads next).0 (subst tagged k
+            (letters_off (is_start table) (is_void table) ns letters (60 ∷ after) l refl (subst (IsRest table ns) e (h.1 p))).1),
+      )
+
+  -- it doesn't where the letters are none
+  pub no_letters : {A : Type 0} (ns : List (List ℕ)) (rest letters after page : List ℕ) → rest ≡ letters ++ (60 ∷ after) → lacks 60 letters ≡ true
+      → (IsText letters → ⊥) → IsRest table ns rest ↔ IsListedPage table page → IsListedPage table page → A
+  no_letters ns rest letters after page e l t h p =
+      absurd (t (letters_off (is_start table) (is_void table) ns letters (60 ∷ after) l refl (subst (IsRest table ns) e (h.1 p))).0)
+
+  -- nor where the tag has no end
+  pub no_tag_end : {A : Type 0} (ns : List (List ℕ)) (rest letters after page : List ℕ) → rest ≡ letters ++ (60 ∷ after) → lacks 60 letters ≡ true
+      → lacks 62 after ≡ true → IsRest table ns rest ↔ IsListedPage table page → IsListedPage table page → A
+  no_tag_end ns rest letters after page e l k h p =
+      no_end (is_start table) (is_void table) worded_start worded_void ns after k
+      (letters_off (is_start table) (is_void table) ns letters (60 ∷ after) l refl (subst (IsRest table ns) e (h.1 p))).1
+
+  -- nor where the tag can't stand
+  pub no_tag : {A : Type 0} (ns ms : List (List ℕ)) (rest letters after tag next page : List ℕ) → rest ≡ letters ++ (60 ∷ after) → lacks 60 letters ≡ true
+      → after ≡ tag ++ (62 ∷ next) → Leads table false tag ns ms → IsRest table ns rest ↔ IsListedPage table page → IsListedPage table page → A
+  no_tag ns ms rest letters after tag next page e l k leads h p =
+      absurd (leads next (subst (λ z. IsRest table ns (60 ∷ z)) k
+      (letters_off (is_start table) (is_void table) ns letters (60 ∷ after) l refl (subst (IsRest table ns) e (h.1 p))).1))
+
+  -- where no tag is left, no element may be open
+  pub still_open : {A : Type 0} (ns : List (List ℕ)) (rest page : List ℕ) → (ns ≡ [] → ⊥) → lacks 60 rest ≡ true
+      → IsRest table ns rest ↔ IsListedPage table page → IsListedPage table page → A
+  still_open [] rest page some l h p = absurd (some refl)
+  still_open (n ∷ ns) rest page some l h p =
+      none_open (is_start table) (is_void table) n ns
+      (letters_off (is_start table) (is_void table) (n ∷ ns) rest [] l refl (subst (IsRest table (n ∷ ns)) (sym (append-nil rest)) (h.1 p))).1
+
+  -- and letters are left
+  pub at_last : (rest page : List ℕ) → lacks 60 rest ≡ true → IsRest table [] rest ↔ IsListedPage table page → IsText rest ↔ IsListedPage table page
+  at_last rest page l h = (
+    λ t. h.0 (subst (IsRest table []) (append-nil rest)
+        (letters_on (is_start table) (is_void table) [] rest [] t (record { items = End; next = []; tags = refl; spelling = refl; follows = refl }))),
+    λ p. (letters_off (is_start table) (is_void table) [] rest [] l refl (subst (IsRest table []) (sym (append-nil rest)) (h.1 p))).0,
   )

@@ -60,7 +60,8 @@ module _ (start void : Tag → Bool) where
   same_off ns b letters more rest e h = ((b ∷ h.0.0, ap (λ z. spell_letter b ++ z) h.0.1 ∙ sym e), h.1)
 
   no_letters : (items : Items) (next : List ℕ) (ns : List (List ℕ)) (y letters rest : List ℕ) → have_tags start void items ≡ true
-      → spell_before items next ≡ 60 ∷ y → IsAfter start void ns next → lacks 60 letters ≡ true → spell_before items next ≡ letters ++ rest → IsOff ns letters rest
+      → spell_before items next ≡ 60 ∷ y → IsAfter start void ns next → lacks 60 letters ≡ true → spell_before items next ≡ letters ++ rest
+      → IsOff ns letters rest
   no_letters items next ns y [] rest h p f l e = (([], refl), record { items = items; next = next; tags = h; spelling = e; follows = f })
   no_letters items next ns y (b ∷ bs) rest h p f l e =
       absurd (false≢true (sym (ap (λ z. not (eqb (head z) 60)) (sym e ∙ p)) ∙ (and_parts (not (eqb b 60)) (lacks 60 bs) l).0))

@@ -1,9 +1,11 @@
 -- The tests of tags.
-use Rattle.std.proofs.Common.{◌≡◌, ◌↔◌, ℕ, List, [], ◌∷◌, ◌++◌, Bool, true, false, not, ◌&&◌, ◌||◌, eqb, codes, refl, sym, ap, ◌∙◌, subst, inl, inr, append_assoc}
+use Rattle.std.proofs.Common.{◌≡◌, ◌↔◌, ℕ, List, [], ◌∷◌, ◌++◌, Bool, true, false, not, ◌&&◌, ◌||◌, eqb, codes}
+use Rattle.std.proofs.Common.{refl, sym, ap, ◌∙◌, subst, inl, inr, append_assoc}
 use Rattle.std.proofs.lemmas.Bool.{true≢false, false≢true, and_parts, and_from, or_cases, or_left, or_right}
 use Rattle.std.proofs.lemmas.List.{append-nil}
 use Rattle.html_safe_page.specs.Table.{start_rows_of, void_rows_of}
-use Rattle.html_safe_page.specs.SafePage.{Tag, spell_tag, spell_attributes, void_end, Items, End, Letter, Void, Element, spell_before, is_tag_of, is_safe_by, IsSafePageBy}
+use Rattle.html_safe_page.specs.SafePage.{Tag, spell_tag, spell_attributes, void_end, Items, End, Letter, Void}
+use Rattle.html_safe_page.specs.SafePage.{Element, spell_before, is_tag_of, is_safe_by, IsSafePageBy}
 use Rattle.html_safe_page.specs.Reader.{tag_of}
 use Rattle.html_safe_page.specs.declared.table.TagTable.{TagTable}
 use Rattle.html_safe_page.specs.declared.table.TagTable.TheVariants.{Basic}
@@ -11,7 +13,8 @@ use Rattle.html_safe_page.proofs.Sound.{tag_append}
 use Rattle.html_safe_page.proofs.Spelled.{is_worded}
 use Rattle.html_safe_page.proofs.Pages.{start_worded_by, void_worded_by}
 use Rattle.definition_html.specs.Listing.{is_in, is_listed, void_names}
-use Rattle.html_listed.specs.ListedPage.{attribute_names, are_some_of, is_listed_value, is_listed_tag, is_listed_start, is_listed_void, is_start, is_void, have_tags}
+use Rattle.html_listed.specs.ListedPage.{attribute_names, are_some_of, is_listed_value, is_listed_tag, is_listed_start, is_listed_void}
+use Rattle.html_listed.specs.ListedPage.{is_start, is_void, have_tags}
 use Rattle.html_listed_page.specs.Tags.{lacks, IsCut, IsText, HasAttributes, IsTagOf}
 use Rattle.html_listed_page.specs.Rest.{IsRestWith, in_tag}
 use Rattle.html_listed_page.proofs.Cuts.{lacks_append}
@@ -141,13 +144,15 @@ module _ (table : TagTable) where
   pub start_safe : (tag name rest : List ℕ) → IsCut 32 tag name rest → IsTagOf start [] tag → IsSafePageBy table (in_tag tag (in_tag (47 ∷ name) []))
   start_safe tag name rest cut v =
       let t = v.tag in
-      let same = (name_found t tag name rest (worded_start t v.passes) v.spelling cut).0 in
-      (Element t End End, (
-        and_from (start t) true v.passes refl,
-        ap (λ z. 60 ∷ spell_tag t (62 ∷ in_tag (47 ∷ z) [])) same
-            ∙ ap (λ z. 60 ∷ z) (tag_append t [] (62 ∷ in_tag (47 ∷ name) []))
-            ∙ ap (λ z. in_tag z (in_tag (47 ∷ name) [])) v.spelling,
-      ))
+      let same = (name_found t tag name rest (worded_start t v.passes) v.spelling cut).0 in (
+        Element t End End,
+        (
+          and_from (start t) true v.passes refl,
+          ap (λ z. 60 ∷ spell_tag t (62 ∷ in_tag (47 ∷ z) [])) same
+              ∙ ap (λ z. 60 ∷ z) (tag_append t [] (62 ∷ in_tag (47 ∷ name) []))
+              ∙ ap (λ z. in_tag z (in_tag (47 ∷ name) [])) v.spelling,
+        ),
+      )
 
   -- and a void tag
   pub safe_void : (inside : List ℕ) → lacks 62 inside ≡ true → IsSafePageBy table (in_tag (inside ++ void_end) []) → IsTagOf void [] inside
@@ -160,11 +165,13 @@ module _ (table : TagTable) where
 
   pub void_safe : (inside : List ℕ) → IsTagOf void [] inside → IsSafePageBy table (in_tag (inside ++ void_end) [])
   void_safe inside v =
-      let t = v.tag in
-      (Void t End, (
-        and_from (void t) true v.passes refl,
-        ap (λ z. 60 ∷ z) (tag_append t void_end (62 ∷ []) ∙ ap (λ z. z ++ (62 ∷ [])) (void_spelled t ∙ ap (λ z. z ++ void_end) v.spelling)),
-      ))
+      let t = v.tag in (
+        Void t End,
+        (
+          and_from (void t) true v.passes refl,
+          ap (λ z. 60 ∷ z) (tag_append t void_end (62 ∷ []) ∙ ap (λ z. z ++ (62 ∷ [])) (void_spelled t ∙ ap (λ z. z ++ void_end) v.spelling)),
+        ),
+      )
 
 -- ---- texts
 

@@ -1,5 +1,6 @@
 -- Attributes are taken off a tag one by one, along the names of the list.
-use Rattle.std.proofs.Common.{◌≡◌, ◌↔◌, ℕ, zero, suc, ◌+◌, ◌<◌, List, [], ◌∷◌, ◌++◌, Bool, true, false, not, ◌&&◌, ◌||◌, cond, eqb, Bor, codes, length, get_or, drop}
+use Rattle.std.proofs.Common.{◌≡◌, ◌↔◌, ℕ, zero, suc, ◌+◌, ◌<◌, List, [], ◌∷◌, ◌++◌, Bool, true, false, not, ◌&&◌}
+use Rattle.std.proofs.Common.{◌||◌, cond, eqb, Bor, codes, length, get_or, drop}
 use Rattle.std.proofs.Common.{refl, sym, ap, ◌∙◌, subst, inl, inr, append_assoc, arith}
 use Rattle.std.specs.List.{list_all}
 use Rattle.std.specs.Str.{bytes_eq}
@@ -63,7 +64,8 @@ one_less (n ∷ ns) a others h =
       | inr e ↦ one_more n ns others (one_less ns a others e)
     ]
 
-first_lacks : (names : List (List ℕ)) (a : Attribute) (others : List Attribute) → are_names names ≡ true → are_some_of names (a ∷ others) ≡ true → lacks 61 a.name ≡ true
+first_lacks : (names : List (List ℕ)) (a : Attribute) (others : List Attribute) → are_names names ≡ true → are_some_of names (a ∷ others) ≡ true
+    → lacks 61 a.name ≡ true
 first_lacks [] a others h k = absurd (false≢true k)
 first_lacks (n ∷ ns) a others h k =
     let parts = and_parts (lacks 61 n) (are_names ns) h in
@@ -206,8 +208,7 @@ others_fit = ap are_names (append-nil listed_attributes) ∙ listed_fit
 pub all_taken : (name text rest end : List ℕ) (t : Bool) → HasAttributes (attribute_names name) text ↔ HasAttributes listed_attributes rest
     → HasAttributes (listed_attributes ++ []) rest ↔ HasAttributes [] end → t ≡ eqb (length end) 0 → (t ≡ true) ↔ HasAttributes (attribute_names name) text
 all_taken name text rest end t p q h =
-    let ends = both_ways (nothing_left end) ((λ e. (empty_is end t h).1 e), λ e. (empty_is end t h).0 e) in
-    (
+    let ends = both_ways (nothing_left end) ((λ e. (empty_is end t h).1 e), λ e. (empty_is end t h).0 e) in (
       λ e. p.1 (subst (λ ns. HasAttributes ns rest) (append-nil listed_attributes) (q.1 (ends.1 e))),
       λ a. ends.0 (q.0 (subst (λ ns. HasAttributes ns rest) (sym (append-nil listed_attributes)) (p.0 a))),
     )

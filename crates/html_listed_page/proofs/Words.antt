@@ -28,7 +28,8 @@ word_lacks c h (b ∷ bs) k =
 pub name_lacks : (c : ℕ) → is_word_byte c ≡ false → (name : List ℕ) → is_word name ≡ true → lacks c name ≡ true
 name_lacks c h name k = word_lacks c h name (word_bytes name k)
 
-attributes_lack : (attributes : List Attribute) (x : List ℕ) → is_worded_list attributes ≡ true → lacks 62 x ≡ true → lacks 62 (spell_attributes attributes x) ≡ true
+attributes_lack : (attributes : List Attribute) (x : List ℕ) → is_worded_list attributes ≡ true → lacks 62 x ≡ true
+    → lacks 62 (spell_attributes attributes x) ≡ true
 attributes_lack [] x h k = k
 attributes_lack (a ∷ others) x h k =
     let parts = and_parts (is_word a.name) (is_worded_list others) h in

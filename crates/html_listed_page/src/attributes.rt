@@ -49,10 +49,9 @@ fn after_attribute<'a, A: Allocator>(
         return Ok(text);
     }
     if is_text(alloc, value)? {
-        Ok(after)
-    } else {
-        Ok(text)
+        return Ok(after);
     }
+    Ok(text)
 }
 
 /// What follows the attributes at the start of a text that have some of these names, in this order.

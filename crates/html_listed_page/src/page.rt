@@ -1,7 +1,8 @@
 //! Whether a page is a listed page.
-ghost use Rattle.std.specs.Prelude.{◌↔◌, IfOk, IsTrue};
-ghost use Rattle.definition_text.specs.Ascii.{greater_than};
+ghost use Rattle.std.specs.Prelude.{◌↔◌, ◌∷◌, IfOk, IsTrue};
+ghost use Rattle.definition_text.specs.Ascii.{slash, greater_than};
 ghost use Rattle.html_safe_page.specs.Views.{open_names};
+ghost use Rattle.html_safe_page.specs.declared.table.TagTable.{TagTable};
 ghost use Rattle.html_listed.specs.ListedPage.{IsListedPage};
 ghost use Rattle.html_listed_page.specs.Rest.{Leads};
 ghost use Rattle.html_listed_page.specs.Tags.{lacks};
@@ -10,6 +11,17 @@ use crate::tags::{is_start, is_void, name_of};
 use crate::text::is_text;
 use html_safe_page::TagTable;
 use std::alloc::{AllocError, Allocator};
+
+/// Ends the innermost element by an end tag. Returns false if it has another name.
+fn end_element<'a, A: Allocator>(names: &mut Vec<&'a str, A>, name: &str) -> bool
+    requires { IsTrue (lacks greater_than name.now) }
+    ensures { (table : TagTable) → Leads table result (slash ∷ name.now) (open_names names.old.items) (open_names names.new.items) }
+{
+    match names.pop() {
+        Some(open) => name == open,
+        None => false,
+    }
+}
 
 /// Begins or ends an element by a tag. Returns false if the tag can't stand here.
 fn follow<'a, A: Allocator, B: Allocator>(
@@ -22,15 +34,13 @@ fn follow<'a, A: Allocator, B: Allocator>(
     ensures { IfOk result (λ goes_on. Leads table goes_on tag.now (open_names names.old.items) (open_names names.new.items)) }
 {
     if let Some(name) = tag.strip_prefix('/') {
-        return Ok(match names.pop() {
-            Some(open) => name == open,
-            None => false,
-        });
+        return Ok(end_element(names, name));
     }
     if let Some(inside) = tag.strip_suffix(" /") {
         return is_void(alloc, table, inside);
     }
-    if !is_start(alloc, table, tag)? {
+    let starts = is_start(alloc, table, tag)?;
+    if !starts {
         return Ok(false);
     }
     names.push(name_of(tag))?;
@@ -55,20 +65,21 @@ pub fn is_listed_page<A: Allocator>(
     let mut names = Vec::new(&alloc);
     let mut rest = page;
     while let Some((letters, after)) = rest.split_once('<') {
-        if !is_text(&alloc, letters)? {
+        let reads = is_text(&alloc, letters)?;
+        if !reads {
             return Ok(false);
         }
         let Some((tag, next)) = after.split_once('>') else {
             return Ok(false);
         };
-        if !follow(&alloc, table, &mut names, tag)? {
+        let goes_on = follow(&alloc, table, &mut names, tag)?;
+        if !goes_on {
             return Ok(false);
         }
         rest = next;
     }
-    if names.is_empty() {
-        is_text(&alloc, rest)
-    } else {
-        Ok(false)
+    if !names.is_empty() {
+        return Ok(false);
     }
+    is_text(&alloc, rest)
 }

@@ -60,11 +60,7 @@ fn is_listed_void<A: Allocator>(alloc: &A, tag: &str) -> Result<bool, AllocError
 }
 
 /// Appends the element of a start tag with nothing in it.
-fn push_element<A: Allocator>(
-    out: &mut String<A>,
-    tag: &str,
-    name: &str,
-) -> Result<(), AllocError>
+fn push_element<A: Allocator>(out: &mut String<A>, tag: &str, name: &str) -> Result<(), AllocError>
     ensures { OnOk result (string_bytes out.new ≡ string_bytes out.old ++ empty_element tag.now name.now) }
 {
     out.push_str("<")?;

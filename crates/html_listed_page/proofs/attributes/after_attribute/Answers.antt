@@ -19,8 +19,8 @@ returns-then-branch g c =
     λ more words. taken c.args.name.now c.args.text.now c.in-Some.value.now c.in-Some.after.now found.0 found.1
     (sym c.is_value.ensures ∙ c.if-not-is_value.false) (c.in_ok-is_text.ensures.0 c.if-branch.true) more words
 
-pub returns-else-branch : goal.returns-else-branch
-returns-else-branch g c =
+pub returns : goal.returns
+returns g c =
     let found = rw c.in-Some.is at c.split_attribute.ensures in
     λ more words. refused c.args.name.now c.args.text.now c.in-Some.value.now c.in-Some.after.now found.0 found.1
     (λ _ t. true≢false (sym (c.in_ok-is_text.ensures.1 t) ∙ c.if-branch.false)) more words

@@ -13,8 +13,8 @@ loop-name-preserved g c =
     let names = c.args.names.now in
     let i = c.loop-name.name-index in
     λ more words.
-        let next = next_name names i _ more c.loop-name-test.true in
-        let later = names_of (drop (i + 1) names) ++ more in
-        both_ways (c.loop-name.invariant more words)
-        (subst (λ ns. HasAttributes ns c.loop-name.rest.now ↔ HasAttributes later c.in_ok-after_attribute.value.now) (sym next)
-        (c.in_ok-after_attribute.ensures later (subst (λ ns. are_names ns ≡ true) next (names_left names i more words))))
+    let next = next_name names i _ more c.loop-name-test.true in
+    let later = names_of (drop (i + 1) names) ++ more in
+    both_ways (c.loop-name.invariant more words)
+    (subst (λ ns. HasAttributes ns c.loop-name.rest.now ↔ HasAttributes later c.in_ok-after_attribute.value.now) (sym next)
+    (c.in_ok-after_attribute.ensures later (subst (λ ns. are_names ns ≡ true) next (names_left names i more words))))

@@ -9,8 +9,7 @@ use Rattle.html_listed_page.proofs.tags.is_listed_tag.Goals as goal
 pub returns-then-not-is_listed : goal.returns-then-not-is_listed
 returns-then-not-is_listed g c =
     let name = c.split_name.result.0.now in
-    let attributes = c.split_name.result.1.now in
-    (
+    let attributes = c.split_name.result.1.now in (
       (λ e. absurd (false≢true e)),
       λ v. absurd (true≢false (sym (listed_name c.args.tag.now name attributes c.split_name.ensures v) ∙ sym c.is_listed.ensures ∙ c.if-not-is_listed.true)),
     )
