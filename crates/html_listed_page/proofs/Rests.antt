@@ -106,7 +106,8 @@ module _ (start void : Tag → Bool) where
 
   -- ---- the end of a page
 
-  ends_items : {A : Type 0} (n : List ℕ) (ns : List (List ℕ)) (items : Items) (next : List ℕ) → IsAfter start void (n ∷ ns) next → spell_before items next ≡ [] → A
+  ends_items : {A : Type 0} (n : List ℕ) (ns : List (List ℕ)) (items : Items) (next : List ℕ) → IsAfter start void (n ∷ ns) next → spell_before items next ≡ []
+      → A
   ends_items n ns End next f e = let bad = f.spelling ∙ e in cc
   ends_items n ns (Letter b items) next f e = some_letter b (spell_before items next) e
   ends_items n ns (Void t items) next f e = cc
