@@ -90,5 +90,6 @@ pub(crate) fn has_attributes<A: Allocator>(
     ensures { IfOk result (λ yes. IsTrue yes ↔ HasAttributes (attribute_names name.now) text.now) }
 {
     let rest = after_attributes(alloc, url_names(name), text)?;
-    Ok(after_attributes(alloc, &LISTED_ATTRIBUTES, rest)?.is_empty())
+    let end = after_attributes(alloc, &LISTED_ATTRIBUTES, rest)?;
+    Ok(end.is_empty())
 }

@@ -13,7 +13,7 @@ returns g c =
     let rest = c.in_ok-rest.rest.now in
     let urls = c.url_names.ensures in
     let first = c.in_ok-rest.ensures listed_attributes (ap (λ ns. are_names (ns ++ listed_attributes)) urls ∙ all_fit name) in
-    all_taken name text rest c.in_ok-after_attributes.value.now c.is_empty.result
+    all_taken name text rest c.in_ok-end.end.now c.is_empty.result
     (subst (λ ns. HasAttributes (ns ++ listed_attributes) text ↔ HasAttributes listed_attributes rest) urls first)
-    (c.in_ok-after_attributes.ensures [] others_fit)
+    (c.in_ok-end.ensures [] others_fit)
     c.is_empty.ensures
