@@ -4,7 +4,7 @@ use Rattle.std.proofs.Common.{◌||◌, cond, eqb, Bor, codes, length, get_or, d
 use Rattle.std.proofs.Common.{refl, sym, ap, ◌∙◌, subst, inl, inr, append_assoc, arith}
 use Rattle.std.specs.List.{list_all}
 use Rattle.std.specs.Str.{bytes_eq}
-use Rattle.std.proofs.lemmas.Bool.{cond_both, true≢false, false≢true, and_parts, and_from, or_cases, or_left, or_right, eqb-true, eqb-false}
+use Rattle.std.proofs.lemmas.Bool.{cond_both, true≢false, false≢true, and_parts, and_from, or_cases, or_left, or_right, eqb-true}
 use Rattle.std.proofs.lemmas.List.{append-nil, drop_more}
 use Rattle.std.proofs.lemmas.List.Folds.{list_all-append}
 use Rattle.definition_html.specs.Listing.{listed_attributes}
@@ -185,7 +185,10 @@ nothing_left bytes = (
 
 empty_is : (bytes : List ℕ) (t : Bool) → t ≡ eqb (length bytes) 0 → (t ≡ true) ↔ (bytes ≡ [])
 empty_is [] t h = ((λ _. refl), λ _. h)
-empty_is (b ∷ bs) t h = ((λ e. absurd (eqb-false (length (b ∷ bs)) 0 refl (eqb-true (length (b ∷ bs)) 0 (sym h ∙ e)))), λ e. cc)
+empty_is (b ∷ bs) t h = (
+  (λ e. let none : length (b ∷ bs) ≡ 0 = eqb-true (length (b ∷ bs)) 0 (sym h ∙ e) in absurd (omega (arith, none))),
+  λ e. cc,
+)
 
 url_fit : (name : List ℕ) → are_names (url_names name) ≡ true
 url_fit name =
@@ -208,7 +211,8 @@ others_fit = ap are_names (append-nil listed_attributes) ∙ listed_fit
 pub all_taken : (name text rest end : List ℕ) (t : Bool) → HasAttributes (attribute_names name) text ↔ HasAttributes listed_attributes rest
     → HasAttributes (listed_attributes ++ []) rest ↔ HasAttributes [] end → t ≡ eqb (length end) 0 → (t ≡ true) ↔ HasAttributes (attribute_names name) text
 all_taken name text rest end t p q h =
-    let ends = both_ways (nothing_left end) ((λ e. (empty_is end t h).1 e), λ e. (empty_is end t h).0 e) in (
+    let empty : (end ≡ []) ↔ (t ≡ true) = ((empty_is end t h).1, (empty_is end t h).0) in
+    let ends = both_ways (nothing_left end) empty in
       λ e. p.1 (subst (λ ns. HasAttributes ns rest) (append-nil listed_attributes) (q.1 (ends.1 e))),
       λ a. ends.0 (q.0 (subst (λ ns. HasAttributes ns rest) (sym (append-nil listed_attributes)) (p.0 a))),
     )
