@@ -212,7 +212,7 @@ pub all_taken : (name text rest end : List ℕ) (t : Bool) → HasAttributes (at
     → HasAttributes (listed_attributes ++ []) rest ↔ HasAttributes [] end → t ≡ eqb (length end) 0 → (t ≡ true) ↔ HasAttributes (attribute_names name) text
 all_taken name text rest end t p q h =
     let empty : (end ≡ []) ↔ (t ≡ true) = ((empty_is end t h).1, (empty_is end t h).0) in
-    let ends = both_ways (nothing_left end) empty in
+    let ends = both_ways (nothing_left end) empty in (
       λ e. p.1 (subst (λ ns. HasAttributes ns rest) (append-nil listed_attributes) (q.1 (ends.1 e))),
       λ a. ends.0 (q.0 (subst (λ ns. HasAttributes ns rest) (sym (append-nil listed_attributes)) (p.0 a))),
     )
