@@ -1,4 +1,4 @@
-use Rattle.std.proofs.Common.{◌≡◌, sym, subst, lit<}
+use Rattle.std.proofs.Common.{◌≡◌, sym, subst, take, lit<}
 use Rattle.std.proofs.lemmas.Str.Pattern.{find_char}
 use Rattle.html_listed_page.specs.Tags.{IsCut}
 use Rattle.html_listed_page.proofs.Cuts.{cut_at, cut_after}
@@ -13,7 +13,7 @@ returns-in-Some c =
     let place = c.in-Some.place in
     let found = rw c.in-Some.is at (find_char 32 tag c.find.result c.find.ensures.cases (lit< tt)) in
     subst (λ x. IsCut 32 tag x c.split_at.result.1.now) (sym c.split_at.ensures.front)
-    (subst (λ x. IsCut 32 tag _ x) (sym c.split_at.ensures.back) (cut_at 32 tag place found.0 found.1 found.2))
+    (subst (λ x. IsCut 32 tag (take place tag) x) (sym c.split_at.ensures.back) (cut_at 32 tag place found.0 found.1 found.2))
 
 pub returns-in-None : goal.returns-in-None
 returns-in-None c =
