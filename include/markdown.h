@@ -144,7 +144,10 @@ enum {
     /* Headings have ids, as GitHub makes them. */
     MARKDOWN_SWITCH_HEADING_IDS = 128,
     /* Images have loading="lazy". */
-    MARKDOWN_SWITCH_LAZY_IMAGES = 256
+    MARKDOWN_SWITCH_LAZY_IMAGES = 256,
+    /* Keep HTML of the input by a list of elements and attributes, and escape the rest. With
+     * MARKDOWN_SWITCH_ALLOW_DANGEROUS_HTML all of it is kept. Show the page in an element such as div, and not in p or span. */
+    MARKDOWN_SWITCH_ALLOW_LISTED_HTML = 512
 };
 
 /* Line endings. */

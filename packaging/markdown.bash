@@ -6,7 +6,7 @@ _markdown_proved() {
         case $before:$word in
             --references:*) compgen -f -- "$word" ;;
             --heading-id-prefix:* | --link-base:* | --image-base:* | --link-rel:*) ;;
-            *:-*) compgen -W '--gfm --mark --math --frontmatter --heading-ids --heading-id-prefix --link-base --image-base --link-rel --lazy-images --dangerous --plain --references --help --version' -- "$word" ;;
+            *:-*) compgen -W '--gfm --mark --math --frontmatter --heading-ids --heading-id-prefix --link-base --image-base --link-rel --lazy-images --listed-html --dangerous --plain --references --help --version' -- "$word" ;;
             *) compgen -f -- "$word" ;;
         esac
     )

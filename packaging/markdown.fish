@@ -11,6 +11,7 @@ for command in markdown markdown-proved
     complete -c $command -l image-base -x -d "Print a URL before images that are relative paths"
     complete -c $command -l link-rel -x -d "Print a rel in links"
     complete -c $command -l lazy-images -d 'Print loading="lazy" in images'
+    complete -c $command -l listed-html -d "Keep HTML by a list of elements and attributes"
     complete -c $command -l dangerous -d "Keep HTML and every protocol of the input"
     complete -c $command -l plain -d "Turn every construct off"
     complete -c $command -l references -r -F -d "Read more names of character references from a file"

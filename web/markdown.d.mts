@@ -112,6 +112,11 @@ export interface Options extends ReadOptions {
     headingIds?: boolean;
     /** Images have `loading="lazy"`. */
     lazyImages?: boolean;
+    /**
+     * Keep HTML of the input by a list of elements and attributes, and escape the rest. With `dangerousHtml` all of it is kept. Show
+     * the page in an element such as `div`, and not in `p` or `span`.
+     */
+    allowListedHtml?: boolean;
     /** What ends a line of the HTML if the input has no line ending. By default LF. */
     lineEnding?: "\n" | "\r" | "\r\n";
 }

@@ -31,7 +31,7 @@ const CONSTRUCTS = {
 // The switches of that struct, in the order of their numbers, and the flags that turn them on; 0 is never, -1 always.
 const SWITCHES = {
     anyImageProtocol: 0, dangerousHtml: DANGEROUS, dangerousProtocol: DANGEROUS, tagfilter: TAGFILTER, checkableTasks: 0,
-    singleTilde: -1, singleDollar: -1, headingIds: 0, lazyImages: 0,
+    singleTilde: -1, singleDollar: -1, headingIds: 0, lazyImages: 0, allowListedHtml: 0,
 };
 const DANGEROUS_HTML = 2, HEADING_IDS = 128;
 const LINE_ENDINGS = ["\n", "\r", "\r\n"];
@@ -232,8 +232,8 @@ class Source {
     }
 }
 
-// The tags of footnotes, with the texts above. A page without raw HTML has such a tag only where a footnote or a call is, since
-// a text has no `<` and no value has a `"`.
+// The tags of footnotes, with the texts above. A page without raw HTML, or with raw HTML by the list, has such a tag only where a
+// footnote or a call is, since a text has no `<`, no value has a `"`, and no tag of the list has an id.
 const FOOTNOTE_TAGS = new RegExp([
     '<a href="#user-content-(?<called>fn-[^"]*)" id="user-content-(?<call>[^"]*)"(?= data-footnote-ref="")',
     '<li id="user-content-(?<footnote>fn-[^"]*)">',
@@ -285,7 +285,7 @@ function read(options) {
     if (ending < 0) throw new TypeError("lineEnding must be LF, CR or both");
     const texts = Object.fromEntries(Object.keys(TEXTS).filter(name => given[name] !== undefined).map(name => [name, given[name]]));
     const switches = numbers(SWITCHES, flags, given);
-    // A tag of raw HTML could be one of a footnote.
+    // A tag of raw HTML that isn't of the list could be one of a footnote.
     if (Object.keys(texts).length > 0 && (switches & DANGEROUS_HTML) !== 0) throw new TypeError("texts of footnotes need safe HTML");
     // (The module leaves out the ids that footnotes with the default prefix may have.)
     if (texts.prefix !== undefined && (switches & HEADING_IDS) !== 0) throw new TypeError("headingIds needs the default prefix of footnotes");

@@ -317,7 +317,7 @@ static int check_options_refused(void)
     options.constructs |= UINT64_C(1) << 30;
     CHECK(convert_with(&options, &length) == MARKDOWN_FLAGS);
     options = markdown_options_of(0);
-    options.switches |= 512;
+    options.switches |= 1024;
     CHECK(convert_with(&options, &length) == MARKDOWN_FLAGS);
     options = markdown_options_of(0);
     options.default_line_ending = 3;

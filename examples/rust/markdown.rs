@@ -245,6 +245,9 @@ pub enum Switch {
     HeadingIds = 128,
     /// Images have `loading="lazy"`.
     LazyImages = 256,
+    /// HTML of the text is kept by a list of elements and attributes, and the rest of it is text. With `AllowDangerousHtml` all of
+    /// it is kept.
+    AllowListedHtml = 512,
 }
 
 /// What is printed at a line's end if the text has no line ending.

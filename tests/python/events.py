@@ -1,4 +1,5 @@
-"""What holds of the events of a text: their places tile the text, they are balanced, and each that holds no other is a token.
+"""What holds of the events of a text: their places tile the text, they are balanced, and each that holds no other is a token. Strings and
+raw HTML hold something, and data isn't after data.
 
 What may be a token of a name is written here a second time, by hand, and not taken from the grammar of events.
 """
@@ -24,6 +25,15 @@ def void_names():
 
 VOID = void_names()
 IS_VOID = [name in VOID for name in EVENT_NAMES]
+DATA = NUMBER["Data"]
+# Events that hold something.
+FULL = {
+    NUMBER[name]
+    for name in (
+        "HtmlFlow HtmlText CodeFencedFenceInfo CodeFencedFenceMeta MathFlowFenceMeta DefinitionLabelString DefinitionDestinationString "
+        "DefinitionTitleString ReferenceString ResourceDestinationString ResourceTitleString"
+    ).split()
+}
 WHITE, ENDS, ENDINGS = b" \t", b"\n\r", (b"\n", b"\r", b"\r\n")
 NOT_IN_LINKS = b" \t\n\r<"
 PUNCTUATION = string.punctuation.encode()
@@ -152,6 +162,10 @@ def fault_of(data, events):
                 return f"{EVENT_NAMES[name]} of {token!r}"
         elif is_exit and not before[4] and IS_VOID[name]:
             return f"{EVENT_NAMES[name]} of no bytes"
+        if is_exit and not before[4] and name in FULL:
+            return f"{EVENT_NAMES[name]} with nothing in it"
+        if not is_exit and before[4] and name == DATA == before[3]:
+            return "data after data"
         before = event
     return f"{EVENT_NAMES[names[0]]} without an exit" if names else None
 

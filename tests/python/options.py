@@ -49,7 +49,7 @@ class Flat(ctypes.Structure):
         return flat(self.constructs & ~of(*names), *self.words)
 
     def adding(self, names):
-        """The same options with these of ATTRIBUTES, too."""
+        """The same options with these switches and these texts of EACH_TEXT, too."""
         switches, off, texts = self.words
         more = {name: EACH_TEXT[name] for name in names if name in EACH_TEXT}
         return flat(self.constructs, (*switches, *(name for name in names if name in SWITCH)), off, {**texts, **more})
@@ -77,7 +77,8 @@ TEXTS = {
     "rel": "",
 }
 RAW, PROTOCOLS, FILTER = "allow_dangerous_html", "allow_dangerous_protocol", "gfm_tagfilter"
-IDS, LAZY = "heading_ids", "lazy_images"
+IDS, LAZY, LISTED = "heading_ids", "lazy_images", "allow_listed_html"
+ANY_IMAGES = "allow_any_img_src"
 
 
 def flat(constructs, switches=(), off=(), texts=None):
@@ -89,6 +90,7 @@ def flat(constructs, switches=(), off=(), texts=None):
         setattr(given, name, Text(data, len(data)))
     given.may_be_unsafe = bool({*switches, *texts} & {RAW, PROTOCOLS, "tag", "attributes"})
     given.adds_attributes = bool({*switches, *texts} & {IDS, LAZY, "rel"})
+    given.keeps_listed = LISTED in switches and RAW not in switches
     given.words = switches, off, texts
     return given
 
@@ -125,7 +127,7 @@ OPTIONS = {
     "BlocksAndFilteredHtml": flat(BLOCKS, (RAW, FILTER)),
     "CommonMark": flat(CORE),
     "Standard": flat(CORE, (RAW, PROTOCOLS)),
-    "AnyImages": flat(CORE, ("allow_any_img_src",)),
+    "AnyImages": flat(CORE, (ANY_IMAGES,)),
     "CommonMarkAndTables": flat(CORE | of("gfm_table")),
     "CommonMarkAndFrontmatter": flat(CORE | of("frontmatter")),
     "Mark": flat(CORE | of("mark")),
@@ -163,6 +165,14 @@ OPTIONS = {
     "GfmAndAttributes": flat(GFM, (FILTER, IDS, LAZY), (), {"rel": "x"}),
     "EachAttribute": flat(CORE, (IDS, LAZY), (), EACH_TEXT),
     "EverythingAndEachAttribute": flat(EVERYTHING, (FILTER, IDS, LAZY), (), EACH_TEXT),
+    "ListedHtml": flat(CORE, (LISTED,)),
+    "ListedHtmlAndProtocols": flat(CORE, (LISTED, PROTOCOLS)),
+    "ListedHtmlAndAnyImages": flat(CORE, (LISTED, ANY_IMAGES)),
+    "ListedHtmlWithoutText": flat(CORE & ~of("html_text"), (LISTED,)),
+    "ListedHtmlWithoutHtml": flat(CORE & ~of("html_flow", "html_text"), (LISTED,)),
+    "ListedHtmlAndRawHtml": flat(CORE, (LISTED, RAW)),
+    "GfmAndListedHtml": flat(GFM, (FILTER, LISTED)),
+    "EverythingAndListedHtml": flat(EVERYTHING, (FILTER, LISTED, IDS, LAZY), (), EACH_TEXT),
     "RawHtmlAndEachAttribute": flat(EVERYTHING, (RAW, FILTER, IDS, LAZY), (), EACH_TEXT),
 }
 EACH_WORD = [
@@ -194,6 +204,9 @@ WORDS = {
     "ScriptBase": ["--link-base=javascript:"],
     "GfmAndLinkBase": ["--gfm", "--link-base", BASE],
     "GfmAndAttributes": ["--gfm", "--heading-ids", "--lazy-images", "--link-rel=x"],
+    "ListedHtml": ["--listed-html"],
+    "GfmAndListedHtml": ["--gfm", "--listed-html"],
+    "EverythingAndListedHtml": ["--gfm", "--math", "--frontmatter", "--mark", "--listed-html", *EACH_WORD],
     "EachAttribute": EACH_WORD,
     "EverythingAndEachAttribute": ["--gfm", "--math", "--frontmatter", "--mark", *EACH_WORD],
 }

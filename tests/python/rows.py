@@ -7,7 +7,7 @@ from options import TOP
 ROWS = TOP / "tests" / "rows"
 PICTURE = re.compile("\u241B([0-9A-Fa-f]+);|([\u2400-\u2421])")
 # Kinds of files that stand for no file: what is behind the kind are options, and files of pages.
-OF_PAGES = ("attributes", "pairs", "joined", "beside")
+OF_PAGES = ("attributes", "kept", "pairs", "joined", "beside")
 
 Row = collections.namedtuple("Row", "text wanted")
 Table = collections.namedtuple("Table", "name ways rows")

@@ -1,7 +1,9 @@
 //! A list of events to HTML.
-ghost use Rattle.std.specs.Prelude.{◌≡◌, List, IfErr, IfOk, OnOk, string_bytes, unwrap_or};
+ghost use Rattle.std.specs.Prelude.{◌≡◌, List, IfErr, IfOk, OnOk, false, string_bytes, unwrap_or};
+ghost use Rattle.markdown_compile_options.specs.RawHtml.{keeps_listed_html};
 ghost use Rattle.definition_text.specs.Lines.{first_line, without_mark};
 ghost use Rattle.event_meaning.specs.Spelled.{default_ending, html_of_events, page_of};
+ghost use Rattle.html_listed.specs.Laws.{HasOneListedReading};
 ghost use Rattle.laws_safe_page.specs.SafeHtml.{AreSafe, HasOneReadingBy, table_of};
 ghost use Rattle.definition_inline.specs.Definition.{Definition};
 ghost use Rattle.definition_page.specs.BlockPieces.{document_pieces};
@@ -22,6 +24,7 @@ use compile_blocks::Source;
 use compile_written::{footnote_labels, loose_lists, read_definitions};
 use engine_events::event::Event;
 use event_check::{Checked, CompileError, check_events};
+use html_sanitizer::with_listed;
 use markdown_compile_options::CompileOptions;
 use markdown_options::{Constructs, LineEnding, Tables};
 use std::alloc::{AllocError, Allocator};
@@ -46,7 +49,8 @@ pub fn compile<T: Tables, A: Allocator + Clone>(
     ensures passes { MatchesGrammar (T.reference_of tables.now) bytes.now events.now → IfErr result (λ error. error ≡ Memory) }
     ensures fault { IfErr result (λ error. Refuses error (fault (T.reference_of tables.now) bytes.now events.now)) }
     ensures page { IfOk result (λ html. string_bytes html ≡ html_of_events (T.reference_of tables.now) options.now bytes.now events.now) }
-    ensures safe { AreSafe options.now → IfOk result (λ html. HasOneReadingBy (table_of options.now) (string_bytes html)) }
+    ensures safe { AreSafe options.now → keeps_listed_html options.now ≡ false → IfOk result (λ html. HasOneReadingBy (table_of options.now) (string_bytes html)) }
+    ensures listed { AreSafe options.now → IfOk result (λ html. HasOneListedReading (table_of options.now) (string_bytes html)) }
 {
     let checked = check_events(alloc.clone()?, events, bytes, tables)?;
     let html = compile_checked(alloc, checked, options)?;
@@ -66,7 +70,9 @@ pub fn compile_checked<T: Tables, A: Allocator + Clone>(
         MatchesGrammar names checked.entry.bytes.now checked.entry.events.now →
         IfOk result (λ html. string_bytes html ≡ html_of_events names options.now checked.entry.bytes.now checked.entry.events.now) }
     ensures safe { MatchesGrammar (T.reference_of checked.entry.tables.now) checked.entry.bytes.now checked.entry.events.now → AreSafe options.now →
-        IfOk result (λ html. HasOneReadingBy (table_of options.now) (string_bytes html)) }
+        keeps_listed_html options.now ≡ false → IfOk result (λ html. HasOneReadingBy (table_of options.now) (string_bytes html)) }
+    ensures listed { MatchesGrammar (T.reference_of checked.entry.tables.now) checked.entry.bytes.now checked.entry.events.now → AreSafe options.now →
+        IfOk result (λ html. HasOneListedReading (table_of options.now) (string_bytes html)) }
 {
     let events = checked.events();
     let bytes = checked.bytes();
@@ -84,11 +90,13 @@ pub fn compile_checked<T: Tables, A: Allocator + Clone>(
         links: &links,
         footnotes: &footnotes,
     };
-    let html = print(alloc, &source)?;
+    let page = print(alloc.clone()?, &source)?;
+    let html = with_listed(alloc, page, options, tables)?;
     Ok(html)
 }
 
-/// Prints the page of a list by what is known of it.
+/// Prints the page of a list by what is known of it: raw HTML that is kept by the list stands on it as
+/// text in elements without a name.
 fn print<T: Tables, A: Allocator + Clone>(
     alloc: A,
     source: &Source<'_, T, A>,

@@ -14,6 +14,8 @@ module _ (bytes : List ℕ) (node : Node) where
 
 -- ---- HTML
 
-pub chunk_html : (options : CompileOptions) (text : List ℕ) → ((k : ℕ) → get_or text k 0 < 256) → html_of options (raw_lines (Chunk text ∷ [])) ≡ raw_bytes options text
+pub chunk_html : (options : CompileOptions) (text : List ℕ) → ((k : ℕ) → get_or text k 0 < 256)
+    → html_of options (raw_lines (Chunk text ∷ [])) ≡ raw_bytes false options text
 chunk_html options text bytes =
-    append-nil (raw_bytes options (bytes_of text) ++ []) ∙ append-nil (raw_bytes options (bytes_of text)) ∙ ap (raw_bytes options) (only_bytes text bytes)
+    append-nil (raw_bytes false options (bytes_of text) ++ []) ∙ append-nil (raw_bytes false options (bytes_of text))
+    ∙ ap (raw_bytes false options) (only_bytes text bytes)

@@ -63,8 +63,8 @@ module _ (names : Names) (bytes : List ℕ) where
   rows_end : (ns : Nodes) → AreSound bytes ns → RowsEndLines (rows_of names bytes ns)
   rows_end Nil p = tt
   rows_end (Cons (Around enter kids exit) ns) p =
-      cond_both (same_name enter.name n.GfmTableRow) (row_of names bytes kids (endings_before_row names bytes ns) ∷ rows_of names bytes ns) (rows_of names bytes ns)
-      RowsEndLines (λ _. (row_ends kids p.0.2, rows_end ns p.1)) (λ _. rows_end ns p.1)
+      cond_both (same_name enter.name n.GfmTableRow) (row_of names bytes kids (endings_before_row names bytes ns) ∷ rows_of names bytes ns)
+      (rows_of names bytes ns) RowsEndLines (λ _. (row_ends kids p.0.2, rows_end ns p.1)) (λ _. rows_end ns p.1)
 
   table_ends : (kids : Nodes) → AreSound bytes kids → IsReadableLeaf (page.Table (table_of names bytes kids))
   table_ends kids p =
@@ -79,9 +79,11 @@ module _ (names : Names) (bytes : List ℕ) where
   block_readable top n.LineEnding text kids inner h k p = (tt, tt)
   block_readable top n.BlankLineEnding text kids inner h k p = (tt, tt)
   block_readable top n.Paragraph text kids inner h k p = (parts_end names bytes false kids k, tt)
-  block_readable top n.HeadingAtx text kids inner h k p = ((in_range (length (text_in bytes n.HeadingAtxSequence kids)) h, text_ends names bytes false kids k), tt)
+  block_readable top n.HeadingAtx text kids inner h k p =
+      ((in_range (length (text_in bytes n.HeadingAtxSequence kids)) h, text_ends names bytes false kids k), tt)
   block_readable top n.HeadingSetext text kids inner h k p =
-      ((setext_rank names bytes (text_in bytes n.HeadingSetextUnderlineSequence (kids_in n.HeadingSetextUnderline kids)), text_ends names bytes false kids k), tt)
+      let line = text_in bytes n.HeadingSetextUnderlineSequence (kids_in n.HeadingSetextUnderline kids) in
+      ((setext_rank names bytes line, text_ends names bytes false kids k), tt)
   block_readable top n.ThematicBreak text kids inner h k p = (tt, tt)
   block_readable top n.CodeIndented text kids inner h k p = (tt, tt)
   block_readable top n.CodeFenced text kids inner h k p = (tt, tt)
@@ -103,7 +105,8 @@ module _ (names : Names) (bytes : List ℕ) where
     blocks_readable top (Cons (Around enter kids exit) ns) p =
         let inner = blocks_from names bytes (start_of enter.name) kids in
         joined (block_of names bytes top enter.name (text_of bytes (Around enter kids exit)) kids inner) (blocks_of names bytes top ns)
-        (block_readable top enter.name (text_of bytes (Around enter kids exit)) kids inner p.0.1 p.0.2 (inner_readable (start_of enter.name) kids p.0.2)) (blocks_readable top ns p.1)
+        (block_readable top enter.name (text_of bytes (Around enter kids exit)) kids inner p.0.1 p.0.2 (inner_readable (start_of enter.name) kids p.0.2))
+        (blocks_readable top ns p.1)
 
     inner_readable : (start : Name) (ns : Nodes) → AreSound bytes ns → AreReadable (blocks_from names bytes start ns)
     inner_readable start Nil p = tt
@@ -111,5 +114,6 @@ module _ (names : Names) (bytes : List ℕ) where
         let inner = blocks_from names bytes (start_of enter.name) kids in
         cond_both (same_name enter.name start) _ _ AreReadable
         (λ _. joined (block_of names bytes false enter.name (text_of bytes (Around enter kids exit)) kids inner) (blocks_of names bytes false ns)
-        (block_readable false enter.name (text_of bytes (Around enter kids exit)) kids inner p.0.1 p.0.2 (inner_readable (start_of enter.name) kids p.0.2)) (blocks_readable false ns p.1))
+        (block_readable false enter.name (text_of bytes (Around enter kids exit)) kids inner p.0.1 p.0.2 (inner_readable (start_of enter.name) kids p.0.2))
+        (blocks_readable false ns p.1))
         (λ _. inner_readable start ns p.1)

@@ -77,10 +77,6 @@ nothing_characters (b ∷ bs) is = absurd (true≢false (sym is))
 same_characters : (bytes text : List ℕ) → is_utf8 text ≡ true → bytes_eq bytes text ≡ true → is_utf8 bytes ≡ true
 same_characters bytes text are same = ap is_utf8 ((bytes_eq-Decides bytes text).0 same) ∙ are
 
-characters : HasCharacters Characters
-unfolding HasCharacters
-characters bytes are is = is
-
 feed : is_utf8 (10 ∷ []) ≡ true
 unfolding is_utf8 chars encode
 feed = refl
@@ -233,7 +229,7 @@ token_characters n.ReferenceMarker = mark (codes "[]") refl
 token_characters n.ResourceMarker = mark (codes "()") refl
 token_characters n.ResourceDestinationLiteralMarker = mark (codes "<>") refl
 token_characters n.ResourceTitleMarker = mark (codes "\"'()") refl
-token_characters name = characters
+token_characters name = only [] (is_utf8-from_IsUtf8 [] IsUtf8-nil)
 
 pub tokens_are_characters : TokensAreCharacters
 unfolding HasCharacters

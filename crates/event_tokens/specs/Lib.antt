@@ -1,3 +1,4 @@
 pub mod Tokens
 pub mod Bytes
 pub mod Laws
+pub mod Shape

@@ -1,5 +1,5 @@
--- Which bytes an event that holds no other may have, by its name. They are whole characters: those that need not be ASCII are asked to be UTF-8. One of no
--- bytes may be columns of a tab, unless it is a line ending or a number.
+-- Which bytes an event that holds no other may have, by its name: none, if its name may hold others. They are whole characters: those that need not be ASCII
+-- are asked to be UTF-8. One of no bytes may be columns of a tab, unless it is a line ending or a number.
 use Rattle.std.specs.Prelude.{ℕ, Bool, true, false, not, ◌||◌, ◌&&◌, ◌==◌, leb, List, [], ◌∷◌, Option, None, Some, codes, length}
 use Rattle.std.specs.Char.{is_ascii_alphanumeric, is_ascii_punctuation}
 use Rattle.std.specs.List.{list_all, list_any}
@@ -76,6 +76,10 @@ text_such test = Both Characters (Such test)
 -- characters without a line ending
 abbrev pub line : Form
 line = Both Characters (All (λ b. not (ends_line b)))
+
+-- no bytes
+abbrev pub none : Form
+none = Only []
 
 -- ---- links
 
@@ -178,7 +182,8 @@ token_form n.ReferenceMarker = one_of (codes "[]")
 token_form n.ResourceMarker = one_of (codes "()")
 token_form n.ResourceDestinationLiteralMarker = one_of (codes "<>")
 token_form n.ResourceTitleMarker = one_of (codes "\"'()")
-token_form name = Characters
+-- what may hold others has no bytes if it holds nothing
+token_form name = none
 
 -- whether an event of a name may have these bytes
 abbrev pub is_token : Name → List ℕ → Bool

@@ -10,6 +10,7 @@ use Rattle.ucd_props.proofs.Computing.{ucd_props}
 use Rattle.definition_block.specs.HtmlNames.{raw_names, block_names}
 use Rattle.definition_page.specs.GfmTagfilter.{filtered_names}
 use Rattle.definition_page.specs.Urls.{href_protocols, src_protocols}
+use Rattle.definition_html.specs.Listing.{void_names, heading_names, free_names, part_rows, frame_names, listed_attributes}
 
 -- `unfolding pages` lets `refl` compute a page
 unfoldable pub pages : Unit {0}
@@ -20,3 +21,8 @@ pages = tt
 unfoldable pub page_ids : Unit {0}
 unfolding pages unicode_tables ucd_perl ucd_props
 page_ids = tt
+
+-- `unfolding listed_pages` lets it compute one whose raw HTML is kept by the list
+unfoldable pub listed_pages : Unit {0}
+unfolding pages void_names heading_names free_names part_rows frame_names listed_attributes
+listed_pages = tt

@@ -14,6 +14,7 @@ mod LabelStartImage
 mod Mark
 mod Autolink
 mod HtmlText
+mod ListedHtml
 mod HardBreakEscape
 mod HardBreakTrailing
 mod LineEnding

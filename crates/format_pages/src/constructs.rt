@@ -57,6 +57,7 @@ fn by_constructs(constructs: Constructs, options: &Options) -> Options
             allow_any_img_src: options.compile.allow_any_img_src,
             allow_dangerous_html: options.compile.allow_dangerous_html,
             allow_dangerous_protocol: options.compile.allow_dangerous_protocol,
+            allow_listed_html: options.compile.allow_listed_html,
             default_line_ending: options.compile.default_line_ending,
             gfm_footnote_back_label: None,
             gfm_footnote_clobber_prefix: None,

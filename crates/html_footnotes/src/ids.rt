@@ -19,7 +19,7 @@ use markdown_compile_options::CompileOptions;
 use std::alloc::{AllocError, Allocator};
 
 /// A text of the options, or this one.
-pub(crate) fn text_or<'a>(text: &'a Option<String>, default: &'a str) -> &'a str
+pub fn text_or<'a>(text: &'a Option<String>, default: &'a str) -> &'a str
     ensures { result.now ≡ text_or text.now default.now }
 {
     match text {
@@ -73,8 +73,8 @@ fn push_id_count<A: Allocator>(out: &mut String<A>, count: usize) -> Result<(), 
     write!(out, "-{count}")
 }
 
-/// What the ids of headings begin with.
-pub(crate) fn heading_prefix(compile: &CompileOptions) -> &str
+/// What the ids of headings begin with, if headings have ids.
+pub fn heading_prefix(compile: &CompileOptions) -> &str
     ensures { result.now ≡ heading_prefix compile.now }
 {
     if compile.heading_ids {

@@ -5,10 +5,11 @@ mod calls;
 pub mod fresh;
 pub mod gfm_footnote_definition;
 pub mod gfm_label_start_footnote;
-mod ids;
+pub mod ids;
 pub mod output;
 
 pub use fresh::push_fresh;
 pub use gfm_footnote_definition::{Footnote, push_section};
 pub use gfm_label_start_footnote::{Call, push_call};
+pub use ids::{heading_prefix, text_or};
 pub use output::Output;

@@ -1,5 +1,5 @@
 -- Raw HTML, line by line.
-use Rattle.std.specs.Prelude.{◌≡◌, ◌<◌, ◌++◌, ℕ, false, List, [], ◌∷◌, length}
+use Rattle.std.specs.Prelude.{◌≡◌, ◌<◌, ◌++◌, ℕ, Bool, false, List, [], ◌∷◌, length}
 use Rattle.markdown_compile_options.specs.declared.configuration.CompileOptions.{CompileOptions}
 use Rattle.markdown_options.specs.declared.line_ending.LineEnding.{LineEnding}
 use Rattle.markdown_options.specs.LineEndings.{ending_bytes}
@@ -8,14 +8,14 @@ use Rattle.definition_page.specs.InlinePieces.{HtmlLine, html_line_says, later_l
 use Rattle.html_bytes.specs.InlineHtml.{say_bytes}
 use Rattle.definition_inline.specs.Strings.{begins_with_eol}
 
--- what the first of these lines prints
-abbrev pub first_bytes : CompileOptions → List HtmlLine → List ℕ
-first_bytes options [] = []
-first_bytes options (first ∷ others) = say_bytes (html_line_says options first.line first.ending)
+-- what the first of these lines prints, in the description of an image or not
+abbrev pub first_bytes : Bool → CompileOptions → List HtmlLine → List ℕ
+first_bytes described options [] = []
+first_bytes described options (first ∷ others) = say_bytes (html_line_says described options first.line first.ending)
 
 -- what a later one prints
-abbrev pub later_bytes : CompileOptions → HtmlLine → List ℕ
-later_bytes options line = say_bytes (later_line_says options line)
+abbrev pub later_bytes : Bool → CompileOptions → HtmlLine → List ℕ
+later_bytes described options line = say_bytes (later_line_says described options line)
 
 -- a line ending that a text begins with
 pub record Ends (text rest : List ℕ) : Type 0 where

@@ -1,13 +1,13 @@
 //! URLs of links and images (CommonMark 6.3 and 6.4).
 ghost use Rattle.std.specs.Prelude.{◌≡◌, OnOk, string_bytes};
 ghost use Rattle.definition_text.specs.Encode.{encode};
-ghost use Rattle.definition_page.specs.Destinations.{based, heading_prefix, image_base, image_source, link_base, link_destination, prefixed};
+ghost use Rattle.definition_page.specs.Destinations.{based, image_base, image_source, link_base, link_destination, prefixed};
 ghost use Rattle.definition_page.specs.InlinePieces.{image_url, link_url};
-ghost use Rattle.definition_page.specs.OptionTexts.{text_or};
 ghost use Rattle.html_inline.specs.Fragments.{is_fragment};
 ghost use Rattle.html_inline.specs.Prints.{Prints};
 
 use html_escape::{is_relative, push_sanitized, push_sanitized_with_protocols};
+use html_footnotes::{heading_prefix, text_or};
 use markdown_compile_options::CompileOptions;
 use markdown_options::constants::{SAFE_PROTOCOL_HREF, SAFE_PROTOCOL_SRC};
 use std::alloc::{AllocError, Allocator};
@@ -99,17 +99,6 @@ fn is_fragment(url: &[u8]) -> bool
     matches!(url, [b'#', _, ..])
 }
 
-/// The prefix of ids of headings, if headings have ids.
-fn heading_prefix(compile: &CompileOptions) -> &str
-    ensures { result.now ≡ heading_prefix compile.now }
-{
-    if compile.heading_ids {
-        text_or(&compile.heading_id_prefix, "")
-    } else {
-        ""
-    }
-}
-
 /// The base of links.
 fn link_base(compile: &CompileOptions) -> &str
     ensures { result.now ≡ link_base compile.now }
@@ -122,14 +111,4 @@ fn image_base(compile: &CompileOptions) -> &str
     ensures { result.now ≡ image_base compile.now }
 {
     text_or(&compile.image_base, link_base(compile))
-}
-
-/// A text of the options, or this one.
-fn text_or<'a>(text: &'a Option<String>, default: &'a str) -> &'a str
-    ensures { result.now ≡ text_or text.now default.now }
-{
-    match text {
-        None => default,
-        Some(text) => text.as_str(),
-    }
 }

@@ -1,5 +1,5 @@
 -- What the definition's pieces of a leaf lay out, step by step.
-use Rattle.std.proofs.Common.{◌≡◌, ℕ, List, [], ◌∷◌, ◌++◌, refl, sym, ap, ◌∙◌, codes, map}
+use Rattle.std.proofs.Common.{◌≡◌, ℕ, false, List, [], ◌∷◌, ◌++◌, refl, sym, ap, ◌∙◌, codes, map}
 use Rattle.std.specs.List.{fold, flat_map}
 use Rattle.std.proofs.lemmas.List.{append-nil}
 use Rattle.html_leaves.proofs.Prelude.{BlockLine, bytes_of, code_byte, code_of, CompileOptions, encode, end_said, ending_text, flat_map-append, html_of}
@@ -28,7 +28,7 @@ code_said (l ∷ ls) =
 
 html_line_said : (options : CompileOptions) (line : BlockLine) → flat_map said_bytes (html_line options line) ≡ html_line_bytes options line
 html_line_said options line =
-    ap (λ x. raw_bytes options (bytes_of line.codes) ++ x) (append-nil (encode (ending_text line.ending)) ∙ end_said line.ending)
+    ap (λ x. raw_bytes false options (bytes_of line.codes) ++ x) (append-nil (encode (ending_text line.ending)) ∙ end_said line.ending)
 
 html_said : (options : CompileOptions) (ls : List BlockLine) → flat_map said_bytes (flat_map (html_line options) ls) ≡ html_of options ls
 html_said options [] = refl

@@ -1,7 +1,8 @@
 //! HTML of the text (CommonMark 4.6).
 //!
-//! Where raw HTML isn't allowed, it is printed as text. Where it is, the tag filter may print the
-//! `<` of some tags as a reference (GFM 6.11).
+//! HTML that is kept by the list is printed marked, line by line. HTML that isn't allowed is printed
+//! as text. In HTML that is allowed the tag filter may print the `<` of some tags as a reference
+//! (GFM 6.11).
 ghost use Rattle.std.specs.Prelude.{◌≡◌, ℕ, replicate, ◌++◌, OnOk, false};
 ghost use Rattle.definition_text.specs.BlockLines.{own_lines};
 ghost use Rattle.definition_text.specs.Columns.{bytes_of, tab_column};

@@ -11,5 +11,5 @@ mod raw;
 mod sanitized;
 mod urls;
 
-pub use listed::listed_html;
+pub use listed::{listed_html, with_listed};
 pub use sanitized::sanitized_html;

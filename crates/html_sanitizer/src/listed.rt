@@ -2,7 +2,7 @@
 ghost use Rattle.std.specs.Prelude.{◌≡◌, ◌++◌, ◌<◌, IfOk, OnOk, codes, length, string_bytes, true};
 ghost use Rattle.std.specs.List.{prefix_len, take_while};
 ghost use Rattle.definition_text.specs.Bytes.{after_all, begins_with, is_letter_or_digit};
-ghost use Rattle.definition_html.specs.Listed.{listed};
+ghost use Rattle.definition_html.specs.Listed.{listed, with_listed};
 ghost use Rattle.html_listed.specs.Laws.{HasOneListedReading, HaveSafeProtocols, IsMixedPage};
 ghost use Rattle.html_listed.specs.MarkedPage.{IsMarkedPage};
 ghost use Rattle.html_listed.specs.Mixed.{tags_of};
@@ -54,6 +54,22 @@ pub fn listed_html<A: Allocator + Clone, T: Tables>(
     }
     out.end_all()?;
     Ok(out.out)
+}
+
+/// Returns a page as it is printed by these options, with its raw HTML by the list where they keep it:
+/// [`listed_html`], or the page itself.
+pub fn with_listed<A: Allocator + Clone, T: Tables>(
+    alloc: A,
+    page: String<A>,
+    options: &CompileOptions,
+    tables: &T,
+) -> Result<String<A>, AllocError>
+    ensures page { IfOk result (λ html. string_bytes html ≡ with_listed (T.reference_of tables.now) options.now (string_bytes page)) }
+{
+    if options.keeps_listed_html() {
+        return listed_html(alloc, page.as_str(), options, tables);
+    }
+    Ok(page)
 }
 
 /// Appends a text up to the first `<`. Returns what follows.

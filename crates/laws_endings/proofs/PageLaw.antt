@@ -29,7 +29,8 @@ use Rattle.laws_endings.proofs.Blocks.{blocks_law}
 use Rattle.laws_endings.proofs.Matching.{normal_label-with, normal_labels-with, labels_law, definitions_law, footnotes_law}
 use Rattle.definition_page.specs.HeadingIds.{with_ids}
 use Rattle.definition_page.proofs.HeadingIds.{unnamed_ids}
-use Rattle.laws_endings.specs.PageLaws.{LinksHoldNoFeed, OptionsHoldNoFeed, EndingPageLaw}
+use Rattle.laws_options.proofs.Unlisted.{unlisted_law}
+use Rattle.laws_endings.specs.PageLaws.{EndingPageLaw, LinksHoldNoFeed, OptionsHoldNoFeed, PrintedEndingLaw}
 use Rattle.laws_endings.proofs.HeadingIds.{section_unnamed}
 use Rattle.laws_endings.proofs.Each.{Each, each-append, each-drop, each_map, WhereSome}
 use Rattle.laws_endings.proofs.Characters.{AreWhole, whole-drop, IsTextByte, utf8_spelled}
@@ -312,8 +313,8 @@ module _ (e : LineEnding) (tables : TextTables) (options : Options) (kind : Kind
       ∙ page-with e tables options bs (blocks_fit on kind text (text_lines_fit text bytes whole)) (notes_by on.gfm_footnote_definition refl) fit.1
       ∙ sym (ap (λ other. with_ending e (printed other (page_by ds (footnotes bs) bs))) own_default)
 
-pub ending_page_law : EndingPageLaw
-ending_page_law e tables text options h fit =
+pub printed_ending_law : PrintedEndingLaw
+printed_ending_law e tables text options h fit =
     let s = utf8_spelled text h.0 in
     let bytes = bytes_fit text h.2 h.3 s.bytes in
     let rest = without_mark text in
@@ -328,3 +329,10 @@ ending_page_law e tables text options h fit =
     (kind_before-with e text)
     ∙ printed-with e tables options kind rest rest_bytes (unmarked AreWhole text s.whole (whole-drop 3 text s.whole))
     (unmarked HasNoReturn text h.2 (All-drop (λ b. b ≢ 13) 3 text h.2)) (first_feed rest rest_bytes (feed_after text (has_mark text) refl feeds)) fit
+
+-- where raw HTML isn't kept by the list
+pub ending_page_law : EndingPageLaw
+ending_page_law e tables text options off h fit =
+    unlisted_law tables (with_ending e text) options off
+    ∙ printed_ending_law e tables text options h fit
+    ∙ sym (ap (with_ending e) (unlisted_law tables text options off))

@@ -69,13 +69,13 @@ module _ (e : LineEnding) where
 
     html_line-with : (line : BlockLine) → LineFits line → SaidsWith e (html_line m.compile (line_with e line)) (html_line m.compile line)
     html_line-with line p =
-        let html = raw_html m.compile (bytes_of line.codes) in
+        let html = raw_html false m.compile (bytes_of line.codes) in
         let ending' = Words (ending_text (if_ending_with e line.ending)) in
         let ending = Words (ending_text line.ending) in
         let clear = plains_no_feed line.codes p.0 in
-        says_more e (raw_html m.compile (bytes_of (codes_with e line.codes))) html (ending' ∷ []) (ending ∷ [])
-        (subst (λ cs. SaidWith e (raw_html m.compile (bytes_of cs)) html) (sym (codes-kept e line.codes clear))
-        (raw-kept e m.compile (bytes_of line.codes) (each_filter IsNoFeed is_byte line.codes clear)))
+        says_more e (raw_html false m.compile (bytes_of (codes_with e line.codes))) html (ending' ∷ []) (ending ∷ [])
+        (subst (λ cs. SaidWith e (raw_html false m.compile (bytes_of cs)) html) (sym (codes-kept e line.codes clear))
+        (raw-kept e false m.compile (bytes_of line.codes) (each_filter IsNoFeed is_byte line.codes clear)))
         (says_one e ending' ending (ending-words line.ending p.1.0))
 
     html_lines-with : (ls : List BlockLine) → LinesFit ls → SaidsWith e (flat_map (html_line m.compile) (lines_with e ls)) (flat_map (html_line m.compile) ls)

@@ -8,6 +8,7 @@ use Rattle.definition_page.specs.Urls.{permits, sanitize}
 use Rattle.definition_page.specs.GfmTable.{escapes_bar, cell_code, leaf_in_cell}
 use Rattle.definition_page.specs.GfmTaskListItem.{checkable_attributes, done_attributes}
 use Rattle.definition_page.specs.InlinePieces.{permitted_url, address, literal_address, math_tag, leaf_says, address_tag, leaf_pieces, rel_attributes}
+use Rattle.definition_page.specs.InlinePieces.{html_says}
 use Rattle.laws_endings.specs.PageLaws.{LinksHoldNoFeed}
 use Rattle.laws_endings.proofs.HeadingIds.{rel-with}
 use Rattle.laws_endings.proofs.Each.{Each}
@@ -63,7 +64,7 @@ module _ (e : LineEnding) where
     leaf_says-with (Math text) p = text_says text p
     leaf_says-with (Autolink is_email text) p = says_one e (Words (codes_with e text)) (Words text) (words-codes e text (plains_no_feed text p))
     leaf_says-with (Literal kind text) p = text_says text p
-    leaf_says-with (Html html) p = html_says-with e options html p
+    leaf_says-with (Html html) p = html_says-with e true options html p
     leaf_says-with (LineEnd code) p = says_one e (EndOfLine (code_with e code)) (EndOfLine code) (eol-with e code p.1)
     leaf_says-with other p = refl
 
@@ -107,4 +108,6 @@ module _ (e : LineEnding) where
     leaf_pieces-with texts (TaskCheck done) p =
         let attributes = box_attributes options.gfm_task_list_item_checkable done in
         void_piece-with e options (codes "input") attributes attributes refl (box_kept options.gfm_task_list_item_checkable done)
+    leaf_pieces-with texts (Html html) p =
+        saids-with e options (html_says false options (codes_with e html)) (html_says false options html) (html_says-with e false options html p)
     leaf_pieces-with texts other p = saids-with e options (leaf_says options (leaf_with e other)) (leaf_says options other) (leaf_says-with other p)

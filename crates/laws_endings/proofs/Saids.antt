@@ -1,6 +1,7 @@
 -- What strings and raw HTML say, with another line ending in place of each LF.
 use Rattle.std.proofs.Common.{◌≡◌, ℕ, zero, suc, ◌-◌, Bool, true, false, cond, eqb, ◌&&◌, List, [], ◌∷◌, ◌++◌, Option, None, Some, refl, sym, ap, ◌∙◌, map}
-use Rattle.std.proofs.Common.{flat_map, true≢false}
+use Rattle.std.proofs.Common.{flat_map, not, codes, true≢false}
+use Rattle.markdown_compile_options.specs.RawHtml.{keeps_listed_html}
 use Rattle.laws_endings.proofs.Prelude.{AsItIs, bare, bytes_of, Character, code_with, codes_with, CompileOptions, cond_both, Constructs, Data, encode}
 use Rattle.laws_endings.proofs.Prelude.{EndOfLine, Escape, escape_at, filter_if, flat_map-append, Found, indent, InlineLeaf, is_byte, is_eol, is_white, leaf}
 use Rattle.laws_endings.proofs.Prelude.{leaf_with, line_end_at, LineEnd, LineEnding, map-append, nat_le, or_else, or_parts, plain, PrintedPart, raw_html}
@@ -8,6 +9,7 @@ use Rattle.laws_endings.proofs.Prelude.{reference_at, said_bytes, string_text, w
 use Rattle.definition_inline.specs.Strings.{begins_with_eol, spaces_at, string_leaf_at, or_byte, string_parts, string_bytes}
 use Rattle.definition_page.specs.InlinePieces.{HtmlLine, html_text_line, in_first_line, html_lines, html_line_says, later_line_says, html_lines_say}
 use Rattle.definition_page.specs.InlinePieces.{html_says}
+use Rattle.definition_page.specs.Tags.{Marked}
 use Rattle.laws_endings.proofs.Codes.{cond-under, same_code, prefix_len-with}
 use Rattle.laws_endings.proofs.Leaves.{found_with, if_found, or_else-with, same_byte, escape_at-with, line_end_at-with, bare-with, reference_at-with}
 use Rattle.laws_endings.proofs.Contents.{or_none, end_none}
@@ -152,12 +154,23 @@ module _ (e : LineEnding) where
 
   -- ---- raw HTML
 
-  module _ (options : CompileOptions) where
-    pub raw-kept : (html : List ℕ) → Each IsNoFeed html → SaidWith (raw_html options html) (raw_html options html)
+  -- the tags around HTML that is kept by the list hold no LF
+  marked-kept : (html : List ℕ) → Each IsNoFeed html → SaidWith (Marked html) (Marked html)
+  marked-kept [] p = refl
+  marked-kept (b ∷ bs) p =
+      let text = encode (b ∷ bs) in
+      then-with (codes "<>") (codes "<>") (text ++ codes "</>") (text ++ codes "</>") refl
+      (then-with text text (codes "</>") (codes "</>") (words-kept (b ∷ bs) p) refl)
+
+  module _ (described : Bool) (options : CompileOptions) where
+    pub raw-kept : (html : List ℕ) → Each IsNoFeed html → SaidWith (raw_html described options html) (raw_html described options html)
     raw-kept html p =
         let text = filter_if options html in
+        let unmarked = cond options.allow_dangerous_html (AsItIs text) (Words html) in
+        cond_both (keeps_listed_html options && not described) (Marked html) unmarked (λ s. SaidWith s s) (λ _. marked-kept html p)
+        (λ _.
         cond_both options.allow_dangerous_html (AsItIs text) (Words html) (λ s. SaidWith s s)
-        (λ _. ap plain (sym (kept e text (filtered_no_feed options html p))) ∙ plain-with e text) (λ _. words-kept html p)
+        (λ _. ap plain (sym (kept e text (filtered_no_feed options html p))) ∙ plain-with e text) (λ _. words-kept html p))
 
     abbrev HtmlLineFits : HtmlLine → Type 0
     HtmlLineFits l = Each IsNoFeed l.line × Each Single l.ending
@@ -201,27 +214,27 @@ module _ (e : LineEnding) where
         says_more (EndOfLine (code_with e c)) (EndOfLine c) (map EndOfLine (codes_with e cs)) (map EndOfLine cs) (eol-with e c p.0.1) (endings-with cs p.1)
 
     line_says-with : (line ending : List ℕ) → Each IsNoFeed line → Each Single ending
-        → SaidsWith (html_line_says options line (codes_with e ending)) (html_line_says options line ending)
+        → SaidsWith (html_line_says described options line (codes_with e ending)) (html_line_says described options line ending)
     line_says-with line ending p q =
-        let html = raw_html options (bytes_of line) in
+        let html = raw_html described options (bytes_of line) in
         says_more html html (map EndOfLine (codes_with e ending)) (map EndOfLine ending) (raw-kept (bytes_of line) (each_filter IsNoFeed is_byte line p))
         (endings-with ending q)
 
     later_says-with : (ls : List HtmlLine) → Each HtmlLineFits ls
-        → SaidsWith (flat_map (later_line_says options) (map html_line_with ls)) (flat_map (later_line_says options) ls)
+        → SaidsWith (flat_map (later_line_says described options) (map html_line_with ls)) (flat_map (later_line_says described options) ls)
     later_says-with [] p = refl
     later_says-with (l ∷ ls) p =
-        says_append (later_line_says options (html_line_with l)) (later_line_says options l) (flat_map (later_line_says options) (map html_line_with ls))
-        (flat_map (later_line_says options) ls) (line_says-with (bare l.line) l.ending (each-drop IsNoFeed (indent l.line) l.line p.0.0) p.0.1)
+        says_append (later_line_says described options (html_line_with l)) (later_line_says described options l) (flat_map (later_line_says described options) (map html_line_with ls))
+        (flat_map (later_line_says described options) ls) (line_says-with (bare l.line) l.ending (each-drop IsNoFeed (indent l.line) l.line p.0.0) p.0.1)
         (later_says-with ls p.1)
 
-    lines_say-with : (ls : List HtmlLine) → Each HtmlLineFits ls → SaidsWith (html_lines_say options (map html_line_with ls)) (html_lines_say options ls)
+    lines_say-with : (ls : List HtmlLine) → Each HtmlLineFits ls → SaidsWith (html_lines_say described options (map html_line_with ls)) (html_lines_say described options ls)
     lines_say-with [] p = refl
     lines_say-with (first ∷ others) p =
-        says_append (html_line_says options first.line (codes_with e first.ending)) (html_line_says options first.line first.ending)
-        (flat_map (later_line_says options) (map html_line_with others)) (flat_map (later_line_says options) others)
+        says_append (html_line_says described options first.line (codes_with e first.ending)) (html_line_says described options first.line first.ending)
+        (flat_map (later_line_says described options) (map html_line_with others)) (flat_map (later_line_says described options) others)
         (line_says-with first.line first.ending p.0.0 p.0.1) (later_says-with others p.1)
 
-    pub html_says-with : (html : List ℕ) → Each Single html → SaidsWith (html_says options (codes_with e html)) (html_says options html)
+    pub html_says-with : (html : List ℕ) → Each Single html → SaidsWith (html_says described options (codes_with e html)) (html_says described options html)
     html_says-with html p =
-        ap (λ ls. flat_map said_bytes (html_lines_say options ls)) (html_lines-with html) ∙ lines_say-with (html_lines html) (html_lines_fit html p)
+        ap (λ ls. flat_map said_bytes (html_lines_say described options ls)) (html_lines-with html) ∙ lines_say-with (html_lines html) (html_lines_fit html p)

@@ -1,12 +1,14 @@
 -- The law of the page of a text with another line ending in place of each LF.
-use Rattle.std.specs.Prelude.{◌≡◌, ◌≢◌, ℕ, true, List, [], Option, String, Contains, All, IsUtf8}
+use Rattle.std.specs.Prelude.{◌≡◌, ◌≢◌, ℕ, true, false, List, [], Option, String, Contains, All, IsUtf8}
 use Rattle.markdown_options.specs.declared.line_ending.LineEnding.{LineEnding}
+use Rattle.markdown_compile_options.specs.RawHtml.{keeps_listed_html}
 use Rattle.markdown_compile_options.specs.declared.configuration.CompileOptions.{CompileOptions}
 use Rattle.markdown_compile_options.specs.declared.configuration.Options.{Options}
 use Rattle.definition_text.specs.Ascii.{line_feed, ampersand}
 use Rattle.definition_page.specs.TextTables.{TextTables}
 use Rattle.definition_page.specs.OptionTexts.{text_or}
 use Rattle.definition_page.specs.PrintedPage.{printed_page}
+use Rattle.markdown_definition.specs.Html.{html}
 use Rattle.laws_endings.specs.Endings.{with_ending}
 use Rattle.laws_endings.specs.Laws.{HasNoReturn}
 
@@ -39,8 +41,15 @@ pub record LinksHoldNoFeed (options : CompileOptions) : Type 0 where
 abbrev pub OptionsHoldNoFeed : Options → Type 0
 OptionsHoldNoFeed options = FootnotesHoldNoFeed options × LinksHoldNoFeed options.compile
 
--- with an ending in place of each LF, a text prints its page with that ending in place of each LF
-abbrev pub EndingPageLaw : Type 0
-EndingPageLaw =
+-- with an ending in place of each LF, a text prints its page with that ending in place of each LF; where raw HTML is kept by the list, it stands as text in
+-- elements without a name on both pages
+abbrev pub PrintedEndingLaw : Type 0
+PrintedEndingLaw =
     (e : LineEnding) (tables : TextTables) (text : List ℕ) (options : Options) → EndsInFeeds text → OptionsHoldNoFeed options
     → printed_page tables (with_ending e text) options ≡ with_ending e (printed_page tables text options)
+
+-- where raw HTML isn't kept by the list, the HTML of such a text is the HTML of the text with that ending in place of each LF
+abbrev pub EndingPageLaw : Type 0
+EndingPageLaw =
+    (e : LineEnding) (tables : TextTables) (text : List ℕ) (options : Options) → keeps_listed_html options.compile ≡ false → EndsInFeeds text
+    → OptionsHoldNoFeed options → html tables (with_ending e text) options ≡ with_ending e (html tables text options)

@@ -4,15 +4,23 @@ use Rattle.laws_escape.proofs.Prelude.{add, AddsBytes, append-nil, block_and_end
 use Rattle.laws_escape.proofs.Prelude.{cond-false, Document, document, document_meaning, encode, ending_bytes, has_mark, html_is, inline_content, inlines}
 use Rattle.laws_escape.proofs.Prelude.{IsTrimmedLine, Kind, kind_before_text, Leaf, LineEnding, marked_html, Options, page_layout, Paragraph, Piece}
 use Rattle.laws_escape.proofs.Prelude.{reading_of, text_ending, text_of, TextTables, with_backslashes, with_footnotes, without_calls}
+use Rattle.std.proofs.lemmas.Bool.{cond_both}
 use Rattle.markdown_options.specs.declared.beside.Kind.TheVariants.{Whitespace}
+use Rattle.markdown_compile_options.specs.RawHtml.{keeps_listed_html}
 use Rattle.definition_inline.specs.Targets.{no_targets}
 use Rattle.definition_page.specs.Read.{context_of}
+use Rattle.definition_html.specs.Listed.{listed, with_listed}
+use Rattle.html_safe_page.specs.SafePage.{IsSafePageBy}
+use Rattle.html_safe_page.specs.Table.{start_rows}
+use Rattle.html_safe_page.specs.declared.table.TagTable.TheVariants.{Basic}
+use Rattle.html_safe_page.proofs.Closing.{closed}
+use Rattle.html_listed.proofs.Unmarked.{unmarked_law}
 use Rattle.html_bytes.specs.Layout.{layout_state}
 use Rattle.html_bytes.proofs.SameLayout.{add_nil}
 use Rattle.html_bytes.proofs.WithoutCalls.{adds_append}
 use Rattle.laws_escape.proofs.PlainText.{content_codes, paragraph_bytes}
 use Rattle.laws_escape.proofs.Escaped.{escape_law, escaped_calls_nothing}
-use Rattle.laws_escape.specs.EscapedPage.{EscapedPageLaw}
+use Rattle.laws_escape.specs.EscapedPage.{EscapedPageLaw, paragraph_of, PrintedEscapedLaw}
 use Rattle.laws_escape.proofs.Paragraph.{one_paragraph}
 use Rattle.laws_escape.proofs.EscapedLine.{Begins, begins_nothing, escaped_in_line, no_mark}
 
@@ -69,11 +77,26 @@ marked_page tables line options before on h begins =
     ∙ paragraph_html tables options ending (block_line (with_backslashes line) None before ∷ []) (encode line)
     (line_says (document options tables no_targets) options.compile (ending_bytes ending) line before on h)
 
-pub escaped_page_law : EscapedPageLaw
-escaped_page_law tables [] options on some h unmarked = absurd (some refl)
-escaped_page_law tables (b ∷ bs) options on some h unmarked =
+pub printed_escaped_law : PrintedEscapedLaw
+printed_escaped_law tables [] options on some h unmarked = absurd (some refl)
+printed_escaped_law tables (b ∷ bs) options on some h unmarked =
     let text = with_backslashes (b ∷ bs) in
     let before = kind_before_text text in
     html_is tables text options
     ∙ ap (λ xs. marked_html tables before xs options) (cond-false (has_mark text) _ text (no_mark (b ∷ bs) unmarked))
     ∙ marked_page tables (b ∷ bs) options before on h (begins_nothing b bs h)
+
+-- ---- HTML
+
+-- a paragraph is a safe page without raw HTML
+paragraph_safe : (line : List ℕ) → IsSafePageBy Basic (paragraph_of line)
+unfolding start_rows
+paragraph_safe line = (closed Basic).tags_around (record { name = codes "p"; attributes = [] }) (encode line) refl ((closed Basic).text line)
+
+pub escaped_page_law : EscapedPageLaw
+escaped_page_law tables line options on some h unmarked =
+    let compile = options.compile in
+    let page = paragraph_of line in
+    ap (with_listed tables.names compile) (printed_escaped_law tables line options on some h unmarked)
+    ∙ cond_both (keeps_listed_html compile) (listed tables.names compile page) page (λ bytes. bytes ≡ page)
+    (λ _. unmarked_law tables.names compile Basic page (paragraph_safe line)) (λ _. refl)

@@ -27,7 +27,8 @@ use Rattle.html_bytes.specs.Layout.{LayoutState, with_text, nothing_laid}
 use Rattle.definition_page.specs.Read.{ends_blank}
 use Rattle.html_bytes.specs.Html.{silences, block_bytes, children_bytes, last_piece, document_bytes}
 use Rattle.definition_block.specs.Definitions.{document_targets}
-use Rattle.laws_escape.specs.Visible.{visible, is_not_blank, said_by, all_said_by, VisibleLaw}
+use Rattle.laws_escape.specs.Visible.{visible, is_not_blank, said_by, all_said_by, PrintedVisibleLaw, VisibleLaw}
+use Rattle.laws_options.proofs.Unlisted.{unlisted_law}
 use Rattle.laws_escape.proofs.PlainText.{line_text, plain_text, AreInLine, AreText, line_drop, first_line, other_lines, paragraph_bytes, text_is_plain}
 use Rattle.laws_escape.proofs.Plain.{paragraph, blank_tree, text_tree, plain_tree, plain_grow}
 
@@ -556,8 +557,13 @@ bytes_left (suc n) (b ∷ bs) h = bytes_left n bs (λ k d lt. h (suc k) d (omega
 unmarked_bytes : (text : List ℕ) → All (λ b. b < 256) text → All (λ b. b < 256) (without_mark text)
 unmarked_bytes text h = cond_both (has_mark text) (drop 3 text) text (All (λ byte. byte < 256)) (λ _. bytes_left 3 text h) (λ _. h)
 
-pub visible_law : VisibleLaw
-visible_law tables text options bytes off =
+pub printed_visible_law : PrintedVisibleLaw
+printed_visible_law tables text options bytes off =
     ap (visible false) (html_is tables text options)
     ∙ marked_page_shows tables (kind_before_text text) (without_mark text) options
     (lines_of_text (without_mark text) (λ k lt. unmarked_bytes text bytes k 0 lt)) off
+
+-- where raw HTML isn't kept by the list
+pub visible_law : VisibleLaw
+visible_law tables text options unlisted bytes off =
+    ap (visible false) (unlisted_law tables text options unlisted) ∙ printed_visible_law tables text options bytes off

@@ -8,7 +8,7 @@ use Rattle.markdown_compile_options.specs.declared.configuration.Options.{Option
 use Rattle.definition_inline.specs.Strings.{eol_bytes}
 use Rattle.definition_page.specs.TextTables.{TextTables}
 use Rattle.definition_page.specs.Page.{Page}
-use Rattle.definition_page.specs.Tags.{PrintedPart, Words, AsItIs, EndOfLine, Number, Attribute}
+use Rattle.definition_page.specs.Tags.{PrintedPart, Words, AsItIs, Marked, EndOfLine, Number, Attribute}
 use Rattle.definition_page.specs.Pieces.{Piece, Open, Void, Named}
 use Rattle.definition_page.specs.BlockPieces.{at_top, children_pieces}
 use Rattle.definition_page.specs.DocumentPieces.{meaning_of, pieces}
@@ -20,6 +20,7 @@ use Rattle.definition_page.specs.GfmLabelStartFootnote.{footnote_id, call_id}
 abbrev pub part_text : PrintedPart → List ℕ
 part_text (Words text) = text
 part_text (AsItIs html) = html
+part_text (Marked html) = html
 part_text (EndOfLine code) = eol_bytes code
 part_text (Number n) = decimal n
 

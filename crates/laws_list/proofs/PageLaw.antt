@@ -29,7 +29,8 @@ use Rattle.laws_list.specs.Listed.{list_lines}
 use Rattle.laws_list.specs.Laws.{listed_lines, plus_item, item_of}
 use Rattle.laws_list.proofs.Lines.{listed_lines_law}
 use Rattle.laws_list.proofs.Items.{list_law, list_definitions_law}
-use Rattle.laws_list.specs.PageLaws.{list_around, ListPageLaw}
+use Rattle.laws_options.proofs.Unlisted.{unlisted_law}
+use Rattle.laws_list.specs.PageLaws.{list_around, ListPageLaw, PrintedListLaw}
 use Rattle.laws_list.proofs.Gaps.{trailing_ends, join_next, gap_endings}
 
 -- ---- tags of a list around what is squeezed
@@ -161,8 +162,8 @@ listed_unmarked : (text : List ℕ) → has_mark (list_lines text) ≡ false
 listed_unmarked [] = refl
 listed_unmarked (b ∷ bs) = refl
 
-pub list_page_law : ListPageLaw
-list_page_law tables text options h =
+pub printed_list_law : PrintedListLaw
+printed_list_law tables text options h =
     let on = options.parse.constructs in
     let kids = tree.blocks on Whitespace text in
     let list = tree.blocks on Whitespace (list_lines text) in
@@ -175,3 +176,10 @@ list_page_law tables text options h =
     ∙ ap (print default (document_definitions kids)) (list_law on Whitespace text h.3 h.4 h.0 h.1))
     ∙ squeeze_both tables options default (document_definitions kids) h.6 kids (line_gap on (group_items kids) h.7)
     ∙ sym (ap (λ bytes. squeeze (list_around bytes)) (html_unmarked tables text options h.2 h.5))
+
+-- where raw HTML isn't kept by the list of tags
+pub list_page_law : ListPageLaw
+list_page_law tables text options off h =
+    ap squeeze (unlisted_law tables (list_lines text) options off)
+    ∙ printed_list_law tables text options h
+    ∙ sym (ap (λ page. squeeze (list_around page)) (unlisted_law tables text options off))

@@ -1,6 +1,7 @@
 -- The law of the page of a text with `+ ` before its first line and two spaces before every other.
 use Rattle.std.specs.Prelude.{◌≡◌, ℕ, true, false, List, ◌++◌, codes}
 use Rattle.markdown_options.specs.declared.configuration.Constructs.{Constructs}
+use Rattle.markdown_compile_options.specs.RawHtml.{keeps_listed_html}
 use Rattle.markdown_compile_options.specs.declared.configuration.Options.{Options}
 use Rattle.markdown_options.specs.declared.beside.Kind.TheVariants.{Whitespace}
 use Rattle.definition_text.specs.Lines.{first_line, has_mark}
@@ -8,6 +9,7 @@ use Rattle.definition_block.specs.Tree.{blocks}
 use Rattle.definition_block.specs.Lists.{group_items}
 use Rattle.definition_page.specs.TextTables.{TextTables}
 use Rattle.definition_page.specs.PrintedPage.{printed_page}
+use Rattle.markdown_definition.specs.Html.{html}
 use Rattle.laws_block.specs.Looseness.{AreApart, SomeAre}
 use Rattle.laws_quote.specs.Laws.{HasNoTab}
 use Rattle.laws_quote.specs.Squeeze.{squeeze}
@@ -30,8 +32,15 @@ abbrev pub list_around : List ℕ → List ℕ
 list_around page = codes "<ul><li>" ++ page ++ codes "</li></ul>"
 
 -- with `+ ` before its first line and two spaces before every other, a text prints a list of one item around what it prints alone, but for line
--- endings beside tags
-abbrev pub ListPageLaw : Type 0
-ListPageLaw =
+-- endings beside tags; where raw HTML is kept by the list of tags, it stands as text in elements without a name on both pages
+abbrev pub PrintedListLaw : Type 0
+PrintedListLaw =
     (tables : TextTables) (text : List ℕ) (options : Options) → IsListable text options.parse.constructs
     → squeeze (printed_page tables (list_lines text) options) ≡ squeeze (list_around (printed_page tables text options))
+
+-- where raw HTML isn't kept by the list of tags, the HTML of such a text is a list of one item around the HTML of the text alone, but for line endings
+-- beside tags
+abbrev pub ListPageLaw : Type 0
+ListPageLaw =
+    (tables : TextTables) (text : List ℕ) (options : Options) → keeps_listed_html options.compile ≡ false → IsListable text options.parse.constructs
+    → squeeze (html tables (list_lines text) options) ≡ squeeze (list_around (html tables text options))

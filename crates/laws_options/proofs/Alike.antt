@@ -34,7 +34,7 @@ use Rattle.definition_page.proofs.HeadingIds.{ids_off}
 
 -- options that print raw HTML, links, images and ids of headings alike
 pub record Alike (one another : CompileOptions) : Type 0 where
-  pub raw : (html : List ℕ) → raw_html one html ≡ raw_html another html
+  pub raw : (described : Bool) (html : List ℕ) → raw_html described one html ≡ raw_html described another html
   pub link : (url : List ℕ) → link_url one url ≡ link_url another url
   pub image : (url : List ℕ) → image_url one url ≡ image_url another url
   pub destination : (url : List ℕ) → link_destination one url ≡ link_destination another url
@@ -51,25 +51,26 @@ module _ (m : Meaning) (compile : CompileOptions) (alike : Alike compile m.compi
 
   -- ---- raw HTML
 
-  same_line : (line ending : List ℕ) → html_line_says compile line ending ≡ html_line_says m.compile line ending
-  same_line line ending = ap (λ said. said ∷ map EndOfLine ending) (alike.raw (bytes_of line))
+  same_line : (described : Bool) (line ending : List ℕ) → html_line_says described compile line ending ≡ html_line_says described m.compile line ending
+  same_line described line ending = ap (λ said. said ∷ map EndOfLine ending) (alike.raw described (bytes_of line))
 
-  same_later : (ls : List HtmlLine) → flat_map (later_line_says compile) ls ≡ flat_map (later_line_says m.compile) ls
-  same_later [] = refl
-  same_later (l ∷ ls) =
-      ap (λ said. said ++ flat_map (later_line_says compile) ls) (same_line (bare l.line) l.ending)
-      ∙ ap (λ said. later_line_says m.compile l ++ said) (same_later ls)
+  same_later : (described : Bool) (ls : List HtmlLine)
+      → flat_map (later_line_says described compile) ls ≡ flat_map (later_line_says described m.compile) ls
+  same_later described [] = refl
+  same_later described (l ∷ ls) =
+      ap (λ said. said ++ flat_map (later_line_says described compile) ls) (same_line described (bare l.line) l.ending)
+      ∙ ap (λ said. later_line_says described m.compile l ++ said) (same_later described ls)
 
-  same_lines : (ls : List HtmlLine) → html_lines_say compile ls ≡ html_lines_say m.compile ls
-  same_lines [] = refl
-  same_lines (first ∷ others) =
-      ap (λ said. said ++ flat_map (later_line_says compile) others) (same_line first.line first.ending)
-      ∙ ap (λ said. html_line_says m.compile first.line first.ending ++ said) (same_later others)
+  same_lines : (described : Bool) (ls : List HtmlLine) → html_lines_say described compile ls ≡ html_lines_say described m.compile ls
+  same_lines described [] = refl
+  same_lines described (first ∷ others) =
+      ap (λ said. said ++ flat_map (later_line_says described compile) others) (same_line described first.line first.ending)
+      ∙ ap (λ said. html_line_says described m.compile first.line first.ending ++ said) (same_later described others)
 
   -- ---- inline structure
 
   same_leaf_says : (part : InlineLeaf) → leaf_says compile part ≡ leaf_says m.compile part
-  same_leaf_says (Html html) = same_lines (html_lines html)
+  same_leaf_says (Html html) = same_lines true (html_lines html)
   same_leaf_says part = refl
 
   mutual
@@ -124,7 +125,7 @@ module _ (m : Meaning) (compile : CompileOptions) (alike : Alike compile m.compi
   same_leaf : (part : InlineLeaf) → leaf_pieces compile part ≡ leaf_pieces m.compile part
   same_leaf (Autolink is_email text) = same_address (address is_email text) text
   same_leaf (Literal kind text) = same_address (literal_address kind text) text
-  same_leaf (Html html) = ap (map Says) (same_lines (html_lines html))
+  same_leaf (Html html) = ap (map Says) (same_lines false (html_lines html))
   same_leaf (TaskCheck done) =
       ap (λ checkable. Void (tag (codes "input") (attribute (codes "type") (codes "checkbox") ∷ checkable_attributes checkable ++ done_attributes done)) ∷ [])
       alike.checkable
@@ -153,7 +154,7 @@ module _ (m : Meaning) (compile : CompileOptions) (alike : Alike compile m.compi
   same_html : (ls : List BlockLine) → flat_map (html_line compile) ls ≡ flat_map (html_line m.compile) ls
   same_html [] = refl
   same_html (l ∷ ls) =
-      ap (λ said. (said ∷ Words (ending_text l.ending) ∷ []) ++ flat_map (html_line compile) ls) (alike.raw (bytes_of l.codes))
+      ap (λ said. (said ∷ Words (ending_text l.ending) ∷ []) ++ flat_map (html_line compile) ls) (alike.raw false (bytes_of l.codes))
       ∙ ap (λ said. html_line m.compile l ++ said) (same_html ls)
 
   -- ---- tables

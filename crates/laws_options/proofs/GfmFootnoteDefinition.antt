@@ -26,6 +26,7 @@ use Rattle.laws_block.proofs.Occurs.{no_footnote_definitions}
 use Rattle.laws_options.specs.GfmFootnoteDefinition.{with_footnotes_by, FootnoteDefinitionOffLaw}
 use Rattle.laws_options.proofs.Alike.{Alike, same_document}
 use Rattle.laws_options.proofs.Layouts.{IsUncalled, AreUncalled, uncalled_layout}
+use Rattle.laws_options.proofs.SamePages.{same_html}
 
 -- ---- blocks without footnote definitions have no labels of them
 
@@ -93,11 +94,12 @@ footnote_definition_off_law tables text options other off avoid =
       named = refl;
       ids = λ on. same_ids_of compile options.compile refl (avoid on);
       checkable = refl;
-      raw = λ html. refl;
+      raw = λ described html. refl;
       link = λ url. refl;
       image = λ url. refl;
     } in
     let m = meaning_of tables options page in
     let default = default_ending options (without_mark text) in
-    ap (page_layout compile default) (same_document m compile alike page)
-    ∙ uncalled_layout compile options.compile default (document_pieces m page) (uncalled_document m none page)
+    same_html tables text options compile alike refl
+    (ap (page_layout compile default) (same_document m compile alike page)
+    ∙ uncalled_layout compile options.compile default (document_pieces m page) (uncalled_document m none page))

@@ -4,8 +4,7 @@ use Rattle.markdown_compile_options.specs.declared.configuration.CompileOptions.
 use Rattle.markdown_compile_options.specs.declared.configuration.Options.{Options}
 use Rattle.definition_page.specs.TextTables.{TextTables}
 use Rattle.definition_page.specs.GfmLabelStartFootnote.{id_prefix}
-use Rattle.definition_page.specs.PrintedPage.{printed_page}
-use Rattle.laws_options.specs.Laws.{printing_by}
+use Rattle.laws_options.specs.Laws.{printing_by, AreSamePages}
 
 -- the same options, with the options of footnotes that these have
 abbrev pub with_footnotes_by : CompileOptions → Options → Options
@@ -29,4 +28,4 @@ abbrev pub FootnoteDefinitionOffLaw : Type 0
 FootnoteDefinitionOffLaw =
     (tables : TextTables) (text : List ℕ) (options : Options) (other : CompileOptions) → options.parse.constructs.gfm_footnote_definition ≡ false
     → AvoidAlike other options.compile
-    → printed_page tables text (with_footnotes_by other options) ≡ printed_page tables text options
+    → AreSamePages tables text (with_footnotes_by other options) options

@@ -1,5 +1,12 @@
 //! Where an option of printing makes no difference.
-ghost use Rattle.laws_options.specs.Laws.{TagfilterLaw, ImageSourceLaw, DefaultEndingLaw, IdPrefixLaw};
+ghost use Rattle.laws_options.specs.Laws.{DefaultEndingLaw, IdPrefixLaw, ImageSourceLaw, TagfilterLaw};
+ghost use Rattle.laws_options.specs.Laws.{UnlistedLaw};
+
+/// Where raw HTML isn't kept by the list, the HTML of a text is its page as it is printed.
+#[tactic(auto, using(crate::proofs::Unlisted::unlisted_law))]
+pub fn unlisted_law()
+    ensures { UnlistedLaw }
+{}
 
 /// Where dangerous HTML isn't allowed, a page is the same with the tag filter and without.
 #[tactic(auto, using(crate::proofs::SamePages::tagfilter_law))]

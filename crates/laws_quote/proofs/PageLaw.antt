@@ -33,7 +33,8 @@ use Rattle.laws_quote.proofs.Lines.{quoted_lines_law}
 use Rattle.laws_quote.proofs.Quotes.{quote_law, quote_definitions_law}
 use Rattle.laws_quote.proofs.Endings.{at_last}
 use Rattle.laws_quote.specs.Squeeze.{SqueezeState, kept_and_run, with_byte, with_bytes, nothing_yet, squeeze}
-use Rattle.laws_quote.specs.PageLaws.{IsQuotable, quote_around, QuotePageLaw, QuotePagesLaw}
+use Rattle.laws_options.proofs.Unlisted.{unlisted_law}
+use Rattle.laws_quote.specs.PageLaws.{IsQuotable, PrintedQuoteLaw, PrintedQuotesLaw, quote_around, QuotePageLaw, QuotePagesLaw}
 use Rattle.laws_quote.proofs.Bytes.{bytes_after_text}
 use Rattle.laws_quote.proofs.Printed.{PrintState, nothing_printed, state_after_text, with_piece, with_pieces, pieces_printed, pieces_after_text, kept_at_fresh}
 use Rattle.laws_quote.proofs.PlainPages.{HaveNoNotes, text_without_notes, no_labels, document_plain}
@@ -172,8 +173,8 @@ marked_unmarked : (text : List ℕ) → has_mark (quote_lines text) ≡ false
 marked_unmarked [] = refl
 marked_unmarked (b ∷ bs) = refl
 
-pub quote_page_law : QuotePageLaw
-quote_page_law tables text options h =
+pub printed_quote_law : PrintedQuoteLaw
+printed_quote_law tables text options h =
     let on = options.parse.constructs in
     let kids = tree.blocks on Whitespace text in
     let quote = tree.blocks on Whitespace (quote_lines text) in
@@ -213,7 +214,21 @@ pages_around : (tables : TextTables) (options : Options) (n : ℕ) (text : List 
 pages_around tables options zero text h = refl
 pages_around tables options (suc n) text h =
     pages_around tables options n (quote_lines text) (quotable_again text options.parse.constructs h)
-    ∙ same_around n (printed_page tables (quote_lines text) options) (quote_around (printed_page tables text options)) (quote_page_law tables text options h)
+    ∙ same_around n (printed_page tables (quote_lines text) options) (quote_around (printed_page tables text options)) (printed_quote_law tables text options h)
+
+pub printed_quotes_law : PrintedQuotesLaw
+printed_quotes_law tables text options n h = pages_around tables options n text h
+
+-- ---- where raw HTML isn't kept by the list
+
+pub quote_page_law : QuotePageLaw
+quote_page_law tables text options off h =
+    ap squeeze (unlisted_law tables (quote_lines text) options off)
+    ∙ printed_quote_law tables text options h
+    ∙ sym (ap (λ page. squeeze (quote_around page)) (unlisted_law tables text options off))
 
 pub quote_pages_law : QuotePagesLaw
-quote_pages_law tables text options n h = pages_around tables options n text h
+quote_pages_law tables text options n off h =
+    ap squeeze (unlisted_law tables (iterate quote_lines n text) options off)
+    ∙ printed_quotes_law tables text options n h
+    ∙ sym (ap (λ page. squeeze (iterate quote_around n page)) (unlisted_law tables text options off))

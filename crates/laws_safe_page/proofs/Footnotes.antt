@@ -1,5 +1,5 @@
 -- What calls of footnotes and the section at a page's end print adds a safe page.
-use Rattle.std.proofs.Common.{◌≡◌, ℕ, zero, suc, ◌+◌, ◌-◌, true, List, [], ◌∷◌, ◌++◌, None, Some, length, take, drop, codes, sym, refl, ap, ◌∙◌, subst}
+use Rattle.std.proofs.Common.{◌≡◌, ℕ, zero, suc, ◌+◌, ◌-◌, Bool, true, List, [], ◌∷◌, ◌++◌, None, Some, length, take, drop, codes, sym, refl, ap, ◌∙◌, subst}
 use Rattle.std.proofs.Common.{append_assoc, arith}
 use Rattle.std.specs.Prelude.{nat_le}
 use Rattle.std.specs.List.{fold, flat_map}
@@ -20,11 +20,10 @@ use Rattle.definition_page.specs.GfmFootnoteDefinition.{section_tag}
 use Rattle.definition_page.specs.GfmFootnoteDefinition.{section_pieces}
 use Rattle.html_safe_page.specs.Table.{start_rows}
 use Rattle.html_safe_page.specs.declared.table.TagTable.{TagTable}
-use Rattle.html_safe_page.specs.SafePage.{IsSafePageBy}
-use Rattle.html_safe_page.proofs.Closing.{closed}
 use Rattle.html_safe_page.proofs.Spelled.{same_bytes}
 use Rattle.laws_safe_page.specs.SafeHtml.{AreSafe}
 use Rattle.laws_safe_page.proofs.Each.{Each}
+use Rattle.laws_safe_page.proofs.Marked.{IsPage, put_in}
 use Rattle.laws_safe_page.proofs.Values.{no_nul_append, no_nul_parts, as_it_is, IsText, AreTextParts, plain_ahead, value_spelled}
 use Rattle.laws_safe_page.proofs.Tags.{IsTag}
 use Rattle.laws_safe_page.proofs.Pieces.{IsAfter, Adds, adds_nothing, adds_append, adds_says, adds_element, adds_fresh}
@@ -89,43 +88,43 @@ heading_is_tag = ((words_text (codes "footnote-label"), (words_text (codes "sr-o
 
 -- ---- the place of ways back
 
-begins_less : (n : ℕ) (bytes : List ℕ) → codes "</p>" ≡ take n bytes → (rest : List ℕ) × (bytes ≡ 60 ∷ rest)
-begins_less zero bytes e = absurd (cc)
-begins_less (suc n) [] e = absurd (cc)
-begins_less (suc n) (b ∷ bs) e = let first : 60 ≡ b = cc in (bs, ap (λ x. x ∷ bs) (sym first))
+begins_end : (n : ℕ) (bytes : List ℕ) → codes "</p>" ≡ take n bytes → (rest : List ℕ) × (bytes ≡ codes "</p>" ++ rest)
+begins_end n bytes e = (drop n bytes, sym (take-append-drop n bytes) ∙ ap (λ x. x ++ drop n bytes) (sym e))
 
--- where the end tag of a paragraph comes last, a tag stands in its place
-less_at : (html : List ℕ) → ends_with (codes "</p>") (take (ended_size html) html) ≡ true → (rest : List ℕ) × (drop (ended_size html - 4) html ≡ 60 ∷ rest)
-less_at html e =
+-- where the end tag of a paragraph comes last, it stands in its place
+tag_at : (html : List ℕ) → ends_with (codes "</p>") (take (ended_size html) html) ≡ true
+    → (rest : List ℕ) × (drop (ended_size html - 4) html ≡ codes "</p>" ++ rest)
+tag_at html e =
     let size = ended_size html in
     let text = take size html in
     let long : length text ≡ size = length-take-le size html (omega arith) in
     let last : codes "</p>" ≡ drop (size - 4) text = same_bytes (codes "</p>") (drop (length text - 4) text) e ∙ ap (λ n. drop (n - 4) text) long in
     let whole : size ≡ (size - 4) + (size - (size - 4)) = omega arith in
-    begins_less (size - (size - 4)) (drop (size - 4) html)
+    begins_end (size - (size - 4)) (drop (size - 4) html)
     (last ∙ ap (λ n. drop (size - 4) (take n html)) whole ∙ drop-take (size - 4) (size - (size - 4)) html)
 
-module _ (table : TagTable) where
+module _ (marks : Bool) (table : TagTable) where
   module _ (default : List ℕ) where
-    pub call_adds : (options : CompileOptions) (call : Call) → Adds table default (call_pieces options call)
+    pub call_adds : (options : CompileOptions) (call : Call) → Adds marks table default (call_pieces options call)
     call_adds options call =
-        adds_element table default (bare_tag (codes "sup")) (element (call_tag options call) (Says (Number call.number) ∷ [])) sup_is_tag
-        (adds_element table default (call_tag options call) (Says (Number call.number) ∷ []) (call_is_tag options call)
-        (adds_says table default (Number call.number) tt))
+        adds_element marks table default (bare_tag (codes "sup")) (element (call_tag options call) (Says (Number call.number) ∷ [])) sup_is_tag
+        (adds_element marks table default (call_tag options call) (Says (Number call.number) ∷ []) (call_is_tag options call)
+        (adds_says marks table default (Number call.number) tt))
 
     -- HTML that is printed as it is
-    html_adds : (html : List ℕ) → IsPrinted table html → Adds table default (Says (AsItIs html) ∷ [])
+    html_adds : (html : List ℕ) → IsPrinted marks table html → Adds marks table default (Says (AsItIs html) ∷ [])
     html_adds html p out =
-        subst (λ bytes. IsAfter table out (out ++ bytes)) (sym (as_it_is html p.1)) (record { added = html; is_after = refl; is_safe = p.0; no_nul = p.1 })
+        subst (λ bytes. IsAfter marks table out (out ++ bytes)) (sym (as_it_is html p.1))
+        (record { added = html; is_after = refl; is_safe = p.0; no_nul = p.1 })
 
-    -- pieces before a tag of such HTML
-    put_adds : (before after rest : List ℕ) (pieces : List Piece) → after ≡ 60 ∷ rest → IsPrinted table (before ++ after) → Adds table default pieces
-        → Adds table default (Says (AsItIs before) ∷ pieces ++ Says (AsItIs after) ∷ [])
+    -- pieces before the end tag of a paragraph of such HTML
+    put_adds : (before after rest : List ℕ) (pieces : List Piece) → after ≡ codes "</p>" ++ rest → IsPrinted marks table (before ++ after)
+        → Adds marks table default pieces → Adds marks table default (Says (AsItIs before) ∷ pieces ++ Says (AsItIs after) ∷ [])
     put_adds before after rest pieces e p q out =
         let parts = no_nul_parts before after p.1 in
         let start = out ++ plain before in
         let inner = q start in
-        let page : IsAfter table out (fold (print default) start pieces ++ plain after) =
+        let page : IsAfter marks table out (fold (print default) start pieces ++ plain after) =
         record {
           added = before ++ (inner.added ++ after);
           is_after =
@@ -135,87 +134,90 @@ module _ (table : TagTable) where
               ∙ append_assoc (out ++ before) inner.added after
               ∙ append_assoc out before (inner.added ++ after);
           is_safe =
-              subst (λ x. IsSafePageBy table (before ++ (inner.added ++ x))) (sym e)
-              ((closed table).put_in before rest inner.added (subst (λ x. IsSafePageBy table (before ++ x)) e p.0) inner.is_safe);
+              subst (λ x. IsPage marks table (before ++ (inner.added ++ x))) (sym e)
+              (put_in marks table before (codes "/p>" ++ rest) inner.added refl (subst (λ x. IsPage marks table (before ++ x)) e p.0) inner.is_safe);
           no_nul = no_nul_append before (inner.added ++ after) parts.0 (no_nul_append inner.added after inner.no_nul parts.1);
         } in
-        subst (IsAfter table out) (sym (fold-append (print default) start pieces (Says (AsItIs after) ∷ []))) page
+        subst (IsAfter marks table out) (sym (fold-append (print default) start pieces (Says (AsItIs after) ∷ []))) page
 
     module _ (ending : IsText default) (options : CompileOptions) where
-      fresh_line : (pieces : List Piece) → Adds table default pieces → Adds table default (Fresh ∷ pieces)
-      fresh_line pieces p = adds_append table default (Fresh ∷ []) pieces (adds_fresh table default ending) p
+      fresh_line : (pieces : List Piece) → Adds marks table default pieces → Adds marks table default (Fresh ∷ pieces)
+      fresh_line pieces p = adds_append marks table default (Fresh ∷ []) pieces (adds_fresh marks table default ending) p
 
-      and_fresh : (pieces : List Piece) → Adds table default pieces → Adds table default (pieces ++ Fresh ∷ [])
-      and_fresh pieces p = adds_append table default pieces (Fresh ∷ []) p (adds_fresh table default ending)
+      and_fresh : (pieces : List Piece) → Adds marks table default pieces → Adds marks table default (pieces ++ Fresh ∷ [])
+      and_fresh pieces p = adds_append marks table default pieces (Fresh ∷ []) p (adds_fresh marks table default ending)
 
       -- ---- ways back
 
-      count_adds : (count : ℕ) → Adds table default (count_pieces count)
+      count_adds : (count : ℕ) → Adds marks table default (count_pieces count)
       count_adds count =
-          cond_both (nat_le count 1) [] (element (bare_tag (codes "sup")) (Says (Number count) ∷ [])) (Adds table default) (λ _. adds_nothing table default)
-          (λ _. adds_element table default (bare_tag (codes "sup")) (Says (Number count) ∷ []) sup_is_tag (adds_says table default (Number count) tt))
+          cond_both (nat_le count 1) [] (element (bare_tag (codes "sup")) (Says (Number count) ∷ [])) (Adds marks table default)
+          (λ _. adds_nothing marks table default)
+          (λ _.
+          adds_element marks table default (bare_tag (codes "sup")) (Says (Number count) ∷ []) sup_is_tag (adds_says marks table default (Number count) tt))
 
-      space_adds : (count : ℕ) → Adds table default (space_after count)
-      space_adds zero = adds_nothing table default
-      space_adds (suc count) = adds_says table default (Words (codes " ")) tt
+      space_adds : (count : ℕ) → Adds marks table default (space_after count)
+      space_adds zero = adds_nothing marks table default
+      space_adds (suc count) = adds_says marks table default (Words (codes " ")) tt
 
-      back_adds : (label : List ℕ) (count : ℕ) → Adds table default (back_pieces options label count)
+      back_adds : (label : List ℕ) (count : ℕ) → Adds marks table default (back_pieces options label count)
       back_adds label count =
-          adds_element table default (back_tag options label count) (Says (Words arrow) ∷ count_pieces count) (back_is_tag options label count)
-          (adds_append table default (Says (Words arrow) ∷ []) (count_pieces count) (adds_says table default (Words arrow) tt) (count_adds count))
+          adds_element marks table default (back_tag options label count) (Says (Words arrow) ∷ count_pieces count) (back_is_tag options label count)
+          (adds_append marks table default (Says (Words arrow) ∷ []) (count_pieces count) (adds_says marks table default (Words arrow) tt) (count_adds count))
 
-      backs_add : (label : List ℕ) (count : ℕ) → Adds table default (backs_pieces options label count)
-      backs_add label zero = adds_nothing table default
+      backs_add : (label : List ℕ) (count : ℕ) → Adds marks table default (backs_pieces options label count)
+      backs_add label zero = adds_nothing marks table default
       backs_add label (suc count) =
           let backs = backs_pieces options label count in
-          adds_append table default (backs ++ space_after count) (back_pieces options label (suc count))
-          (adds_append table default backs (space_after count) (backs_add label count) (space_adds count)) (back_adds label (suc count))
+          adds_append marks table default (backs ++ space_after count) (back_pieces options label (suc count))
+          (adds_append marks table default backs (space_after count) (backs_add label count) (space_adds count)) (back_adds label (suc count))
 
       -- ---- a footnote
 
-      content_adds : (html : List ℕ) (backs : List Piece) → IsPrinted table html → Adds table default backs → Adds table default (content_pieces html backs)
+      content_adds : (html : List ℕ) (backs : List Piece) → IsPrinted marks table html → Adds marks table default backs
+          → Adds marks table default (content_pieces html backs)
       content_adds html backs p q =
           let end = ended_size html - 4 in
           let ends = ends_with (codes "</p>") (take (ended_size html) html) in
           let spaced : List Piece = Says (Words (codes " ")) ∷ backs in
-          cond_both ends (Some end) None (λ o. Adds table default (with_backs html backs o))
+          cond_both ends (Some end) None (λ o. Adds marks table default (with_backs html backs o))
           (λ e.
-          let less = less_at html e in
-          put_adds (take end html) (drop end html) less.0 spaced less.1 (subst (IsPrinted table) (sym (take-append-drop end html)) p)
-          (adds_append table default (Says (Words (codes " ")) ∷ []) backs (adds_says table default (Words (codes " ")) tt) q))
-          (λ _. adds_append table default (Says (AsItIs html) ∷ []) (Fresh ∷ backs) (html_adds html p) (fresh_line backs q))
+          let closing = tag_at html e in
+          put_adds (take end html) (drop end html) closing.0 spaced closing.1 (subst (IsPrinted marks table) (sym (take-append-drop end html)) p)
+          (adds_append marks table default (Says (Words (codes " ")) ∷ []) backs (adds_says marks table default (Words (codes " ")) tt) q))
+          (λ _. adds_append marks table default (Says (AsItIs html) ∷ []) (Fresh ∷ backs) (html_adds html p) (fresh_line backs q))
 
-      footnote_adds : (note : Footnote) → IsPrinted table note.html → Adds table default (footnote_pieces options note)
+      footnote_adds : (note : Footnote) → IsPrinted marks table note.html → Adds marks table default (footnote_pieces options note)
       footnote_adds note p =
           let backs = backs_pieces options note.label note.calls in
           let content = content_pieces note.html backs in
           let item = item_tag options note.label in
           fresh_line (element item (Fresh ∷ content ++ Fresh ∷ []))
-          (adds_element table default item (Fresh ∷ content ++ Fresh ∷ []) (item_is_tag options note.label)
+          (adds_element marks table default item (Fresh ∷ content ++ Fresh ∷ []) (item_is_tag options note.label)
           (fresh_line (content ++ Fresh ∷ []) (and_fresh content (content_adds note.html backs p (backs_add note.label note.calls)))))
 
-      footnotes_add : (notes : List Footnote) → Each (λ (note : Footnote). IsPrinted table note.html) notes
-          → Adds table default (footnotes_pieces options notes)
-      footnotes_add [] p = adds_nothing table default
+      footnotes_add : (notes : List Footnote) → Each (λ (note : Footnote). IsPrinted marks table note.html) notes
+          → Adds marks table default (footnotes_pieces options notes)
+      footnotes_add [] p = adds_nothing marks table default
       footnotes_add (note ∷ notes) p =
-          adds_append table default (footnote_pieces options note) (footnotes_pieces options notes) (footnote_adds note p.0) (footnotes_add notes p.1)
+          adds_append marks table default (footnote_pieces options note) (footnotes_pieces options notes) (footnote_adds note p.0) (footnotes_add notes p.1)
 
       -- ---- the section
 
-      heading_adds : AreSafe options → Adds table default (heading_pieces options)
+      heading_adds : AreSafe options → Adds marks table default (heading_pieces options)
       heading_adds safe =
           let label = text_or options.gfm_footnote_label (codes "Footnotes") in
           subst (λ name.
           let bytes = encode (text_or name (codes "h2")) in
-          Adds table default (Open (section_heading_tag bytes options.gfm_footnote_label_attributes) ∷ Says (Words label) ∷ Close bytes ∷ []))
+          Adds marks table default (Open (section_heading_tag bytes options.gfm_footnote_label_attributes) ∷ Says (Words label) ∷ Close bytes ∷ []))
           (sym safe.no_tag_name)
-          (subst (λ attributes. Adds table default (Open (section_heading_tag (codes "h2") attributes) ∷ Says (Words label) ∷ Close (codes "h2") ∷ []))
+          (subst (λ attributes. Adds marks table default (Open (section_heading_tag (codes "h2") attributes) ∷ Says (Words label) ∷ Close (codes "h2") ∷ []))
           (sym safe.no_attributes)
-          (adds_element table default safe_heading (Says (Words label) ∷ []) heading_is_tag (adds_says table default (Words label) tt)))
+          (adds_element marks table default safe_heading (Says (Words label) ∷ []) heading_is_tag (adds_says marks table default (Words label) tt)))
 
-      pub section_adds : AreSafe options → (notes : List Footnote) → Each (λ (note : Footnote). IsPrinted table note.html) notes
-          → Adds table default (section_pieces options notes)
-      section_adds safe [] p = adds_nothing table default
+      pub section_adds : AreSafe options → (notes : List Footnote) → Each (λ (note : Footnote). IsPrinted marks table note.html) notes
+          → Adds marks table default (section_pieces options notes)
+      section_adds safe [] p = adds_nothing marks table default
       section_adds safe (note ∷ notes) p =
           let heading = heading_pieces options in
           let items = footnotes_pieces options (note ∷ notes) in
@@ -223,8 +225,8 @@ module _ (table : TagTable) where
           let inside = heading ++ Fresh ∷ list ++ Fresh ∷ [] in
           and_fresh (Fresh ∷ element section_tag inside)
           (fresh_line (element section_tag inside)
-          (adds_element table default section_tag inside section_is_tag
+          (adds_element marks table default section_tag inside section_is_tag
           (and_fresh (heading ++ Fresh ∷ list)
-          (adds_append table default heading (Fresh ∷ list) (heading_adds safe)
+          (adds_append marks table default heading (Fresh ∷ list) (heading_adds safe)
           (fresh_line list
-          (adds_element table default (bare_tag (codes "ol")) (items ++ Fresh ∷ []) list_is_tag (and_fresh items (footnotes_add (note ∷ notes) p))))))))
+          (adds_element marks table default (bare_tag (codes "ol")) (items ++ Fresh ∷ []) list_is_tag (and_fresh items (footnotes_add (note ∷ notes) p))))))))

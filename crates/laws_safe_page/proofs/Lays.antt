@@ -1,5 +1,5 @@
 -- Pieces of a page with footnotes that add a safe page to what stands around them, and footnotes whose contents are safe pages.
-use Rattle.std.proofs.Common.{◌≡◌, ℕ, suc, true, List, [], ◌∷◌, ◌++◌, map, refl, sym, ap, ◌∙◌, subst, append-nil}
+use Rattle.std.proofs.Common.{◌≡◌, ℕ, Bool, suc, true, List, [], ◌∷◌, ◌++◌, map, refl, sym, ap, ◌∙◌, subst, append-nil}
 use Rattle.markdown_compile_options.specs.declared.configuration.CompileOptions.{CompileOptions}
 use Rattle.definition_page.specs.Tags.{PrintedPart, Tag}
 use Rattle.definition_page.specs.Pieces.{Piece, Open, Close, Void, Says, Eol, Fresh, Named, CallOf, CountOf, NoteStart, NoteEnd}
@@ -12,9 +12,9 @@ use Rattle.definition_page.proofs.PlainLayout.{ArePlain}
 use Rattle.definition_page.proofs.Cuts.{shown_append, Cut, cut_plain, cut_append, cut_note}
 use Rattle.html_safe_page.specs.Table.{start_rows, start_rows_of, void_rows, void_rows_of}
 use Rattle.html_safe_page.specs.declared.table.TagTable.{TagTable}
-use Rattle.html_safe_page.specs.SafePage.{IsSafePageBy}
 use Rattle.laws_safe_page.proofs.Each.{Each, each-append}
-use Rattle.laws_safe_page.proofs.Values.{has_no_nul, IsText, IsTextPart, AreTextParts}
+use Rattle.laws_safe_page.proofs.Marked.{IsPage}
+use Rattle.laws_safe_page.proofs.Values.{has_no_nul, IsText, IsSafePart}
 use Rattle.laws_safe_page.proofs.Tags.{IsTag, as_start, as_void}
 use Rattle.laws_safe_page.proofs.Pieces.{Adds, adds_nothing, adds_append, adds_element_by, adds_says, adds_void_by, adds_eol, adds_fresh}
 
@@ -31,17 +31,17 @@ ids_append options taken (Named t text ∷ ps) qs =
     ap (λ x. Open (tag_with_id options (next_slug taken text) t) ∷ x) (ids_append options (with_slug taken text) ps qs)
 ids_append options taken (p ∷ ps) qs = ap (λ x. p ∷ x) (ids_append options taken ps qs)
 
-module _ (table : TagTable) where
-  -- a safe page without NUL
+module _ (marks : Bool) (table : TagTable) where
+  -- a page without NUL, safe but for marks
   abbrev pub IsPrinted : List ℕ → Type 0
-  IsPrinted page = IsSafePageBy table page × (has_no_nul page ≡ true)
+  IsPrinted page = IsPage marks table page × (has_no_nul page ≡ true)
 
   -- pieces, with what their calls print, that add a safe page outside of footnotes, and whose footnotes are safe pages
   pub record SafeShown (default : List ℕ) (shown : List Piece) : Type 0 where
     pub outside : List Piece
     pub insides : List (List Piece)
     pub cut : Cut shown outside insides
-    pub outside_adds : Adds table default outside
+    pub outside_adds : Adds marks table default outside
     pub insides_safe : Each (λ c. IsPrinted (layout default c)) insides
 
   -- such are pieces with the ids of their headings, whatever slugs are taken, and whatever calls come first and before them
@@ -51,7 +51,7 @@ module _ (table : TagTable) where
 
   module _ (options : CompileOptions) (default : List ℕ) where
     -- no footnote is among them
-    safe_plain : (pieces : List Piece) → ArePlain pieces → Adds table default pieces → SafeShown default pieces
+    safe_plain : (pieces : List Piece) → ArePlain pieces → Adds marks table default pieces → SafeShown default pieces
     safe_plain pieces are p = record { outside = pieces; insides = []; cut = cut_plain pieces are; outside_adds = p; insides_safe = tt }
 
     safe_append : (pieces others : List Piece) → SafeShown default pieces → SafeShown default others → SafeShown default (pieces ++ others)
@@ -59,12 +59,12 @@ module _ (table : TagTable) where
       outside = p.outside ++ q.outside;
       insides = p.insides ++ q.insides;
       cut = cut_append pieces others p.outside q.outside p.insides q.insides p.cut q.cut;
-      outside_adds = adds_append table default p.outside q.outside p.outside_adds q.outside_adds;
+      outside_adds = adds_append marks table default p.outside q.outside p.outside_adds q.outside_adds;
       insides_safe = each-append (λ c. IsPrinted (layout default c)) p.insides q.insides p.insides_safe q.insides_safe;
     }
 
     pub lays_nothing : Lays options default []
-    lays_nothing taken firsts earlier = safe_plain [] tt (adds_nothing table default)
+    lays_nothing taken firsts earlier = safe_plain [] tt (adds_nothing marks table default)
 
     pub lays_append : (pieces others : List Piece) → Lays options default pieces → Lays options default others → Lays options default (pieces ++ others)
     lays_append pieces others p q taken firsts earlier =
@@ -77,13 +77,13 @@ module _ (table : TagTable) where
         (safe_append (with_calls options firsts earlier before) (with_calls options firsts later (with_ids options more others)) (p taken firsts earlier)
         (q more firsts later))
 
-    pub lays_says : (said : PrintedPart) → IsTextPart said → Lays options default (Says said ∷ [])
-    lays_says said h taken firsts earlier = safe_plain (Says said ∷ []) (tt, tt) (adds_says table default said h)
+    pub lays_says : (said : PrintedPart) → IsSafePart marks said → Lays options default (Says said ∷ [])
+    lays_says said h taken firsts earlier = safe_plain (Says said ∷ []) (tt, tt) (adds_says marks table default said h)
 
     pub lays_void_by : (t : Tag) → IsTag (void_rows_of table) t → Lays options default (Void t ∷ [])
-    lays_void_by t i taken firsts earlier = safe_plain (Void t ∷ []) (tt, tt) (adds_void_by table default t i)
+    lays_void_by t i taken firsts earlier = safe_plain (Void t ∷ []) (tt, tt) (adds_void_by marks table default t i)
 
-    pub lays_parts : (parts : List PrintedPart) → AreTextParts parts → Lays options default (map Says parts)
+    pub lays_parts : (parts : List PrintedPart) → Each (IsSafePart marks) parts → Lays options default (map Says parts)
     lays_parts [] h = lays_nothing
     lays_parts (said ∷ others) h = lays_append (Says said ∷ []) (map Says others) (lays_says said h.0) (lays_parts others h.1)
 
@@ -104,7 +104,7 @@ module _ (table : TagTable) where
           outside = element t within.outside;
           insides = within.insides ++ [];
           cut = cut_append (Open t ∷ []) (shown ++ end) (Open t ∷ []) (within.outside ++ end) [] (within.insides ++ []) start last;
-          outside_adds = adds_element_by table default t within.outside i within.outside_adds;
+          outside_adds = adds_element_by marks table default t within.outside i within.outside_adds;
           insides_safe = each-append (λ c. IsPrinted (layout default c)) within.insides [] within.insides_safe tt;
         })
 
@@ -129,14 +129,14 @@ module _ (table : TagTable) where
 
     module _ (ending : IsText default) where
       pub lays_eol : Lays options default (Eol ∷ [])
-      lays_eol taken firsts earlier = safe_plain (Eol ∷ []) (tt, tt) (adds_eol table default ending)
+      lays_eol taken firsts earlier = safe_plain (Eol ∷ []) (tt, tt) (adds_eol marks table default ending)
 
       pub lays_fresh : Lays options default (Fresh ∷ [])
-      lays_fresh taken firsts earlier = safe_plain (Fresh ∷ []) (tt, tt) (adds_fresh table default ending)
+      lays_fresh taken firsts earlier = safe_plain (Fresh ∷ []) (tt, tt) (adds_fresh marks table default ending)
 
     -- ---- footnotes
 
-    pub lays_call : ((call : Call) → Adds table default (call_pieces options call)) → (place : ℕ) (label : List ℕ)
+    pub lays_call : ((call : Call) → Adds marks table default (call_pieces options call)) → (place : ℕ) (label : List ℕ)
         → Lays options default (CallOf place label ∷ [])
     lays_call p place label taken firsts earlier =
         let call : Call = call_of place (suc (times place earlier)) 1 firsts in
@@ -161,6 +161,6 @@ module _ (table : TagTable) where
           outside = [];
           insides = within.insides ++ within.outside ∷ [];
           cut = cut_note shown within.outside within.insides within.cut;
-          outside_adds = adds_nothing table default;
+          outside_adds = adds_nothing marks table default;
           insides_safe = each-append (λ c. IsPrinted (layout default c)) within.insides (within.outside ∷ []) within.insides_safe (printed, tt);
         })

@@ -1,5 +1,6 @@
 pub mod Each
 pub mod Values
+pub mod Marked
 pub mod Fits
 pub mod Tags
 pub mod Pieces

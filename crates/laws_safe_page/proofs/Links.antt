@@ -106,7 +106,7 @@ module _ (m : Meaning) (safe : AreSafe m.compile) where
         as_more_void table (image_with url description (title_attributes title ++ attribute (codes "loading") (codes "lazy") ∷ [])) (e refl)
         (image_lazy url title description h)
 
-    module _ (fits : Fits m.compile table) where
+    module _ (marks : Bool) (fits : Fits marks m.compile table) where
       pub link_is_tag : (url : List ℕ) (title : Option (List ℕ))
           → IsTag (start_rows_of table) (link_with url (title_attribute m title ++ rel_attributes m.compile.link_rel))
       link_is_tag url None = link_by m.compile.link_rel url [] fits.rel

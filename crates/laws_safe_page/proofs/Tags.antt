@@ -7,13 +7,13 @@ use Rattle.html_safe_page.specs.Table.{Row, start_rows, start_rows_of, more_star
 use Rattle.html_safe_page.specs.declared.table.TagTable.{TagTable}
 use Rattle.html_safe_page.specs.declared.table.TagTable.TheVariants.{Basic, Extended}
 use Rattle.html_safe_page.specs.SafePage as safe
-use Rattle.html_safe_page.specs.SafePage.{kind, IsSafePageBy, is_of_row, is_tag_of, spell_text, spell_attributes, spell_tag}
+use Rattle.html_safe_page.specs.SafePage.{kind, is_of_row, is_tag_of, spell_text, spell_attributes, spell_tag}
 use Rattle.html_safe_page.specs.Reader.{attribute, tag_of}
 use Rattle.html_safe_page.proofs.Text.{is_plain, spell_text-append}
 use Rattle.html_safe_page.proofs.Spelled.{all_values, is_word_byte, is_word, word_bytes, is_worded_list, is_worded}
 use Rattle.html_safe_page.proofs.Pages.{start_worded_by, void_worded_by}
 use Rattle.html_safe_page.proofs.Sound.{tag_append}
-use Rattle.html_safe_page.proofs.Closing.{closed}
+use Rattle.laws_safe_page.proofs.Marked.{IsPage, void_page, element_page}
 use Rattle.laws_safe_page.proofs.Values.{has_no_nul, no_nul_append, IsText}
 
 -- the value of each attribute is a text
@@ -124,17 +124,19 @@ tag_no_nul t h w =
 
 -- ---- tags of a table
 
-module _ (table : TagTable) where
-  pub page_around : (t : Tag) (inside : List ℕ) → IsTag (start_rows_of table) t → IsSafePageBy table inside
-      → IsSafePageBy table (start_tag t ++ (inside ++ end_tag t.name))
+module _ (marks : Bool) (table : TagTable) where
+  pub page_around : (t : Tag) (inside : List ℕ) → IsTag (start_rows_of table) t → IsPage marks table inside
+      → IsPage marks table (start_tag t ++ (inside ++ end_tag t.name))
   page_around t inside i p =
       let rest = inside ++ end_tag t.name in
-      subst (IsSafePageBy table) (sym (ap (λ x. 60 ∷ x) (append_assoc (tag_bytes t) (62 ∷ []) rest ∙ tag_spelled t i.0 (62 ∷ rest))))
-      ((closed table).tags_around (tag_with t i.0) inside i.1 p)
+      subst (IsPage marks table) (sym (ap (λ x. 60 ∷ x) (append_assoc (tag_bytes t) (62 ∷ []) rest ∙ tag_spelled t i.0 (62 ∷ rest))))
+      (element_page marks table (tag_with t i.0) inside i.1 p)
 
-  pub page_of_void : (t : Tag) → IsTag (void_rows_of table) t → IsSafePageBy table (void_tag t)
-  page_of_void t i = subst (IsSafePageBy table) (sym (ap (λ x. 60 ∷ x) (tag_spelled t i.0 (codes " />")))) ((closed table).void_tag (tag_with t i.0) i.1)
+  pub page_of_void : (t : Tag) → IsTag (void_rows_of table) t → IsPage marks table (void_tag t)
+  page_of_void t i =
+      subst (IsPage marks table) (sym (ap (λ x. 60 ∷ x) (tag_spelled t i.0 (codes " />")))) (void_page marks table (tag_with t i.0) i.1)
 
+module _ (table : TagTable) where
   pub start_no_nul : (t : Tag) → IsTag (start_rows_of table) t → has_no_nul (start_tag t) ≡ true
   start_no_nul t i = no_nul_append (tag_bytes t) (codes ">") (tag_no_nul t i.0 (start_worded_by table (tag_with t i.0) i.1)) refl
 

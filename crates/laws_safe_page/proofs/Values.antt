@@ -3,13 +3,13 @@ use Rattle.std.proofs.Common.{◌≡◌, ℕ, zero, suc, ◌/◌, ◌%◌, Bool,
 use Rattle.std.proofs.Common.{inr, arith}
 use Rattle.std.specs.List.{flat_map, list_all}
 use Rattle.std.specs.Fmt.{digit_glyph, digits, digits_onto, decimal}
-use Rattle.std.proofs.lemmas.Bool.{cond_both, cond-false, and_parts, and_from, or_cases, eqb-true, not-true}
+use Rattle.std.proofs.lemmas.Bool.{cond_both, cond-false, and_parts, and_from, or_cases, eqb-true, not-true, false≢true}
 use Rattle.std.proofs.lemmas.Bool.Decides.{nat_tests}
 use Rattle.std.proofs.lemmas.List.Folds.{list_all-append}
 use Rattle.definition_text.specs.Content.{is_eol}
 use Rattle.definition_text.specs.Encode.{replacement_character, encoded_byte, encode, plain}
 use Rattle.definition_inline.specs.Strings.{eol_bytes}
-use Rattle.definition_page.specs.Tags.{PrintedPart, Words, AsItIs, EndOfLine, Number, said_bytes}
+use Rattle.definition_page.specs.Tags.{PrintedPart, Words, AsItIs, Marked, EndOfLine, Number, marked, said_bytes}
 use Rattle.html_safe_page.specs.SafePage.{And, Quote, Less, Greater, Plain, kind, spell_kind, spell_text}
 use Rattle.html_safe_page.proofs.Closing.{texts_append, encode_spelled}
 use Rattle.laws_safe_page.proofs.Each.{Each}
@@ -100,21 +100,29 @@ ending_spelled code h =
 
 -- ---- what is said
 
--- a part that is none of raw HTML
-abbrev pub IsTextPart : PrintedPart → Type 0
-IsTextPart (Words text) = Unit {0}
-IsTextPart (AsItIs html) = ⊥
-IsTextPart (EndOfLine code) = is_eol code ≡ true
-IsTextPart (Number n) = Unit {0}
+-- a part that is none of raw HTML, but where marks are allowed raw HTML that is marked
+abbrev pub IsSafePart : Bool → PrintedPart → Type 0
+IsSafePart marks (Words text) = Unit {0}
+IsSafePart marks (AsItIs html) = ⊥
+IsSafePart marks (Marked html) = marks ≡ true
+IsSafePart marks (EndOfLine code) = is_eol code ≡ true
+IsSafePart marks (Number n) = Unit {0}
 
-pub said_spelled : (said : PrintedPart) → IsTextPart said → IsText (said_bytes said)
+pub said_spelled : (said : PrintedPart) → IsSafePart false said → IsText (said_bytes said)
 said_spelled (Words text) h = (plain text, encode_spelled text, encode_no_nul text)
 said_spelled (AsItIs html) h = absurd h
+said_spelled (Marked html) h = absurd (false≢true h)
 said_spelled (EndOfLine code) h = ending_spelled code h
 said_spelled (Number n) h = number_text n
 
+pub marked_no_nul : (html : List ℕ) → has_no_nul (marked html) ≡ true
+marked_no_nul [] = refl
+marked_no_nul (b ∷ bs) =
+    no_nul_append (codes "<>" ++ encode (b ∷ bs)) (codes "</>") (no_nul_append (codes "<>") (encode (b ∷ bs)) refl (encode_no_nul (b ∷ bs))) refl
+
+-- parts that are none of raw HTML
 abbrev pub AreTextParts : List PrintedPart → Type 0
-AreTextParts parts = Each IsTextPart parts
+AreTextParts parts = Each (IsSafePart false) parts
 
 pub value_spelled : (value : List PrintedPart) → AreTextParts value → IsText (flat_map said_bytes value)
 value_spelled [] h = no_text

@@ -2,13 +2,15 @@
 //!
 //! The calls promise five laws: safe pages, quoted, listed and escaped texts, other line endings.
 //! docs/LAWS.md explains them. `specs/PageLaws.antt` states the last four, with their premises.
-ghost use Rattle.std.specs.Prelude.{◌≡◌, ◌/◌, ◌*◌, ◌^◌, ◌-◌, ◌≤◌, ◌↔◌, IsTrue, IfOk, IfErr, length, string_bytes};
+ghost use Rattle.std.specs.Prelude.{◌≡◌, ◌/◌, ◌*◌, ◌^◌, ◌-◌, ◌≤◌, ◌↔◌, IsTrue, IfOk, IfErr, false, length, string_bytes};
 ghost use Rattle.markdown_compile_options.specs.Mdx.{HasNoMdx};
+ghost use Rattle.markdown_compile_options.specs.RawHtml.{keeps_listed_html};
 ghost use Rattle.markdown_options.specs.Messages.{IsOutOfMemory};
 ghost use Rattle.markdown_compile_options.specs.Defaults.{default_options};
 ghost use Rattle.markdown_definition.specs.Html.{html};
 ghost use Rattle.html_contents.specs.Texts.{tables_by};
 ghost use Rattle.html_bytes.specs.Html.{marked_html, text_ending};
+ghost use Rattle.html_listed.specs.Laws.{HasOneListedReading};
 ghost use Rattle.laws_safe_page.specs.SafeHtml.{AreSafe, HasOneReading, HasOneReadingBy, table_of};
 ghost use Rattle.markdown.specs.PageLaws.{QuotesPage, SaysEscapedLine, EndsPage, ListsPage};
 ghost use Rattle.markdown_tables.specs.Builtin.{builtin_tables};
@@ -17,6 +19,7 @@ use block_parser::{BlockRows, block_rows};
 use block_targets::{definition_contents, document_definitions, document_footnotes};
 use html_contents::Texts;
 use html_page::print_rows;
+use html_sanitizer::with_listed;
 use markdown_compile_options::Options;
 use markdown_devices::SIZE_MAX;
 use markdown_options::{Kind, LineEnding, Message, Tables};
@@ -54,7 +57,8 @@ pub fn to_html<A: Allocator + Clone>(alloc: A, value: &str) -> Result<String<A>,
 /// The text must have at most `usize::MAX / 8` bytes, which [`fits`] tests. No construct of MDX may
 /// be on, which `Options::has_mdx` tests. Under safe options, such as the default ones, the page is
 /// safe, with exactly one reading (see `is_safe_page`; with ids of headings, a `rel` of links or lazy
-/// images, see `is_safe_page_by`). The only error is `out of memory`.
+/// images, see `is_safe_page_by`). If raw HTML is kept by the list (`allow_listed_html`), it has
+/// exactly one reading as a safe page with tags of the list. The only error is `out of memory`.
 pub fn to_html_with_options<A: Allocator + Clone>(
     alloc: A,
     value: &str,
@@ -63,7 +67,9 @@ pub fn to_html_with_options<A: Allocator + Clone>(
     requires size { length value.now ≤ SIZE_MAX }
     requires without_mdx { HasNoMdx options.now }
     ensures page { IfOk result (λ page. string_bytes page ≡ html builtin_tables value.now options.now) }
-    ensures safe { IfOk result (λ page. AreSafe options.now.compile → HasOneReadingBy (table_of options.now.compile) (string_bytes page)) }
+    ensures safe { IfOk result (λ page. AreSafe options.now.compile → keeps_listed_html options.now.compile ≡ false
+        → HasOneReadingBy (table_of options.now.compile) (string_bytes page)) }
+    ensures listed { IfOk result (λ page. AreSafe options.now.compile → HasOneListedReading (table_of options.now.compile) (string_bytes page)) }
     ensures quotes { IfOk result (λ page. QuotesPage builtin_tables options.now value.now (string_bytes page)) }
     ensures escaped { IfOk result (λ page. SaysEscapedLine options.now value.now (string_bytes page)) }
     ensures endings { IfOk result (λ page. EndsPage builtin_tables options.now value.now (string_bytes page)) }
@@ -78,7 +84,8 @@ pub fn to_html_with_options<A: Allocator + Clone>(
 /// The text must have at most `usize::MAX / 8` bytes, which [`fits`] tests. No construct of MDX may
 /// be on, which `Options::has_mdx` tests. Under safe options, such as the default ones, the page is
 /// safe, with exactly one reading (see `is_safe_page`; with ids of headings, a `rel` of links or lazy
-/// images, see `is_safe_page_by`). The only error is `out of memory`.
+/// images, see `is_safe_page_by`). If raw HTML is kept by the list (`allow_listed_html`), it has
+/// exactly one reading as a safe page with tags of the list. The only error is `out of memory`.
 pub fn to_html_with_tables<T: Tables, A: Allocator + Clone>(
     alloc: A,
     value: &str,
@@ -89,7 +96,9 @@ pub fn to_html_with_tables<T: Tables, A: Allocator + Clone>(
     requires without_mdx { HasNoMdx options.now }
     ensures page { IfOk result (λ page.
         string_bytes page ≡ html (tables_by T.Tables tables.now) value.now options.now) }
-    ensures safe { IfOk result (λ page. AreSafe options.now.compile → HasOneReadingBy (table_of options.now.compile) (string_bytes page)) }
+    ensures safe { IfOk result (λ page. AreSafe options.now.compile → keeps_listed_html options.now.compile ≡ false
+        → HasOneReadingBy (table_of options.now.compile) (string_bytes page)) }
+    ensures listed { IfOk result (λ page. AreSafe options.now.compile → HasOneListedReading (table_of options.now.compile) (string_bytes page)) }
     ensures quotes { IfOk result (λ page.
         QuotesPage (tables_by T.Tables tables.now) options.now value.now (string_bytes page)) }
     ensures escaped { IfOk result (λ page. SaysEscapedLine options.now value.now (string_bytes page)) }
@@ -100,11 +109,13 @@ pub fn to_html_with_tables<T: Tables, A: Allocator + Clone>(
     ensures memory { IfErr result IsOutOfMemory }
 {
     let (before, text) = without_mark(value);
-    let page = page_after(alloc, before, text, options, tables)?;
-    Ok(page)
+    let page = page_after(alloc.clone()?, before, text, options, tables)?;
+    let html = with_listed(alloc, page, &options.compile, tables)?;
+    Ok(html)
 }
 
-/// The HTML of a text whose byte order mark is removed, after a character of a kind.
+/// The page of a text whose byte order mark is removed, after a character of a kind, as it is
+/// printed: raw HTML that is kept by the list stands on it as text in elements without a name.
 fn page_after<'a, T: Tables, A: Allocator + Clone>(
     alloc: A,
     before: Kind,

@@ -5,6 +5,7 @@ use Rattle.engine_events.specs.declared.event.Event.{Event}
 use Rattle.event_check.specs.Matches.{MatchesGrammar}
 use Rattle.event_meaning.specs.Spelled.{spelled}
 use Rattle.event_tokens.specs.Bytes.{HaveTheirBytes}
+use Rattle.event_tokens.specs.Shape.{HaveShape}
 use Rattle.markdown_tables.specs.Builtin.{builtin_tables}
 use Rattle.parse_alike.specs.Spelled.{IsPageOfText}
 use Rattle.parse_grammar.specs.Constructs.{NothingIsOff}
@@ -18,11 +19,11 @@ use Rattle.markdown_buffers.specs.Events.{HoldsEvents, OfEvents, StoresEvents}
 
 -- what `parse` promises
 pub are_events : (options : ParseOptions) (text : List ℕ) (events : List Event) → ArePlaced text events → IsNested events → HaveChildren events
-    → HaveTheirBytes text events → MatchesGrammar builtin_tables.names text events
+    → HaveTheirBytes text events → HaveShape events → MatchesGrammar builtin_tables.names text events
     → IsPageOfText builtin_tables options text (spelled builtin_tables.names events text) → NothingIsOff options.constructs events
     → AreEventsOf builtin_tables options text events
-are_events options text events placed nested children tokens grammar page on =
-    record { placed = placed; nested = nested; children = children; tokens = tokens; grammar = grammar; spelled = page; on = on }
+are_events options text events placed nested children tokens shape grammar page on =
+    record { placed = placed; nested = nested; children = children; tokens = tokens; shape = shape; grammar = grammar; spelled = page; on = on }
 
 -- nothing is stored
 pub no_events : (Meant : ParseOptions → Type 0) (text : List ℕ) (old new : List FlatEvent) (count status : ℕ) → 1 < status → new ≡ old → count ≡ 0

@@ -10,7 +10,7 @@ use Rattle.markdown_c_options.specs.Switches.{options_of_numbers, parse_options_
 pub record IsKnown (flat : FlatOptions) : Type 0 where
   pub size : flat.size ≡ 168
   pub constructs : flat.constructs < 2 ^ 30
-  pub switches : flat.switches < 512
+  pub switches : flat.switches < 1024
   pub ending : flat.default_line_ending < 3
   pub back_label : IsUtf8 flat.gfm_footnote_back_label.now
   pub clobber_prefix : IsUtf8 flat.gfm_footnote_clobber_prefix.now

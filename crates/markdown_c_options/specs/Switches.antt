@@ -21,7 +21,8 @@ parse_options_of constructs switches = record {
 }
 
 -- with the default texts; 1: images may have any protocol; 2: HTML is allowed; 4: links and images may have any protocol;
--- 8: `<` before nine names is text in that HTML; 16: check boxes aren't disabled; 128: headings have ids; 256: images are lazy
+-- 8: `<` before nine names is text in that HTML; 16: check boxes aren't disabled; 128: headings have ids; 256: images are lazy;
+-- 512: HTML is kept by the list
 abbrev pub options_of_numbers : ℕ → ℕ → ℕ → Options
 options_of_numbers constructs switches ending = record {
   parse = parse_options_of constructs switches;
@@ -29,6 +30,7 @@ options_of_numbers constructs switches ending = record {
     allow_any_img_src = has_flag 1 switches;
     allow_dangerous_html = has_flag 2 switches;
     allow_dangerous_protocol = has_flag 4 switches;
+    allow_listed_html = has_flag 512 switches;
     default_line_ending = ending_of ending;
     gfm_tagfilter = has_flag 8 switches;
     gfm_task_list_item_checkable = has_flag 16 switches;
@@ -39,7 +41,7 @@ options_of_numbers constructs switches ending = record {
 
 -- numbers of options are known
 abbrev pub AreNumbers : ℕ → ℕ → ℕ → Type 0
-AreNumbers constructs switches ending = (constructs < 2 ^ 30) × (switches < 512) × (ending < 3)
+AreNumbers constructs switches ending = (constructs < 2 ^ 30) × (switches < 1024) × (ending < 3)
 
 -- options are those of numbers, with the default texts
 abbrev pub MeanNumbers : ℕ → ℕ → ℕ → Options → Type 0

@@ -36,8 +36,11 @@ const HEADING_IDS: u64 = 128;
 /// Images have `loading="lazy"`.
 const LAZY_IMAGES: u64 = 256;
 
+/// HTML of the text is kept by a list of elements and attributes.
+const ALLOW_LISTED_HTML: u64 = 512;
+
 /// All switches together.
-pub(crate) const ALL: u32 = 511;
+pub(crate) const ALL: u32 = 1023;
 
 /// The largest number of a line ending.
 pub(crate) const LAST_ENDING: u32 = 2;
@@ -86,6 +89,7 @@ pub fn options_of_numbers(constructs: u64, switches: u32, ending: u32) -> Option
             allow_any_img_src: has_flag(ALLOW_ANY_IMG_SRC, switches),
             allow_dangerous_html: has_flag(ALLOW_DANGEROUS_HTML, switches),
             allow_dangerous_protocol: has_flag(ALLOW_DANGEROUS_PROTOCOL, switches),
+            allow_listed_html: has_flag(ALLOW_LISTED_HTML, switches),
             default_line_ending: ending_of(ending),
             gfm_tagfilter: has_flag(GFM_TAGFILTER, switches),
             gfm_task_list_item_checkable: has_flag(GFM_TASK_LIST_ITEM_CHECKABLE, switches),

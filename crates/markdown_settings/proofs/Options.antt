@@ -8,10 +8,11 @@ use Rattle.markdown_settings.specs.declared.flags.Flags.{Flags}
 use Rattle.markdown_settings.specs.Flags.{flag_options, flags_in, parse_of, printed_as, without_texts, MeanRows}
 
 -- options of printing by flags
-abbrev printed : (gfm dangerous heading_ids lazy_images : Bool) → CompileOptions
-printed gfm dangerous heading_ids lazy_images = record (printed_as gfm) {
+abbrev printed : (gfm dangerous listed_html heading_ids lazy_images : Bool) → CompileOptions
+printed gfm dangerous listed_html heading_ids lazy_images = record (printed_as gfm) {
   allow_dangerous_html = dangerous;
   allow_dangerous_protocol = dangerous;
+  allow_listed_html = listed_html;
   heading_ids = heading_ids;
   lazy_images = lazy_images;
 }
@@ -20,13 +21,14 @@ abbrev both : ParseOptions → CompileOptions → Options
 both parse compile = record { parse = parse; compile = compile }
 
 -- flags give no texts
-no_texts : (parse : ParseOptions) (gfm dangerous heading_ids lazy_images : Bool)
-    → without_texts (both parse (printed gfm dangerous heading_ids lazy_images)) ≡ both parse (printed gfm dangerous heading_ids lazy_images)
-no_texts parse true dangerous heading_ids lazy_images = refl
-no_texts parse false dangerous heading_ids lazy_images = refl
+no_texts : (parse : ParseOptions) (gfm dangerous listed_html heading_ids lazy_images : Bool)
+    → without_texts (both parse (printed gfm dangerous listed_html heading_ids lazy_images))
+    ≡ both parse (printed gfm dangerous listed_html heading_ids lazy_images)
+no_texts parse true dangerous listed_html heading_ids lazy_images = refl
+no_texts parse false dangerous listed_html heading_ids lazy_images = refl
 
 flags_only : (flags : Flags) → without_texts (flag_options flags) ≡ flag_options flags
-flags_only flags = no_texts (parse_of flags) flags.gfm flags.dangerous flags.heading_ids flags.lazy_images
+flags_only flags = no_texts (parse_of flags) flags.gfm flags.dangerous flags.listed_html flags.heading_ids flags.lazy_images
 
 -- those of their flags, once they have their texts
 pub mean : (rows : List Row) (first options : Options) → first ≡ flag_options (flags_in rows) → without_texts options ≡ without_texts first

@@ -20,6 +20,7 @@ none = record {
   frontmatter = false;
   heading_ids = false;
   lazy_images = false;
+  listed_html = false;
   dangerous = false;
   plain = false;
 }
@@ -53,6 +54,10 @@ attributes : AskFor (codes "--lazy-images" ∷ codes "--heading-ids" ∷ codes "
     (Some (codes "a")) None
 unfolding faults_of rows_of_words clap_on_literals
 attributes = (refl, refl, refl, refl)
+
+listed : AskFor (codes "--listed-html" ∷ codes "--dangerous" ∷ []) (record none { listed_html = true; dangerous = true }) None None
+unfolding faults_of rows_of_words clap_on_literals
+listed = (refl, refl, refl, refl)
 
 -- words without a fault give the options these texts: the prefix of ids, the bases of links and images, and the `rel` of links
 abbrev GiveTexts : List Text → Option Text → Option Text → Option Text → Option Text → Type 0

@@ -1,5 +1,5 @@
 -- The command line: markdown [--gfm] [--mark] [--math] [--frontmatter] [--heading-ids] [--heading-id-prefix TEXT] [--link-base URL] [--image-base URL]
--- [--link-rel TEXT] [--lazy-images] [--dangerous] [--plain] [--references PATH] [--help] [--version] [FILE].
+-- [--link-rel TEXT] [--lazy-images] [--listed-html] [--dangerous] [--plain] [--references PATH] [--help] [--version] [FILE].
 use Rattle.std.specs.Prelude.{ℕ, true, List, Some, codes}
 use Rattle.clap.specs.Words.{App, Rule, new_app, new_rule, with_rule}
 use Rattle.clap.specs.Simple.{on_top}
@@ -34,5 +34,5 @@ with_attributes app =
 
 abbrev pub markdown_command : App
 markdown_command =
-    with_rule (with_rule (with_rule (with_rule (with_attributes (with_constructs bare)) (flag (codes "dangerous"))) (flag (codes "plain")))
-    (valued (codes "references"))) file_rule
+    with_rule (with_rule (with_rule (with_rule (with_rule (with_attributes (with_constructs bare)) (flag (codes "listed-html")))
+    (flag (codes "dangerous"))) (flag (codes "plain"))) (valued (codes "references"))) file_rule

@@ -28,6 +28,7 @@ flags_in rows = record {
   frontmatter = is_set (codes "frontmatter") rows;
   heading_ids = is_set (codes "heading-ids") rows;
   lazy_images = is_set (codes "lazy-images") rows;
+  listed_html = is_set (codes "listed-html") rows;
   dangerous = is_set (codes "dangerous") rows;
   plain = is_set (codes "plain") rows;
 }
@@ -51,11 +52,13 @@ parse_of flags = record default_parse_options { constructs = constructs_of flags
 abbrev pub printed_as : Bool → CompileOptions
 printed_as gfm = if gfm then gfm_compile_options else default_compile_options
 
--- `--dangerous` allows HTML of the text and every protocol; `--heading-ids` gives headings ids, and `--lazy-images` makes images lazy
+-- `--dangerous` allows HTML of the text and every protocol; `--listed-html` keeps HTML by the list; `--heading-ids` gives headings ids, and
+-- `--lazy-images` makes images lazy
 abbrev pub compile_of : Flags → CompileOptions
 compile_of flags = record (printed_as flags.gfm) {
   allow_dangerous_html = flags.dangerous;
   allow_dangerous_protocol = flags.dangerous;
+  allow_listed_html = flags.listed_html;
   heading_ids = flags.heading_ids;
   lazy_images = flags.lazy_images;
 }

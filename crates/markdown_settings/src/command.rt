@@ -1,8 +1,8 @@
 //! The command line.
 //!
 //!     markdown [--gfm] [--mark] [--math] [--frontmatter] [--heading-ids] [--heading-id-prefix TEXT]
-//!         [--link-base URL] [--image-base URL] [--link-rel TEXT] [--lazy-images] [--dangerous]
-//!         [--plain] [--references PATH] [--help] [--version] [FILE]
+//!         [--link-base URL] [--image-base URL] [--link-rel TEXT] [--lazy-images] [--listed-html]
+//!         [--dangerous] [--plain] [--references PATH] [--help] [--version] [FILE]
 ghost use Rattle.std.specs.Prelude.{◌≡◌, IfOk, false};
 ghost use Rattle.clap.specs.Words.{app_of, rule_of};
 ghost use Rattle.markdown_settings.specs.Command.{file_rule, flag, markdown_command, valued};
@@ -28,6 +28,7 @@ pub(crate) fn command<'a>(alloc: Global) -> Result<Command<'a>, AllocError>
         .arg(valued(alloc, "image-base", "URL"))?
         .arg(valued(alloc, "link-rel", "TEXT"))?
         .arg(flag(alloc, "lazy-images"))?
+        .arg(flag(alloc, "listed-html"))?
         .arg(flag(alloc, "dangerous"))?
         .arg(flag(alloc, "plain"))?
         .arg(valued(alloc, "references", "PATH"))?

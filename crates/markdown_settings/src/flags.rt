@@ -26,6 +26,7 @@ pub(crate) struct Flags {
     pub(crate) frontmatter: bool,
     pub(crate) heading_ids: bool,
     pub(crate) lazy_images: bool,
+    pub(crate) listed_html: bool,
     pub(crate) dangerous: bool,
     pub(crate) plain: bool,
 }
@@ -41,6 +42,7 @@ impl Flags {
             compile: CompileOptions {
                 allow_dangerous_html: self.dangerous,
                 allow_dangerous_protocol: self.dangerous,
+                allow_listed_html: self.listed_html,
                 heading_ids: self.heading_ids,
                 lazy_images: self.lazy_images,
                 ..printed_as(self.gfm)

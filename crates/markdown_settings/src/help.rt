@@ -27,6 +27,8 @@ Options:
                            Without this option that of --link-base is printed
       --link-rel <TEXT>    Print rel=\"TEXT\" in links
       --lazy-images        Print loading=\"lazy\" in images
+      --listed-html        Keep raw HTML by a list of elements and attributes,
+                           and escape the rest. --dangerous keeps all of it
       --dangerous          Keep raw HTML and URLs with any protocol. Only for
                            input from trusted authors
       --plain              Turn every construct off, also with other options

@@ -19,8 +19,9 @@ use std::alloc::{AllocError, Global};
 ///
 /// `--gfm` reads and prints GitHub Flavored Markdown. `--mark`, `--math` and `--frontmatter` read marked text, math and
 /// frontmatter. `--heading-ids` and `--lazy-images` turn the options of these names on; `--heading-id-prefix`, `--link-base`,
-/// `--image-base` and `--link-rel` are followed by the text of the option. `--dangerous` keeps raw HTML and every URL protocol.
-/// `--plain` turns all constructs off. `--references` is followed by the path of a file. One word that is no flag may be the
+/// `--image-base` and `--link-rel` are followed by the text of the option. `--listed-html` keeps raw HTML by the list of elements
+/// and attributes. `--dangerous` keeps all raw HTML and every URL protocol, also with `--listed-html`. `--plain` turns all
+/// constructs off. `--references` is followed by the path of a file. One word that is no flag may be the
 /// path of the file to read; `-` is standard input.
 pub fn settings(alloc: Global, words: &[String]) -> Result<Settings, SettingsError>
     // The options and the paths are those of the command's matches for the words.
@@ -84,6 +85,7 @@ fn flags(matches: &ArgMatches<'_>) -> Flags
         frontmatter: is_set(matches, "frontmatter"),
         heading_ids: is_set(matches, "heading-ids"),
         lazy_images: is_set(matches, "lazy-images"),
+        listed_html: is_set(matches, "listed-html"),
         dangerous: is_set(matches, "dangerous"),
         plain: is_set(matches, "plain"),
     }

@@ -1,5 +1,5 @@
 -- Lines that are alike say the same.
-use Rattle.std.proofs.Common.{◌≡◌, ℕ, List, [], ◌∷◌, ◌++◌, Option, None, Some, map, flat_map, refl, sym, ap, ◌∙◌}
+use Rattle.std.proofs.Common.{◌≡◌, ℕ, false, List, [], ◌∷◌, ◌++◌, Option, None, Some, map, flat_map, refl, sym, ap, ◌∙◌}
 use Rattle.parse_alike.proofs.Prelude.{append-nil, AreCodeLinesAlike, AreHtmlLinesAlike, BlockLine, bytes_of, code_byte, code_line, CompileOptions}
 use Rattle.parse_alike.proofs.Prelude.{ending_bytes, ending_text, flat_map-append, html_end, html_line, html_parts, html_text, HtmlPart, line_text, LineEnding}
 use Rattle.parse_alike.proofs.Prelude.{raw_html, said_bytes, says, Words}
@@ -36,12 +36,12 @@ code_lines-printed ls ls' p =
 
 module _ (options : CompileOptions) where
   abbrev part_bytes : HtmlPart → List ℕ
-  part_bytes (Text text) = said_bytes (raw_html options text)
+  part_bytes (Text text) = said_bytes (raw_html false options text)
   part_bytes (End ending) = encode (ending_bytes ending)
 
-  text-said : (text : List ℕ) → said_bytes (raw_html options text) ≡ flat_map part_bytes (html_text text)
-  text-said [] = raw_nothing options options.allow_dangerous_html
-  text-said (b ∷ bs) = sym (append-nil (said_bytes (raw_html options (b ∷ bs))))
+  text-said : (text : List ℕ) → said_bytes (raw_html false options text) ≡ flat_map part_bytes (html_text text)
+  text-said [] = raw_nothing false options
+  text-said (b ∷ bs) = sym (append-nil (said_bytes (raw_html false options (b ∷ bs))))
 
   end-said : (ending : Option LineEnding) → said (Words (ending_text ending) ∷ []) ≡ flat_map part_bytes (html_end ending)
   end-said None = refl
@@ -50,7 +50,7 @@ module _ (options : CompileOptions) where
   html_line-said : (line : BlockLine) → said (html_line options line) ≡ flat_map part_bytes (html_parts line)
   html_line-said line =
       let text = bytes_of line.codes in
-      both (said_bytes (raw_html options text)) (said (Words (ending_text line.ending) ∷ [])) (flat_map part_bytes (html_text text))
+      both (said_bytes (raw_html false options text)) (said (Words (ending_text line.ending) ∷ [])) (flat_map part_bytes (html_text text))
       (flat_map part_bytes (html_end line.ending)) (text-said text) (end-said line.ending)
       ∙ sym (flat_map-append part_bytes (html_text text) (html_end line.ending))
 

@@ -1,5 +1,5 @@
 -- Inline structures that are alike print the same.
-use Rattle.std.proofs.Common.{◌≡◌, List, [], ◌∷◌, ◌++◌, map, flat_map, refl, sym, ap, ◌∙◌, append_assoc}
+use Rattle.std.proofs.Common.{◌≡◌, true, false, List, [], ◌∷◌, ◌++◌, map, flat_map, refl, sym, ap, ◌∙◌, append_assoc}
 use Rattle.parse_alike.proofs.Prelude.{append, append-nil, AreMeaningsAlike, ArePartsAlike, bare_tag, Call, CompileOptions, Cons, Each, element, Html}
 use Rattle.parse_alike.proofs.Prelude.{html_leaves, html_says, image_tag, Inline, inline_counts, inline_pieces, InlineLeaf, Inlines, IsPartAlike, leads_to}
 use Rattle.parse_alike.proofs.Prelude.{Leaf, leaf_parts, leaf_pieces, leaf_says, leaves, Link, link_tag, Linked, map-append, Meaning, Nil, Piece, Says, Span}
@@ -8,7 +8,7 @@ use Rattle.definition_inline.specs.Inline.{Image}
 use Rattle.definition_page.specs.HeadingText.{leaf_text, part_text, heading_text}
 use Rattle.definition_page.specs.InlinePieces.{span_name, part_says, description}
 use Rattle.definition_page.specs.InlinePieces.{part_counts, part_pieces}
-use Rattle.parse_alike.proofs.HtmlText.{HasNoTags, SaysNothing, html-said, html_plain, html_silent}
+use Rattle.parse_alike.proofs.HtmlText.{HasNoTags, SaysNothing, html-said, html_plain, html_silent, plain_says}
 use Rattle.parse_alike.proofs.Printed.{of_bytes, printed}
 use Rattle.parse_alike.proofs.Said.{said, said-append, said-printed, both, both-printed, element-printed}
 use Rattle.parse_alike.proofs.Targets.{link_tag-same, image_tag-same, leads_alike, call-same, count-same}
@@ -30,12 +30,14 @@ module _ (m : Meaning) where
   counts-append (Cons i is) js =
       ap (λ ps. part_counts m i ++ ps) (counts-append is js) ∙ sym (append_assoc (part_counts m i) (inline_counts m is) (inline_counts m js))
 
-  leaves-pieces : (ls : List InlineLeaf) → Each (HasNoTags m.compile) ls → inline_pieces m (leaves ls) ≡ map Says (flat_map (leaf_says m.compile) ls)
+  leaves-pieces : (ls : List InlineLeaf) → Each (HasNoTags m.compile) ls
+      → inline_pieces m (leaves ls) ≡ map Says (flat_map (plain_says false m.compile) ls)
   leaves-pieces [] p = refl
   leaves-pieces (l ∷ ls) p =
-      both (leaf_pieces m.compile l) (inline_pieces m (leaves ls)) (map Says (leaf_says m.compile l)) (map Says (flat_map (leaf_says m.compile) ls))
-      p.0 (leaves-pieces ls p.1)
-      ∙ sym (map-append Says (leaf_says m.compile l) (flat_map (leaf_says m.compile) ls))
+      let first = plain_says false m.compile l in
+      let others = flat_map (plain_says false m.compile) ls in
+      both (leaf_pieces m.compile l) (inline_pieces m (leaves ls)) (map Says first) (map Says others) p.0 (leaves-pieces ls p.1)
+      ∙ sym (map-append Says first others)
 
   leaves-counts : (ls : List InlineLeaf) → inline_counts m (leaves ls) ≡ []
   leaves-counts [] = refl
@@ -52,12 +54,19 @@ module _ (options : CompileOptions) where
       ap (λ ss. part_says options i ++ ss) (description-append is js)
       ∙ sym (append_assoc (part_says options i) (description options is) (description options js))
 
-  leaves-described : (ls : List InlineLeaf) → description options (leaves ls) ≡ flat_map (leaf_says options) ls
+  -- a leaf says as much where it has no tags
+  says_plain : (l : InlineLeaf) → leaf_says options l ≡ plain_says true options l
+  says_plain (Html html) = refl
+  says_plain other = refl
+
+  leaves-described : (ls : List InlineLeaf) → description options (leaves ls) ≡ flat_map (plain_says true options) ls
   leaves-described [] = refl
-  leaves-described (l ∷ ls) = ap (λ ss. leaf_says options l ++ ss) (leaves-described ls)
+  leaves-described (l ∷ ls) =
+      ap (λ ss. leaf_says options l ++ ss) (leaves-described ls)
+      ∙ ap (λ ss. ss ++ flat_map (plain_says true options) ls) (says_plain l)
 
   leaf-described : (l : InlineLeaf) → said (leaf_says options l) ≡ said (description options (leaf_parts l))
-  leaf-described (Html html) = sym (html-said options html) ∙ ap said (sym (leaves-described (html_leaves html)))
+  leaf-described (Html html) = sym (html-said true options html) ∙ ap said (sym (leaves-described (html_leaves html)))
   leaf-described other = ap said (sym (append-nil (leaf_says options other)))
 
 -- ---- what a heading says
@@ -83,9 +92,9 @@ module _ (m m' : Meaning) (alike : AreMeaningsAlike m m') where
   leaf-printed (Html html) =
       let options = m'.compile in
       let ls = html_leaves html in
-      said-printed (html_says options html)
-      ∙ ap of_bytes (sym (html-said options html))
-      ∙ sym (said-printed (flat_map (leaf_says options) ls))
+      said-printed (html_says false options html)
+      ∙ ap of_bytes (sym (html-said false options html))
+      ∙ sym (said-printed (flat_map (plain_says false options) ls))
       ∙ ap printed (sym (leaves-pieces m' ls (html_plain options html)))
   leaf-printed other = alone (leaf_pieces m'.compile other)
 

@@ -2,7 +2,9 @@
 use Rattle.std.proofs.Common.{◌≡◌, ℕ, List, map, refl, sym, ap, ◌∙◌}
 use Rattle.markdown_compile_options.specs.declared.configuration.Options.{Options}
 use Rattle.parse_alike.proofs.Prelude.{AreFootnotesAlike, ArePagesAlike, Meaning, normal_label, Page, read, TextTables, without_mark}
+use Rattle.definition_html.specs.Listed.{with_listed}
 use Rattle.definition_page.specs.DocumentPieces as document
+use Rattle.definition_page.specs.PrintedPage.{printed_page}
 use Rattle.markdown_definition.specs.Html.{html}
 use Rattle.event_meaning.specs.Spelled as events
 use Rattle.parse_alike.specs.Spelled.{IsPageOfText, PagesOfTextsPrintTheirHtml}
@@ -35,9 +37,16 @@ module _ (tables : TextTables) (options : Options) (text : List ℕ) (spelled : 
         ends_blank = of_text.ends_blank;
       }
 
-  html_same : events.page_html tables.names options.compile text spelled ≡ html tables text options
-  html_same =
+  printed_same : events.printed_page tables.names options.compile text spelled ≡ printed_page tables text options
+  printed_same =
       sym (alike_pages_print_the_same.same m m' page spelled pages_alike options.compile (document.default_ending options (without_mark text)))
 
+  html_same : events.page_html tables.names options.compile text spelled ≡ html tables text options
+  html_same = ap (with_listed tables.names options.compile) printed_same
+
 pub pages_of_texts_print_their_html : PagesOfTextsPrintTheirHtml
-pages_of_texts_print_their_html = record { same = λ tables options text spelled of_text. html_same tables options text spelled of_text }
+pages_of_texts_print_their_html =
+    record {
+      printed = λ tables options text spelled of_text. printed_same tables options text spelled of_text;
+      same = λ tables options text spelled of_text. html_same tables options text spelled of_text;
+    }

@@ -7,6 +7,7 @@ use Rattle.definition_page.specs.DocumentPieces as document
 use Rattle.markdown_definition.specs.Html.{html}
 use Rattle.definition_page.specs.InlinePieces.{Meaning}
 use Rattle.definition_page.specs.Page.{Page}
+use Rattle.definition_page.specs.PrintedPage.{printed_page}
 use Rattle.definition_page.specs.Read.{read}
 use Rattle.definition_page.specs.TextTables.{TextTables}
 use Rattle.event_meaning.specs.Spelled as events
@@ -33,7 +34,9 @@ module _ (tables : TextTables) (options : ParseOptions) (text : List ℕ) where
     pub footnotes : spelled.footnotes ≡ events.footnotes spelled.blocks
     pub ends_blank : page_read.ends_blank ≡ spelled.ends_blank
 
--- A page that is alike to that of a text prints the HTML of the text, by all options of printing.
+-- A page that is alike to that of a text is printed as the text is, and has the HTML of the text, by all options of printing.
 pub record PagesOfTextsPrintTheirHtml : Type 0 where
+  pub printed : (tables : TextTables) (options : Options) (text : List ℕ) (spelled : Page) → IsPageOfText tables options.parse text spelled
+      → events.printed_page tables.names options.compile text spelled ≡ printed_page tables text options
   pub same : (tables : TextTables) (options : Options) (text : List ℕ) (spelled : Page) → IsPageOfText tables options.parse text spelled
       → events.page_html tables.names options.compile text spelled ≡ html tables text options

@@ -70,7 +70,8 @@ pub fn block_footnotes_law()
     ensures { FootnotesAreThoseOfBlocks }
 {}
 
-/// If the page that events spell is alike to the page of a text, it prints the HTML of the text.
+/// If the page that events spell is alike to the page of a text, it is printed as the text is and has
+/// the HTML of the text.
 #[tactic(auto, using(crate::proofs::Spelled::pages_of_texts_print_their_html))]
 pub fn page_of_text_law()
     ensures { PagesOfTextsPrintTheirHtml }

@@ -37,6 +37,9 @@ use Rattle.parse_events.specs.Stands.{IsAt}
 use Rattle.parse_events.proofs.Bytewise.{spells_the_same}
 use Rattle.parse_events.proofs.NestedLaw.{nested}
 use Rattle.event_tokens.specs.Bytes.{HaveTheirBytes}
+use Rattle.event_tokens.specs.Shape.{is_hollow, no_neighbours}
+use Rattle.parse_output.specs.Whole.{DataIsWhole}
+use Rattle.parse_grammar.proofs.Shape.{sound_nodes_hold}
 
 -- ---- the end of the text
 
@@ -123,6 +126,12 @@ module _ (tables : TextTables) (options : ParseOptions) (text : List ℕ) where
         (subst (PlacesFit text (spot 0 0)) are.nested.each places))
         (texts_are_spelled tables options text are.front kids line are.is_front all_spelled (are.stands.ends refl))
 
+    -- those that hold something do
+    pub nodes_hold : no_neighbours is_hollow events ≡ true
+    nodes_hold =
+        ap (no_neighbours is_hollow) are.nested.each
+        ∙ sound_nodes_hold options.constructs tables.names text nodes are.nested.named nodes_sound
+
     -- the list of events matches the grammar
     pub nodes_match : ((k : ℕ) → get_or text k 0 < 256) → is_utf8 text ≡ true → ArePlaced text events → HaveTheirBytes text events
         → MatchesGrammar tables.names text events
@@ -171,6 +180,13 @@ tokens_same {A} text bytes out own events bytes_are out_is tokens =
     subst (λ (o : Output A). IsInOrder text o → (end_in o).index ≡ length text → HaveTheirBytes text events) out_is
     (subst (λ (bs : List ℕ). IsInOrder bs out → (end_in out).index ≡ length bs → HaveTheirBytes bs events) bytes_are tokens)
 
+whole_same : {A : Type 0} (text bytes : List ℕ) (out own : Output A) (events : List Event) → bytes ≡ text → out ≡ own
+    → (IsInOrder bytes out → (end_in out).index ≡ length bytes → open_in out ≡ [] → DataIsWhole events)
+    → IsInOrder text own → (end_in own).index ≡ length text → open_in own ≡ [] → DataIsWhole events
+whole_same {A} text bytes out own events bytes_are out_is whole =
+    subst (λ (o : Output A). IsInOrder text o → (end_in o).index ≡ length text → open_in o ≡ [] → DataIsWhole events) out_is
+    (subst (λ (bs : List ℕ). IsInOrder bs out → (end_in out).index ≡ length bs → open_in out ≡ [] → DataIsWhole events) bytes_are whole)
+
 -- ---- the events of the text
 
 -- what is finished of a walk after the rows of a text has its nodes
@@ -195,9 +211,10 @@ are_of_text {A} tables options text old w start bytes out events bytes_are out_i
 -- and is the list of its events
 pub are_events : {A : Type 0} (tables : TextTables) (options : ParseOptions) (text : List ℕ) (w : Walk A) (bytes : List ℕ) (out : Output A)
     (events : List Event) → bytes ≡ text → out ≡ w.out → ArePlaced bytes events
-    → (IsInOrder bytes out → (end_in out).index ≡ length bytes → HaveTheirBytes bytes events) → AreOfText tables options text w events
-    → ((k : ℕ) → get_or text k 0 < 256) → AreEventsOf tables options text events
-are_events tables options text w bytes out events bytes_are out_is placed tokens are numbers =
+    → (IsInOrder bytes out → (end_in out).index ≡ length bytes → HaveTheirBytes bytes events)
+    → (IsInOrder bytes out → (end_in out).index ≡ length bytes → open_in out ≡ [] → DataIsWhole events) → open_in w.out ≡ []
+    → AreOfText tables options text w events → ((k : ℕ) → get_or text k 0 < 256) → AreEventsOf tables options text events
+are_events tables options text w bytes out events bytes_are out_is placed tokens whole none are numbers =
     let utf8 : is_utf8 text ≡ true = are.stands.order.0 in
     let own_placed : ArePlaced text events = subst (λ (bs : List ℕ). ArePlaced bs events) bytes_are placed in
     let own_tokens : HaveTheirBytes text events =
@@ -208,6 +225,12 @@ are_events tables options text w bytes out events bytes_are out_is placed tokens
       nested = are.nested;
       children = are.children;
       tokens = own_tokens;
+      shape = record {
+        hold = nodes_hold tables options text w events are;
+        apart =
+            whole_same text bytes out w.out events bytes_are out_is whole are.stands.order
+            (all_written text (all_rows tables options text) w are.stands.at) none;
+      };
       grammar = nodes_match tables options text w events are numbers utf8 own_placed own_tokens;
       spelled = events_spelled tables options text w events are (places_fit text events utf8 own_placed own_tokens);
       on = nothing_off tables options text w events are (places_fit text events utf8 own_placed own_tokens);

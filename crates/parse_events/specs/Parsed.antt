@@ -8,6 +8,7 @@ use Rattle.event_grammar.specs.declared.slot.Between.TheVariants.{Lines}
 use Rattle.event_grammar.specs.Grammar.{document_row}
 use Rattle.event_grammar.specs.Trees.{AreNodes, Nodes, events_of}
 use Rattle.event_tokens.specs.Bytes.{HaveTheirBytes}
+use Rattle.event_tokens.specs.Shape.{HaveShape}
 use Rattle.event_meaning.specs.Spelled.{spelled}
 use Rattle.parse_alike.specs.Spelled.{IsPageOfText}
 use Rattle.parse_grammar.specs.Constructs.{NothingIsOff}
@@ -19,13 +20,14 @@ use Rattle.parse_events.specs.Labels.{definition_labels, footnote_labels, text_b
 use Rattle.parse_events.specs.Nested.{IsNested}
 use Rattle.parse_events.specs.State.{IsReadBy, definitions_of, footnotes_of}
 
--- these events are placed in the text, well nested and in the grammar, have bytes that their names may have, and spell its page; none has the name of a
--- construct that is off
+-- these events are placed in the text, well nested and in the grammar, have bytes that their names may have and the shape of events that are written, and
+-- spell its page; none has the name of a construct that is off
 pub record AreEventsOf (tables : TextTables) (options : ParseOptions) (text : List ℕ) (events : List Event) : Type 0 where
   pub placed : ArePlaced text events
   pub nested : IsNested events
   pub children : HaveChildren events
   pub tokens : HaveTheirBytes text events
+  pub shape : HaveShape events
   pub grammar : MatchesGrammar tables.names text events
   pub spelled : IsPageOfText tables options text (spelled tables.names events text)
   pub on : NothingIsOff options.constructs events

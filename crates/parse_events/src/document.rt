@@ -22,6 +22,7 @@ ghost use Rattle.parse_events.specs.Nested.{IsNested};
 ghost use Rattle.parse_events.specs.Labels.{begun_in, defined_in, definition_labels, footnote_labels, text_blocks};
 ghost use Rattle.parse_events.specs.State.{IsReadBy, definitions_of, footnotes_of};
 ghost use Rattle.event_tokens.specs.Bytes.{HaveTheirBytes};
+ghost use Rattle.event_tokens.specs.Shape.{HaveShape};
 
 use crate::labels::Labels;
 use crate::parser::Parser;
@@ -51,7 +52,11 @@ pub const SIZE_MAX: usize = usize::MAX / 8;
 /// Each event that holds no other has bytes that its name may have: a marker is its byte, white space
 /// is spaces and tabs, data ends no line, the value of an escape is punctuation. The table is in
 /// `event_tokens`. The bytes are whole characters, so each event begins and ends between characters. If its
-/// name can hold no other, it has at least a byte, or a column of a tab.
+/// name can hold no other, it has at least a byte, or a column of a tab. If its name may hold others, it has
+/// none.
+///
+/// Strings and raw HTML hold something, and data isn't directly followed by data. The names are in
+/// `event_tokens`.
 ///
 /// No event is of a construct that is off, by the table of names in `parse_grammar`.
 pub fn parse<'a, T: Tables, A: Allocator + Clone>(
@@ -66,6 +71,7 @@ pub fn parse<'a, T: Tables, A: Allocator + Clone>(
     ensures nested { IfOk result (λ parsed. IsNested parsed.0.items) }
     ensures children { IfOk result (λ parsed. HaveChildren parsed.0.items) }
     ensures tokens { IfOk result (λ parsed. HaveTheirBytes value.now parsed.0.items) }
+    ensures shape { IfOk result (λ parsed. HaveShape parsed.0.items) }
     ensures grammar { IfOk result (λ parsed. MatchesGrammar (T.reference_of tables.now) value.now parsed.0.items) }
     ensures spelled { IfOk result (λ parsed. let names = T.reference_of tables.now in
         IsPageOfText (text_tables names (T.punctuation_of tables.now)) options.now value.now (spelled names parsed.0.items value.now)) }

@@ -25,3 +25,4 @@ pub mod Voids
 pub mod Facts
 pub mod Places
 pub mod MatchLaw
+pub mod Shape

@@ -5,3 +5,4 @@ pub mod Constructs
 pub mod Nodes
 pub mod ConstructLaws
 pub mod MatchLaws
+pub mod ShapeLaws

@@ -5,6 +5,7 @@ ghost use Rattle.parse_grammar.specs.LabelLaws.{LabelsAreThere, LeavesLeadOn, Re
 ghost use Rattle.parse_grammar.specs.LeadingLaws.{DocumentsAgreeInCells, DocumentsLeadOn};
 ghost use Rattle.parse_grammar.specs.ConstructLaws.{DocumentsHaveNothingOff};
 ghost use Rattle.parse_grammar.specs.MatchLaws.{MetGrammarMatches, TokensFit};
+ghost use Rattle.parse_grammar.specs.ShapeLaws.{SoundNodesHold};
 
 /// Every leaf that is read leads on.
 #[tactic(auto, using(crate::proofs::LabelLeaves::read_leaves_lead))]
@@ -49,4 +50,10 @@ pub fn matches_law()
 #[tactic(auto, using(crate::proofs::Places::places_fit))]
 pub fn places_law()
     ensures { TokensFit }
+{}
+
+/// Strings and raw HTML among the events of sound nodes hold something.
+#[tactic(auto, using(crate::proofs::Shape::sound_nodes_hold))]
+pub fn shape_law()
+    ensures { SoundNodesHold }
 {}

@@ -1,6 +1,6 @@
 -- What is written of lines of raw text, and of raw HTML (CommonMark 6.1 and 6.6).
 use Rattle.std.proofs.Common.{◌≡◌, ℕ, zero, suc, ◌+◌, ◌<◌, Bool, true, false, List, [], ◌∷◌, ◌++◌, refl, sym, ap, subst, ◌∙◌, append_assoc, drop}
-use Rattle.std.proofs.Common.{take, length, map, arith}
+use Rattle.std.proofs.Common.{take, length, length-append, map, arith}
 use Rattle.markdown_options.specs.declared.configuration.Constructs.{Constructs}
 use Rattle.parse_inline.proofs.Prelude.{Anywhere, append, append-nil, Around, BeginsDark, code_parts, code_space, cond-false, content_codes, contents_around}
 use Rattle.parse_inline.proofs.Prelude.{contents_both, contents_none, End, end_in, enter_at, EntersInLine, exit_at, ExitsInLine, fold, html_leaves, html_parts}
@@ -20,7 +20,8 @@ use Rattle.event_grammar.specs.declared.slot.Slot.{Slot}
 use Rattle.event_grammar.specs.Grammar.{many, text_row}
 use Rattle.parse_slots.specs.Left.{IsFilled, MayEndLines, TakesNoBetween}
 use Rattle.parse_slots.proofs.Steps.{fill_both, fill_none, fill_taken, may_both}
-use Rattle.parse_references.proofs.Sound.{sound_filled_on, sound_one}
+use Rattle.parse_lines.proofs.SomeNodes.{written_some}
+use Rattle.parse_references.proofs.Sound.{sound_filled_full, sound_one}
 use Rattle.parse_inline.proofs.Fills.{filled_around}
 use Rattle.parse_inline.proofs.Kids.{code_append, html_append, named_both}
 use Rattle.parse_inline.proofs.LeavesAlike.{append_append, append_none}
@@ -152,5 +153,9 @@ module _ {A : Type 0} (names : Names) (text : List ℕ) where
         plain = plain_one node refl w.plain;
         spells = λ linked may. append_none (html_parts names text w.nodes) ∙ w.html refl refl whole_b;
         fill = λ around may. fill_taken around text_row n.HtmlText Plain text_row node refl refl (filled around may);
-        sound = sound_one on names text node (sound_filled_on on names text 2 Lines Plain n.HtmlText node refl refl is_on refl (filled Lines tt));
+        sound =
+            sound_one on names text node (
+            sound_filled_full on names text 2 Lines Plain n.HtmlText node refl refl is_on
+            (written_some text bytes w.nodes content stop b c (omega (arith, ap length closed, length-append front (62 ∷ []))) whole_b w.writes)
+            refl (filled Lines tt));
       }

@@ -15,6 +15,7 @@ pub mod Next
 pub mod SameText
 pub mod Bytes
 pub mod InContent
+pub mod SomeNodes
 pub mod Between
 pub mod Sizes
 pub mod White

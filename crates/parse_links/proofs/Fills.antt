@@ -13,7 +13,7 @@ use Rattle.event_grammar.specs.Grammar.{one as one_slot, one_line_names, opt, ro
 use Rattle.event_grammar.specs.Slots.{may_end, take_child}
 use Rattle.event_grammar.specs.Void.{is_empty}
 use Rattle.parse_slots.specs.Left.{Fill, IsFilled, MayEndLines, took}
-use Rattle.parse_references.specs.Sound.{asked_names}
+use Rattle.parse_references.specs.Sound.{asked_names, is_asked_on, ruled_names}
 use Rattle.parse_slots.proofs.Steps.{fill_both, fill_taken, filled_by, filled_in_line, filled_void}
 use Rattle.parse_links.proofs.Prelude.{append, Constructs, ends_line, Holds, is_listed, IsInner, IsQuoted, IsRaw, IsStringNode, IsVoidOf, kids_of, list_any}
 use Rattle.parse_links.proofs.Prelude.{Name, Names, Node, node_name, Nodes, one, PlaceNames, some_nodes}
@@ -32,7 +32,8 @@ may_in Lines name bytes other may =
 pub record HasStringRow (name : Name) : Type 0 where
   pub row_is : row name Plain ≡ string_row
   pub lines : is_listed one_line_names name ≡ false
-  pub unasked : is_listed asked_names name ≡ false
+  pub unruled : is_listed ruled_names name ≡ false
+  pub made : (on : Constructs) → is_asked_on on name ≡ true
 
 abbrev pub last_slot : Name → List Slot
 last_slot marker = one_slot marker ∷ []
@@ -159,15 +160,16 @@ module _ (on : Constructs) (names : Names) (text : List ℕ) where
 
 -- ---- their names
 
-string_row_by : (name : Name) → row name Plain ≡ string_row → is_listed one_line_names name ≡ false → is_listed asked_names name ≡ false → HasStringRow name
-string_row_by name is lines unasked = record { row_is = is; lines = lines; unasked = unasked }
+string_row_by : (name : Name) → row name Plain ≡ string_row → is_listed one_line_names name ≡ false → is_listed ruled_names name ≡ false
+    → ((on : Constructs) → is_asked_on on name ≡ true) → HasStringRow name
+string_row_by name is lines unruled made = record { row_is = is; lines = lines; unruled = unruled; made = made }
 
 pub definition_label : HasMarkedRow n.DefinitionLabel n.DefinitionLabelMarker n.DefinitionLabelString (one_slot n.DefinitionLabelString)
 definition_label = record {
   row_is = refl;
   lines = refl;
   void = refl;
-  held = string_row_by n.DefinitionLabelString refl refl refl;
+  held = string_row_by n.DefinitionLabelString refl refl refl (λ on. refl);
   takes_first = refl;
   takes_held = refl;
   takes_last = refl;
@@ -180,7 +182,7 @@ definition_title = record {
   row_is = refl;
   lines = refl;
   void = refl;
-  held = string_row_by n.DefinitionTitleString refl refl refl;
+  held = string_row_by n.DefinitionTitleString refl refl refl (λ on. refl);
   takes_first = refl;
   takes_held = refl;
   takes_last = refl;
@@ -194,7 +196,7 @@ definition_brackets = record {
   row_is = refl;
   lines = refl;
   void = refl;
-  held = string_row_by n.DefinitionDestinationString refl refl refl;
+  held = string_row_by n.DefinitionDestinationString refl refl refl (λ on. refl);
   takes_first = refl;
   takes_held = refl;
   takes_last = refl;
@@ -211,7 +213,7 @@ definition_place = record {
   takes_raw = refl;
   in_brackets = definition_brackets;
   may_be_empty = refl;
-  bare = record { row_is = refl; lines = refl; held = string_row_by n.DefinitionDestinationString refl refl refl; takes = refl; unasked = refl };
+  bare = record { row_is = refl; lines = refl; held = string_row_by n.DefinitionDestinationString refl refl refl (λ on. refl); takes = refl; unasked = refl };
   unasked = refl;
 }
 
@@ -220,7 +222,7 @@ resource_title = record {
   row_is = refl;
   lines = refl;
   void = refl;
-  held = string_row_by n.ResourceTitleString refl refl refl;
+  held = string_row_by n.ResourceTitleString refl refl refl (λ on. refl);
   takes_first = refl;
   takes_held = refl;
   takes_last = refl;
@@ -233,7 +235,7 @@ resource_brackets = record {
   row_is = refl;
   lines = refl;
   void = refl;
-  held = string_row_by n.ResourceDestinationString refl refl refl;
+  held = string_row_by n.ResourceDestinationString refl refl refl (λ on. refl);
   takes_first = refl;
   takes_held = refl;
   takes_last = refl;
@@ -250,7 +252,7 @@ resource_place = record {
   takes_raw = refl;
   in_brackets = resource_brackets;
   may_be_empty = refl;
-  bare = record { row_is = refl; lines = refl; held = string_row_by n.ResourceDestinationString refl refl refl; takes = refl; unasked = refl };
+  bare = record { row_is = refl; lines = refl; held = string_row_by n.ResourceDestinationString refl refl refl (λ on. refl); takes = refl; unasked = refl };
   unasked = refl;
 }
 
@@ -259,7 +261,7 @@ reference = record {
   row_is = refl;
   lines = refl;
   void = refl;
-  held = string_row_by n.ReferenceString refl refl refl;
+  held = string_row_by n.ReferenceString refl refl refl (λ on. refl);
   takes_first = refl;
   takes_held = refl;
   takes_last = refl;

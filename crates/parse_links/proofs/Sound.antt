@@ -3,8 +3,8 @@ use Rattle.std.proofs.Common.{◌≡◌, ℕ, List, [], Option, None, Some, inl,
 use Rattle.event_grammar.specs.declared.slot.Between.TheVariants.{Lines}
 use Rattle.event_grammar.specs.declared.slot.Slot.{Slot}
 use Rattle.event_grammar.specs.Grammar.{opt}
-use Rattle.parse_references.specs.Sound.{AreSound, IsSound, asked_names}
-use Rattle.parse_references.proofs.Sound.{sound_around, sound_both, sound_fill, sound_one}
+use Rattle.parse_references.specs.Sound.{AreSound, IsSound, asked_names, is_asked_on, ruled_names}
+use Rattle.parse_references.proofs.Sound.{sound_around, sound_both, sound_fill, sound_full, sound_one}
 use Rattle.parse_strings.proofs.SoundNodes.{empty_sound}
 use Rattle.parse_links.proofs.Prelude.{Constructs, Holds, is_listed, IsInner, IsQuoted, IsRaw, IsStringNode, IsVoidOf, kids_of, Name, Names, Node}
 use Rattle.parse_links.proofs.Prelude.{node_name, one, PlaceNames, some_nodes, Stop, Walk, WritesWhite}
@@ -18,7 +18,8 @@ module _ (on : Constructs) (names : Names) (text : List ℕ) where
 
 module _ (on : Constructs) (names : Names) (text : List ℕ) where
   string_sound : (name : Name) (string : List ℕ) (node : Node) → HasStringRow name → IsStringNode on names text name string node → IsSound on names text node
-  string_sound name string node has is = sound_around on names text node (ap (is_listed asked_names) is.named ∙ has.unasked) is.sound
+  string_sound name string node has is =
+      sound_full on names text node (ap (is_listed ruled_names) is.named ∙ has.unruled) (ap (is_asked_on on) is.named ∙ has.made on) is.some is.sound
 
   held_sound : (name : Name) (string : List ℕ) (held : Option Node) → HasStringRow name → Holds on names text name string held
       → AreSound on names text (some_nodes held)

@@ -16,6 +16,7 @@ use Rattle.parse_output.specs.Forest.{cut, is_nil}
 use Rattle.parse_output.specs.Joined.{AreJoined, end_edge, flat_text}
 use Rattle.parse_output.proofs.Joined.{flat_label}
 use Rattle.parse_lines.proofs.InContent.{contents_around, line_in_content}
+use Rattle.parse_lines.proofs.SomeNodes.{written_some}
 use Rattle.parse_slots.specs.Left.{MayEndLines}
 use Rattle.parse_slots.proofs.Steps.{may_both}
 use Rattle.parse_strings.specs.References.{token}
@@ -109,6 +110,7 @@ module _ {A : Type 0} (text : List ℕ) (stop : Stop) where
           is = record {
             named = refl;
             filled = filled;
+            some = written_some text string w.nodes content stop b c filled inside w.writes;
             spells = w.spells;
             plain = w.plain;
             fill = w.fill;

@@ -13,7 +13,7 @@ use Rattle.event_grammar.specs.References.{label_text}
 use Rattle.event_grammar.specs.Trees.{Node, Nodes, Nil, Cons}
 use Rattle.event_tokens.specs.Tokens.{is_token}
 use Rattle.event_meaning.specs.Strings.{string_of}
-use Rattle.parse_output.specs.Forest.{append, one}
+use Rattle.parse_output.specs.Forest.{append, is_nil, one}
 use Rattle.parse_alike.specs.LabelMatch.{HaveSameWords}
 use Rattle.parse_slots.specs.Left.{Fill, MayEndLines}
 use Rattle.parse_references.specs.Sound.{AreSound}
@@ -46,6 +46,7 @@ pub record IsMark (b : ℕ) : Type 0 where
 pub record IsStringNode (on : Constructs) (names : Names) (text : List ℕ) (name : Name) (string : List ℕ) (node : Node) : Type 0 where
   pub named : node_name node ≡ name
   pub filled : 0 < length string
+  pub some : is_nil (kids_of node) ≡ false
   pub spells : string_of names text (kids_of node) ≡ bytes_text on names string
   pub plain : ArePlain (kids_of node)
   pub fill : (around : Between) → MayEndLines around string → Fill around string_row (kids_of node) string_row

@@ -100,6 +100,10 @@ module _ (names : Names) (text : List ℕ) where
 module _ (on : Constructs) (names : Names) (text : List ℕ) where
   -- ---- all nodes
 
+  some_whole : (kids : Nodes) → is_nil (bytewise kids) ≡ false → is_nil kids ≡ false
+  some_whole Nil some = some
+  some_whole (Cons node ns) some = refl
+
   asked_whole : (marks : List Mark) (name : Name) (kids : Nodes) → AreHeld (Entered name ∷ marks) kids → HoldsAsked on names text name (bytewise kids)
       → HoldsAsked on names text name kids
   asked_whole marks name kids held h = record {
@@ -107,6 +111,7 @@ module _ (on : Constructs) (names : Names) (text : List ℕ) where
     call = λ is. without_whole outside_strings kids refl (h.call is);
     reference = λ is. decode_whole names text marks None kids (subst (λ (a : Name). AreHeld (Entered a ∷ marks) kids) is held) (h.reference is);
     heading = λ is. rank_whole names text kids (h.heading is);
+    some = λ full. some_whole kids (h.some full);
   }
 
   nil_sound : (ns : Nodes) → is_nil ns ≡ true → AreSound on names text ns

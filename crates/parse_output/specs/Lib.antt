@@ -6,6 +6,7 @@ pub mod Drafts
 pub mod Ends
 pub mod Joined
 pub mod Voids
+pub mod Whole
 pub mod Forest
 pub mod Written
 pub mod Children

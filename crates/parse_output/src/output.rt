@@ -13,6 +13,7 @@ ghost use Rattle.parse_output.specs.Voids.{IsToken};
 ghost use Rattle.parse_output.specs.Forest.{IsData, bytewise, data_nodes, drafts_end, void_nodes};
 ghost use Rattle.parse_output.specs.Open.{Entered, Exited, closed, unmatched};
 ghost use Rattle.parse_output.specs.Children.{HaveChildren, may_enter};
+ghost use Rattle.parse_output.specs.Whole.{DataIsWhole, DraftsAreWhole, is_data, may_be_next};
 
 use crate::draft::Draft;
 use crate::end::{End, at};
@@ -35,6 +36,7 @@ pub struct Output<A: Allocator> {
     events: Vec<Event, A>,
     end: End,
     ghost children: { AreChildren drafts.items },
+    ghost whole: { DraftsAreWhole drafts.items },
     ghost empty: { events.items ≡ [] },
     ghost ends: { drafts_end first_end drafts.items ≡ end },
 }
@@ -69,7 +71,7 @@ impl<A: Allocator> Output<A> {
     }
 
     /// Something begins here that may hold others.
-    #[tactic(auto, using(crate::proofs::Drafted::entered_one, crate::proofs::Drafted::entered_child, crate::proofs::Forests::entered_end))]
+    #[tactic(auto, using(crate::proofs::Drafted::entered_one, crate::proofs::Drafted::entered_child, crate::proofs::Whole::entered_whole, crate::proofs::Forests::entered_end))]
     pub fn enter(&mut self, name: Name) -> Result<(), AllocError>
         requires child { may_enter (open_in self.old) name ≡ true }
         requires row { is_void name ≡ false }
@@ -82,7 +84,7 @@ impl<A: Allocator> Output<A> {
     }
 
     /// Something ends here.
-    #[tactic(auto, using(crate::proofs::Drafted::exited_one, crate::proofs::Drafted::exited_child, crate::proofs::Forests::exited_end))]
+    #[tactic(auto, using(crate::proofs::Drafted::exited_one, crate::proofs::Drafted::exited_child, crate::proofs::Whole::exited_whole, crate::proofs::Forests::exited_end))]
     pub fn exit(&mut self, name: Name) -> Result<(), AllocError>
         ensures open { OnOk result (open_in self.new ≡ closed name (open_in self.old)) }
         ensures end { OnOk result (end_in self.new ≡ end_in self.old) }
@@ -93,9 +95,47 @@ impl<A: Allocator> Output<A> {
     }
 
     /// What holds no other, up to a place. Nothing of no size.
-    #[tactic(auto, using(crate::proofs::Drafted::void_one, crate::proofs::Drafted::void_child, crate::proofs::Forests::void_end))]
+    #[tactic(auto, using(crate::proofs::Whole::other_next, crate::proofs::Forests::data_forest))]
     pub fn token(&mut self, name: Name, end: End) -> Result<(), AllocError>
         requires child { may_enter (open_in self.old) name ≡ true }
+        ensures open { OnOk result (open_in self.new ≡ open_in self.old) }
+        ensures end { OnOk result (end_in self.new ≡ end) }
+        ensures written { OnOk result ((text : List ℕ) → IsInOrder text self.old → IsToken text name (end_in self.old) end
+            → Writes text self.old self.new (void_nodes text name (end_in self.old) end)) }
+    {
+        if name == Name::Data {
+            return self.data(end);
+        }
+        self.push(name, end)
+    }
+
+    /// Data up to a place, as one with data that ends here.
+    #[tactic(auto, using(crate::proofs::Drafted::unmatched_set, crate::proofs::Drafted::set_child, crate::proofs::Forests::end_set, crate::proofs::Whole::set_whole, crate::proofs::Whole::first_next, crate::proofs::Whole::after_other))]
+    pub fn data(&mut self, end: End) -> Result<(), AllocError>
+        requires child { may_enter (open_in self.old) Data ≡ true }
+        ensures open { OnOk result (open_in self.new ≡ open_in self.old) }
+        ensures end { OnOk result (end_in self.new ≡ end) }
+        ensures written { OnOk result ((text : List ℕ) → IsInOrder text self.old → IsToken text Data (end_in self.old) end
+            → Writes text self.old self.new (data_nodes text (end_in self.old) end)) }
+    {
+        let count = self.drafts.len();
+        if count == 0 {
+            return self.push(Name::Data, end);
+        }
+        if !is_data(self.drafts[count - 1]) {
+            return self.push(Name::Data, end);
+        }
+        self.drafts[count - 1] = draft_to(Name::Data, end);
+        self.end.index = end.index;
+        self.end.owed = end.owed;
+        Ok(())
+    }
+
+    /// What holds no other, up to a place, where it isn't data after data. Nothing of no size.
+    #[tactic(auto, using(crate::proofs::Drafted::void_one, crate::proofs::Drafted::void_child, crate::proofs::Forests::void_end, crate::proofs::Whole::void_whole))]
+    fn push(&mut self, name: Name, end: End) -> Result<(), AllocError>
+        requires child { may_enter (open_in self.old) name ≡ true }
+        requires next { may_be_next self.old.drafts.items name ≡ true }
         ensures open { OnOk result (open_in self.new ≡ open_in self.old) }
         ensures end { OnOk result (end_in self.new ≡ end) }
         ensures written { OnOk result ((text : List ℕ) → IsInOrder text self.old → IsToken text name (end_in self.old) end
@@ -110,27 +150,8 @@ impl<A: Allocator> Output<A> {
         Ok(())
     }
 
-    /// Data up to a place, as one with data that ends here.
-    #[tactic(auto, using(crate::proofs::Drafted::unmatched_set, crate::proofs::Drafted::set_child, crate::proofs::Forests::end_set))]
-    pub fn data(&mut self, end: End) -> Result<(), AllocError>
-        requires child { may_enter (open_in self.old) Data ≡ true }
-        ensures open { OnOk result (open_in self.new ≡ open_in self.old) }
-        ensures end { OnOk result (end_in self.new ≡ end) }
-        ensures written { OnOk result ((text : List ℕ) → IsInOrder text self.old → IsToken text Data (end_in self.old) end
-            → Writes text self.old self.new (data_nodes text (end_in self.old) end)) }
-    {
-        let count = self.drafts.len();
-        if count == 0 || !is_data(self.drafts[count - 1]) {
-            return self.token(Name::Data, end);
-        }
-        self.drafts[count - 1] = draft_to(Name::Data, end);
-        self.end.index = end.index;
-        self.end.owed = end.owed;
-        Ok(())
-    }
-
     /// The events with their points in the text. What they leave of it at its end becomes a paragraph.
-    #[tactic(auto, using(crate::proofs::Forests::tree_bytewise, crate::proofs::VoidBytes::events_fit))]
+    #[tactic(auto, using(crate::proofs::Forests::tree_bytewise, crate::proofs::VoidBytes::events_fit, crate::proofs::Whole::events_whole))]
     pub fn finish(self, text: &[u8]) -> Result<Vec<Event, A>, AllocError>
         requires fits { length text.now < 2 ^ 61 }
         requires child { may_enter (open_in self) Paragraph ≡ true }
@@ -140,6 +161,8 @@ impl<A: Allocator> Output<A> {
         ensures written { IsInOrder text.now self → (end_in self).index ≡ length text.now
             → IfOk result (λ events. bytewise (tree events.items) ≡ (forest_in text.now self).kids) }
         ensures tokens { IsInOrder text.now self → (end_in self).index ≡ length text.now → IfOk result (λ events. HaveTheirBytes text.now events.items) }
+        ensures whole { IsInOrder text.now self → (end_in self).index ≡ length text.now → open_in self ≡ []
+            → IfOk result (λ events. DataIsWhole events.items) }
     {
         let Output { drafts, events, .. } = self;
         let events = push_events(text, &drafts, events)?;
@@ -163,6 +186,7 @@ fn draft_to(name: Name, end: End) -> Draft
 fn is_data(draft: Draft) -> bool
     ensures marks { IsTrue result → draft_marks draft ≡ Entered Data ∷ Exited Data ∷ [] }
     ensures data { IsTrue result → IsData draft }
+    ensures is { result ≡ is_data draft }
 {
     match draft {
         Draft::Void { name, .. } => name == Name::Data,

@@ -23,13 +23,14 @@ use Rattle.parse_lines.specs.Content.{BeginsLineHere, EntersInLine, StandsInLine
 use Rattle.parse_lines.specs.InContent.{IsWhole, StandsInContent, Stop}
 use Rattle.parse_lines.proofs.InContent.{line_enters}
 use Rattle.parse_lines.proofs.Parts.{part_begins, part_ends}
+use Rattle.parse_lines.proofs.SomeNodes.{written_some}
 use Rattle.parse_strings.specs.Strings.{AreCutApart, WritesStringIn}
 use Rattle.parse_slots.specs.Left.{Fill, IsFilled, took}
 use Rattle.parse_slots.proofs.Steps.{filled_by}
 use Rattle.parse_raw.specs.FenceParts.{after_string, BeginsBare, fence_slots, info_size, info_slots, IsPartName, meta_slots}
 use Rattle.parse_raw.proofs.FenceParts.{dark_both, info_part, other_part, parts_after, parts_both, parts_none, token_part, white_boundary, word_boundary, word_same}
 use Rattle.parse_raw.proofs.FenceRows.{info_stops, meta_takes, space_fills}
-use Rattle.parse_references.proofs.Sound.{asks_nothing}
+use Rattle.parse_references.proofs.Sound.{sound_full, sound_one}
 use Rattle.parse_raw.proofs.Nodes.{raw_none}
 
 in_line : (bs : List ℕ) → list_any ends_line bs ≡ false → IsInLine bs
@@ -66,7 +67,6 @@ module _ {A : Type 0} (on : Constructs) (names : Names) (text rest : List ℕ) (
       → (IsInOrder text c.out → Exits text name c.out d.out) → standing d ≡ standing c → written_to d ≡ written_to c
       → WritesPart on names text ending left name string rest old d
   part_written string old a b c d some part before begins same_a out enters same_b writes exits same_d end_d =
-      let raw = part.raw in
       let dark = (dark_both string rest before.dark).0 in
       let stop : Stop = record { place = AtEnding ending left; behind = length rest } in
       let started = part_begins text ending left 0 old a string rest (λ t line order next size fits. begins t line order next size (omega (arith, fits))) same_a
@@ -79,7 +79,7 @@ module _ {A : Type 0} (on : Constructs) (names : Names) (text rest : List ℕ) (
       let exited = exits done.writes.writes.order in
       let node = Around (enter_at text name (end_in a.out)) done.nodes (exit_at text name (end_in c.out)) in
       let alone : cut node ≡ one node =
-      cond-false (same_name name n.Data && is_nil done.nodes) _ _ (ap (λ (t : Bool). t && is_nil done.nodes) raw.no_data) in
+      cond-false (same_name name n.Data && is_nil done.nodes) _ _ (ap (λ (t : Bool). t && is_nil done.nodes) part.no_data) in
       let around_a = subst (Writes text a.out d.out) alone (writes_around text a.out b.out c.out d.out name done.nodes entered.enters done.writes.writes exited) in
       let line_end = ap (λ (s : Standing). s.line_end) same_d in
       record {
@@ -93,10 +93,10 @@ module _ {A : Type 0} (on : Constructs) (names : Names) (text rest : List ℕ) (
         raw = record {
           definitions =
               ap (λ (ns : List Node). ns ++ [])
-              (cond-false (same_name name n.Definition) (node ∷ named n.Definition done.nodes) (named n.Definition done.nodes) raw.no_definition
+              (cond-false (same_name name n.Definition) (node ∷ named n.Definition done.nodes) (named n.Definition done.nodes) part.no_definition
               ∙ done.plain.definitions);
-          code = cond-false (same_name name n.CodeFencedFence) _ _ raw.no_code;
-          math = cond-false (same_name name n.MathFlowFence) _ _ raw.no_math;
+          code = cond-false (same_name name n.CodeFencedFence) _ _ part.no_code;
+          math = cond-false (same_name name n.MathFlowFence) _ _ part.no_math;
         };
         around = (
           ap (λ (s : Standing). s.on) same_d ∙ done.writes.around.0 ∙ ap (λ (s : Standing). s.on) (same_b ∙ same_a),
@@ -110,7 +110,10 @@ module _ {A : Type 0} (on : Constructs) (names : Names) (text rest : List ℕ) (
           end = omega (arith, ap (λ (e : End). e.index) end_d, ends.3, line_end);
           dark = (dark_both string rest before.dark).1;
         };
-        sound = ((asks_nothing on names text name done.nodes raw.unasked, done.sound), tt);
+        sound =
+            sound_one on names text node (
+            sound_full on names text node part.unruled (part.made on)
+            (written_some text string done.nodes [] stop b c (grind (arith, nat_tests, some)) whole_b done.writes) done.sound);
       }
 
 -- ---- the info
@@ -122,10 +125,10 @@ size_boundary text false utf8 bytes = word_boundary text bytes
 meta_other : (fence : FenceNames) (math : Bool) → AreNames math fence → (same_name fence.meta n.CodeFencedFenceInfo ≡ false) × IsPartName fence.meta
 meta_other fence true are =
     subst (λ (name : Name). (same_name name n.CodeFencedFenceInfo ≡ false) × IsPartName name) (sym are.meta)
-    (refl, record { raw = record { no_data = refl; no_definition = refl; no_code = refl; no_math = refl; unasked = refl }; row_is = refl })
+    (refl, record { no_data = refl; no_definition = refl; no_code = refl; no_math = refl; row_is = refl; unruled = refl; made = λ on. refl })
 meta_other fence false are =
     subst (λ (name : Name). (same_name name n.CodeFencedFenceInfo ≡ false) × IsPartName name) (sym are.meta)
-    (refl, record { raw = record { no_data = refl; no_definition = refl; no_code = refl; no_math = refl; unasked = refl }; row_is = refl })
+    (refl, record { no_data = refl; no_definition = refl; no_code = refl; no_math = refl; row_is = refl; unruled = refl; made = λ on. refl })
 
 module _ {A : Type 0} (names : Names) (on : Constructs) (fence : FenceNames) (text tail : List ℕ) where
   -- math has none
@@ -157,7 +160,7 @@ module _ {A : Type 0} (names : Names) (on : Constructs) (fence : FenceNames) (te
       let named = subst (λ (name : Name). (t : List ℕ) (ending : Option LineEnding) (left : List LineRest) → IsBefore t ending left (string ++ rest) a
       → WritesPart on names t ending left name string rest a b) is_info (λ t ending left before. writes t rest ending left (
       subst IsPartName (sym is_info)
-      (record { raw = record { no_data = refl; no_definition = refl; no_code = refl; no_math = refl; unasked = refl }; row_is = refl })) before) in
+      (record { no_data = refl; no_definition = refl; no_code = refl; no_math = refl; row_is = refl; unruled = refl; made = λ on. refl })) before) in
       let more = opt n.CodeFencedFenceMeta ∷ [] in
       let done = info_part on names (fence_slots false) more string rest a b refl named in (
         size_is,

@@ -1,10 +1,15 @@
 -- What is written of an HTML block, step by step (CommonMark 4.6).
-use Rattle.std.proofs.Common.{◌≡◌, ℕ, ◌-◌, Bool, List, [], ◌∷◌, inl, inr, refl, sym, ap, subst, ◌∙◌, length, arith}
+use Rattle.std.proofs.Common.{◌≡◌, ℕ, zero, suc, ◌-◌, Bool, true, false, ◌&&◌, List, [], ◌∷◌, ◌++◌, Option, None, Some, inl, inr, refl, sym, ap, subst, ◌∙◌, drop, flat_map, length, arith}
+use Rattle.std.specs.Prelude.{if◌then◌else◌}
 use Rattle.parse_raw.proofs.Prelude.{AreHtmlLinesAlike, AreTaken, around, AtEnding, Between, BlockLine, chunk_parts, Constructs, end_at, EndsAt, Enters, Exits}
 use Rattle.parse_raw.proofs.Prelude.{InAll, InSome, IsCutLine, IsInOrder, IsLeafLaid, IsWrittenToRest, last_ending, line_left, LineRest, Names, own_lines}
 use Rattle.parse_raw.proofs.Prelude.{Place, Prefixed, raw_lines, raw_parts, RawPart, rest_line, rest_start, Standing, standing, StandsAt, Walk, Within}
 use Rattle.parse_raw.proofs.Prelude.{WritesCutLines, WritesLeaf, WritesUpTo, written_to}
 use Rattle.engine_events.specs.declared.event.Name.TheVariants as n
+use Rattle.std.proofs.lemmas.Bool.{cases_Bool, cond-false, cond-true}
+use Rattle.definition_text.specs.Columns.{Rest, bare, block_codes, bytes_of, indent, is_byte}
+use Rattle.definition_text.specs.Indents.{small_indent}
+use Rattle.definition_block.specs.HtmlFlow.{html_kind, html_start}
 use Rattle.definition_block.specs.Tree.{Html}
 use Rattle.definition_page.specs.Page as page
 use Rattle.parse_laid.specs.Leaves.{AreHtml, IsHtmlLine}
@@ -14,11 +19,13 @@ use Rattle.event_grammar.specs.declared.slot.Slot.{Slot}
 use Rattle.event_grammar.specs.Grammar.{many}
 use Rattle.parse_lines.proofs.Quiet.{quiet_none}
 use Rattle.parse_slots.proofs.Steps.{filled_by}
-use Rattle.parse_references.proofs.Sound.{sound_filled}
+use Rattle.parse_references.proofs.Sound.{sound_filled_full}
 use Rattle.parse_raw.proofs.Prelude.{Around, end_in, enter_at, exit_at}
-use Rattle.parse_raw.specs.RawLines.{TakesChunks}
+use Rattle.event_grammar.specs.Trees.{Nodes, Cons, Nil}
+use Rattle.parse_output.specs.Forest.{is_nil}
+use Rattle.parse_raw.specs.RawLines.{TakesChunks, html_chunk, parts_after}
 use Rattle.parse_raw.proofs.LeafNodes.{leaf_written, rest_within}
-use Rattle.parse_raw.proofs.RawBlocks.{WritesFirst, all_exact, all_written, block_exact, html_alike, own_count, taken_as}
+use Rattle.parse_raw.proofs.RawBlocks.{WritesFirst, all_exact, all_written, block_exact, html_alike, line_parts, own_count, parts_own, taken_as}
 use Rattle.parse_raw.proofs.RawLines.{whole_written}
 use Rattle.std.proofs.Common.{ap₂}
 use Rattle.parse_raw.proofs.Prelude.{rest_of}
@@ -35,6 +42,45 @@ use Rattle.parse_raw.proofs.Pieces.{none_before, none_cut}
 html_line : (kind : ℕ) (here : Prefixed) (line : BlockLine) → IsHtmlLine kind here line → IsCutLine (λ rest. rest) here line
 html_line kind (InAll own) line is = (own, refl, is.1)
 html_line kind (InSome own) line is = absurd is
+
+-- bytes that are left of a line are there before spaces and tabs are taken off
+none_behind : (k : ℕ) (rest : Rest) → bytes_of rest ≡ [] → bytes_of (drop k rest) ≡ []
+none_behind zero rest none = none
+none_behind (suc k) [] none = refl
+none_behind (suc k) (code ∷ rest) none = elim (cases_Bool (is_byte code)) [
+  | inl byte ↦ let wrong = sym (cond-true (is_byte code) (code ∷ bytes_of rest) (bytes_of rest) byte) ∙ none in absurd (cc)
+  | inr other ↦ none_behind k rest (sym (cond-false (is_byte code) (code ∷ bytes_of rest) (bytes_of rest) other) ∙ none)
+]
+
+nothing_after : (xs ys : List ℕ) → xs ++ ys ≡ [] → ys ≡ []
+nothing_after [] ys none = none
+nothing_after (x ∷ xs) ys none = absurd (cc)
+
+no_kind : (paragraph_open : Bool) → html_kind paragraph_open [] ≡ None
+no_kind true = refl
+no_kind false = refl
+
+no_start : (kind : ℕ) (may : Bool) (found : Option ℕ) → found ≡ None → (if may then found else None) ≡ Some kind → ⊥
+no_start kind true found none is = let wrong : None ≡ Some kind = sym none ∙ is in absurd (cc)
+no_start kind false found none is = absurd (cc)
+
+-- an HTML block starts with something
+start_some : (on : Constructs) (interrupts : Bool) (rest : Rest) (kind : ℕ) → html_start on interrupts rest ≡ Some kind → block_codes rest ≡ [] → ⊥
+start_some on interrupts rest kind is none =
+    let bare_none : bytes_of (bare rest) ≡ [] = none_behind (indent rest) rest (nothing_after _ (bytes_of rest) none) in
+    no_start kind (on.html_flow && small_indent on rest) (html_kind interrupts (bytes_of (bare rest)))
+    (ap (html_kind interrupts) bare_none ∙ no_kind interrupts) is
+
+no_chunk : (codes : List ℕ) (ps : List RawPart) → [] ≡ html_chunk codes ++ ps → codes ≡ []
+no_chunk [] ps none = refl
+no_chunk (c ∷ cs) ps none = absurd (cc)
+
+-- so its nodes are some
+html_some : (text : List ℕ) (first : BlockLine) (others : List BlockLine) (ns : Nodes) → (first.codes ≡ [] → ⊥)
+    → raw_parts text ns ≡ flat_map (line_parts n.HtmlFlowData) (own_lines (first ∷ others)) → is_nil ns ≡ false
+html_some text first others Nil some parts =
+    absurd (some (no_chunk first.codes (parts_after n.HtmlFlowData first.ending others) (parts ∙ sym (parts_own n.HtmlFlowData first others))))
+html_some text first others (Cons node ns) some parts = refl
 
 -- the row of an HTML block
 abbrev html_row : List Slot
@@ -98,7 +144,11 @@ module _ {A : Type 0} (text : List ℕ) where
         ap (λ (s : Standing). s.outermost) same_d ∙ all.around.1 ∙ ap (λ (s : Standing). s.outermost) same_b,
       )
       end_d (all.written ∙ ap (λ (k : ℕ). end_at k 0) (sym line_end)) (omega arith) (rest_within text old here left st at)
-      filled (sound_filled on names text 2 Lines Plain n.HtmlFlow node refl refl filled) in (
+      filled (sound_filled_full on names text 2 Lines Plain n.HtmlFlow node refl refl refl
+      (html_some text first others all.nodes
+      (λ none. start_some old.on.now html.2 html.0.rest kind html.4
+      (ap (λ (l : LineRest). block_codes l.rest) own ∙ ap (λ (l : BlockLine). l.codes) first_is ∙ none)) all.parts)
+      refl filled) in (
         leaf,
         subst (λ (w : Written). WritesToEnding text w old d)
             (ap₂ (λ (s : Standing) (k : ℕ). inside n.HtmlFlow (and_then (whole_rest n.HtmlFlowData (left_in_line s))

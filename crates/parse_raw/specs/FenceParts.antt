@@ -5,6 +5,7 @@ use Rattle.definition_text.specs.Columns.{bare, bytes_of, is_white, trim}
 use Rattle.definition_text.specs.Runs.{after_run}
 use Rattle.markdown_options.specs.declared.configuration.Constructs.{Constructs}
 use Rattle.markdown_options.specs.declared.line_ending.LineEnding.{LineEnding}
+use Rattle.engine_events.specs.Names.{is_listed, same_name}
 use Rattle.engine_events.specs.declared.event.Name.{Name}
 use Rattle.engine_events.specs.declared.event.Name.TheVariants as n
 use Rattle.definition_text.specs.BlockLines.{BlockLine}
@@ -37,9 +38,9 @@ use Rattle.parse_lines.specs.Standing.{StandsAt, around, standing}
 use Rattle.parse_lines.specs.Steps.{HasSameOpen}
 use Rattle.parse_raw.specs.declared.fence_names.FenceNames.{FenceNames}
 use Rattle.parse_raw.specs.Bytes.{AreClosing, fence_marks}
-use Rattle.parse_raw.specs.RawLines.{AreRaw, IsRawName, WritesLines}
+use Rattle.parse_raw.specs.RawLines.{AreRaw, WritesLines}
 use Rattle.parse_slots.specs.Left.{Fill, IsFilled}
-use Rattle.parse_references.specs.Sound.{AreSound, is_asked_on, IsSound}
+use Rattle.parse_references.specs.Sound.{AreSound, is_asked_on, IsSound, ruled_names}
 
 -- ---- names
 
@@ -88,8 +89,13 @@ LeadsTo on names info slots more from to old new =
 
 -- a name of a string in a fence
 pub record IsPartName (name : Name) : Type 0 where
-  pub raw : IsRawName name
+  pub no_data : same_name name n.Data ≡ false
+  pub no_definition : same_name name n.Definition ≡ false
+  pub no_code : same_name name n.CodeFencedFence ≡ false
+  pub no_math : same_name name n.MathFlowFence ≡ false
   pub row_is : row name Plain ≡ string_row
+  pub unruled : is_listed ruled_names name ≡ false
+  pub made : (on : Constructs) → is_asked_on on name ≡ true
 
 -- the node of a string by a name, whose row is filled; none without bytes
 abbrev pub IsPartOf : Constructs → Names → List ℕ → Name → List ℕ → Nodes → Type 0

@@ -1,6 +1,6 @@
 -- Nodes that are sound, one after another, around others, and by their rows.
-use Rattle.std.proofs.Common.{◌≡◌, ℕ, zero, suc, ◌+◌, ◌-◌, Bool, true, false, ◌&&◌, List, refl, sym, ap, ◌∙◌}
-use Rattle.std.proofs.lemmas.Bool.{true≢false}
+use Rattle.std.proofs.Common.{◌≡◌, ℕ, zero, suc, ◌+◌, ◌-◌, Bool, true, false, ◌&&◌, List, [], ◌∷◌, refl, sym, ap, ◌∙◌}
+use Rattle.std.proofs.lemmas.Bool.{or_right, true≢false}
 use Rattle.std.specs.List.{list_all}
 use Rattle.std.specs.Prelude.{if◌then◌else◌}
 use Rattle.markdown_options.specs.declared.configuration.Constructs.{Constructs}
@@ -20,10 +20,11 @@ use Rattle.event_grammar.specs.Slots.{may_end}
 use Rattle.event_grammar.specs.Trees.{Node, Nodes, Around, Nil, Cons}
 use Rattle.parse_output.specs.declared.end.End.{End}
 use Rattle.parse_output.specs.Ends.{enter_at, exit_at, same_end}
-use Rattle.parse_output.specs.Forest.{append, byte_nodes, bytes_from, cut, data_nodes, one, void_nodes}
+use Rattle.event_tokens.specs.Shape.{full_names}
+use Rattle.parse_output.specs.Forest.{append, byte_nodes, bytes_from, cut, data_nodes, is_nil, one, void_nodes}
 use Rattle.parse_slots.specs.Left.{Fill, IsFilled}
 use Rattle.parse_references.specs.Leads.{AreWithout, IsWithout}
-use Rattle.parse_references.specs.Sound.{AreSound, HoldsAsked, IsSound, asked_names, holding_names, is_asked_on}
+use Rattle.parse_references.specs.Sound.{AreSound, HoldsAsked, IsSound, asked_names, holding_names, is_asked_on, ruled_names}
 use Rattle.parse_references.proofs.Bare.{without_fill, without_filled, without_kids}
 use Rattle.parse_references.proofs.Rows.{all_pass, is_without, row_without}
 
@@ -57,6 +58,12 @@ module _ (on : Constructs) (names : Names) (text : List ℕ) where
   other_is_on n.Frontmatter other = absurd (true≢false other)
   other_is_on name other = refl
 
+  full_holds : (name : Name) → is_listed full_names name ≡ true → is_listed holding_names name ≡ true
+  full_holds name full =
+      or_right (same_name n.GfmFootnoteCall name) (is_listed (n.CharacterReference ∷ n.HeadingAtx ∷ full_names) name)
+      (or_right (same_name n.CharacterReference name) (is_listed (n.HeadingAtx ∷ full_names) name)
+      (or_right (same_name n.HeadingAtx name) (is_listed full_names name) full))
+
   -- nothing is asked of the children of an event of any other name than these, beside that its construct is on
   asked_of : (off : List Name) (name : Name) (kids : Nodes) → list_all (is_listed off) holding_names ≡ true → is_listed off name ≡ false
       → is_asked_on on name ≡ true → HoldsAsked on names text name kids
@@ -68,6 +75,21 @@ module _ (on : Constructs) (names : Names) (text : List ℕ) where
         call = λ same. absurd (never n.GfmFootnoteCall refl same);
         reference = λ same. absurd (never n.CharacterReference refl same);
         heading = λ same. absurd (never n.HeadingAtx refl same);
+        some = λ full. absurd (never name (full_holds name full) refl);
+      }
+
+  -- of an event that holds something, nothing more is asked, if no rule is for its name
+  asks_some : (name : Name) (kids : Nodes) → is_listed ruled_names name ≡ false → is_asked_on on name ≡ true → is_nil kids ≡ false
+      → HoldsAsked on names text name kids
+  asks_some name kids other is_on some =
+      let never : (asked : Name) → is_listed ruled_names asked ≡ true → name ≡ asked → ⊥ =
+      λ asked is same. true≢false (sym is ∙ (ap (is_listed ruled_names) (sym same) ∙ other)) in
+      record {
+        is_on = is_on;
+        call = λ same. absurd (never n.GfmFootnoteCall refl same);
+        reference = λ same. absurd (never n.CharacterReference refl same);
+        heading = λ same. absurd (never n.HeadingAtx refl same);
+        some = λ full. some;
       }
 
   pub asks_construct : (name : Name) (kids : Nodes) → is_listed holding_names name ≡ false → is_asked_on on name ≡ true → HoldsAsked on names text name kids
@@ -84,6 +106,11 @@ module _ (on : Constructs) (names : Names) (text : List ℕ) where
   pub sound_of_on : (node : Node) → is_listed holding_names (node_name node) ≡ false → is_asked_on on (node_name node) ≡ true
       → AreSound on names text (kids_of node) → IsSound on names text node
   sound_of_on (Around enter kids exit) other is_on sound = (asks_construct enter.name kids other is_on, sound)
+
+  -- what holds something, around such nodes
+  pub sound_full : (node : Node) → is_listed ruled_names (node_name node) ≡ false → is_asked_on on (node_name node) ≡ true
+      → is_nil (kids_of node) ≡ false → AreSound on names text (kids_of node) → IsSound on names text node
+  sound_full (Around enter kids exit) other is_on some sound = (asks_some enter.name kids other is_on some, sound)
 
   -- nodes without these names
   mutual
@@ -112,6 +139,15 @@ module _ (on : Constructs) (names : Names) (text : List ℕ) where
       → IsSound on names text node
   sound_filled_on k around form name (Around enter kids exit) is other is_on without filled =
       sound_of_on (Around enter kids exit) (ap (is_listed holding_names) is ∙ other) (ap (is_asked_on on) is ∙ is_on)
+      (without_are_sound kids (without_kids asked_names refl refl (between_of (row enter.name form) around enter.name) kids k (row enter.name form)
+      (ap (λ (a : Name). row_without asked_names k (row a form)) is ∙ without) filled.filled))
+
+  -- the same where it holds something
+  pub sound_filled_full : (k : ℕ) (around : Between) (form : Form) (name : Name) (node : Node) → node_name node ≡ name
+      → is_listed ruled_names name ≡ false → is_asked_on on name ≡ true → is_nil (kids_of node) ≡ false
+      → row_without asked_names k (row name form) ≡ true → IsFilled around form node → IsSound on names text node
+  sound_filled_full k around form name (Around enter kids exit) is other is_on some without filled =
+      sound_full (Around enter kids exit) (ap (is_listed ruled_names) is ∙ other) (ap (is_asked_on on) is ∙ is_on) some
       (without_are_sound kids (without_kids asked_names refl refl (between_of (row enter.name form) around enter.name) kids k (row enter.name form)
       (ap (λ (a : Name). row_without asked_names k (row a form)) is ∙ without) filled.filled))
 

@@ -1,8 +1,9 @@
 -- What is known of some events beside their rows and what they spell. The grammar asks that calls of footnotes hold strings alone, that references decode, and
 -- that a heading begins with at most six `#` (CommonMark 2.5 and 4.2, GFM footnotes). Where the page doesn't tell which construct made an event, that one is on.
+-- Strings and raw HTML hold something.
 use Rattle.std.specs.Prelude.{◌≡◌, ℕ, Bool, true, false, if◌then◌else◌, List, [], ◌∷◌, Option, None, Some}
 use Rattle.markdown_options.specs.declared.configuration.Constructs.{Constructs}
-use Rattle.engine_events.specs.Names.{same_name}
+use Rattle.engine_events.specs.Names.{is_listed, same_name}
 use Rattle.engine_events.specs.declared.event.Name.{Name}
 use Rattle.engine_events.specs.declared.event.Name.TheVariants as n
 use Rattle.definition_inline.specs.CharacterReference.{Names}
@@ -12,17 +13,23 @@ use Rattle.event_grammar.specs.Grammar.{block_names}
 use Rattle.event_grammar.specs.InGrammar.{node_name}
 use Rattle.event_grammar.specs.Points.{bytes_between}
 use Rattle.event_grammar.specs.Trees.{Node, Nodes, Around, Nil, Cons}
+use Rattle.event_tokens.specs.Shape.{full_names}
+use Rattle.parse_output.specs.Forest.{is_nil}
 use Rattle.parse_references.specs.Leads.{AreWithout}
 
--- the names of events whose children are asked for more than their row
+-- the names of events for whose children there is a rule beside their row
+abbrev pub ruled_names : List Name
+ruled_names = n.GfmFootnoteCall ∷ n.CharacterReference ∷ n.HeadingAtx ∷ []
+
+-- the names of events whose children are asked for more than their row: these, and those that hold something
 abbrev pub holding_names : List Name
-holding_names = n.GfmFootnoteCall ∷ n.CharacterReference ∷ n.HeadingAtx ∷ []
+holding_names = n.GfmFootnoteCall ∷ n.CharacterReference ∷ n.HeadingAtx ∷ full_names
 
 -- these, and the names of events whose construct the page doesn't tell
 abbrev pub asked_names : List Name
 asked_names =
     n.GfmFootnoteCall ∷ n.CharacterEscape ∷ n.CharacterReference ∷ n.GfmAutolinkLiteralEmail ∷ n.GfmAutolinkLiteralMailto ∷ n.GfmAutolinkLiteralProtocol
-    ∷ n.GfmAutolinkLiteralWww ∷ n.GfmAutolinkLiteralXmpp ∷ n.HtmlText ∷ n.HeadingAtx ∷ n.HeadingSetext ∷ n.CodeFenced ∷ n.MathFlow ∷ n.Frontmatter ∷ []
+    ∷ n.GfmAutolinkLiteralWww ∷ n.GfmAutolinkLiteralXmpp ∷ n.HeadingAtx ∷ n.HeadingSetext ∷ n.CodeFenced ∷ n.MathFlow ∷ n.Frontmatter ∷ full_names
 
 -- Whether the construct is on that makes events of this name, which the page doesn't tell. In a destination, a title or an info it has the characters of escapes
 -- and references alone, and in the text of a link the bytes of literals. Raw HTML without data is nothing on it, nor is frontmatter. Both kinds of headings
@@ -79,6 +86,7 @@ module _ (on : Constructs) (names : Names) (text : List ℕ) where
     pub call : name ≡ n.GfmFootnoteCall → AreWithout outside_strings kids
     pub reference : name ≡ n.CharacterReference → Decode names text None kids
     pub heading : name ≡ n.HeadingAtx → IsRank names text kids
+    pub some : is_listed full_names name ≡ true → is_nil kids ≡ false
 
   abbrev mutual
     pub IsSound : Node → Type 0

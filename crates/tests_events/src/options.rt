@@ -10,6 +10,7 @@ pub fn options_of(alloc: Global, letters: &str) -> CompileOptions {
         allow_dangerous_html: letters.contains('h'),
         allow_dangerous_protocol: letters.contains('p'),
         allow_any_img_src: letters.contains('i'),
+        allow_listed_html: letters.contains('l'),
         gfm_tagfilter: letters.contains('t'),
         gfm_task_list_item_checkable: letters.contains('c'),
         default_line_ending: ending_of(letters),
@@ -43,7 +44,10 @@ fn ending_of(letters: &str) -> LineEnding {
 
 /// Whether all pages by these letters are safe.
 pub fn are_safe(letters: &str) -> bool {
-    !letters.contains('h') && !letters.contains('p') && !letters.contains('i')
+    !letters.contains('h')
+        && !letters.contains('p')
+        && !letters.contains('i')
+        && !letters.contains('l')
 }
 
 /// The table of tags by which pages by these letters are safe.

@@ -8,7 +8,7 @@ use Rattle.std.specs.Str.{bytes_eq}
 use Rattle.text_slugs.specs.Laws.{SlugsDifferLaw}
 use Rattle.definition_page.specs.Slug.{slug_of}
 use Rattle.definition_page.specs.Slug.{first_free, with_slug}
-use Rattle.text_slugs.proofs.Numbers.{first_free_new}
+use Rattle.definition_page.proofs.FreeSlugs.{first_free_new}
 
 differ : (taken texts : List (List ℕ)) → length taken + length texts < 2 ^ 64 → IsDistinct bytes_eq taken → IsDistinct bytes_eq (fold with_slug taken texts)
 differ taken [] small held = held

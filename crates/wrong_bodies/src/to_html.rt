@@ -1,6 +1,8 @@
 //! A list of events to HTML.
-ghost use Rattle.std.specs.Prelude.{◌≡◌, IfErr, IfOk, OnOk, string_bytes};
+ghost use Rattle.std.specs.Prelude.{◌≡◌, IfErr, IfOk, OnOk, false, string_bytes};
+ghost use Rattle.markdown_compile_options.specs.RawHtml.{keeps_listed_html};
 ghost use Rattle.event_meaning.specs.Spelled.{html_of_events};
+ghost use Rattle.html_listed.specs.Laws.{HasOneListedReading};
 ghost use Rattle.laws_safe_page.specs.SafeHtml.{AreSafe, HasOneReadingBy, table_of};
 ghost use Rattle.event_grammar.specs.Faults.{fault};
 ghost use Rattle.event_check.specs.Matches.{MatchesGrammar};
@@ -25,7 +27,8 @@ pub fn compile<T: Tables, A: Allocator + Clone>(
     ensures passes { MatchesGrammar (T.reference_of tables.now) bytes.now events.now → IfErr result (λ error. error ≡ Memory) }
     ensures fault { IfErr result (λ error. Refuses error (fault (T.reference_of tables.now) bytes.now events.now)) }
     ensures page { IfOk result (λ html. string_bytes html ≡ html_of_events (T.reference_of tables.now) options.now bytes.now events.now) }
-    ensures safe { AreSafe options.now → IfOk result (λ html. HasOneReadingBy (table_of options.now) (string_bytes html)) }
+    ensures safe { AreSafe options.now → keeps_listed_html options.now ≡ false → IfOk result (λ html. HasOneReadingBy (table_of options.now) (string_bytes html)) }
+    ensures listed { AreSafe options.now → IfOk result (λ html. HasOneListedReading (table_of options.now) (string_bytes html)) }
 {
     compile_html::compile(alloc, events, bytes, options, tables)
 }

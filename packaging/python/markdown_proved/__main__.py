@@ -1,7 +1,7 @@
 """Reads Markdown from a file or from standard input, and writes its HTML to standard output.
 
     python -m markdown_proved [--gfm] [--mark] [--math] [--frontmatter] [--heading-ids] [--heading-id-prefix TEXT] [--link-base URL]
-        [--image-base URL] [--link-rel TEXT] [--lazy-images] [--dangerous] [--plain] [FILE]
+        [--image-base URL] [--link-rel TEXT] [--lazy-images] [--listed-html] [--dangerous] [--plain] [FILE]
 
 The words are those of the program for Debian, but for `--references`. That for Node has those without a value. The exit status is 0 if the whole HTML was written, 2 for a wrong command line, and 1 for any other fault.
 """
@@ -18,10 +18,11 @@ FLAGS = {
     "dangerous": (DANGEROUS, "keep raw HTML and URLs with any protocol; only for input from trusted authors"),
     "plain": (PLAIN, "turn every construct off, also with other options"),
 }
-# Words that are options of `to_html`, and those with a value.
+# Words that are options of `to_html`, with the names of these, and those with a value.
 SWITCHES = {
-    "heading_ids": "print ids of headings, as GitHub makes them",
-    "lazy_images": 'print loading="lazy" in images',
+    "heading-ids": ("heading_ids", "print ids of headings, as GitHub makes them"),
+    "lazy-images": ("lazy_images", 'print loading="lazy" in images'),
+    "listed-html": ("allow_listed_html", "keep raw HTML by a list of elements and attributes, and escape the rest; --dangerous keeps all of it"),
 }
 TEXTS = {
     "heading_id_prefix": ("TEXT", "print a text before these ids, and in links to them"),
@@ -38,8 +39,8 @@ def arguments() -> argparse.Namespace:
     )
     for name, (_, meaning) in FLAGS.items():
         parser.add_argument(f"--{name}", action="store_true", help=meaning)
-    for name, meaning in SWITCHES.items():
-        parser.add_argument("--" + name.replace("_", "-"), action="store_true", help=meaning)
+    for word, (name, meaning) in SWITCHES.items():
+        parser.add_argument(f"--{word}", dest=name, action="store_true", help=meaning)
     for name, (value, meaning) in TEXTS.items():
         parser.add_argument("--" + name.replace("_", "-"), metavar=value, default="", help=meaning)
     parser.add_argument("-V", "--version", action="version", version=f"%(prog)s {__version__}", help="print the version")
@@ -68,7 +69,8 @@ def convert(words: argparse.Namespace) -> str:
     except OSError:
         return "cannot read"
     try:
-        page = to_html(text, flags, **{name: getattr(words, name) for name in (*SWITCHES, *TEXTS)})
+        options = [name for name, _ in SWITCHES.values()] + [*TEXTS]
+        page = to_html(text, flags, **{name: getattr(words, name) for name in options})
     except (ImportError, ValueError) as fault:
         return str(fault)
     try:

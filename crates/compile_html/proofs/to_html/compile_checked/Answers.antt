@@ -5,6 +5,9 @@ use Rattle.inline_labels.specs.Table.{HasLabels}
 use Rattle.inline_links.specs.View.{link_texts_view}
 use Rattle.event_grammar.specs.References.{named}
 use Rattle.definition_inline.specs.CharacterReference.{Names}
+use Rattle.definition_html.specs.Listed.{with_listed}
+use Rattle.html_listed.specs.Laws.{HasOneListedReading}
+use Rattle.compile_safe_page.proofs.SafeHtml.{listed_events_law}
 use Rattle.event_meaning.specs.Spelled.{definition_of, footnotes, html_of_events, html_of_nodes, meaning_of}
 use Rattle.compile_written.specs.Definition.{HasDefinitions}
 use Rattle.compile_html.proofs.Checked.{checked_sound, checked_lists, checked_numbers}
@@ -37,7 +40,7 @@ returns-clause-page g c = λ given.
     let N : Names → Type 0 = λ names. string_bytes c.in_ok-html.html ≡ html_of_events names options bytes events in
     subst N by (
     subst H (sym same)
-    (c.in_ok-html.ensures m ds ns
+    (c.in_ok-html.ensures ∙ ap (with_listed names options) (c.in_ok-page.ensures m ds ns
     (record {
       names_are = refl;
       compile = refl;
@@ -48,11 +51,18 @@ returns-clause-page g c = λ given.
       links = ap (map link_texts_view) c.deref.ensures.value ∙ c.in_ok-links.ensures ds defined;
       footnotes = subst F own (c.in_ok-footnotes.ensures names true ns nodes is);
     })
-    h.nested (checked_sound names bytes events h) (checked_lists names bytes events h) (checked_numbers names bytes events h)))
+    h.nested (checked_sound names bytes events h) (checked_lists names bytes events h) (checked_numbers names bytes events h))))
 
 pub returns-clause-safe : goal.returns-clause-safe
-returns-clause-safe g c = λ h safe.
+returns-clause-safe g c = λ h safe off.
     let names = g.T.Tables.reference_of c.args.checked.tables.now in
     let R : List ℕ → Type 0 = λ html. HasOneReadingBy (table_of c.args.options.now) html in
     subst R (sym (returns-clause-page g c h))
-    (safe_events_law names c.args.options.now c.args.checked.bytes.now c.args.checked.events.now safe h)
+    (safe_events_law names c.args.options.now c.args.checked.bytes.now c.args.checked.events.now safe off h)
+
+pub returns-clause-listed : goal.returns-clause-listed
+returns-clause-listed g c = λ h safe.
+    let names = g.T.Tables.reference_of c.args.checked.tables.now in
+    let R : List ℕ → Type 0 = λ html. HasOneListedReading (table_of c.args.options.now) html in
+    subst R (sym (returns-clause-page g c h))
+    (listed_events_law names c.args.options.now c.args.checked.bytes.now c.args.checked.events.now safe h)

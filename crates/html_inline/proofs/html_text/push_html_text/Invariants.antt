@@ -6,8 +6,8 @@ use Rattle.html_inline.proofs.html_text.push_html_text.Given as goal
 
 -- what was printed, and what is printed for the later lines, is what is printed for all
 abbrev pub invariant-loop-rest : goal.invariant-loop-rest
-invariant-loop-rest g l = shadow (Utf8 l.rest) × (string_bytes l.out ++ flat_map (later_bytes l.compile) (html_lines (content_codes l.rest))
-    ≡ string_bytes l.fn.out ++ say_bytes (html_says l.compile (content_codes l.html)))
+invariant-loop-rest g l = shadow (Utf8 l.rest) × (string_bytes l.out ++ flat_map (later_bytes l.described l.compile) (html_lines (content_codes l.rest))
+    ≡ string_bytes l.fn.out ++ say_bytes (html_says l.described l.compile (content_codes l.html)))
 
 abbrev pub decreases-loop-rest : goal.decreases-loop-rest
 decreases-loop-rest g l = length l.rest

@@ -17,18 +17,20 @@ returns-clause-printed g c =
     let out = string_bytes c.args.out.now in
     let printed = subst (λ s. PrintsEnding s c.in_ok-rest.rest.now (string_bytes c.push_html.new.out) (string_bytes c.push_ending.new.out))
     c.range_from.ensures.value c.in_ok-rest.ensures in
-    (line_printed c.args.compile.now c.args.html.now c.in_ok-rest.rest.now out (string_bytes c.push_html.new.out) (string_bytes c.push_ending.new.out)
-    c.line_size-size.result (λ k. omega (arith, c.type_inv.html k)) (c.line_size-size.ensures ∙ ap (prefix_len is_in_line) c.as_bytes.ensures.value)
-    (c.in_ok-push_html.ensures ∙ ap (λ s. out ++ raw_bytes c.args.compile.now s) c.text_before.ensures) printed).0
+    (line_printed c.args.described c.args.compile.now c.args.html.now c.in_ok-rest.rest.now out (string_bytes c.push_html.new.out)
+    (string_bytes c.push_ending.new.out) c.line_size-size.result (λ k. omega (arith, c.type_inv.html k))
+    (c.line_size-size.ensures ∙ ap (prefix_len is_in_line) c.as_bytes.ensures.value)
+    (c.in_ok-push_html.ensures ∙ ap (λ s. out ++ raw_bytes c.args.described c.args.compile.now s) c.text_before.ensures) printed).0
 
 pub returns-clause-rest : goal.returns-clause-rest
 returns-clause-rest g c =
     let out = string_bytes c.args.out.now in
     let printed = subst (λ s. PrintsEnding s c.in_ok-rest.rest.now (string_bytes c.push_html.new.out) (string_bytes c.push_ending.new.out))
     c.range_from.ensures.value c.in_ok-rest.ensures in
-    (line_printed c.args.compile.now c.args.html.now c.in_ok-rest.rest.now out (string_bytes c.push_html.new.out) (string_bytes c.push_ending.new.out)
-    c.line_size-size.result (λ k. omega (arith, c.type_inv.html k)) (c.line_size-size.ensures ∙ ap (prefix_len is_in_line) c.as_bytes.ensures.value)
-    (c.in_ok-push_html.ensures ∙ ap (λ s. out ++ raw_bytes c.args.compile.now s) c.text_before.ensures) printed).1
+    (line_printed c.args.described c.args.compile.now c.args.html.now c.in_ok-rest.rest.now out (string_bytes c.push_html.new.out)
+    (string_bytes c.push_ending.new.out) c.line_size-size.result (λ k. omega (arith, c.type_inv.html k))
+    (c.line_size-size.ensures ∙ ap (prefix_len is_in_line) c.as_bytes.ensures.value)
+    (c.in_ok-push_html.ensures ∙ ap (λ s. out ++ raw_bytes c.args.described c.args.compile.now s) c.text_before.ensures) printed).1
 
 pub returns-clause-within : goal.returns-clause-within
 returns-clause-within g c =

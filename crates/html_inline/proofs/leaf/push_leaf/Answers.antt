@@ -1,4 +1,4 @@
-use Rattle.std.proofs.Common.{◌≡◌, ◌++◌, List, ℕ, string_bytes, sym, ap, ◌∙◌, subst}
+use Rattle.std.proofs.Common.{◌≡◌, ◌++◌, List, ℕ, false, string_bytes, sym, ap, ◌∙◌, subst}
 use Rattle.html_inline.proofs.Prelude.{append-nil, content_codes, flat_map, html_says, leaf_html, leaf_in, map, OnOk, parts_of}
 use Rattle.definition_inline.specs.Inline.{Html}
 use Rattle.html_inline.proofs.LeafTexts.{data_html, escapes_html, says_html}
@@ -29,4 +29,4 @@ returns-in-Html g c =
     let html = content_codes c.in-Html.html.now in
     subst (λ (s : List ℕ). OnOk c.push_html_text.result (string_bytes c.push_html_text.new.out ≡ string_bytes c.args.out.now ++ s))
     (sym (ap (λ part. flat_map (leaf_html options) (map (leaf_in p.cell) (parts_of part))) c.in-Html.is
-    ∙ append-nil (leaf_html options (Html html)) ∙ says_html (html_says options html))) c.push_html_text.ensures
+    ∙ append-nil (leaf_html options (Html html)) ∙ says_html (html_says false options html))) c.push_html_text.ensures

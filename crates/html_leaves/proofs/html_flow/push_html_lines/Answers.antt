@@ -1,4 +1,4 @@
-use Rattle.std.proofs.Common.{◌≡◌, ◌++◌, ◌∷◌, [], ℕ, List, Option, string_bytes, sym, ap, ◌∙◌, take, get_or, ◌+◌}
+use Rattle.std.proofs.Common.{◌≡◌, ◌++◌, ◌∷◌, [], ℕ, false, List, Option, string_bytes, sym, ap, ◌∙◌, take, get_or, ◌+◌}
 use Rattle.html_leaves.proofs.Prelude.{BlockLine, bytes_of, ending_text, html_of, last_ending, last_ending_more, LineEnding, lines_printed, map_more, no_piece}
 use Rattle.html_leaves.proofs.Prelude.{own_lines, piece_line, piece_lines, raw_bytes}
 use Rattle.html_leaves.proofs.html_flow.push_html_lines.Goals as goal
@@ -12,7 +12,7 @@ loop-line-preserved g c =
     let before = piece_lines (take i lines) in
     let piece = get_or lines i no_piece in
     let line : BlockLine = piece_line piece in
-    let body : List ℕ → List ℕ = λ codes. raw_bytes options (bytes_of codes) in
+    let body : List ℕ → List ℕ = λ codes. raw_bytes false options (bytes_of codes) in
     let k = c.loop-line.invariant in
     let more : piece_lines (take (i + 1) lines) ≡ before ++ line ∷ [] = map_more piece_line lines i _ c.loop-line-test.true in
     record {

@@ -60,3 +60,12 @@ returns-clause-safe g c =
     (same_list (g.T.Tables.reference_of c.args.tables.now) (g.T.Tables.reference_of checked.tables.now) c.args.value.now checked.bytes.now
     c.in-Ok.events.items checked.events.now (ap (λ t. g.T.Tables.reference_of t) k.tables) (k.bytes ∙ c.as_bytes.ensures.value)
     (k.events ∙ c.deref.ensures.value) c.in-Ok.ensures.grammar)
+
+pub returns-clause-listed : goal.returns-clause-listed
+returns-clause-listed g c =
+    let checked = c.new-checked.result in
+    let k = c.new-checked.ensures in
+    c.in_ok-page.ensures.listed
+    (same_list (g.T.Tables.reference_of c.args.tables.now) (g.T.Tables.reference_of checked.tables.now) c.args.value.now checked.bytes.now
+    c.in-Ok.events.items checked.events.now (ap (λ t. g.T.Tables.reference_of t) k.tables) (k.bytes ∙ c.as_bytes.ensures.value)
+    (k.events ∙ c.deref.ensures.value) c.in-Ok.ensures.grammar)

@@ -15,6 +15,7 @@ returns c =
     let named = ap app_of_fields c.no_binary_name.ensures ∙ ap nameless c.new.ensures.app in
     let bare_is : app_of c.version.result ≡ bare = ap app_of_fields c.version.ensures ∙ ap versioned named in
     c.in_ok-command.ensures.shape (search rules)
+    ∙ ap₂ with_rule (c.in_ok-arg-14.ensures.shape (search rules)
     ∙ ap₂ with_rule (c.in_ok-arg-13.ensures.shape (search rules)
     ∙ ap₂ with_rule (c.in_ok-arg-12.ensures.shape (search rules)
     ∙ ap₂ with_rule (c.in_ok-arg-11.ensures.shape (search rules)
@@ -30,4 +31,4 @@ returns c =
     ∙ ap₂ with_rule (c.in_ok-arg.ensures.shape (search rules)
     ∙ ap₂ with_rule bare_is c.flag.ensures.rule) c.flag-2.ensures.rule) c.flag-3.ensures.rule) c.flag-4.ensures.rule)
     c.flag-5.ensures.rule) c.valued.ensures.rule) c.valued-2.ensures.rule) c.valued-3.ensures.rule) c.valued-4.ensures.rule) c.flag-6.ensures.rule)
-    c.flag-7.ensures.rule) c.flag-8.ensures.rule) c.valued-5.ensures.rule) c.file.ensures.rule
+    c.flag-7.ensures.rule) c.flag-8.ensures.rule) c.flag-9.ensures.rule) c.valued-5.ensures.rule) c.file.ensures.rule

@@ -12,6 +12,9 @@ returns-clause-children g c = c.in_ok-parsed.ensures.events.children
 pub returns-clause-tokens : goal.returns-clause-tokens
 returns-clause-tokens g c = c.in_ok-parsed.ensures.events.tokens
 
+pub returns-clause-shape : goal.returns-clause-shape
+returns-clause-shape g c = c.in_ok-parsed.ensures.events.shape
+
 pub returns-clause-grammar : goal.returns-clause-grammar
 returns-clause-grammar g c = c.in_ok-parsed.ensures.events.grammar
 

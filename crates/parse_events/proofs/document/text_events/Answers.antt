@@ -22,6 +22,6 @@ returns g c =
     record {
       events =
           are_events tables options value c.in_ok-walk-2.walk c.as_bytes.result.now c.into_output.result events c.as_bytes.ensures.value c.into_output.ensures
-          written.placed written.tokens are bytes;
+          written.placed written.tokens written.whole (c.in_ok-walk-2.ensures.open ∙ c.in_ok-walk.ensures.open) are bytes;
       filled = nodes_filled tables options value c.in_ok-walk-2.walk events are;
     }

@@ -1,6 +1,7 @@
 use Rattle.std.proofs.Common.{◌≡◌, ◌+◌, ◌<◌, ◌≤◌, ◌^◌, false, true, length, string_bytes, sym, ap, ◌∙◌, arith}
 use Rattle.definition_page.specs.Slug.{is_taken, numbered}
-use Rattle.text_slugs.proofs.Numbers.{free_of, numbered_next, numbers_fit, taken_more}
+use Rattle.definition_page.proofs.FreeSlugs.{numbers_fit}
+use Rattle.text_slugs.proofs.Numbers.{free_of, numbered_next, taken_more}
 use Rattle.text_slugs.proofs.slugs.next_free.Goals as goal
 
 pub loop-before-preserved : goal.loop-before-preserved

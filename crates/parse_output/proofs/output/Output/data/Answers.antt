@@ -1,6 +1,9 @@
-use Rattle.std.proofs.Common.{◌≡◌, ◌+◌, ◌-◌, length, get_or, set, arith, refl, sym, subst, ap, ◌∙◌}
+use Rattle.std.proofs.Common.{◌≡◌, ◌+◌, ◌-◌, length, get_or, set, arith, false, refl, rules, sym, subst, ap, ◌∙◌}
 use Rattle.parse_output.proofs.Prelude.{AreInOrder, first_end, forest, IsData}
+use Rattle.engine_events.specs.declared.event.Name.TheVariants.{Data}
+use Rattle.parse_output.specs.Whole.{is_data}
 use Rattle.parse_output.proofs.Forests.{longer}
+use Rattle.parse_output.proofs.Whole.{after_other}
 use Rattle.parse_output.proofs.output.Output.data.Goals as goal
 
 pub returns-clause-written : goal.returns-clause-written
@@ -18,3 +21,11 @@ returns-clause-written g c =
       order = (order.0, subst (λ e. AreInOrder text first_end (set ds i e)) (sym c.draft_to.ensures.same) long.order);
       forest = ap (λ e. forest text (set ds i e)) c.draft_to.ensures.same ∙ long.forest;
     }
+
+pub push-requires-then-not-is_data-clause-next : goal.push-requires-then-not-is_data-clause-next
+push-requires-then-not-is_data-clause-next g c =
+    let ds = c.args.self.now.drafts.items in
+    let i = c.len-count.result - 1 in
+    let other : c.is_data.result ≡ false = search rules in
+    after_other ds i c.index.result.now Data (omega (arith, c.len-count.ensures, c.if-count-eq0.false))
+    (ap is_data (sym c.index.ensures) ∙ (sym c.is_data.ensures.is ∙ other))

@@ -1,7 +1,7 @@
 use Rattle.std.proofs.Common.{◌≡◌, true, false, sym, subst, ap, ◌∙◌, ◌++◌, ◌∷◌, [], rules}
 use Rattle.parse_output.proofs.Prelude.{AreInOrder, first_end, forest, same_end}
 use Rattle.parse_output.proofs.Forests.{same_forest, void_forest, void_order}
-use Rattle.parse_output.proofs.output.Output.token.Goals as goal
+use Rattle.parse_output.proofs.output.Output.push.Goals as goal
 
 pub returns-then-eq-clause-written : goal.returns-then-eq-clause-written
 returns-then-eq-clause-written g c =

@@ -1,0 +1,5 @@
+use Rattle.laws_safe_page.proofs.SafeHtml as law
+use Rattle.laws_safe_page.proofs.laws.standing_page_law.Goals as goal
+
+pub returns : goal.returns
+returns c = law.standing_page_law
