@@ -1,5 +1,5 @@
 -- What a tag leads to in a listed page.
-use Rattle.std.proofs.Common.{◌≡◌, ◌≢◌, ◌↔◌, ℕ, List, [], ◌∷◌, ◌++◌, Bool, true, false, not, ◌&&◌, eqb, refl, sym, ap, ◌∙◌, subst, append_assoc}
+use Rattle.std.proofs.Common.{◌≡◌, ◌≢◌, ◌↔◌, ℕ, List, [], ◌∷◌, ◌++◌, Bool, true, false, eqb, refl, sym, ap, ◌∙◌, subst, append_assoc}
 use Rattle.std.specs.Str.{bytes_eq}
 use Rattle.std.proofs.lemmas.Bool.{true≢false, false≢true, and_parts}
 use Rattle.std.proofs.lemmas.List.{append-nil}
@@ -9,8 +9,8 @@ use Rattle.html_safe_page.proofs.Sound.{tag_append}
 use Rattle.html_safe_page.proofs.Spelled.{is_word, is_worded_list, is_worded, starts_word, same_bytes, bytes_same}
 use Rattle.html_listed.specs.ListedPage.{is_start, is_void, IsListedPage}
 use Rattle.html_listed_page.specs.Tags.{lacks, stops_at, IsCut, IsText, IsTagOf}
-use Rattle.html_listed_page.specs.Rest.{IsRest, IsRestWith, Leads, in_tag}
-use Rattle.html_listed_page.proofs.Cuts.{lacks_append, lacks_front, tail, one_cut, same_front, last, last_after}
+use Rattle.html_listed_page.specs.Rest.{IsRest, Leads, in_tag}
+use Rattle.html_listed_page.proofs.Cuts.{tail, one_cut, same_front, last, last_after}
 use Rattle.html_listed_page.proofs.Words.{name_lacks, tag_starts, last_of_tag, start_is_worded, void_is_worded}
 use Rattle.html_listed_page.proofs.Rests.{step, no_end, none_open, letters_off, letters_on, with_start, with_void, with_end}
 

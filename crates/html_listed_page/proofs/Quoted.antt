@@ -1,5 +1,5 @@
 -- The attribute at the start of a text, by its name.
-use Rattle.std.proofs.Common.{◌≡◌, ◌≢◌, ℕ, ◌<◌, List, [], ◌∷◌, ◌++◌, Bor, Option, None, Some, codes, length, get_or, sym, ap, ◌∙◌, append_assoc}
+use Rattle.std.proofs.Common.{◌≡◌, ◌≢◌, ℕ, ◌<◌, List, ◌∷◌, ◌++◌, Bor, Option, None, Some, codes, length, get_or, sym, ap, ◌∙◌, append_assoc}
 use Rattle.std.specs.Prelude.{MatchOption}
 use Rattle.html_safe_page.specs.SafePage.{attribute_start}
 use Rattle.html_listed_page.specs.Tags.{lacks, IsQuoted}

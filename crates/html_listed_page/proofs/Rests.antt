@@ -1,14 +1,13 @@
 -- What is left of a page before and after letters and tags.
 use Rattle.std.proofs.Common.{◌≡◌, ℕ, List, [], ◌∷◌, ◌++◌, Bool, true, false, not, ◌&&◌, eqb, refl, sym, ap, ◌∙◌, subst, append_assoc}
-use Rattle.std.proofs.lemmas.Bool.{true≢false, false≢true, and_parts, and_from}
-use Rattle.std.proofs.lemmas.List.{append-nil}
-use Rattle.html_safe_page.specs.SafePage.{kind, spell_kind, spell_letter, spell_text, Tag, spell_tag, void_end, Items, End, Letter, Void, Element, spell_before}
+use Rattle.std.proofs.lemmas.Bool.{false≢true, and_parts, and_from}
+use Rattle.html_safe_page.specs.SafePage.{spell_kind, spell_letter, spell_text, Tag, spell_tag, void_end, Items, End, Letter, Void, Element, spell_before}
 use Rattle.html_safe_page.proofs.Text.{by_kind, plain_other}
 use Rattle.html_safe_page.proofs.Sound.{tag_append}
 use Rattle.html_safe_page.proofs.Spelled.{is_word, is_worded_list, is_worded}
 use Rattle.html_listed.specs.ListedPage.{have_tags}
 use Rattle.html_listed_page.specs.Tags.{lacks, stops_at, IsText}
-use Rattle.html_listed_page.specs.Rest.{HasItems, HasEnd, IsAfter, IsRestWith, in_tag}
+use Rattle.html_listed_page.specs.Rest.{IsAfter, IsRestWith, in_tag}
 use Rattle.html_listed_page.proofs.Cuts.{lacks_back, has_byte, tail, head, one_cut}
 use Rattle.html_listed_page.proofs.Texts.{less_spared}
 use Rattle.html_listed_page.proofs.Words.{name_lacks, tag_lacks}

@@ -1,6 +1,6 @@
 -- The tests of tags.
-use Rattle.std.proofs.Common.{◌≡◌, ◌↔◌, ℕ, List, [], ◌∷◌, ◌++◌, Bool, true, false, not, ◌&&◌, ◌||◌, eqb, codes}
-use Rattle.std.proofs.Common.{refl, sym, ap, ◌∙◌, subst, inl, inr, append_assoc}
+use Rattle.std.proofs.Common.{◌≡◌, ◌↔◌, ℕ, List, [], ◌∷◌, ◌++◌, Bool, true, false, not, ◌&&◌, ◌||◌}
+use Rattle.std.proofs.Common.{refl, sym, ap, ◌∙◌, subst, inl, inr}
 use Rattle.std.proofs.lemmas.Bool.{true≢false, false≢true, and_parts, and_from, or_cases, or_left, or_right}
 use Rattle.std.proofs.lemmas.List.{append-nil}
 use Rattle.html_safe_page.specs.Table.{start_rows_of, void_rows_of}
@@ -13,8 +13,8 @@ use Rattle.html_safe_page.proofs.Sound.{tag_append}
 use Rattle.html_safe_page.proofs.Spelled.{is_worded}
 use Rattle.html_safe_page.proofs.Pages.{start_worded_by, void_worded_by}
 use Rattle.definition_html.specs.Listing.{is_in, is_listed, void_names}
-use Rattle.html_listed.specs.ListedPage.{attribute_names, are_some_of, is_listed_value, is_listed_tag, is_listed_start, is_listed_void}
-use Rattle.html_listed.specs.ListedPage.{is_start, is_void, have_tags}
+use Rattle.html_listed.specs.ListedPage.{attribute_names, are_some_of, is_listed_tag, is_listed_start, is_listed_void}
+use Rattle.html_listed.specs.ListedPage.{have_tags}
 use Rattle.html_listed_page.specs.Tags.{lacks, IsCut, IsText, HasAttributes, IsTagOf}
 use Rattle.html_listed_page.specs.Rest.{IsRestWith, in_tag}
 use Rattle.html_listed_page.proofs.Cuts.{lacks_append}

@@ -1,10 +1,10 @@
 -- Letters and references.
-use Rattle.std.proofs.Common.{◌≡◌, ℕ, List, [], ◌∷◌, ◌++◌, Bool, true, false, not, ◌&&◌, eqb, codes, refl, sym, ap, ◌∙◌}
+use Rattle.std.proofs.Common.{◌≡◌, ℕ, List, [], ◌∷◌, true, false, not, ◌&&◌, codes, refl, sym, ap, ◌∙◌}
 use Rattle.html_safe_page.specs.SafePage.{kind, spell_kind, spell_letter, spell_text}
 use Rattle.html_safe_page.specs.Reader.{read_text}
-use Rattle.html_safe_page.proofs.Text.{by_kind, is_plain, plain_other, read_spelled, spell_text-append}
+use Rattle.html_safe_page.proofs.Text.{by_kind, is_plain, plain_other, read_spelled}
 use Rattle.html_listed_page.specs.Tags.{lacks}
-use Rattle.html_listed_page.proofs.Cuts.{lacks_append, one_cut}
+use Rattle.html_listed_page.proofs.Cuts.{lacks_append}
 use Rattle.std.specs.Option.{unwrap_or}
 
 -- letters are spelled without this byte

@@ -1,9 +1,9 @@
 -- The names of tags and attributes of a listed page.
-use Rattle.std.proofs.Common.{◌≡◌, ℕ, List, [], ◌∷◌, ◌++◌, Bool, true, false, not, ◌&&◌, ◌||◌, cond, eqb, codes, refl, sym, ap, ◌∙◌, subst, inl, inr}
+use Rattle.std.proofs.Common.{◌≡◌, ℕ, List, [], ◌∷◌, ◌++◌, true, false, not, ◌&&◌, ◌||◌, eqb, codes, refl, sym, ap, ◌∙◌, subst, inl, inr}
 use Rattle.std.proofs.Common.{append_assoc}
 use Rattle.std.specs.List.{list_any, list_all}
 use Rattle.std.specs.Str.{bytes_eq}
-use Rattle.std.proofs.lemmas.Bool.{cond_both, true≢false, false≢true, and_parts, and_from, or_cases, eqb-true, ne_eqb}
+use Rattle.std.proofs.lemmas.Bool.{cond_both, false≢true, and_parts, and_from, or_cases, ne_eqb}
 use Rattle.std.proofs.lemmas.List.{append-nil}
 use Rattle.std.proofs.lemmas.List.Folds.{list_all-append}
 use Rattle.html_safe_page.specs.SafePage.{Attribute, Tag, attribute_start, spell_text, spell_attributes, spell_tag}

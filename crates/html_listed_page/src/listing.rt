@@ -80,8 +80,16 @@ pub(crate) fn is_listed(name: &str) -> bool
     ensures { result ≡ is_listed name.now }
 {
     let free = is_in(&FREE_NAMES, name);
+    if free {
+        return true;
+    }
     let heading = is_in(&HEADING_NAMES, name);
+    if heading {
+        return true;
+    }
     let void = is_in(&VOID_NAMES, name);
-    let part = is_in(&PART_NAMES, name);
-    free || heading || void || part
+    if void {
+        return true;
+    }
+    is_in(&PART_NAMES, name)
 }

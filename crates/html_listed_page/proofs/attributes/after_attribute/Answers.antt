@@ -1,6 +1,5 @@
-use Rattle.std.proofs.Common.{ap, sym, ◌∙◌}
+use Rattle.std.proofs.Common.{sym, ◌∙◌}
 use Rattle.std.proofs.lemmas.Bool.{true≢false}
-use Rattle.html_listed_page.specs.Tags.{IsQuoted}
 use Rattle.html_listed_page.proofs.Taking.{taken, absent, refused}
 use Rattle.html_listed_page.proofs.attributes.after_attribute.Goals as goal
 

@@ -1,4 +1,4 @@
-use Rattle.std.proofs.Common.{◌≡◌, ◌↔◌, ◌++◌, ◌+◌, ℕ, List, true, drop, subst, sym, rules}
+use Rattle.std.proofs.Common.{◌≡◌, ◌↔◌, ◌++◌, ◌+◌, true, drop, subst, sym, rules}
 use Rattle.html_safe_page.specs.Views.{names_of}
 use Rattle.html_listed_page.specs.Tags.{HasAttributes, are_names}
 use Rattle.html_listed_page.proofs.Outcomes.{both_ways}

@@ -1,6 +1,5 @@
-use Rattle.std.proofs.Common.{◌↔◌, ◌++◌, [], ap, sym, subst, ◌∙◌}
+use Rattle.std.proofs.Common.{◌↔◌, ◌++◌, [], ap, subst, ◌∙◌}
 use Rattle.definition_html.specs.Listing.{listed_attributes}
-use Rattle.html_listed.specs.ListedPage.{attribute_names}
 use Rattle.html_listed_page.specs.Tags.{HasAttributes, are_names}
 use Rattle.html_listed_page.proofs.Taking.{all_taken, all_fit, others_fit}
 use Rattle.html_listed_page.proofs.attributes.has_attributes.Goals as goal

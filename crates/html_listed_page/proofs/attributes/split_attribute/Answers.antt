@@ -1,4 +1,4 @@
-use Rattle.std.proofs.Common.{◌≡◌, ◌∷◌, ◌++◌, codes, sym, subst, ap, lit<, ◌∙◌}
+use Rattle.std.proofs.Common.{◌∷◌, ◌++◌, None, Some, codes, sym, subst, ap, lit<, ◌∙◌}
 use Rattle.std.proofs.lemmas.Str.Pattern.{split_parts, strip_prefix_char}
 use Rattle.html_listed_page.specs.Tags.{IsQuoted}
 use Rattle.html_listed_page.proofs.Cuts.{same_back}
@@ -9,14 +9,14 @@ pub returns-in_err-spaced : goal.returns-in_err-spaced
 returns-in_err-spaced c =
     let name = c.args.name.now in
     let text = c.args.text.now in
-    subst (IsQuoted name text) (sym c.from_residual-in_err-spaced.ensures)
-    (λ value after e. strip_prefix_char 32 text _ c.in_err-spaced.ensures.cases (lit< tt) ((name ++ codes "=\"") ++ (value ++ (34 ∷ after))) (sym e))
+    subst (IsQuoted name text) (sym c.from_residual.ensures)
+    (λ value after e. strip_prefix_char 32 text None c.in_err-spaced.ensures.cases (lit< tt) ((name ++ codes "=\"") ++ (value ++ (34 ∷ after))) (sym e))
 
 pub returns-in_err-named : goal.returns-in_err-named
 returns-in_err-named c =
     let name = c.args.name.now in
     let text = c.args.text.now in
-    let spaced = strip_prefix_char 32 text _ c.in_ok-spaced.ensures.cases (lit< tt) in
+    let spaced = strip_prefix_char 32 text (Some c.in_ok-spaced.spaced) c.in_ok-spaced.ensures.cases (lit< tt) in
     subst (IsQuoted name text) (sym c.from_residual-in_err-named.ensures)
     (λ value after e. c.in_err-named.ensures.cases (codes "=\"" ++ (value ++ (34 ∷ after)))
     (sym (after_start name text c.in_ok-spaced.spaced.now (value ++ (34 ∷ after)) spaced e)))
@@ -25,7 +25,7 @@ pub returns-in_err-quoted : goal.returns-in_err-quoted
 returns-in_err-quoted c =
     let name = c.args.name.now in
     let text = c.args.text.now in
-    let spaced = strip_prefix_char 32 text _ c.in_ok-spaced.ensures.cases (lit< tt) in
+    let spaced = strip_prefix_char 32 text (Some c.in_ok-spaced.spaced) c.in_ok-spaced.ensures.cases (lit< tt) in
     let named = c.in_ok-named.ensures.cases in
     let is = named.1.1 ∙ ap (λ z. name ++ z) (sym named.2) in
     subst (IsQuoted name text) (sym c.from_residual-in_err-quoted.ensures)
@@ -37,7 +37,7 @@ pub returns : goal.returns
 returns c =
     let name = c.args.name.now in
     let text = c.args.text.now in
-    let spaced = strip_prefix_char 32 text _ c.in_ok-spaced.ensures.cases (lit< tt) in
+    let spaced = strip_prefix_char 32 text (Some c.in_ok-spaced.spaced) c.in_ok-spaced.ensures.cases (lit< tt) in
     let named = c.in_ok-named.ensures.cases in
     let quoted = c.in_ok-quoted.ensures.cases in
     let bytes = c.in_ok-quoted.quoted.now in

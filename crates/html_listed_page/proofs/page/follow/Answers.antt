@@ -1,4 +1,4 @@
-use Rattle.std.proofs.Common.{◌≡◌, ◌↔◌, ◌∷◌, ◌++◌, [], true, IsTrue, ap, sym, subst, lit<, ◌∙◌}
+use Rattle.std.proofs.Common.{◌↔◌, ◌++◌, [], true, IsTrue, ap, sym, subst, lit<, ◌∙◌}
 use Rattle.std.proofs.lemmas.Bool.{true≢false}
 use Rattle.std.proofs.lemmas.Str.Pattern.{strip_prefix_char}
 use Rattle.html_safe_page.specs.SafePage.{void_end}

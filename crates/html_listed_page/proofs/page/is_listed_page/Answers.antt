@@ -1,4 +1,4 @@
-use Rattle.std.proofs.Common.{◌≡◌, ◌↔◌, ◌==◌, ◌∷◌, ◌++◌, [], IsTrue, length, ap, sym, subst, arith, lit<, rules, ◌∙◌}
+use Rattle.std.proofs.Common.{◌↔◌, ◌==◌, ◌∷◌, IsTrue, length, ap, sym, subst, arith, lit<, rules, ◌∙◌}
 use Rattle.std.proofs.lemmas.Bool.{true≢false, false≢true, eqb-true}
 use Rattle.std.proofs.lemmas.List.{length-append}
 use Rattle.std.proofs.lemmas.Str.Pattern.{split_parts}
@@ -36,7 +36,7 @@ returns-in_default-split_once g c =
     let cut = rw c.in-Some.is at (split_parts 60 rest c.split_once.result c.split_once.ensures.cases (lit< tt)) in
     let letters = c.in-Some.letters.now in
     let after = c.in-Some.after.now in
-    let none = rw c.in_default-split_once.is at (split_parts 62 after c.split_once-2.result c.split_once-2.ensures.cases (lit< tt)) in (
+    let none = rw c.in_default-split_once.is at (split_parts 62 after c.split_once-in-Some.result c.split_once-in-Some.ensures.cases (lit< tt)) in (
       (λ e. absurd (false≢true e)),
       λ p. no_tag_end c.args.table (open_names c.loop-letters.names.items) rest letters after c.args.page.now cut.0
           (lacks_by_places 60 letters cut.1) (lacks_by_places 62 after none) c.loop-letters.invariant.1 p,
@@ -44,7 +44,7 @@ returns-in_default-split_once g c =
 
 pub follow-requires : goal.follow-requires
 follow-requires g c =
-    let found = rw c.in-Some-split_once.is at (split_parts 62 c.in-Some.after.now c.split_once-2.result c.split_once-2.ensures.cases (lit< tt)) in
+    let found = rw c.in-Some-split_once.is at (split_parts 62 c.in-Some.after.now c.split_once-in-Some.result c.split_once-in-Some.ensures.cases (lit< tt)) in
     lacks_by_places 62 c.in-Some-split_once.tag.now found.1
 
 pub returns-then-not-goes_on : goal.returns-then-not-goes_on
@@ -53,7 +53,7 @@ returns-then-not-goes_on g c =
     let cut = rw c.in-Some.is at (split_parts 60 rest c.split_once.result c.split_once.ensures.cases (lit< tt)) in
     let letters = c.in-Some.letters.now in
     let after = c.in-Some.after.now in
-    let found = rw c.in-Some-split_once.is at (split_parts 62 after c.split_once-2.result c.split_once-2.ensures.cases (lit< tt)) in
+    let found = rw c.in-Some-split_once.is at (split_parts 62 after c.split_once-in-Some.result c.split_once-in-Some.ensures.cases (lit< tt)) in
     let tag = c.in-Some-split_once.tag.now in
     let ns = open_names c.loop-letters.names.items in
     let ms = open_names c.follow.new.names.items in (
@@ -68,7 +68,7 @@ loop-letters-smaller g c =
     let cut = rw c.in-Some.is at (split_parts 60 rest c.split_once.result c.split_once.ensures.cases (lit< tt)) in
     let letters = c.in-Some.letters.now in
     let after = c.in-Some.after.now in
-    let found = rw c.in-Some-split_once.is at (split_parts 62 after c.split_once-2.result c.split_once-2.ensures.cases (lit< tt)) in
+    let found = rw c.in-Some-split_once.is at (split_parts 62 after c.split_once-in-Some.result c.split_once-in-Some.ensures.cases (lit< tt)) in
     let tag = c.in-Some-split_once.tag.now in
     let next = c.in-Some-split_once.next.now in
     omega (arith, ap length cut.0, length-append letters (60 ∷ after), ap length found.0, length-append tag (62 ∷ next))
@@ -79,7 +79,7 @@ loop-letters-preserved g c =
     let cut = rw c.in-Some.is at (split_parts 60 rest c.split_once.result c.split_once.ensures.cases (lit< tt)) in
     let letters = c.in-Some.letters.now in
     let after = c.in-Some.after.now in
-    let found = rw c.in-Some-split_once.is at (split_parts 62 after c.split_once-2.result c.split_once-2.ensures.cases (lit< tt)) in
+    let found = rw c.in-Some-split_once.is at (split_parts 62 after c.split_once-in-Some.result c.split_once-in-Some.ensures.cases (lit< tt)) in
     let tag = c.in-Some-split_once.tag.now in
     let ns = open_names c.loop-letters.names.items in
     let ms = open_names c.follow.new.names.items in (

@@ -1,4 +1,4 @@
-use Rattle.std.proofs.Common.{◌≡◌, ◌↔◌, ◌++◌, ◌∷◌, IsTrue, [], ap, sym, subst, ◌∙◌}
+use Rattle.std.proofs.Common.{◌≡◌, ◌↔◌, ◌++◌, ◌∷◌, IsTrue, [], ap, sym, subst, append_assoc, codes, ◌∙◌}
 use Rattle.html_safe_page.specs.SafePage.{is_tag_of, IsSafePageBy}
 use Rattle.html_safe_page.specs.Table.{start_rows_of}
 use Rattle.html_listed_page.specs.Rest.{in_tag}
@@ -15,7 +15,8 @@ returns g c =
     let name = c.name_of.result.now in
     let cut = c.name_of.ensures.1 in
     let spelled : c.as_str.result.now ≡ in_tag tag (in_tag (47 ∷ name) []) =
-    c.as_str.ensures.value ∙ c.in_ok-push_element.ensures ∙ ap (λ x. x ++ empty_element tag name) c.new-element.ensures.bytes in
+    c.as_str.ensures.value ∙ c.in_ok-push_element.ensures ∙ ap (λ x. x ++ empty_element tag name) c.new-element.ensures.bytes
+    ∙ ap (λ z. 60 ∷ z) (append_assoc (tag ++ codes "></") name (62 ∷ []) ∙ append_assoc tag (codes "></") (name ++ (62 ∷ []))) in
     from_ok c.is_safe_page_by.result (λ yes. IsTrue yes ↔ IsSafePageBy table c.as_str.result.now)
     (λ yes. IsTrue yes ↔ IsTagOf (is_tag_of (start_rows_of table)) [] tag)
     (λ yes p. (

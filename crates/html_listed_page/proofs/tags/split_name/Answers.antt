@@ -1,4 +1,4 @@
-use Rattle.std.proofs.Common.{◌≡◌, sym, subst, take, lit<}
+use Rattle.std.proofs.Common.{sym, subst, take, lit<}
 use Rattle.std.proofs.lemmas.Str.Pattern.{find_char}
 use Rattle.html_listed_page.specs.Tags.{IsCut}
 use Rattle.html_listed_page.proofs.Cuts.{cut_at, cut_after}

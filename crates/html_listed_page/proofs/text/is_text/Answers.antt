@@ -1,4 +1,4 @@
-use Rattle.std.proofs.Common.{◌≡◌, ◌↔◌, IsTrue, sym, ◌∙◌, lit<}
+use Rattle.std.proofs.Common.{◌↔◌, IsTrue, sym, ◌∙◌, lit<}
 use Rattle.std.proofs.lemmas.Bool.{true≢false, false≢true}
 use Rattle.std.proofs.lemmas.Str.Pattern.{contains_char}
 use Rattle.html_safe_page.specs.SafePage.{IsSafePage}
