@@ -1,0 +1,10 @@
+pub mod Outcomes
+pub mod Cuts
+pub mod Texts
+pub mod Words
+pub mod Rests
+pub mod Pages
+pub mod Quoted
+pub mod Taking
+pub mod TagTests
+pub mod ListedNames
