@@ -4,7 +4,7 @@ _markdown_safe() {
     compopt -o filenames
     mapfile -t COMPREPLY < <(
         case $word in
-            -*) compgen -W '--clean --help --version' -- "$word" ;;
+            -*) compgen -W '--clean --help --listed --version' -- "$word" ;;
             *) compgen -f -- "$word" ;;
         esac
     )

@@ -15,6 +15,8 @@ It reads the files, or standard input, whose name is -. Columns are in bytes.
 Options:
       --clean    Print what is kept of the HTML of the files: the elements and
                  attributes of a fixed list; other tags are printed as text
+      --listed   Let pages have elements and attributes of that list, too, as
+                 they are printed with --clean; prints no place: FILE: WHAT
   -h, --help     Print help
   -V, --version  Print version
       --         What follows are names of files
@@ -37,6 +39,8 @@ pub(crate) struct Command<'w> {
     pub(crate) files: Vec<&'w str>,
     /// Whether the files are sanitized in place of a check.
     pub(crate) cleans: bool,
+    /// Whether the pages that are checked may have tags of the list, too.
+    pub(crate) listed: bool,
     /// Whether all further words are names of files.
     names_only: bool,
 }
@@ -49,6 +53,7 @@ impl<'w> Command<'w> {
             answer: None,
             files: Vec::new(alloc),
             cleans: false,
+            listed: false,
             names_only: false,
         };
         for word in words {
@@ -67,6 +72,7 @@ impl<'w> Command<'w> {
             "-h" | "--help" => self.set_answer(HELP),
             "-V" | "--version" => self.set_answer(VERSION),
             "--clean" => self.cleans = true,
+            "--listed" => self.listed = true,
             "--" => self.names_only = true,
             _ if is_flag(word) => return Err(Fault::Words),
             _ => self.files.push(word)?,

@@ -4,11 +4,13 @@
 mod check;
 mod clean;
 mod command;
+mod listed;
 mod outcome;
 
 use check::check_files;
 use clean::clean_files;
 use command::Command;
+use listed::check_listed_files;
 use markdown_input::{Fault, words};
 use outcome::Outcome;
 use std::io;
@@ -31,6 +33,9 @@ fn run(rt: &HostRuntime) -> Result<Outcome, Fault> {
     }
     if command.cleans {
         return Ok(clean_files(rt, &command.files));
+    }
+    if command.listed {
+        return check_listed_files(rt, &command.files);
     }
     check_files(rt, &command.files)
 }
