@@ -116,7 +116,7 @@ export interface Options extends ReadOptions {
      * Keep HTML of the input by a list of elements and attributes, and escape the rest. With `dangerousHtml` all of it is kept. Show
      * the page in an element such as `div`, and not in `p` or `span`.
      */
-    allowListedHtml?: boolean;
+    listedHtml?: boolean;
     /** What ends a line of the HTML if the input has no line ending. By default LF. */
     lineEnding?: "\n" | "\r" | "\r\n";
 }

@@ -31,7 +31,7 @@ const CONSTRUCTS = {
 // The switches of that struct, in the order of their numbers, and the flags that turn them on; 0 is never, -1 always.
 const SWITCHES = {
     anyImageProtocol: 0, dangerousHtml: DANGEROUS, dangerousProtocol: DANGEROUS, tagfilter: TAGFILTER, checkableTasks: 0,
-    singleTilde: -1, singleDollar: -1, headingIds: 0, lazyImages: 0, allowListedHtml: 0,
+    singleTilde: -1, singleDollar: -1, headingIds: 0, lazyImages: 0, listedHtml: 0,
 };
 const DANGEROUS_HTML = 2, HEADING_IDS = 128;
 const LINE_ENDINGS = ["\n", "\r", "\r\n"];

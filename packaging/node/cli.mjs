@@ -22,8 +22,6 @@ Converts Markdown to safe HTML on standard output. It reads the file, or standar
     -V, --version  print the version
 `;
 const FLAGS = ["gfm", "mark", "math", "frontmatter", "heading-ids", "lazy-images", "listed-html", "dangerous", "plain"];
-// The option of a word, where it has another name.
-const OPTIONS = { "listed-html": "allowListedHtml" };
 const WRONG = "wrong command line; --help lists the words";
 
 function write(fd, bytes) {
@@ -39,7 +37,7 @@ function read(words) {
     const isOption = (word, place) => word.startsWith("-") && word !== "-" && (end < 0 || place < end);
     const names = words.filter(isOption).map(word => word.slice(2));
     const files = words.filter((word, place) => place !== end && !isOption(word, place));
-    for (const name of names) options[OPTIONS[name] ?? name.replace(/-./g, part => part[1].toUpperCase())] = true;
+    for (const name of names) options[name.replace(/-./g, part => part[1].toUpperCase())] = true;
     const isRight = words.filter(isOption).every(word => word.startsWith("--")) && names.every(name => FLAGS.includes(name));
     return isRight && files.length < 2 ? { options, file: files[0] ?? "-" } : null;
 }

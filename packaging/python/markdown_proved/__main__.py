@@ -22,7 +22,7 @@ FLAGS = {
 SWITCHES = {
     "heading-ids": ("heading_ids", "print ids of headings, as GitHub makes them"),
     "lazy-images": ("lazy_images", 'print loading="lazy" in images'),
-    "listed-html": ("allow_listed_html", "keep raw HTML by a list of elements and attributes, and escape the rest; --dangerous keeps all of it"),
+    "listed-html": ("listed_html", "keep raw HTML by a list of elements and attributes, and escape the rest; --dangerous keeps all of it"),
 }
 TEXTS = {
     "heading_id_prefix": ("TEXT", "print a text before these ids, and in links to them"),

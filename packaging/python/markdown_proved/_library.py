@@ -96,7 +96,7 @@ class Options(ReadOptions, total=False):
     image_base: str  # the same for images; if it is empty, it is ``link_base``
     link_rel: str  # the ``rel`` of links, except those of footnotes; if it is empty, they have none
     lazy_images: bool  # images have ``loading="lazy"``
-    allow_listed_html: bool  # keep HTML of the input by a list of elements and attributes; with ``dangerous_html`` all of it is kept
+    listed_html: bool  # keep HTML of the input by a list of elements and attributes; with ``dangerous_html`` all of it is kept
     line_ending: str  # what ends a line of the HTML if the input has no line ending: ``\n``, ``\r`` or ``\r\n``
 
 
@@ -220,7 +220,7 @@ _CONSTRUCT_KEYWORDS: Final = {name: number for name, number in _CONSTRUCT_NUMBER
 # The switches of that struct, in the order of their numbers.
 _SWITCHES: Final = (
     "any_image_protocol", "dangerous_html", "dangerous_protocol", "tagfilter", "checkable_tasks", "single_tilde", "single_dollar",
-    "heading_ids", "lazy_images", "allow_listed_html",
+    "heading_ids", "lazy_images", "listed_html",
 )
 _SWITCH_NUMBERS: Final = {name: 1 << place for place, name in enumerate(_SWITCHES)}
 _CORE: Final = sum(
@@ -279,7 +279,7 @@ _DEFAULT_TEXTS: Final = {
 # Keywords that only the HTML depends on.
 _PRINTING: Final = frozenset({
     "dangerous", "dangerous_html", "dangerous_protocol", "any_image_protocol", "tagfilter", "checkable_tasks", "heading_ids",
-    "lazy_images", "allow_listed_html", "line_ending", *_DEFAULT_TEXTS,
+    "lazy_images", "listed_html", "line_ending", *_DEFAULT_TEXTS,
 })
 # Keywords that sanitized HTML doesn't depend on.
 _NOT_SANITIZING: Final = frozenset({
