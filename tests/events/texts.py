@@ -26,6 +26,8 @@ SETS = {
     "BlocksAndMath": BLOCKS + ["math_flow"],
     "BlocksAndRawHtml": BLOCKS,
     "BlocksAndFilteredHtml": BLOCKS,
+    "ListedHtml": CORE,
+    "GfmAndListedHtml": CORE + GFM,
     "CommonMark": CORE,
     "Standard": CORE,
     "CommonMarkAndTables": CORE + ["gfm_table"],
