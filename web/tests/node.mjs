@@ -65,7 +65,7 @@ same("checkable tasks", markdown.toHtml("- [ ] a", { gfm: true, checkableTasks: 
 same("ids", markdown.toHtml("# A *b*\n# a b\n# !", { headingIds: true }), '<h1 id="a-b">A <em>b</em></h1>\n<h1 id="a-b-1">a b</h1>\n<h1>!</h1>');
 same("lazy images", markdown.toHtml("![a](b 'c')", { lazyImages: true }), '<p><img src="b" alt="a" title="c" loading="lazy" /></p>');
 same("listed HTML", markdown.toHtml("a<br>b <x>c</x>", { listedHtml: true }), "<p>a<br />b &lt;x&gt;c&lt;/x&gt;</p>");
-same("listed HTML beside dangerous HTML", markdown.toHtml("<x>", { listedHtml: true, dangerousHtml: true }), "<p><x></p>");
+same("listed HTML beside dangerous HTML", markdown.toHtml("a <x>", { listedHtml: true, dangerousHtml: true }), "<p>a <x></p>");
 same("ids by a sum of flags", markdown.toHtml("# ~a~", { flags: 4, headingIds: true }), '<h1 id="a"><del>a</del></h1>');
 same("ids beside a prefix", fault(() => markdown.toHtml("# a", { headingIds: true, prefix: "b" })), "headingIds needs the default prefix of footnotes");
 const note = "a[^b]\n\n[^b]: c";

@@ -76,7 +76,7 @@ check("ids, bases, rel and loading", attributes, (
     '<img src="https://i/f" alt="e" loading="lazy" /></p>'
 ))
 check("listed HTML", to_html("a<br>b <x>c</x>", listed_html=True), "<p>a<br />b &lt;x&gt;c&lt;/x&gt;</p>")
-check("listed HTML beside dangerous HTML", to_html("<b onclick=c>", listed_html=True, dangerous_html=True), "<p><b onclick=c></p>")
+check("listed HTML beside dangerous HTML", to_html("a <b onclick=c>", listed_html=True, dangerous_html=True), "<p>a <b onclick=c></p>")
 check("one base for both", to_html("[a](b) ![c](d)", link_base="/e/"), '<p><a href="/e/b">a</a> <img src="/e/d" alt="c" /></p>')
 check("a prefix without ids", to_html("# a\n\n[b](#a)", heading_id_prefix="c"), '<h1>a</h1>\n<p><a href="#a">b</a></p>')
 check("a base of a wrong type", fault(to_html, "", link_base=None), (TypeError, "link_base must be a str, not NoneType"))
