@@ -107,11 +107,11 @@ fn write_new(mut file: File, metadata: &Metadata, text: &str) -> Result<(), Faul
 
 /// Gives a file the owner and the group of another.
 fn set_owner(file: &File, metadata: &Metadata) -> Result<(), Fault> {
-    let own = match file.metadata() {
-        Ok(own) => own,
+    let new = match file.metadata() {
+        Ok(new) => new,
         Err(error) => return Err(Fault::writing(&error)),
     };
-    if own.uid() == metadata.uid() && own.gid() == metadata.gid() {
+    if new.uid() == metadata.uid() && new.gid() == metadata.gid() {
         return Ok(());
     }
     match fchown(file, Some(metadata.uid()), Some(metadata.gid())) {
