@@ -9,8 +9,7 @@ use Rattle.engine_events.specs.declared.event.Event.{Event}
 use Rattle.engine_events.specs.declared.event.Kind.{Kind}
 use Rattle.engine_events.specs.declared.event.Kind.TheVariants.{Enter, Exit}
 use Rattle.definition_inline.specs.CharacterReference.{Names}
-use Rattle.event_grammar.specs.CheckViews.{is_enter, is_pair}
-use Rattle.event_grammar.specs.Trees.{AreNodes, IsNode, Node, Nodes, Around, Nil, Cons, events_of, node_events}
+use Rattle.event_grammar.specs.Trees.{AreNodes, IsNode, Node, Nodes, Around, Nil, Cons, events_of, node_events, is_enter, is_pair}
 use Rattle.event_tokens.specs.Shape.{full_names, is_hollow, no_neighbours, none_after}
 use Rattle.parse_references.specs.Sound.{AreSound, IsSound}
 use Rattle.parse_grammar.specs.ShapeLaws.{SoundNodesHold}
