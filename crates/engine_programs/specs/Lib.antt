@@ -3,6 +3,10 @@ pub mod Sorts
 pub mod Stacks
 pub mod NameLaws
 pub mod StackLaws
+pub mod AddLaws
+pub mod KnownLaws
+pub mod AttemptLaws
+pub mod CallLaws
 pub mod BodyLaws
 pub mod ConsumeLaws
 pub mod ProgramLaws

@@ -29,7 +29,9 @@ use Rattle.engine_programs.specs.Stacks.{Ahead, At, Far, IsValid, Mark, Marks, M
 use Rattle.engine_programs.specs.Stacks.{needs_end, program_rank, program_valid, program_waits, program_weight}
 use Rattle.engine_programs.specs.NameLaws.{exit_on, names_both, never_both, or_first, or_second}
 use Rattle.engine_programs.specs.StackLaws.{far_less, far_near, far_weak, marks_more}
-use Rattle.engine_programs.specs.BodyLaws.{called_fine, marks_reversed, program_adds}
+use Rattle.engine_programs.specs.AddLaws.{program_adds}
+use Rattle.engine_programs.specs.BodyLaws.{called_fine}
+use Rattle.engine_programs.specs.KnownLaws.{marks_reversed}
 use Rattle.engine_programs.specs.ConsumeLaws.{program_consumes}
 
 module _ (sorts : Name → Sort) (size : ℕ) where
