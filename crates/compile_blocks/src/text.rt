@@ -29,7 +29,8 @@ use crate::source::Source;
 use compile_levels::node::first_node;
 use compile_rows::{Columns, SpelledStrings, alone_row, text_rows};
 use engine_events::event::{Event, Name};
-use html_inline::{Printing, Scratch, count_rows, push_alone, push_heading_text, push_rows};
+use html_heading_text::push_heading_text;
+use html_inline::{Printing, Scratch, count_rows, push_alone, push_rows};
 use html_leaves::Page;
 use html_leaves::heading::heading_name;
 use inline_rows::InlineRow;
@@ -97,7 +98,7 @@ fn push_named_rows<A: Allocator + Clone, T: Tables>(
         (in_bytes (start ∷ inline_pieces meaning (parts_in_cell printing.now.cell is)))) }
 {
     said.clear();
-    push_heading_text(said, scratch, rows)?;
+    push_heading_text(said, &mut scratch.text, rows)?;
     page.out
         .start_heading(printing.compile, heading_name(rank), said.as_str())?;
     push_rows(&mut page.out, scratch, printing, rows)

@@ -14,7 +14,8 @@ ghost use Rattle.text_pieces.specs.Pieces.{piece_lines};
 use crate::buffers::TextBuffers;
 use crate::texts::Texts;
 use html_footnotes::Output;
-use html_inline::{Printing, Scratch, push_heading_text, push_rows};
+use html_heading_text::push_heading_text;
+use html_inline::{Printing, Scratch, push_rows};
 use inline_content::{Content, line_content};
 use inline_parser::{Room, RowRoom, content_start, inline_rows};
 use markdown_options::{Kind, Tables};
@@ -80,7 +81,7 @@ impl<'a, T: Tables, A: Allocator + Clone> Texts<'a, '_, T, A> {
             content_start(content),
         )?;
         said.clear();
-        push_heading_text(said, scratch, found.as_slice())?;
+        push_heading_text(said, &mut scratch.text, found.as_slice())?;
         out.start_heading(compile, name, said.as_str())?;
         let printing = Printing {
             on: &parse.constructs,

@@ -16,7 +16,7 @@ use Rattle.definition_page.specs.GfmTagfilter.{filter_tags}
 use Rattle.definition_page.specs.Tags.{AsItIs, Marked, Words}
 use Rattle.inline_leaves.proofs.Endings.{ending_is_eol}
 use Rattle.html_inline.specs.HtmlBytes.{goes_on}
-use Rattle.html_inline.proofs.InLine.{in_line_eol, line_codes, line_left}
+use Rattle.html_heading_text.proofs.InLine.{in_line_eol, line_codes, line_left}
 use Rattle.html_inline.proofs.KeptText.{AreBytes, bare_white}
 
 pub ending_text : (ending : LineEnding) → eol_bytes (line_ending_code ending) ≡ ending_bytes ending

@@ -9,7 +9,6 @@ pub use Rattle.std.proofs.lemmas.Str.{IsCharBoundary-before_ascii, IsCharBoundar
 pub use Rattle.std.specs.List.{flat_map, fold, prefix_len}
 pub use Rattle.std.specs.Prelude.{map, OnOk, reverse}
 pub use Rattle.std.specs.Str.{IsCharBoundary}
-pub use Rattle.definition_inline.specs.CodeText.{is_padded}
 pub use Rattle.definition_inline.specs.Inline.{Call, Cons, Data, Escape, Inline, InlineLeaf, Inlines, Leaf, Linked, LinkTexts, Nil, Span, Target}
 pub use Rattle.definition_inline.specs.LabelMatch.{first_match, normal_label, place_of}
 pub use Rattle.definition_inline.specs.Strings.{begins_with_eol, string_bytes}
@@ -29,6 +28,8 @@ pub use Rattle.html_bytes.specs.Layout.{lay, LayoutState, with_text}
 pub use Rattle.html_bytes.specs.Pieces.{CallOf, CountOf, in_bytes}
 pub use Rattle.html_bytes.specs.RawHtml.{raw_bytes}
 pub use Rattle.html_footnotes.specs.Output.{output_view}
+pub use Rattle.html_heading_text.specs.CodeBytes.{is_in_line}
+pub use Rattle.html_heading_text.specs.Forms.{form_bytes}
 pub use Rattle.inline_labels.specs.Table.{HasLabels}
 pub use Rattle.inline_leaves.proofs.Codes.{at_return, plain_code}
 pub use Rattle.inline_leaves.specs.Leaves.{parts_of}
@@ -37,9 +38,7 @@ pub use Rattle.inline_rows.specs.View.{data_rows, row_view, rows_view, spelled_v
 pub use Rattle.inline_rows.specs.declared.row.InlineRow.{InlineRow}
 pub use Rattle.markdown_compile_options.specs.declared.configuration.CompileOptions.{CompileOptions}
 pub use Rattle.markdown_options.specs.declared.line_ending.LineEnding.{LineEnding}
-pub use Rattle.html_inline.specs.CodeBytes.{is_in_line, spaces_for_endings}
 pub use Rattle.html_inline.specs.Counts.{rows_counts}
-pub use Rattle.html_inline.specs.Forms.{form_bytes}
 pub use Rattle.html_inline.specs.GfmTable.{bar_escape_at, leaf_in, parts_in_cell, row_printed_in}
 pub use Rattle.html_inline.specs.HtmlBytes.{ends, first_bytes, later_bytes, PrintsEnding}
 pub use Rattle.html_inline.specs.Kept.{is_ink, kept_size, text_of}

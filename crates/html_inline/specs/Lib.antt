@@ -1,5 +1,3 @@
-pub mod CodeBytes
-pub mod Forms
 pub mod HtmlBytes
 pub mod Kept
 pub mod Opens
@@ -7,5 +5,4 @@ pub mod Printed
 pub mod Prints
 pub mod GfmTable
 pub mod Counts
-pub mod HeadingRows
 pub mod Fragments

@@ -9,8 +9,8 @@ ghost use Rattle.html_bytes.specs.InlineHtml.{say_bytes};
 ghost use Rattle.html_inline.specs.HtmlBytes.{first_bytes, PrintsEnding};
 ghost use Rattle.html_inline.specs.Prints.{Prints};
 
-use crate::code_text::line_size;
 use html_escape::push_html;
+use html_heading_text::code_text::line_size;
 use inline_leaves::cut::{cut_after, text_before};
 use inline_leaves::line_ending::ending_at;
 use inline_leaves::space::white_size;

@@ -11,11 +11,11 @@ ghost use Rattle.html_inline.specs.Printed.{image_end, image_start, title_bytes}
 ghost use Rattle.html_inline.specs.Opens.{place_target};
 ghost use Rattle.html_inline.specs.Prints.{meaning_by, Definitions, Prints};
 
-use crate::form::Form;
 use crate::printing::Printing;
 use crate::string::{push_formed_string, push_string};
 use crate::url::{lead_image, lead_link, push_image_url, push_link_url};
 use html_escape::push_encoded;
+use html_heading_text::form::Form;
 use inline_links::LinkTexts;
 use inline_rows::LinkTarget;
 use markdown_compile_options::CompileOptions;

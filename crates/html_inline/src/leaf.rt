@@ -7,14 +7,14 @@ ghost use Rattle.html_inline.specs.GfmTable.{leaf_in};
 ghost use Rattle.html_inline.specs.Prints.{Prints};
 
 use crate::autolink::push_autolink;
-use crate::character_reference::push_number;
 use crate::code_text::{push_code, push_code_span};
-use crate::form::Form;
 use crate::gfm_autolink_literal::push_literal;
 use crate::html_text::push_html_text;
 use crate::math_text::push_math;
 use crate::printing::Printing;
 use html_escape::push_encoded;
+use html_heading_text::character_reference::push_number;
+use html_heading_text::form::Form;
 use inline_leaves::LeafPart;
 use markdown_compile_options::CompileOptions;
 use markdown_options::Tables;

@@ -2,15 +2,12 @@
 #![tactic(auto)]
 
 pub mod autolink;
-pub mod character_reference;
 pub mod code_text;
 pub mod count;
-pub mod form;
 mod gfm_autolink_literal;
 mod gfm_label_start_footnote;
 pub mod gfm_table;
 pub mod gfm_task_list_item;
-pub mod heading_text;
 pub mod html_text;
 pub mod label_end;
 pub mod leaf;
@@ -24,7 +21,6 @@ pub mod url;
 
 pub use count::count_rows;
 pub use gfm_task_list_item::push_check;
-pub use heading_text::{push_heading_row, push_heading_text};
 pub use printing::{Printing, Scratch};
 pub use rows::{push_alone, push_rows};
 pub use string::{push_encoded_string, push_string};

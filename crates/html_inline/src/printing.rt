@@ -30,8 +30,8 @@ pub struct Printing<'a, A: Allocator + Clone, T> {
 pub struct Scratch<A: Allocator> {
     /// What is open, the innermost last.
     pub(crate) stack: Vec<OpenPart, A>,
-    /// A URL, a title, or the text of a code span or of math.
-    pub(crate) text: String<A>,
+    /// A URL, a title, or the text of a code span or of math. It is overwritten.
+    pub text: String<A>,
 }
 
 impl<A: Allocator + Clone> Scratch<A> {

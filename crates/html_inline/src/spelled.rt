@@ -11,10 +11,10 @@ ghost use Rattle.inline_rows.specs.View.{spelled_view};
 ghost use Rattle.html_inline.specs.GfmTable.{code_in_cell, leaf_in};
 ghost use Rattle.html_inline.specs.Prints.{Prints};
 
-use crate::code_text::without_padding;
 use crate::gfm_table::push_cell_code;
 use crate::gfm_task_list_item::push_check;
 use html_escape::push_encoded;
+use html_heading_text::code_text::without_padding;
 use inline_rows::SpelledLeaf;
 use markdown_compile_options::CompileOptions;
 use std::alloc::{AllocError, Allocator};

@@ -9,12 +9,12 @@ ghost use Rattle.std.specs.List.{flat_map, prefix_len};
 ghost use Rattle.definition_text.specs.Content.{content_codes};
 ghost use Rattle.definition_inline.specs.Strings.{spaces_at, string_bytes as part_bytes, string_leaf_at, string_text};
 ghost use Rattle.inline_leaves.specs.Leaves.{IsAfter, found_leaf, parts_of};
-ghost use Rattle.html_inline.specs.Forms.{form_bytes};
+ghost use Rattle.html_heading_text.specs.Forms.{form_bytes};
 ghost use Rattle.html_inline.specs.Kept.{is_ink, kept_size, text_of};
 ghost use Rattle.html_inline.specs.Prints.{Prints};
 
-use crate::character_reference::push_number;
-use crate::form::{Form, push_formed};
+use html_heading_text::character_reference::push_number;
+use html_heading_text::form::{Form, push_formed};
 use inline_leaves::character_escape::escape_at;
 use inline_leaves::character_reference::reference_at;
 use inline_leaves::cut::{cut_after, text_before};
@@ -35,7 +35,7 @@ const STARTS: ByteSet = ByteSet {
 };
 
 /// Prints the text that a string stands for (CommonMark 2.4 and 2.5).
-#[tactic(auto, using(crate::proofs::FormedText::formed_bytes))]
+#[tactic(auto, using(html_heading_text::proofs::FormedText::formed_bytes))]
 pub fn push_string<A: Allocator, T: Tables>(
     out: &mut String<A>,
     on: &Constructs,

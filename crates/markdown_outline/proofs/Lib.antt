@@ -2,5 +2,4 @@ pub mod Begun
 pub mod ListedHeadings
 pub mod OutlineSlugs
 pub mod PageOrder
-pub mod SaidRows
 pub mod StoredParts

@@ -21,7 +21,7 @@ use Rattle.event_meaning.specs.Blocks.{heading_atx_of, heading_setext_of}
 use Rattle.event_meaning.specs.Texts.{text_within}
 use Rattle.markdown_outline.specs.Listed.{BeginsSound, HasHeadings, IsListed, Listed, begins_heading, headings_from, listed_at, outline_of}
 use Rattle.markdown_outline.specs.Rank.{page_heading, said_by}
-use Rattle.markdown_outline.specs.Said.{text_says}
+use Rattle.html_heading_text.specs.HeadingLines.{heading_lines}
 use Rattle.markdown_outline.specs.declared.heading.Heading.{Heading}
 use Rattle.markdown_outline.proofs.Begun.{AllBegin}
 use Rattle.markdown_outline.proofs.StoredParts.{headings_more}
@@ -37,11 +37,11 @@ heading_enters Exit name h = absurd (cc)
 
 -- what a heading says, of whatever kind it is
 pub said_is : (names : Names) (bytes : List ℕ) (name : Name) (kids : Nodes)
-    → said_by (page_heading names bytes name kids) ≡ text_says (text_within names bytes false kids)
+    → said_by (page_heading names bytes name kids) ≡ heading_lines (text_within names bytes false kids)
 said_is names bytes name kids = by_case (same_name name n.HeadingAtx)
   where
     by_case : (b : Bool) → said_by (if b then heading_atx_of names bytes kids else heading_setext_of names bytes kids)
-        ≡ text_says (text_within names bytes false kids)
+        ≡ heading_lines (text_within names bytes false kids)
     by_case true = refl
     by_case false = refl
 
@@ -75,7 +75,7 @@ module _ (bytes : List ℕ) (enter : Event) (after : List Event) (b : BeginsSoun
   kids_are = inner_sound bytes (Around enter b.kids b.exit) b.sound
 
   -- what a heading says that it is
-  pub text_is : (names : Names) → text_says (text_within names bytes false b.kids) ≡ said_by (page_heading names bytes enter.name (tree (inside after)))
+  pub text_is : (names : Names) → heading_lines (text_within names bytes false b.kids) ≡ said_by (page_heading names bytes enter.name (tree (inside after)))
   text_is names =
       sym (said_is names bytes enter.name b.kids) ∙ ap (λ (ns : Nodes). said_by (page_heading names bytes enter.name ns)) (sym tree_inside)
 

@@ -2,4 +2,3 @@ pub mod Laws
 pub mod Listed
 pub mod PageHeadings
 pub mod Rank
-pub mod Said

@@ -2,7 +2,7 @@
 use Rattle.std.specs.Prelude.{ℕ, List, [], ◌∷◌, ◌++◌}
 use Rattle.definition_page.specs.Page as page
 use Rattle.definition_page.specs.Page.{PageLeaf, Heading}
-use Rattle.markdown_outline.specs.Said.{text_says}
+use Rattle.html_heading_text.specs.HeadingLines.{heading_lines}
 
 -- a heading: its rank, and what it says
 pub record PageHeading : Type 0 where
@@ -10,7 +10,7 @@ pub record PageHeading : Type 0 where
   pub text : List ℕ
 
 abbrev pub leaf_headings : PageLeaf → List PageHeading
-leaf_headings (Heading rank is) = record { rank = rank; text = text_says is } ∷ []
+leaf_headings (Heading rank is) = record { rank = rank; text = heading_lines is } ∷ []
 leaf_headings leaf = []
 
 abbrev mutual

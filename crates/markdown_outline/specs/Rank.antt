@@ -7,7 +7,7 @@ use Rattle.definition_inline.specs.CharacterReference.{Names}
 use Rattle.definition_page.specs.Page.{PageLeaf, Heading}
 use Rattle.event_grammar.specs.Trees.{Nodes}
 use Rattle.event_meaning.specs.Blocks.{heading_atx_of, heading_setext_of}
-use Rattle.markdown_outline.specs.Said.{text_says}
+use Rattle.html_heading_text.specs.HeadingLines.{heading_lines}
 
 abbrev pub is_heading : Name → Bool
 is_heading name = same_name name n.HeadingAtx || same_name name n.HeadingSetext
@@ -22,5 +22,5 @@ rank_of leaf = 0
 
 -- what it says
 abbrev pub said_by : PageLeaf → List ℕ
-said_by (Heading rank is) = text_says is
+said_by (Heading rank is) = heading_lines is
 said_by leaf = []

@@ -7,8 +7,6 @@
 //!     }
 #![tactic(auto)]
 
-mod character_reference;
-mod code_text;
 pub mod heading;
 pub mod laws;
 mod list;

@@ -10,7 +10,7 @@ ghost use Rattle.compile_raw.specs.Sound.{AreSound};
 ghost use Rattle.compile_strings.specs.Columns.{AreCounted};
 ghost use Rattle.definition_page.specs.Slug.{next_slug, with_slug};
 ghost use Rattle.markdown_outline.specs.Listed.{AreStored, BeginsSound, HasHeadings, IsListed, begins_heading, listed_at, outline_of};
-ghost use Rattle.markdown_outline.specs.Said.{text_says};
+ghost use Rattle.html_heading_text.specs.HeadingLines.{heading_lines};
 
 use crate::heading::{Heading, Outline, Range};
 use crate::rank::{is_heading, rank_of};
@@ -154,7 +154,7 @@ impl<A: Allocator + Clone> Reader<A> {
         ensures slugs { self.new.slugs ≡ self.old.slugs }
         ensures said { (kids : Nodes) → let names = T.reference_of source.now.tables.now in let bytes = source.now.bytes.now in
             source.now.linked ≡ false → HasLabels source.now.definitions.now [] → AreSound bytes kids → inside.now ≡ events_of kids →
-            OnOk result (string_bytes self.new.text ≡ text_says (text_within names bytes false kids)) }
+            OnOk result (string_bytes self.new.text ≡ heading_lines (text_within names bytes false kids)) }
     {
         self.text.clear();
         push_said(

@@ -1,6 +1,6 @@
 use Rattle.std.proofs.Common.{◌++◌, string_bytes, ap, ◌∙◌, arith, subst}
 use Rattle.html_inline.proofs.Prelude.{is_in_line, prefix_len, PrintsEnding, raw_bytes}
-use Rattle.html_inline.proofs.InLine.{line_boundary}
+use Rattle.html_heading_text.proofs.InLine.{line_boundary}
 use Rattle.html_inline.proofs.HtmlLines.{line_printed, line_shorter}
 use Rattle.html_inline.proofs.html_text.push_line.Goals as goal
 

@@ -1,7 +1,7 @@
 use Rattle.std.proofs.Common.{◌≡◌, ◌++◌, string_bytes, sym, ap, ◌∙◌, arith, drop, take, subst}
 use Rattle.html_inline.proofs.Prelude.{flat_map, form_bytes, IsCharBoundary, kept_size, parts_of, text_of}
 use Rattle.definition_inline.specs.Strings as strings
-use Rattle.html_inline.proofs.FormedText.{formed_both}
+use Rattle.html_heading_text.proofs.FormedText.{formed_both}
 use Rattle.html_inline.proofs.KeptText.{found_text, kept_boundary, kept_text}
 use Rattle.html_inline.proofs.string.push_piece.Goals as goal
 

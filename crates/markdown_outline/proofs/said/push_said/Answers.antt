@@ -1,4 +1,4 @@
-use Rattle.std.proofs.Common.{◌≡◌, ◌++◌, ◌∙◌, ℕ, Bool, false, List, [], OnOk, string_bytes, sym, ap, subst}
+use Rattle.std.proofs.Common.{◌≡◌, ◌∙◌, Bool, false, List, [], sym, ap, subst}
 use Rattle.definition_inline.specs.Definition.{Definition}
 use Rattle.definition_inline.specs.Targets.{leads_to, linked_at, linked_by}
 use Rattle.engine_events.specs.declared.event.Event.{Event}
@@ -6,8 +6,6 @@ use Rattle.event_grammar.specs.InGrammar.{PlacesFit}
 use Rattle.event_meaning.specs.Texts.{inlines_of}
 use Rattle.inline_rows.specs.InlineRows.{inline_rows}
 use Rattle.inline_rows.specs.View.{rows_view}
-use Rattle.markdown_outline.specs.Said.{rows_say}
-use Rattle.markdown_outline.proofs.SaidRows.{said_law}
 use Rattle.markdown_outline.proofs.said.push_said.Goals as goal
 
 pub returns-clause-said : goal.returns-clause-said
@@ -24,5 +22,4 @@ returns-clause-said g c = λ kids linked labels sound events.
     ap (rows_view at) c.deref.ensures.value
     ∙ c.in_ok-rows.ensures.structure leads at kids events sound.nodes sound.texts sound.endings spelled
     ∙ ap (λ (in_link : Bool). inline_rows leads (inlines_of names bytes in_link kids)) linked in
-    subst (λ (s : List ℕ). OnOk c.push_rows.result (string_bytes c.push_rows.new.out ≡ string_bytes c.args.out.now ++ s))
-    (ap (rows_say 0) rows ∙ said_law leads (inlines_of names bytes false kids)) (c.push_rows.ensures at)
+    c.push_heading_lines.ensures at leads (inlines_of names bytes false kids) rows

@@ -1,0 +1,4 @@
+pub mod FormedText
+pub mod InLine
+pub mod Numbers
+pub mod HeadingTexts

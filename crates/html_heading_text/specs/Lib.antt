@@ -1,0 +1,4 @@
+pub mod CodeBytes
+pub mod Forms
+pub mod HeadingLines
+pub mod HeadingRows
