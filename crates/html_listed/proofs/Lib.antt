@@ -2,6 +2,8 @@ pub mod Tags
 pub mod Open
 pub mod Parts
 pub mod Standing
+pub mod ListedNames
+pub mod Words
 pub mod Spellings
 pub mod PlainText
 pub mod PageParts

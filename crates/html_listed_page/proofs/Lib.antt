@@ -7,4 +7,3 @@ pub mod Pages
 pub mod Quoted
 pub mod Taking
 pub mod TagTests
-pub mod ListedNames

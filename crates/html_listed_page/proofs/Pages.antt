@@ -11,7 +11,8 @@ use Rattle.html_listed.specs.ListedPage.{is_start, is_void, IsListedPage}
 use Rattle.html_listed_page.specs.Tags.{lacks, stops_at, IsCut, IsText, IsTagOf}
 use Rattle.html_listed_page.specs.Rest.{IsRest, Leads, in_tag}
 use Rattle.html_listed_page.proofs.Cuts.{tail, one_cut, same_front, last, last_after}
-use Rattle.html_listed_page.proofs.Words.{name_lacks, tag_starts, last_of_tag, start_is_worded, void_is_worded}
+use Rattle.html_listed.proofs.Words.{tag_starts, start_is_worded, void_is_worded}
+use Rattle.html_listed_page.proofs.Words.{name_lacks, last_of_tag}
 use Rattle.html_listed_page.proofs.Rests.{step, no_end, none_open, letters_off, letters_on, with_start, with_void, with_end}
 
 -- ---- tags that differ

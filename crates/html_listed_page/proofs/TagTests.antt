@@ -19,7 +19,7 @@ use Rattle.html_listed_page.specs.Tags.{lacks, IsCut, IsText, HasAttributes, IsT
 use Rattle.html_listed_page.specs.Rest.{IsRestWith, in_tag}
 use Rattle.html_listed_page.proofs.Cuts.{lacks_append}
 use Rattle.html_listed_page.proofs.Texts.{less_spared, text_lacks}
-use Rattle.html_listed_page.proofs.Words.{tag_is_worded}
+use Rattle.html_listed.proofs.Words.{tag_is_worded}
 use Rattle.html_listed_page.proofs.Rests.{step, none_open, letters_off, letters_on}
 use Rattle.html_listed_page.proofs.Pages.{no_slash, void_spelled, before_end, name_found}
 

@@ -4,9 +4,9 @@ ghost use Rattle.html_listed.specs.ListedPage.{attribute_names, is_listed_value,
 ghost use Rattle.html_safe_page.specs.Views.{names_of};
 ghost use Rattle.html_listed_page.specs.Tags.{HasAttributes, IsQuoted, are_names};
 
-use crate::listing::LISTED_ATTRIBUTES;
 use crate::text::is_text;
 use html_escape::is_permitted;
+use html_listed::listing::LISTED_ATTRIBUTES;
 use markdown_options::constants::{SAFE_PROTOCOL_HREF, SAFE_PROTOCOL_SRC};
 use std::alloc::{AllocError, Allocator};
 

@@ -3,7 +3,6 @@
 #![tactic(auto)]
 
 mod attributes;
-mod listing;
 mod page;
 mod tags;
 mod text;

@@ -7,7 +7,7 @@ ghost use Rattle.html_listed.specs.ListedPage.{is_listed_tag, is_listed_start, i
 ghost use Rattle.html_listed_page.specs.Tags.{IsCut, IsTagOf, empty_element, lacks, void_tag};
 
 use crate::attributes::has_attributes;
-use crate::listing::{VOID_NAMES, is_in, is_listed};
+use html_listed::listing::{VOID_NAMES, is_in, is_listed};
 use html_safe_page::{TagTable, is_safe_page_by};
 use std::alloc::{AllocError, Allocator};
 

@@ -10,9 +10,8 @@ use Rattle.definition_page.specs.Tags.{Tag, end_tag}
 use Rattle.definition_html.specs.Listing.{is_in, is_part, PartRow, part_rows, parents_by, parents_of, heading_names, frame_names}
 use Rattle.definition_html.specs.State.{State, state, level, says, with_open, opened, ended_of, ended, count_to, begins_with_frame, with_room}
 use Rattle.definition_html.specs.Listed.{begun, begun_in, begun_heading, begins}
-use Rattle.html_safe_page.specs.Views.{onto, open_names}
+use Rattle.html_safe_page.specs.Views.{names_of, onto, open_names}
 use Rattle.html_safe_page.proofs.Follow.{open_push}
-use Rattle.html_sanitizer.specs.Listing.{texts_of}
 
 -- a page in which this is printed and these raw elements are open, where a page was in this state
 abbrev pub page_in : State → List ℕ → List (List ℕ) → State
@@ -110,7 +109,7 @@ rows_have = refl
 pub part_by_parents : (name : List ℕ) → is_part name ≡ not_empty (parents_of name)
 part_by_parents name = parents_some part_rows name rows_have
 
-pub empty_texts : (items : List (Bor (List ℕ))) → not_empty (texts_of items) ≡ not (eqb (length items) 0)
+pub empty_texts : (items : List (Bor (List ℕ))) → not_empty (names_of items) ≡ not (eqb (length items) 0)
 empty_texts [] = refl
 empty_texts (x ∷ xs) = sym (ap not (ne_eqb (suc (length xs)) 0 (λ e. omega (arith, e))))
 
@@ -188,7 +187,7 @@ place_part next t s after name parents count n found e p some c more is size tes
 
 -- a name in its place
 open_take : (items : List (Bor (List ℕ))) (k : ℕ) (others : List (List ℕ)) → k < length items
-    → onto (take (suc k) items) others ≡ get_or (texts_of items) k [] ∷ onto (take k items) others
+    → onto (take (suc k) items) others ≡ get_or (names_of items) k [] ∷ onto (take k items) others
 open_take [] k others h = absurd (omega arith)
 open_take (x ∷ xs) zero others h = refl
 open_take (x ∷ xs) (suc k) others h = open_take xs k (x.now ∷ others) (omega arith)
@@ -205,7 +204,7 @@ none_passed wanted items =
     record { within = omega arith; passed = omega (arith, same) }
 
 module _ (wanted : List (List ℕ)) (items : List (Bor (List ℕ))) (count : ℕ) (name : List ℕ) (so : ArePassed wanted items count) (more : count < length items)
-    (is : name ≡ get_or (texts_of items) (length items - 1 - count) []) where
+    (is : name ≡ get_or (names_of items) (length items - 1 - count) []) where
   next_name : open_names (take (length items - count) items) ≡ name ∷ open_names (take (length items - (count + 1)) items)
   next_name =
       let k : length items - count ≡ suc (length items - 1 - count) = omega arith in

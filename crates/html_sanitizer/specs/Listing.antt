@@ -1,14 +1,10 @@
 -- Names of the list, as the code finds them.
-use Rattle.std.specs.Prelude.{ℕ, if◌then◌else◌, List, Option, None, Some, map}
-use Rattle.std.proofs.Common.{Bor}
+use Rattle.std.specs.Prelude.{ℕ, if◌then◌else◌, List, Option, None, Some}
 use Rattle.definition_text.specs.Bytes.{lower}
 use Rattle.definition_html.specs.Listing.{is_in, is_listed, part_row}
 use Rattle.definition_html.specs.Listing as listing
+use Rattle.html_safe_page.specs.Views.{names_of}
 use Rattle.html_sanitizer.specs.declared.listing.PartRow.{PartRow}
-
--- texts as names
-abbrev pub texts_of : List (Bor (List ℕ)) → List (List ℕ)
-texts_of names = map (λ n. n.now) names
 
 -- a written name in lower case, if it is one of these
 abbrev pub found_name : List (List ℕ) → List ℕ → Option (List ℕ)
@@ -20,4 +16,4 @@ listed_name written = if is_listed (lower written) then Some (lower written) els
 
 -- a row of parts
 abbrev pub row_of : PartRow → listing.PartRow
-row_of row = part_row (texts_of row.names.now) (texts_of row.parents.now)
+row_of row = part_row (names_of row.names.now) (names_of row.parents.now)

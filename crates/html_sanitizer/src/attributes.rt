@@ -9,11 +9,12 @@ ghost use Rattle.definition_html.specs.Attributes.{code_bytes, decoded, first_of
 ghost use Rattle.html_sanitizer.specs.Attributes.{is_space_code, is_unquoted_code, after_space, split_value, split_attribute, begins_with_space};
 ghost use Rattle.html_sanitizer.specs.Attributes.{attribute_start, cut, rest_after};
 ghost use Rattle.html_sanitizer.specs.Attributes.{read_attribute, named_attributes, attributes_of, part_of, split_of, first_value};
-ghost use Rattle.html_sanitizer.specs.Listing.{texts_of};
+ghost use Rattle.html_safe_page.specs.Views.{names_of};
 
-use crate::listing::{LISTED_ATTRIBUTES, is_lower};
+use crate::listing::is_lower;
 use crate::urls::{Buffers, clean_url, push_image_url, push_link_url};
 use html_escape::push_encoded;
+use html_listed::listing::LISTED_ATTRIBUTES;
 use inline_references::push_decoded;
 use markdown_compile_options::CompileOptions;
 use markdown_options::Tables;
@@ -321,7 +322,7 @@ fn push_listed<A: Allocator, T: Tables>(
     written: &[Written<'_>],
 ) -> Result<(), AllocError>
     ensures { let attributes = map (read_attribute (T.reference_of tables.now)) (attributes_of written.now) in
-        OnOk result (string_bytes out.new ≡ string_bytes out.old ++ flat_map attribute_bytes (named_attributes (texts_of names.now) attributes)) }
+        OnOk result (string_bytes out.new ≡ string_bytes out.old ++ flat_map attribute_bytes (named_attributes (names_of names.now) attributes)) }
 {
     for name in names {
         push_if_written(out, text, tables, name, written)?;

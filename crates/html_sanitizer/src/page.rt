@@ -7,12 +7,12 @@ ghost use Rattle.definition_html.specs.Listing.{is_in, heading_names};
 ghost use Rattle.definition_html.specs.State.{State, nothing_open, says, with_open, opened, ended, ended_to, all_ended, count_to, begins_with_frame};
 ghost use Rattle.definition_html.specs.State.{without_frame, with_room, entered, left};
 ghost use Rattle.definition_html.specs.Listed.{begins};
-ghost use Rattle.html_safe_page.specs.Views.{open_names};
-ghost use Rattle.html_sanitizer.specs.Listing.{texts_of};
+ghost use Rattle.html_safe_page.specs.Views.{names_of, open_names};
 ghost use Rattle.html_sanitizer.specs.Page.{page_state};
 
-use crate::listing::{DEEPEST, FRAME_NAMES, HEADING_NAMES, is_in, parents_of};
+use crate::listing::{DEEPEST, FRAME_NAMES, parents_of};
 use html_escape::push_encoded;
+use html_listed::listing::{HEADING_NAMES, is_heading, is_in};
 use std::alloc::{AllocError, Allocator};
 use std::mem::replace;
 
@@ -85,7 +85,7 @@ impl<A: Allocator> Page<A> {
 
     /// Ends the last element of these names, with those in it.
     pub(crate) fn end_to(&mut self, wanted: &[&str]) -> Result<(), AllocError>
-        ensures { OnOk result (page_state self.new ≡ ended_to (texts_of wanted.now) (page_state self.old)) }
+        ensures { OnOk result (page_state self.new ≡ ended_to (names_of wanted.now) (page_state self.old)) }
     {
         let count = count_to(self.level.names.as_slice(), wanted);
         self.end(count)
@@ -114,7 +114,7 @@ impl<A: Allocator> Page<A> {
         ensures { OnOk result (page_state self.new ≡ with_room name.now (page_state self.old)) }
     {
         self.end_frame()?;
-        if is_in(&HEADING_NAMES, name) {
+        if is_heading(name) {
             self.end_to(&HEADING_NAMES)
         } else {
             Ok(())
@@ -162,7 +162,7 @@ impl<A: Allocator> Page<A> {
         ensures { result ≡ (self.now.level.in_heading && is_in heading_names name.now) }
     {
         if self.level.in_heading {
-            is_in(&HEADING_NAMES, name)
+            is_heading(name)
         } else {
             false
         }
@@ -196,7 +196,7 @@ impl<A: Allocator> Page<A> {
         if self.level.in_heading {
             return true;
         }
-        if is_in(&HEADING_NAMES, name) {
+        if is_heading(name) {
             return true;
         }
         self.has_heading()
@@ -221,7 +221,7 @@ impl<A: Allocator> Page<A> {
 
 /// How many elements are open up to the last one of these names, with it; 0 if none is.
 fn count_to(names: &[&str], wanted: &[&str]) -> usize
-    ensures { result ≡ count_to (texts_of wanted.now) (open_names names.now) }
+    ensures { result ≡ count_to (names_of wanted.now) (open_names names.now) }
 {
     for above in 0..names.len() {
         if is_in(wanted, name_at(names, names.len() - 1 - above)) {
@@ -233,7 +233,7 @@ fn count_to(names: &[&str], wanted: &[&str]) -> usize
 
 fn name_at<'a>(names: &[&'a str], place: usize) -> &'a str
     requires { place < length names.now }
-    ensures { result.now ≡ slice_index_or (texts_of names.now) place [] }
+    ensures { result.now ≡ slice_index_or (names_of names.now) place [] }
 {
     names[place]
 }

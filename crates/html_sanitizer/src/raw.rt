@@ -14,10 +14,11 @@ ghost use Rattle.html_sanitizer.specs.Page.{page_state};
 ghost use Rattle.html_sanitizer.specs.Sanitized.{reference_part};
 
 use crate::attributes::{Written, after_space, push_attributes, read_attributes};
-use crate::listing::{VOID_NAMES, is_in, listed_name};
+use crate::listing::listed_name;
 use crate::page::Page;
 use crate::urls::Buffers;
 use html_escape::push_encoded;
+use html_listed::listing::{VOID_NAMES, is_in};
 use inline_references::{character_reference, push_value};
 use markdown_compile_options::CompileOptions;
 use markdown_options::Tables;

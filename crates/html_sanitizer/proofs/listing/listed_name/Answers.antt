@@ -2,8 +2,9 @@ use Rattle.std.proofs.Common.{◌∙◌, ap}
 use Rattle.std.specs.Option.{option_copied, option_or}
 use Rattle.definition_html.specs.Listing.{free_names, heading_names, void_names}
 use Rattle.html_safe_page.proofs.Passed.{copied_any}
+use Rattle.html_listed.proofs.ListedNames.{part_names}
 use Rattle.html_sanitizer.specs.Listing.{found_name}
-use Rattle.html_sanitizer.proofs.ListedNames.{part_names, found_listed}
+use Rattle.html_sanitizer.proofs.ListedNames.{found_listed}
 use Rattle.html_sanitizer.proofs.listing.listed_name.Goals as goal
 
 pub returns : goal.returns

@@ -9,17 +9,15 @@ returns-then-self g c =
     let more = list_any (is_in heading_names) (open_names c.args.self.now.level.names.items) in
     sym (ap (λ t. t || is_in heading_names c.args.name.now || more) c.if-self.true)
 
-pub returns-then-is_in : goal.returns-then-is_in
-unfolding heading_names
-returns-then-is_in g c =
+pub returns-then-is_heading : goal.returns-then-is_heading
+returns-then-is_heading g c =
     let more = list_any (is_in heading_names) (open_names c.args.self.now.level.names.items) in
     sym (ap (λ t. t || is_in heading_names c.args.name.now || more) c.if-self.false
-    ∙ ap (λ t. t || more) (sym c.is_in.ensures ∙ c.if-is_in.true))
+    ∙ ap (λ t. t || more) (sym c.is_heading.ensures ∙ c.if-is_heading.true))
 
 pub returns : goal.returns
-unfolding heading_names
 returns g c =
     let more = list_any (is_in heading_names) (open_names c.args.self.now.level.names.items) in
     c.has_heading.ensures
     ∙ sym (ap (λ t. t || is_in heading_names c.args.name.now || more) c.if-self.false
-    ∙ ap (λ t. t || more) (sym c.is_in.ensures ∙ c.if-is_in.false))
+    ∙ ap (λ t. t || more) (sym c.is_heading.ensures ∙ c.if-is_heading.false))

@@ -1,7 +1,9 @@
 -- The names of the list, in tables.
-use Rattle.std.proofs.Common.{◌≡◌, ℕ, Bool, true, false, ◌||◌, List, [], ◌∷◌, ◌++◌, codes, refl, sym, ap, ◌∙◌}
+use Rattle.std.proofs.Common.{◌≡◌, ℕ, Bool, true, false, ◌&&◌, ◌||◌, eqb, List, [], ◌∷◌, ◌++◌, codes, refl, sym, ap, ◌∙◌, inl, inr}
 use Rattle.std.specs.List.{list_any, flat_map}
 use Rattle.std.specs.Str.{bytes_eq}
+use Rattle.std.proofs.lemmas.Bool.{cases_Bool, true≢false}
+use Rattle.definition_text.specs.Bytes.{begins_with}
 use Rattle.definition_html.specs.Listing.{is_in, is_listed, free_names, heading_names, void_names, PartRow, part_rows, is_part}
 
 or_step : (a b c d : Bool) → b ≡ (c || d) → (a || b) ≡ ((a || c) || d)
@@ -42,3 +44,14 @@ listed_by name free heading void part f h v p =
     ∙ ap (λ t. ((is_in free_names name || t) || void) || part) h
     ∙ ap (λ t. ((is_in free_names name || is_in heading_names name) || t) || part) v
     ∙ ap (λ t. ((is_in free_names name || is_in heading_names name) || is_in void_names name) || t) (p ∙ parts_listed name)
+
+-- a heading begins with `h`
+pub no_heading : (name : List ℕ) → begins_with (codes "h") name ≡ false → false ≡ is_in heading_names name
+unfolding heading_names
+no_heading [] h = refl
+no_heading (b ∷ bs) h = elim (cases_Bool (eqb 104 b)) [
+  | inl e ↦ absurd (true≢false (sym (ap (λ t. t && true) e) ∙ h))
+  | inr e ↦
+      let digits = codes "1" ∷ codes "2" ∷ codes "3" ∷ codes "4" ∷ codes "5" ∷ codes "6" ∷ [] in
+      sym (ap (λ t. list_any (λ n. t && bytes_eq n bs) digits) e)
+]
