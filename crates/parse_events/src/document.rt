@@ -71,7 +71,7 @@ pub fn parse<'a, T: Tables, A: Allocator + Clone>(
     ensures nested { IfOk result (λ parsed. IsNested parsed.0.items) }
     ensures children { IfOk result (λ parsed. HaveChildren parsed.0.items) }
     ensures tokens { IfOk result (λ parsed. HaveTheirBytes value.now parsed.0.items) }
-    ensures shape { IfOk result (λ parsed. HaveShape parsed.0.items) }
+    ensures shape { IfOk result (λ parsed. HaveShape value.now parsed.0.items) }
     ensures grammar { IfOk result (λ parsed. MatchesGrammar (T.reference_of tables.now) value.now parsed.0.items) }
     ensures spelled { IfOk result (λ parsed. let names = T.reference_of tables.now in
         IsPageOfText (text_tables names (T.punctuation_of tables.now)) options.now value.now (spelled names parsed.0.items value.now)) }

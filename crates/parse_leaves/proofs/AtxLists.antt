@@ -179,3 +179,8 @@ pub first_clear : (pieces : List Piece) (none : Piece) → AreContentLines (piec
 first_clear [] none are some = absurd (omega (arith, some))
 first_clear (p ∷ []) none are some = are
 first_clear (p ∷ q ∷ others) none are some = are.0
+
+-- a text that isn't empty
+pub some_bytes : (bs : List ℕ) → false ≡ eqb (length bs) 0 → 0 < length bs
+some_bytes [] none = absurd (true≢false (sym none))
+some_bytes (b ∷ bs) some = omega arith
