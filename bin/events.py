@@ -4,10 +4,10 @@
 usage: bin/events.py            writes them
        bin/events.py --check    fails where the page has others
 
-The grammar is read from crates/event_grammar/src, the example's list from the stored run of crates/tests_events. Both ways
-fail where a name has no row and isn't void, or a row names what is no event; where the header for C, the specification of
-its numbers or the modules for Python, Rust and JavaScript have other names; where a number of the header isn't that of .ci/numbers, or
-where code or a module has another one; and where a name that a list may have is in no stored run.
+The grammar is read from crates/event_grammar/src and crates/event_faults/src, the example's list from the stored run of
+crates/tests_events. Both ways fail where a name has no row and isn't void, or a row names what is no event; where the header for C,
+the specification of its numbers or the modules for Python, Rust and JavaScript have other names; where a number of the header isn't
+that of .ci/numbers, or where code or a module has another one; and where a name that a list may have is in no stored run.
 """
 import glob
 import os
@@ -16,7 +16,8 @@ import sys
 
 TOP = os.path.dirname(os.path.dirname(os.path.realpath(__file__)))
 PAGE = os.path.join(TOP, "docs", "EVENTS.md")
-SOURCES = os.path.join(TOP, "crates", "event_grammar", "src")
+# The rows, and the row of the document.
+SOURCES = [os.path.join(TOP, "crates", it, "src") for it in ("event_grammar", "event_faults")]
 NAMES = os.path.join(TOP, "crates", "engine_events", "src", "event.rt")
 # Where the names are listed once more, in the order of their numbers, and how.
 LISTS = {
@@ -55,7 +56,7 @@ def fail(why):
 
 
 def sources():
-    return "\n".join(text_of(os.path.join(SOURCES, it)) for it in sorted(os.listdir(SOURCES)) if it.endswith(".rt"))
+    return "\n".join(text_of(os.path.join(folder, it)) for folder in SOURCES for it in sorted(os.listdir(folder)) if it.endswith(".rt"))
 
 
 # ---- the code

@@ -15,12 +15,11 @@ use Rattle.event_grammar.specs.declared.slot.Form.{Form}
 use Rattle.event_grammar.specs.declared.slot.Form.TheVariants.{Plain, Ordered, Closing, Opening, OfImage, OfCall}
 use Rattle.event_grammar.specs.declared.slot.Slot.{Slot}
 use Rattle.event_grammar.specs.declared.slot.Slot.TheVariants.{One, Opt, Lead, Many}
-use Rattle.event_grammar.specs.Checks.{stands_between}
 use Rattle.event_grammar.specs.Facts.{is_fact, is_ending}
 use Rattle.event_grammar.specs.Grammar.{row, space_names, line_names, string_names, text_names}
 use Rattle.event_grammar.specs.InGrammar.{Within, inside, Before, before}
 use Rattle.event_grammar.specs.SlotViews.{child_of}
-use Rattle.event_grammar.specs.Slots.{has}
+use Rattle.event_grammar.specs.Slots.{has, stands_between}
 use Rattle.compile_rows.specs.Texts.{HasEndings, HaveEndings}
 use Rattle.compile_written.proofs.CheckedNodes.{checked_texts}
 use Rattle.compile_html.specs.Containers.{HoldLists}

@@ -3,7 +3,7 @@ use Rattle.std.proofs.Common.{◌≡◌, ℕ, ◌+◌, ◌-◌, ◌<◌, ◌≤�
 use Rattle.compile_html.proofs.Prelude.{AreNodes, Around, drop-append_seam, Event, events_of, length-append, Nodes, Reads}
 use Rattle.std.proofs.Math.Seq.{take-length}
 use Rattle.engine_events.specs.declared.event.Kind.TheVariants.{Exit}
-use Rattle.event_grammar.specs.Checks.{spot_of}
+use Rattle.event_grammar.specs.Points.{spot_of}
 use Rattle.compile_levels.specs.Siblings.{size_inside, inside, first_or}
 use Rattle.compile_levels.specs.declared.node.Node.{Node}
 use Rattle.compile_levels.proofs.SiblingLaw.{inside_law, after_law}

@@ -11,7 +11,7 @@ ghost use Rattle.definition_page.specs.InlinePieces.{Meaning};
 ghost use Rattle.definition_page.specs.Layout.{page_layout};
 ghost use Rattle.compile_blocks.specs.Meant.{IsMeant};
 ghost use Rattle.compile_raw.specs.Sound.{AreSound};
-ghost use Rattle.event_grammar.specs.Faults.{fault};
+ghost use Rattle.event_faults.specs.Faults.{fault};
 ghost use Rattle.event_grammar.specs.Trees.{Nodes, events_of};
 ghost use Rattle.compile_html.specs.Containers.{HoldLists};
 ghost use Rattle.compile_html.specs.Numbers.{HaveNumbers};

@@ -8,7 +8,7 @@ use Rattle.engine_events.specs.declared.event.Event.{Event}
 use Rattle.engine_events.specs.declared.event.Kind.{Kind}
 use Rattle.engine_events.specs.declared.event.Kind.TheVariants.{Exit}
 use Rattle.event_grammar.specs.Trees.{Nodes, Around, Nil, Cons, events_of, AreNodes}
-use Rattle.event_grammar.specs.Checks.{spot_of}
+use Rattle.event_grammar.specs.Points.{spot_of}
 use Rattle.compile_levels.specs.Siblings.{size_next, size_inside, inside, first_or, IsFirst, Reads}
 use Rattle.compile_levels.specs.declared.node.Node.{Node}
 

@@ -3,7 +3,7 @@ use Rattle.std.specs.Prelude.{◌≡◌, ℕ, Bool, true, false, suc, ◌+◌, �
 use Rattle.engine_events.specs.declared.event.Event.{Event}
 use Rattle.engine_events.specs.declared.event.Kind.{Kind}
 use Rattle.engine_events.specs.declared.event.Kind.TheVariants.{Enter, Exit}
-use Rattle.event_grammar.specs.Checks.{spot_of}
+use Rattle.event_grammar.specs.Points.{spot_of}
 use Rattle.event_grammar.specs.Trees as tree
 use Rattle.event_grammar.specs.Trees.{Around, events_of}
 use Rattle.compile_levels.specs.declared.node.Node.{Node}

@@ -1,6 +1,6 @@
 //! Events that are siblings, and those in them.
 ghost use Rattle.std.specs.Prelude.{◌≡◌, ◌≤◌, ◌<◌, None, drop, false, length, nat_lt, is_some, IfSome, MatchOption};
-ghost use Rattle.event_grammar.specs.Checks.{spot_of};
+ghost use Rattle.event_grammar.specs.Points.{spot_of};
 ghost use Rattle.event_grammar.specs.Trees.{Nodes, Nil, AreNodes, events_of};
 ghost use Rattle.event_meaning.specs.Children as tree;
 ghost use Rattle.compile_levels.specs.Children.{IsFirstOf, IsChildOf};

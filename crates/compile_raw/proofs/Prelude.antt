@@ -16,9 +16,8 @@ pub use Rattle.definition_text.specs.Encode.{encode}
 pub use Rattle.engine_events.specs.Names.{same_name}
 pub use Rattle.engine_events.specs.declared.event.Event.{Event}
 pub use Rattle.engine_events.specs.declared.event.Name.{Name}
-pub use Rattle.event_grammar.specs.Checks.{spot_of}
 pub use Rattle.event_grammar.specs.InGrammar.{kids_of, node_name}
-pub use Rattle.event_grammar.specs.Points.{bytes_between}
+pub use Rattle.event_grammar.specs.Points.{bytes_between, spot_of}
 pub use Rattle.event_grammar.specs.Trees.{AreNodes, Around, Cons, events_of, IsNode, Nil, Node, node_events, Nodes}
 pub use Rattle.event_grammar.specs.declared.spot.Spot.{Spot}
 pub use Rattle.event_meaning.specs.Blocks.{info_of}

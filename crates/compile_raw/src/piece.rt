@@ -8,7 +8,7 @@ ghost use Rattle.compile_written.specs.Strings.{valid};
 
 use compile_levels::node::{Node, child};
 use engine_events::event::{Event, Name};
-use event_grammar::place::bytes_between;
+use event_grammar::spot::bytes_between;
 
 /// Returns the bytes of an event: a tab that its end cuts is among them, one that its start cuts
 /// isn't.

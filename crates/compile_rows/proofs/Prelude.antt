@@ -22,7 +22,7 @@ pub use Rattle.engine_events.specs.Names.{is_listed, same_name}
 pub use Rattle.engine_events.specs.declared.event.Event.{Event}
 pub use Rattle.engine_events.specs.declared.event.Kind.{Kind}
 pub use Rattle.engine_events.specs.declared.event.Name.{Name}
-pub use Rattle.event_grammar.proofs.Runs.{no_event}
+pub use Rattle.event_grammar.proofs.NoEvent.{no_event}
 pub use Rattle.event_grammar.specs.References.{media_names}
 pub use Rattle.event_grammar.specs.Spans.{span_of}
 pub use Rattle.event_grammar.specs.Trees.{AreNodes, Around, Cons, events_of, IsNode, Nil, Nodes}

@@ -5,7 +5,7 @@ use Rattle.std.proofs.lemmas.List.{take_min}
 use Rattle.engine_events.specs.Columns.{mark_size}
 use Rattle.event_grammar.specs.Points.{column_on}
 use Rattle.event_grammar.specs.Phases.{phase}
-use Rattle.event_grammar.proofs.PlaceLaws.{phase_more}
+use Rattle.event_grammar.proofs.Phases.{phase_more}
 
 -- at the start of a text there is none
 pub start_phase : (bs : List ℕ) → 0 ≡ phase_at bs 0

@@ -8,8 +8,7 @@ use Rattle.engine_events.specs.declared.event.Kind.TheVariants.{Enter, Exit}
 use Rattle.engine_events.specs.declared.event.Name.{Name}
 use Rattle.engine_events.specs.declared.event.Name.TheVariants as n
 use Rattle.event_grammar.specs.declared.spot.Spot.{Spot}
-use Rattle.event_grammar.specs.Checks.{spot_of}
-use Rattle.event_grammar.specs.Points.{spot, bytes_between}
+use Rattle.event_grammar.specs.Points.{spot, bytes_between, spot_of}
 use Rattle.event_meaning.specs.Children.{columns_after}
 use Rattle.compile_strings.specs.declared.raw_text.RawPlace.{RawPlace}
 use Rattle.compile_written.specs.Child.{text_first}

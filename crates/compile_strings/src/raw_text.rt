@@ -15,8 +15,7 @@ use crate::texts::text_of;
 use compile_written::child::text_first;
 use engine_events::event::{Event, Kind, Name};
 use event_grammar::Spot;
-use event_grammar::place::bytes_between;
-use event_grammar::spot::spot_of;
+use event_grammar::spot::{bytes_between, spot_of};
 use std::alloc::{AllocError, Allocator};
 use text_pieces::push_columns;
 

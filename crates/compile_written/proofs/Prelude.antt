@@ -14,10 +14,9 @@ pub use Rattle.engine_events.specs.declared.event.Event.{Event}
 pub use Rattle.engine_events.specs.declared.event.Kind.{Kind}
 pub use Rattle.engine_events.specs.declared.event.Name.{Name}
 pub use Rattle.event_check.proofs.LooseLaw.{less, nonzero}
-pub use Rattle.event_grammar.proofs.Runs.{no_event}
-pub use Rattle.event_grammar.specs.Checks.{spot_of}
+pub use Rattle.event_grammar.proofs.NoEvent.{no_event}
 pub use Rattle.event_grammar.specs.InGrammar.{kids_of, PlacesFit}
-pub use Rattle.event_grammar.specs.Points.{bytes_between}
+pub use Rattle.event_grammar.specs.Points.{bytes_between, spot_of}
 pub use Rattle.event_grammar.specs.Trees.{AreNodes, Around, Cons, events_of, IsNode, Nil, Node, node_events, Nodes}
 pub use Rattle.event_grammar.specs.declared.slot.Child.{Child}
 pub use Rattle.event_grammar.specs.declared.spot.Spot.{Spot}

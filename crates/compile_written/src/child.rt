@@ -7,8 +7,7 @@ ghost use Rattle.compile_written.specs.Child.{from_child, has_name, text_to, tex
 
 use engine_events::event::{Event, Kind, Name};
 use event_grammar::Spot;
-use event_grammar::place::bytes_between;
-use event_grammar::spot::spot_of;
+use event_grammar::spot::{bytes_between, spot_of};
 
 /// The events from the first child of a name on, or none if there is no such child. The events are
 /// those after the parent's enter.

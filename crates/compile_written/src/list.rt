@@ -4,7 +4,7 @@
 //! of an item. The events are passed from the last to the first, so that no list is read again for
 //! the lists around it. Of events that are neither lists nor items only the number is kept.
 ghost use Rattle.std.specs.Prelude.{◌≡◌, ◌<◌, ◌≤◌, ◌+◌, ◌^◌, ◌||◌, ◌∷◌, Bool, List, ℕ, IfOk, None, OnOk, drop, length, reverse};
-ghost use Rattle.event_grammar.specs.Checks.{spot_of};
+ghost use Rattle.event_grammar.specs.Points.{spot_of};
 ghost use Rattle.event_grammar.specs.Trees.{Nodes, events_of, AreNodes};
 ghost use Rattle.engine_events.specs.declared.event.Kind.TheVariants as kinds;
 ghost use Rattle.compile_written.specs.declared.list.Level.{Level as ALevel};

@@ -6,14 +6,14 @@ use Rattle.event_check.proofs.Prelude.{events_of, fault_from, fits, Form, IsInGr
 use Rattle.event_check.proofs.Prelude.{PlacesFit, Slot, Spot, spot_of, takes, tree, with_above, Within, within}
 use Rattle.engine_events.specs.declared.event.Kind.TheVariants.{Enter, Exit}
 use Rattle.engine_events.specs.declared.event.Name.TheVariants as n
-use Rattle.event_grammar.specs.declared.fault.FaultKind.TheVariants as kinds
+use Rattle.event_faults.specs.declared.fault.FaultKind.TheVariants as kinds
 use Rattle.event_grammar.specs.declared.slot.Between.TheVariants.{Lines}
 use Rattle.event_grammar.specs.Points.{spot}
-use Rattle.event_grammar.specs.Checks.{at_start, the_document, exited_to}
+use Rattle.event_faults.specs.Checks.{at_start, the_document, exited_to}
 use Rattle.event_grammar.specs.Trees.{IsNode}
 use Rattle.event_grammar.specs.References.{first_lost}
-use Rattle.event_grammar.specs.Faults.{fault, or_lost, lost_fault}
-use Rattle.event_grammar.proofs.TreeLaw.{tree_law}
+use Rattle.event_faults.specs.Faults.{fault, or_lost, lost_fault}
+use Rattle.event_faults.proofs.TreeLaw.{tree_law}
 use Rattle.event_references.specs.Texts.{texts_of}
 use Rattle.event_references.specs.Lost.{new_media, lost_from}
 use Rattle.event_references.proofs.LostLaw.{lost_law}

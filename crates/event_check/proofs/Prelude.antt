@@ -6,17 +6,17 @@ pub use Rattle.engine_events.specs.contracts.event.Name.{the_type}
 pub use Rattle.engine_events.specs.declared.event.Event.{Event}
 pub use Rattle.engine_events.specs.declared.event.Kind.{Kind}
 pub use Rattle.engine_events.specs.declared.event.Name.{Name}
-pub use Rattle.event_grammar.specs.Checks.{Check, check_at, entered, exited, fact_at, has_limit, is_barred, is_limit, limit_of, may_exit, moved, Open, opened}
-pub use Rattle.event_grammar.specs.Checks.{spot_of, stands_between, with_above, with_child}
+pub use Rattle.event_faults.specs.Checks.{Check, check_at, entered, exited, fact_at, has_limit, is_barred, is_limit, limit_of, may_exit, moved, Open, opened}
+pub use Rattle.event_faults.specs.Checks.{with_above, with_child}
 pub use Rattle.event_grammar.specs.Facts.{is_fact}
-pub use Rattle.event_grammar.specs.Faults.{event_fault, fault_from}
+pub use Rattle.event_faults.specs.Faults.{event_fault, fault_from}
 pub use Rattle.event_grammar.specs.Grammar.{cell_names, document_row, line_names, link_names, mdx_names, row, space_names}
 pub use Rattle.event_grammar.specs.InGrammar.{after, before, Before, between, cells_of, end, fits, IsInGrammar, KidsFit, node_name, NodeFits, PlacesFit, takes}
 pub use Rattle.event_grammar.specs.InGrammar.{within, Within}
-pub use Rattle.event_grammar.specs.Points.{bytes_between}
-pub use Rattle.event_grammar.specs.Slots.{has, may_end, take_child, taken, Taken}
+pub use Rattle.event_grammar.specs.Points.{bytes_between, spot_of}
+pub use Rattle.event_grammar.specs.Slots.{has, may_end, stands_between, take_child, taken, Taken}
 pub use Rattle.event_grammar.specs.Trees.{AreNodes, Around, Cons, events_of, Nil, Node, Nodes, tree}
-pub use Rattle.event_grammar.specs.declared.fault.EventFault.{EventFault}
+pub use Rattle.event_faults.specs.declared.fault.EventFault.{EventFault}
 pub use Rattle.event_grammar.specs.declared.slot.Between.{Between}
 pub use Rattle.event_grammar.specs.declared.slot.Child.{Child}
 pub use Rattle.event_grammar.specs.declared.slot.Form.{Form}

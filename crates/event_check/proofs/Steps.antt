@@ -4,12 +4,12 @@ use Rattle.std.specs.Prelude.{Result, Ok, Err}
 use Rattle.event_check.proofs.Prelude.{and_parts, Check, check_at, entered, Event, event_fault, EventFault, exited, fact_at, fault_from, Form, is_barred}
 use Rattle.event_check.proofs.Prelude.{is_listed, may_exit, mdx_names, moved, Name, Open, opened, Spot, spot_of, stands_between, take_child, Taken, with_above}
 use Rattle.event_check.proofs.Prelude.{with_child}
-use Rattle.event_grammar.specs.declared.fault.FaultKind.{FaultKind}
-use Rattle.event_grammar.specs.declared.fault.FaultKind.TheVariants as kinds
+use Rattle.event_faults.specs.declared.fault.FaultKind.{FaultKind}
+use Rattle.event_faults.specs.declared.fault.FaultKind.TheVariants as kinds
 use Rattle.event_grammar.specs.declared.slot.Form.TheVariants.{Plain}
 use Rattle.event_grammar.specs.Points.{reaches, is_spot}
-use Rattle.event_grammar.specs.Checks.{step, next_of, placed, is_place, entered_as}
-use Rattle.event_grammar.specs.Faults.{fault_after}
+use Rattle.event_faults.specs.Checks.{step, next_of, placed, is_place, entered_as}
+use Rattle.event_faults.specs.Faults.{fault_after}
 
 no : (A : Type 0) (c : Check) → (let o : Option Check = None in o ≡ Some c) → A
 no A c h = absurd (cc)

@@ -1,6 +1,6 @@
 -- What a check of a list of events answers.
 use Rattle.std.specs.Prelude.{◌≡◌, Option, Some}
-use Rattle.event_grammar.specs.declared.fault.EventFault.{EventFault}
+use Rattle.event_faults.specs.declared.fault.EventFault.{EventFault}
 use Rattle.event_check.specs.declared.error.CompileError.{CompileError}
 use Rattle.event_check.specs.declared.error.CompileError.TheVariants.{Memory, Events}
 

@@ -11,7 +11,7 @@ use Rattle.event_grammar.specs.declared.slot.Child.{Child}
 use Rattle.event_grammar.specs.declared.slot.Child.TheVariants.{Only, Block}
 use Rattle.event_grammar.specs.declared.spot.Spot.{Spot}
 use Rattle.event_grammar.specs.Slots.{has}
-use Rattle.event_grammar.specs.Checks.{spot_of}
+use Rattle.event_grammar.specs.Points.{spot_of}
 use Rattle.event_grammar.specs.Trees.{Node, Nodes, Around, Nil, Cons, node_events, IsNode}
 
 -- ---- lines

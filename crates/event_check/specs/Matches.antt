@@ -10,10 +10,9 @@ use Rattle.event_grammar.specs.declared.slot.Form.TheVariants.{Plain}
 use Rattle.event_grammar.specs.declared.slot.Slot.{Slot}
 use Rattle.event_grammar.specs.declared.slot.Slot.TheVariants.{One, Opt, Lead, Many}
 use Rattle.event_grammar.specs.Grammar.{row, document_row, mdx_names, link_names}
-use Rattle.event_grammar.specs.Slots.{has, form_of, take_child}
-use Rattle.event_grammar.specs.Points.{spot, bytes_between}
+use Rattle.event_grammar.specs.Slots.{has, form_of, take_child, stands_between}
+use Rattle.event_grammar.specs.Points.{spot, bytes_between, spot_of}
 use Rattle.event_grammar.specs.Facts.{is_fact}
-use Rattle.event_grammar.specs.Checks.{stands_between, spot_of}
 use Rattle.event_grammar.specs.Trees.{Node, Nodes, Around, Nil, Cons, events_of}
 use Rattle.event_grammar.specs.References.{first_lost}
 use Rattle.event_grammar.specs.InGrammar.{Within, within, inside, Before, before, after, node_name, CellsAgree, PlacesFit}

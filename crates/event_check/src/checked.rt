@@ -1,14 +1,14 @@
 //! Lists of events in the grammar.
 ghost use Rattle.std.specs.Prelude.{◌≡◌, IfErr, IfOk, OnOk, None};
-ghost use Rattle.event_grammar.specs.Faults.{fault};
+ghost use Rattle.event_faults.specs.Faults.{fault};
 ghost use Rattle.event_check.specs.Matches.{MatchesGrammar};
 ghost use Rattle.event_check.specs.Checked.{Refuses};
 ghost use Rattle.event_check.specs.declared.error.CompileError.TheVariants.{Memory};
 
 use crate::error::CompileError;
 use engine_events::event::Event;
-use event_grammar::check::first_fault;
-use event_grammar::{EventFault, FaultKind};
+use event_faults::check::first_fault;
+use event_faults::{EventFault, FaultKind};
 use event_references::first_lost;
 use markdown_options::Tables;
 use std::alloc::{AllocError, Allocator};

@@ -1,5 +1,5 @@
 //! Why a list of events is refused.
-use event_grammar::EventFault;
+use event_faults::EventFault;
 use std::alloc::AllocError;
 use thiserror::Error;
 

@@ -8,9 +8,8 @@ ghost use Rattle.event_check.specs.Loose.{ends_line, lines_in, is_return, is_apa
 use crate::checked::Checked;
 use engine_events::event::{Event, Kind, Name};
 use event_grammar::Child;
-use event_grammar::place::bytes_between;
 use event_grammar::slots::has;
-use event_grammar::spot::{Spot, spot_of};
+use event_grammar::spot::{Spot, bytes_between, spot_of};
 
 /// Returns whether a list is loose (CommonMark 5.3): some two neighbouring items are more than a
 /// line apart or, with `include_items`, some item is loose. The index is that of the list's enter.

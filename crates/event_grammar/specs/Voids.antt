@@ -5,6 +5,8 @@ use Rattle.engine_events.specs.declared.event.Name.{Name}
 use Rattle.engine_events.specs.declared.event.Name.TheVariants as n
 use Rattle.event_grammar.specs.declared.names.Void.{Void}
 use Rattle.event_grammar.specs.declared.names.Void.TheVariants.{Not, Space, Ending, Asking, Plain}
+use Rattle.event_grammar.specs.declared.slot.Between.{Between}
+use Rattle.event_grammar.specs.declared.slot.Between.TheVariants.{Nothing, Spaces, Lines}
 use Rattle.event_grammar.specs.Grammar.{space_names}
 use Rattle.event_grammar.specs.Facts.{ending_names}
 use Rattle.event_grammar.specs.Void.{is_void}
@@ -35,3 +37,17 @@ is_not Space = false
 is_not Ending = false
 is_not Asking = false
 is_not Plain = false
+
+-- whether an event may stand between children by what is asked of it
+abbrev pub is_between : Between → Void → Bool
+is_between Nothing void = false
+is_between Spaces Not = false
+is_between Spaces Space = true
+is_between Spaces Ending = false
+is_between Spaces Asking = false
+is_between Spaces Plain = false
+is_between Lines Not = false
+is_between Lines Space = true
+is_between Lines Ending = true
+is_between Lines Asking = false
+is_between Lines Plain = false

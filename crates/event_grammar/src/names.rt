@@ -2,9 +2,8 @@
 ghost use Rattle.std.specs.Prelude.{◌≡◌};
 ghost use Rattle.engine_events.specs.Names.{is_listed};
 ghost use Rattle.event_grammar.specs.Grammar.{block_names, string_names, text_names, line_names, one_line_names, mdx_names, link_names, cell_names};
-ghost use Rattle.event_grammar.specs.Voids.{asks, is_not, void_of};
+ghost use Rattle.event_grammar.specs.Voids.{asks, is_between, is_not, void_of};
 ghost use Rattle.event_grammar.specs.Marked.{is_marked};
-ghost use Rattle.event_grammar.specs.Spaces.{is_between};
 ghost use Rattle.event_grammar.specs.declared.slot.Between.TheVariants.{Lines};
 ghost use Rattle.event_grammar.specs.Facts.{ending_names, asks_bytes};
 

@@ -4,9 +4,8 @@ use Rattle.engine_events.specs.Columns.{tab_size}
 use Rattle.engine_events.specs.Names.{same_name}
 use Rattle.engine_events.specs.declared.event.Name.{Name}
 use Rattle.std.specs.List.{repeat}
-use Rattle.event_grammar.specs.Checks.{spot_of}
 use Rattle.event_grammar.specs.InGrammar.{node_name, kids_of}
-use Rattle.event_grammar.specs.Points.{bytes_between, column_at}
+use Rattle.event_grammar.specs.Points.{bytes_between, column_at, spot_of}
 use Rattle.event_grammar.specs.Trees.{Node, Nodes, Around, Nil, Cons}
 use Rattle.event_grammar.specs.declared.spot.Spot.{Spot}
 

@@ -6,8 +6,8 @@ pub use Rattle.engine_events.specs.Names.{is_listed, same_name}
 pub use Rattle.engine_events.specs.declared.event.Event.{Event}
 pub use Rattle.engine_events.specs.declared.event.Kind.{Kind}
 pub use Rattle.engine_events.specs.declared.event.Name.{Name}
-pub use Rattle.event_grammar.proofs.Runs.{no_event}
-pub use Rattle.event_grammar.specs.Checks.{spot_of}
+pub use Rattle.event_grammar.proofs.NoEvent.{no_event}
+pub use Rattle.event_grammar.specs.Points.{spot_of}
 pub use Rattle.event_grammar.specs.References.{label_text, leads, media_names, named}
 pub use Rattle.event_grammar.specs.Trees.{AreNodes, Around, Cons, events_of, Nil, Node, Nodes}
 pub use Rattle.event_grammar.specs.declared.spot.Spot.{Spot}

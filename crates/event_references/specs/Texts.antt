@@ -7,8 +7,7 @@ use Rattle.engine_events.specs.declared.event.Kind.TheVariants.{Enter, Exit}
 use Rattle.engine_events.specs.declared.event.Name.{Name}
 use Rattle.engine_events.specs.declared.event.Name.TheVariants as n
 use Rattle.event_grammar.specs.declared.spot.Spot.{Spot}
-use Rattle.event_grammar.specs.Points.{bytes_between}
-use Rattle.event_grammar.specs.Checks.{spot_of}
+use Rattle.event_grammar.specs.Points.{bytes_between, spot_of}
 
 -- what the events after one come to: how many are open in a quote prefix, that with them, and how many are open around it
 abbrev pub text_next : Kind → Name → ℕ → ℕ → (ℕ → ℕ → List ℕ) → List ℕ

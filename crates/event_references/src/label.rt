@@ -5,8 +5,7 @@ ghost use Rattle.event_references.specs.Views.{walked, text_at};
 
 use engine_events::event::{Event, Kind, Name};
 use event_grammar::Spot;
-use event_grammar::place::bytes_between;
-use event_grammar::spot::spot_of;
+use event_grammar::spot::{bytes_between, spot_of};
 use std::alloc::{AllocError, Allocator};
 
 /// How many events are open inside an event: quote prefixes with the events in them, and all

@@ -193,7 +193,7 @@ impl<A: Allocator + Clone> Definitions<A> {
 
 /// Returns the index of the first exit of a link, image or footnote call whose label has no
 /// definition in the list, if there is one. `marked` are the indices of events that decide that, in
-/// order (`first_fault` of `event_grammar` finds them). The only error is out of memory.
+/// order (`first_fault` of `event_faults` finds them). The only error is out of memory.
 pub fn first_lost<A: Allocator + Clone>(
     alloc: A,
     events: &[Event],

@@ -2,9 +2,8 @@
 use Rattle.std.specs.Prelude.{◌≡◌, ℕ, Bool, true, not, ◌==◌, ◌&&◌, if◌then◌else◌, List, [], ◌∷◌}
 use Rattle.engine_events.specs.declared.event.Event.{Event}
 use Rattle.engine_events.specs.declared.event.Name.{Name}
-use Rattle.event_grammar.specs.CheckViews.{is_pair}
-use Rattle.event_grammar.specs.Checks.{spot_of}
-use Rattle.event_grammar.specs.Points.{bytes_between}
+use Rattle.event_grammar.specs.Trees.{is_pair}
+use Rattle.event_grammar.specs.Points.{bytes_between, spot_of}
 use Rattle.event_grammar.specs.Void.{is_void}
 use Rattle.event_grammar.specs.declared.spot.Spot.{Spot}
 use Rattle.event_tokens.specs.Tokens.{is_token}

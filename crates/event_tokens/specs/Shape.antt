@@ -5,10 +5,9 @@ use Rattle.engine_events.specs.Names.{is_listed, same_name}
 use Rattle.engine_events.specs.declared.event.Event.{Event}
 use Rattle.engine_events.specs.declared.event.Name.{Name}
 use Rattle.engine_events.specs.declared.event.Name.TheVariants as n
-use Rattle.event_grammar.specs.CheckViews.{is_enter, is_pair}
-use Rattle.event_grammar.specs.Checks.{spot_of}
 use Rattle.event_grammar.specs.Grammar.{block_names}
-use Rattle.event_grammar.specs.Points.{edge}
+use Rattle.event_grammar.specs.Points.{edge, spot_of}
+use Rattle.event_grammar.specs.Trees.{is_enter, is_pair}
 
 -- The names of events that hold something, though their rows of the grammar ask for no child. Others whose rows ask for none may hold nothing.
 abbrev pub full_names : List Name

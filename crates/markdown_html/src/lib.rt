@@ -14,7 +14,7 @@ pub use compile_html::{compile, compile_checked};
 pub use event_check::{
     Checked, CompileError, check_events, gfm_table_align, list_item_loose, list_loose,
 };
-pub use event_grammar::{EventFault, FaultKind};
+pub use event_faults::{EventFault, FaultKind};
 pub use html_escape::encode::encode;
 pub use html_escape::{gfm_tagfilter, sanitize, sanitize_with_protocols};
 pub use markdown_compile_options::{CompileOptions, Options};
@@ -27,7 +27,7 @@ pub use parse_events::SIZE_MAX;
 pub mod to_html {
     pub use compile_html::{compile, compile_checked};
     pub use event_check::{Checked, CompileError, check_events};
-    pub use event_grammar::{EventFault, FaultKind};
+    pub use event_faults::{EventFault, FaultKind};
 }
 
 /// Tools for a page of one's own.

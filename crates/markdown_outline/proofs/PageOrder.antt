@@ -22,11 +22,10 @@ use Rattle.event_grammar.specs.declared.slot.Form.{Form}
 use Rattle.event_grammar.specs.declared.slot.Form.TheVariants.{Ordered, Closing, OfImage, OfCall}
 use Rattle.event_grammar.specs.declared.slot.Slot.{Slot}
 use Rattle.event_grammar.specs.declared.slot.Slot.TheVariants.{One, Many}
-use Rattle.event_grammar.specs.Checks.{stands_between}
 use Rattle.event_grammar.specs.Grammar.{row, space_names, line_names, string_names, text_names}
 use Rattle.event_grammar.specs.InGrammar.{Within, Before, node_name}
 use Rattle.event_grammar.specs.SlotViews.{child_of}
-use Rattle.event_grammar.specs.Slots.{has}
+use Rattle.event_grammar.specs.Slots.{has, stands_between}
 use Rattle.event_grammar.specs.Trees.{Node, Nodes, Around, Nil, Cons, AreNodes, events_of, tree}
 use Rattle.event_meaning.specs.Blocks.{block_of, blocks_from, blocks_of, join, start_of}
 use Rattle.event_meaning.specs.Children.{text_of}

@@ -8,9 +8,8 @@ use Rattle.engine_events.specs.declared.event.Name.{Name}
 use Rattle.engine_events.specs.declared.event.Name.TheVariants as n
 use Rattle.definition_text.proofs.Each.{each-take}
 use Rattle.definition_inline.specs.CharacterReference.{Names, number_of, is_replaced, character_of, numbered_text}
-use Rattle.event_grammar.specs.Checks.{spot_of}
 use Rattle.event_grammar.specs.InGrammar.{node_name, kids_of}
-use Rattle.event_grammar.specs.Points.{edge}
+use Rattle.event_grammar.specs.Points.{edge, spot_of}
 use Rattle.event_grammar.specs.Trees.{Node, Nodes, Around, Nil, Cons}
 use Rattle.event_meaning.specs.Children.{child, text_of, text_or_none, text_in}
 use Rattle.event_meaning.specs.Strings.{reference_text_of, string_part, string_of}

@@ -9,7 +9,7 @@ use Rattle.definition_text.specs.Columns.{Rest}
 use Rattle.engine_events.specs.declared.event.Name.TheVariants as n
 use Rattle.block_starts.specs.View.{rest_of}
 use Rattle.event_grammar.specs.declared.slot.Between.TheVariants.{Lines}
-use Rattle.event_grammar.specs.Checks.{spot_of}
+use Rattle.event_grammar.specs.Points.{spot_of}
 use Rattle.parse_output.specs.Ends.{exit_at}
 use Rattle.parse_output.specs.Forest.{exited}
 use Rattle.parse_slots.specs.Left.{IsFilled}

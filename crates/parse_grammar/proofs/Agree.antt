@@ -24,7 +24,7 @@ use Rattle.event_grammar.specs.declared.slot.Between.TheVariants.{Lines}
 use Rattle.event_grammar.specs.declared.slot.Form.{Form}
 use Rattle.event_grammar.specs.declared.slot.Form.TheVariants.{Plain, Ordered}
 use Rattle.event_grammar.specs.declared.slot.Slot.{Slot}
-use Rattle.event_grammar.specs.Checks.{between_of, stands_between}
+use Rattle.event_grammar.specs.Slots.{between_of, stands_between}
 use Rattle.event_grammar.specs.Grammar.{document_row, one, opt, row}
 use Rattle.event_grammar.specs.InGrammar.{cells_of, kids_of, node_name}
 use Rattle.event_grammar.specs.References.{named}

@@ -11,7 +11,7 @@ use Rattle.event_grammar.specs.declared.slot.Between.{Between}
 use Rattle.event_grammar.specs.declared.slot.Between.TheVariants.{Lines}
 use Rattle.event_grammar.specs.declared.slot.Form.{Form}
 use Rattle.event_grammar.specs.declared.slot.Form.TheVariants.{Ordered}
-use Rattle.event_grammar.specs.Checks.{between_of}
+use Rattle.event_grammar.specs.Slots.{between_of}
 use Rattle.event_grammar.specs.Grammar.{document_row, row}
 use Rattle.event_grammar.specs.InGrammar.{kids_of, node_name}
 use Rattle.event_grammar.specs.Trees.{Node, Nodes, Around, Nil, Cons}

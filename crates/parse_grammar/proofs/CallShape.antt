@@ -13,8 +13,7 @@ use Rattle.engine_events.specs.declared.event.Kind.TheVariants.{Exit}
 use Rattle.engine_events.specs.declared.event.Name.{Name}
 use Rattle.engine_events.specs.declared.event.Name.TheVariants as n
 use Rattle.definition_inline.specs.CharacterReference.{Names}
-use Rattle.event_grammar.specs.CheckViews.{is_enter}
-use Rattle.event_grammar.specs.Trees.{AreNodes, IsNode, Node, Nodes, Around, Nil, Cons, events_of, node_events}
+use Rattle.event_grammar.specs.Trees.{AreNodes, IsNode, Node, Nodes, Around, Nil, Cons, events_of, is_enter, node_events}
 use Rattle.event_tokens.specs.Shape.{calls_hold, in_call, outside_strings}
 use Rattle.parse_references.specs.Leads.{AreWithout, IsWithout}
 use Rattle.parse_references.specs.Sound.{AreSound, IsSound}

@@ -12,11 +12,10 @@ use Rattle.definition_page.specs.Page as page
 use Rattle.event_grammar.specs.declared.slot.Between.{Between}
 use Rattle.event_grammar.specs.declared.slot.Form.{Form}
 use Rattle.event_grammar.specs.declared.slot.Slot.{Slot}
-use Rattle.event_grammar.specs.Checks.{between_of}
 use Rattle.event_grammar.specs.Grammar.{row}
 use Rattle.event_grammar.specs.InGrammar.{kids_of}
 use Rattle.event_grammar.specs.References.{label_text, named}
-use Rattle.event_grammar.specs.Slots.{take_child}
+use Rattle.event_grammar.specs.Slots.{take_child, between_of}
 use Rattle.event_grammar.specs.Trees.{Node, Nodes, Around, Nil, Cons}
 use Rattle.event_meaning.specs.Blocks.{block_of, blocks_from, blocks_of, footnote_label, join, label_of, start_of}
 use Rattle.event_meaning.specs.Children.{child, inside_of, text_of}

@@ -10,7 +10,7 @@ use Rattle.engine_events.specs.Names.{same_name, is_listed}
 use Rattle.event_grammar.specs.declared.slot.Between.{Between}
 use Rattle.event_grammar.specs.declared.slot.Form.{Form}
 use Rattle.event_grammar.specs.declared.slot.Slot.{Slot}
-use Rattle.event_grammar.specs.Checks.{between_of}
+use Rattle.event_grammar.specs.Slots.{between_of}
 use Rattle.event_grammar.specs.Grammar.{row}
 use Rattle.event_grammar.specs.InGrammar.{node_name}
 use Rattle.event_grammar.specs.References.{named, named_in}

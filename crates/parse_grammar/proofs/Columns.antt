@@ -12,11 +12,10 @@ use Rattle.event_grammar.specs.declared.slot.Between.{Between}
 use Rattle.event_grammar.specs.declared.slot.Child.TheVariants.{Only}
 use Rattle.event_grammar.specs.declared.slot.Form.{Form}
 use Rattle.event_grammar.specs.declared.slot.Slot.{Slot}
-use Rattle.event_grammar.specs.Checks.{between_of}
 use Rattle.event_grammar.specs.Grammar.{cell_names, many, one, row}
 use Rattle.event_grammar.specs.InGrammar.{cells_of, kids_of, node_name}
 use Rattle.event_grammar.specs.References.{named, named_in}
-use Rattle.event_grammar.specs.Slots.{take_child, taken}
+use Rattle.event_grammar.specs.Slots.{take_child, taken, between_of}
 use Rattle.event_grammar.specs.Trees.{Node, Nodes, Around, Nil, Cons}
 use Rattle.event_meaning.specs.Children.{children}
 use Rattle.parse_slots.specs.Left.{ends, is_filled, left_by}

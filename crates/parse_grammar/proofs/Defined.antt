@@ -13,7 +13,6 @@ use Rattle.definition_inline.specs.Targets.{labels_of}
 use Rattle.event_grammar.specs.declared.slot.Between.{Between}
 use Rattle.event_grammar.specs.declared.slot.Form.{Form}
 use Rattle.event_grammar.specs.declared.slot.Slot.{Slot}
-use Rattle.event_grammar.specs.Checks.{between_of}
 use Rattle.event_grammar.specs.Grammar.{row}
 use Rattle.event_grammar.specs.InGrammar.{kids_of, node_name}
 use Rattle.event_grammar.specs.References.{label_text, named, named_in}
@@ -24,7 +23,7 @@ use Rattle.event_meaning.specs.Spelled.{definition_of}
 use Rattle.parse_slots.specs.Left.{ends, is_filled, left_by}
 use Rattle.parse_grammar.proofs.Inside.{any_node, in_child, in_first, in_node, in_others, is_there, IsThere, of_child, parts_filled, rest_after}
 use Rattle.parse_grammar.proofs.Kept.{any_label}
-use Rattle.event_grammar.specs.Slots.{take_child}
+use Rattle.event_grammar.specs.Slots.{take_child, between_of}
 
 -- what is in a node of a name fills its row
 pub inside_filled : (around : Between) (form : Form) (node : Node) (name : Name) → node_name node ≡ name → is_filled around form node ≡ true

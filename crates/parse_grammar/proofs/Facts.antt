@@ -15,11 +15,10 @@ use Rattle.event_grammar.specs.declared.slot.Form.TheVariants.{Plain, Opening}
 use Rattle.event_grammar.specs.declared.slot.Child.TheVariants.{As}
 use Rattle.event_grammar.specs.declared.slot.Slot.{Slot}
 use Rattle.event_grammar.specs.declared.slot.Slot.TheVariants.{One}
-use Rattle.event_grammar.specs.Checks.{between_of, stands_between}
 use Rattle.event_grammar.specs.Facts.{decodes, ending_names, is_fact, is_opening, is_size}
 use Rattle.event_grammar.specs.Grammar.{opt, row}
 use Rattle.event_grammar.specs.InGrammar.{node_name}
-use Rattle.event_grammar.specs.Slots.{Taken, take_child, taken}
+use Rattle.event_grammar.specs.Slots.{Taken, take_child, taken, between_of, stands_between}
 use Rattle.event_grammar.specs.Trees.{Node, Nodes, Nil, Cons}
 use Rattle.parse_slots.specs.Left.{ends, is_filled, left_after, left_by}
 use Rattle.parse_slots.specs.Laws.{ChildHolds}

@@ -11,10 +11,9 @@ use Rattle.event_grammar.specs.declared.slot.Between.{Between}
 use Rattle.event_grammar.specs.declared.slot.Child.TheVariants.{Only}
 use Rattle.event_grammar.specs.declared.slot.Form.TheVariants.{Plain}
 use Rattle.event_grammar.specs.declared.slot.Slot.{Slot}
-use Rattle.event_grammar.specs.Checks.{stands_between}
 use Rattle.event_grammar.specs.Grammar.{line_names, space_names}
 use Rattle.event_grammar.specs.InGrammar.{kids_of, node_name}
-use Rattle.event_grammar.specs.Slots.{Taken, take_child, taken}
+use Rattle.event_grammar.specs.Slots.{Taken, take_child, taken, stands_between}
 use Rattle.event_grammar.specs.Trees.{Node, Nodes, Cons}
 use Rattle.event_meaning.specs.Children.{child, inside_of, kids_in}
 use Rattle.parse_slots.specs.Left.{ends, is_filled, left_after, left_by}

@@ -14,10 +14,9 @@ use Rattle.event_grammar.specs.declared.slot.Form.{Form}
 use Rattle.event_grammar.specs.declared.slot.Form.TheVariants.{Plain}
 use Rattle.event_grammar.specs.declared.slot.Slot.{Slot}
 use Rattle.event_grammar.specs.declared.slot.Slot.TheVariants.{One}
-use Rattle.event_grammar.specs.Checks.{stands_between}
 use Rattle.event_grammar.specs.InGrammar.{kids_of, node_name}
 use Rattle.event_grammar.specs.References.{label_text, named, named_in}
-use Rattle.event_grammar.specs.Slots.{may_end, Taken, take_child, taken}
+use Rattle.event_grammar.specs.Slots.{may_end, Taken, take_child, taken, stands_between}
 use Rattle.event_grammar.specs.Trees.{Node, Nodes, Around, Nil, Cons}
 use Rattle.event_meaning.specs.Children.{child}
 use Rattle.parse_slots.specs.Left.{ends, is_filled, left_after, left_by}

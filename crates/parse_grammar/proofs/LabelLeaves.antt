@@ -19,7 +19,7 @@ use Rattle.definition_page.specs.Page as page
 use Rattle.definition_page.specs.Read.{Reading, checked_text, context_of, read_cell, read_row, text_content}
 use Rattle.event_grammar.specs.declared.slot.Between.TheVariants.{Lines}
 use Rattle.event_grammar.specs.declared.slot.Form.TheVariants.{Plain}
-use Rattle.event_grammar.specs.Checks.{between_of}
+use Rattle.event_grammar.specs.Slots.{between_of}
 use Rattle.event_grammar.specs.Grammar.{block_names, row}
 use Rattle.event_grammar.specs.References.{media_names}
 use Rattle.event_grammar.specs.Trees.{Nodes, Around}

@@ -12,11 +12,10 @@ use Rattle.event_grammar.specs.declared.slot.Between.TheVariants.{Lines}
 use Rattle.event_grammar.specs.declared.slot.Form.{Form}
 use Rattle.event_grammar.specs.declared.slot.Form.TheVariants.{Plain}
 use Rattle.event_grammar.specs.declared.slot.Slot.{Slot}
-use Rattle.event_grammar.specs.Checks.{stands_between}
 use Rattle.event_grammar.specs.Grammar.{document_row, link_names, mdx_names, row}
 use Rattle.event_grammar.specs.InGrammar.{Within, within, inside, Before, before, after, node_name, cells_of, kids_of, CellsAgree}
 use Rattle.event_grammar.specs.References.{footnote_labels, link_labels}
-use Rattle.event_grammar.specs.Slots.{Taken}
+use Rattle.event_grammar.specs.Slots.{Taken, stands_between}
 use Rattle.event_grammar.specs.Trees.{AreNodes, IsNode, Node, Nodes, Around, Nil, Cons}
 use Rattle.event_tokens.specs.Bytes.{are_fit}
 use Rattle.parse_slots.specs.Left.{ends, is_filled, left_by}

@@ -13,7 +13,7 @@ use Rattle.event_grammar.specs.declared.slot.Between.TheVariants.{Lines}
 use Rattle.event_grammar.specs.declared.slot.Form.{Form}
 use Rattle.event_grammar.specs.declared.slot.Form.TheVariants.{OfCall, OfImage, Plain}
 use Rattle.event_grammar.specs.declared.slot.Slot.{Slot}
-use Rattle.event_grammar.specs.Checks.{between_of}
+use Rattle.event_grammar.specs.Slots.{between_of}
 use Rattle.event_grammar.specs.Grammar.{document_row, row}
 use Rattle.event_grammar.specs.Trees.{Node, Nodes, Around, Nil, Cons}
 use Rattle.event_grammar.proofs.EveryName.{of_each_form}

@@ -9,14 +9,12 @@ use Rattle.engine_events.specs.declared.event.Event.{Event}
 use Rattle.engine_events.specs.declared.event.Kind.{Kind}
 use Rattle.engine_events.specs.declared.event.Kind.TheVariants.{Enter, Exit}
 use Rattle.definition_inline.specs.CharacterReference.{Names}
-use Rattle.event_grammar.specs.CheckViews.{is_enter, is_pair}
-use Rattle.event_grammar.specs.Trees.{AreNodes, IsNode, Node, Nodes, Around, Nil, Cons, events_of, node_events}
+use Rattle.event_grammar.specs.Points.{edge, spot_of}
+use Rattle.event_grammar.specs.Trees.{AreNodes, IsNode, Node, Nodes, Around, Nil, Cons, events_of, node_events, is_enter, is_pair}
 use Rattle.event_tokens.specs.Shape.{full_names, is_hollow, is_untagged, no_neighbours, none_after}
 use Rattle.definition_text.specs.Ascii.{less_than}
 use Rattle.engine_events.specs.contracts.event.Name.{the_type}
 use Rattle.engine_events.specs.declared.event.Name.TheVariants as n
-use Rattle.event_grammar.specs.Checks.{spot_of}
-use Rattle.event_grammar.specs.Points.{edge}
 use Rattle.std.specs.Prelude.{◌==◌, slice_index}
 use denote.Enum.Bare.{same_true}
 use Rattle.parse_references.specs.Sound.{AreSound, IsSound}

@@ -9,10 +9,9 @@ use Rattle.event_grammar.specs.declared.slot.Form.{Form}
 use Rattle.event_grammar.specs.declared.slot.Form.TheVariants.{Plain}
 use Rattle.event_grammar.specs.declared.slot.Slot.{Slot}
 use Rattle.event_grammar.specs.declared.slot.Slot.TheVariants.{One, Opt, Lead, Many}
-use Rattle.event_grammar.specs.Checks.{stands_between}
 use Rattle.event_grammar.specs.Grammar.{line_names, space_names}
 use Rattle.event_grammar.specs.InGrammar.{node_name}
-use Rattle.event_grammar.specs.Slots.{Taken, has, take_child, taken}
+use Rattle.event_grammar.specs.Slots.{Taken, has, take_child, taken, stands_between}
 use Rattle.event_grammar.specs.Trees.{Node, Nodes, Cons}
 use Rattle.parse_slots.specs.Left.{ends, is_filled, left_after, left_by}
 use Rattle.parse_references.proofs.Rows.{between_passes, child_of, if_ends, no_take, one_passes, passes, took_or}

@@ -14,7 +14,7 @@ use Rattle.event_grammar.specs.declared.slot.Between.{Between}
 use Rattle.event_grammar.specs.declared.slot.Form.{Form}
 use Rattle.event_grammar.specs.declared.slot.Form.TheVariants.{Plain}
 use Rattle.event_grammar.specs.declared.slot.Slot.{Slot}
-use Rattle.event_grammar.specs.Checks.{between_of, stands_between}
+use Rattle.event_grammar.specs.Slots.{between_of, stands_between}
 use Rattle.event_grammar.specs.Grammar.{line_names, one, opt, row, space_names}
 use Rattle.event_grammar.specs.InGrammar.{kids_of, node_name}
 use Rattle.event_grammar.specs.Trees.{Node, Nodes, Nil, Cons}

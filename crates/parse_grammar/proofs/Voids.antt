@@ -12,12 +12,11 @@ use Rattle.event_grammar.specs.declared.slot.Between.{Between}
 use Rattle.event_grammar.specs.declared.slot.Between.TheVariants.{Nothing}
 use Rattle.event_grammar.specs.declared.slot.Form.{Form}
 use Rattle.event_grammar.specs.declared.slot.Slot.{Slot}
-use Rattle.event_grammar.specs.CheckViews.{is_enter, is_pair}
-use Rattle.event_grammar.specs.Checks.{between_of, spot_of}
+use Rattle.event_grammar.specs.Slots.{between_of}
 use Rattle.event_grammar.specs.Facts.{are_digits, ending_names, is_ending}
 use Rattle.event_grammar.specs.Grammar.{row}
-use Rattle.event_grammar.specs.Points.{bytes_between}
-use Rattle.event_grammar.specs.Trees.{AreNodes, IsNode, Node, Nodes, Around, Nil, Cons, events_of, node_events}
+use Rattle.event_grammar.specs.Points.{bytes_between, spot_of}
+use Rattle.event_grammar.specs.Trees.{AreNodes, IsNode, Node, Nodes, Around, Nil, Cons, events_of, node_events, is_enter, is_pair}
 use Rattle.event_grammar.specs.Void.{is_void}
 use Rattle.event_tokens.specs.Bytes.{are_fit, is_fit, is_fit_at, same_spot}
 use Rattle.event_tokens.specs.Tokens.{is_token}

@@ -17,10 +17,9 @@ use Rattle.event_grammar.specs.declared.slot.Form.{Form}
 use Rattle.event_grammar.specs.declared.slot.Form.TheVariants.{Plain, Ordered}
 use Rattle.event_grammar.specs.declared.slot.Slot.{Slot}
 use Rattle.event_grammar.specs.declared.slot.Slot.TheVariants.{One}
-use Rattle.event_grammar.specs.Checks.{between_of, stands_between}
 use Rattle.event_grammar.specs.Grammar.{line_names, row, space_names}
 use Rattle.event_grammar.specs.InGrammar.{kids_of, node_name}
-use Rattle.event_grammar.specs.Slots.{Taken, take_child, taken}
+use Rattle.event_grammar.specs.Slots.{Taken, take_child, taken, between_of, stands_between}
 use Rattle.event_grammar.specs.Trees.{Node, Nodes, Around, Nil, Cons}
 use Rattle.event_meaning.specs.Blocks.{block_of, blocks_from, blocks_of, join, start_of}
 use Rattle.event_meaning.specs.Children.{text_of}

@@ -15,7 +15,7 @@ use Rattle.inline_runs.specs.declared.pair.Span.TheVariants as span
 use Rattle.event_grammar.specs.declared.slot.Between.{Between}
 use Rattle.event_grammar.specs.declared.slot.Form.TheVariants.{Plain}
 use Rattle.event_grammar.specs.Grammar.{row}
-use Rattle.event_grammar.specs.Checks.{between_of}
+use Rattle.event_grammar.specs.Slots.{between_of}
 use Rattle.parse_slots.specs.Left.{Fill}
 use Rattle.parse_slots.proofs.Steps.{filled_by}
 use Rattle.parse_lines.proofs.Ahead.{owed_after}

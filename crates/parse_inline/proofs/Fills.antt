@@ -11,9 +11,8 @@ use Rattle.event_grammar.specs.declared.slot.Between.TheVariants.{Nothing, Space
 use Rattle.event_grammar.specs.declared.slot.Form.{Form}
 use Rattle.event_grammar.specs.declared.slot.Form.TheVariants.{Plain}
 use Rattle.event_grammar.specs.declared.slot.Slot.{Slot}
-use Rattle.event_grammar.specs.Checks.{between_of, stands_between}
 use Rattle.event_grammar.specs.Grammar.{line_names, one_line_names, row, space_names, string_names, string_row, text_names, text_row}
-use Rattle.event_grammar.specs.Slots.{may_end, take_child, Taken}
+use Rattle.event_grammar.specs.Slots.{between_of, may_end, stands_between, take_child, Taken}
 use Rattle.event_grammar.specs.Void.{is_empty}
 use Rattle.parse_slots.specs.Left.{Fill, is_filled, IsFilled, left_after, left_by, MayEndLines, TakesNoBetween, took}
 use Rattle.parse_slots.proofs.Steps.{filled_by, left_between, left_taken}

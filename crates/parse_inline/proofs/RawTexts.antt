@@ -21,8 +21,7 @@ use Rattle.event_grammar.specs.Grammar.{many, text_row}
 use Rattle.parse_slots.specs.Left.{IsFilled, MayEndLines, TakesNoBetween}
 use Rattle.parse_slots.proofs.Steps.{fill_both, fill_none, fill_taken, may_both}
 use Rattle.parse_lines.proofs.SomeNodes.{written_some}
-use Rattle.event_grammar.specs.Checks.{spot_of}
-use Rattle.event_grammar.specs.Points.{edge}
+use Rattle.event_grammar.specs.Points.{edge, spot_of}
 use Rattle.event_grammar.specs.Trees.{Cons}
 use Rattle.std.proofs.lemmas.List.{get_or-drop}
 use Rattle.parse_output.specs.Joined.{AreJoined, end_edge}

@@ -7,10 +7,9 @@ use Rattle.event_grammar.specs.declared.slot.Between.TheVariants.{Lines, Spaces}
 use Rattle.event_grammar.specs.declared.slot.Form.{Form}
 use Rattle.event_grammar.specs.declared.slot.Form.TheVariants.{Opening, Plain}
 use Rattle.event_grammar.specs.declared.slot.Slot.{Slot}
-use Rattle.event_grammar.specs.Checks.{between_of, one_line, stands_between}
 use Rattle.event_grammar.specs.Grammar.{one as one_slot, row, text_row}
 use Rattle.event_grammar.specs.InGrammar.{kids_of, node_name}
-use Rattle.event_grammar.specs.Slots.{may_end, take_child}
+use Rattle.event_grammar.specs.Slots.{may_end, take_child, between_of, one_line, stands_between}
 use Rattle.event_grammar.specs.Trees.{Node, Nodes}
 use Rattle.parse_output.specs.declared.end.End.{End}
 use Rattle.parse_output.specs.Forest.{append, one, void_nodes}

@@ -15,7 +15,7 @@ use Rattle.definition_page.specs.Read.{read_paragraph}
 use Rattle.event_grammar.specs.declared.slot.Between.{Between as BetweenChildren}
 use Rattle.event_grammar.specs.declared.slot.Between.TheVariants.{Lines}
 use Rattle.event_grammar.specs.declared.slot.Form.TheVariants.{Plain}
-use Rattle.event_grammar.specs.Checks.{one_line}
+use Rattle.event_grammar.specs.Slots.{one_line}
 use Rattle.event_grammar.specs.Grammar.{row, text_row}
 use Rattle.parse_slots.specs.Left.{Fill}
 use Rattle.parse_references.specs.Sound.{AreSound}

@@ -16,8 +16,7 @@ use Rattle.event_grammar.specs.declared.slot.Between.TheVariants.{Lines, Spaces}
 use Rattle.event_grammar.specs.declared.slot.Form.TheVariants.{Plain}
 use Rattle.event_grammar.specs.declared.slot.Slot.{Slot}
 use Rattle.event_grammar.specs.Grammar.{row}
-use Rattle.event_grammar.specs.Checks.{stands_between}
-use Rattle.event_grammar.specs.Slots.{may_end, take_child}
+use Rattle.event_grammar.specs.Slots.{may_end, take_child, stands_between}
 use Rattle.parse_slots.specs.Left.{Fill}
 use Rattle.parse_slots.proofs.Steps.{fill_between, fill_both, fill_none, filled_by, filled_void}
 use Rattle.parse_slots.proofs.Voids.{further_apart, void_between, void_taken}

@@ -8,9 +8,8 @@ use Rattle.event_grammar.specs.declared.slot.Child.TheVariants.{Either}
 use Rattle.event_grammar.specs.declared.slot.Form.TheVariants.{Plain}
 use Rattle.event_grammar.specs.declared.slot.Slot.{Slot}
 use Rattle.event_grammar.specs.declared.slot.Slot.TheVariants.{One}
-use Rattle.event_grammar.specs.Checks.{between_of, one_line}
 use Rattle.event_grammar.specs.Grammar.{one as one_slot, one_line_names, opt, row, string_row}
-use Rattle.event_grammar.specs.Slots.{may_end, take_child}
+use Rattle.event_grammar.specs.Slots.{may_end, take_child, between_of, one_line}
 use Rattle.event_grammar.specs.Void.{is_empty}
 use Rattle.parse_slots.specs.Left.{Fill, IsFilled, MayEndLines, took}
 use Rattle.parse_references.specs.Sound.{asked_names, is_asked_on, ruled_names}

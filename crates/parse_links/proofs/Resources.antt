@@ -17,7 +17,7 @@ use Rattle.engine_events.specs.declared.event.Name.TheVariants as n
 use Rattle.inline_leaves.proofs.Codes.{at_return}
 use Rattle.event_grammar.specs.declared.slot.Form.TheVariants.{Plain}
 use Rattle.event_grammar.specs.declared.slot.Slot.{Slot}
-use Rattle.event_grammar.specs.Checks.{one_line}
+use Rattle.event_grammar.specs.Slots.{one_line}
 use Rattle.event_grammar.specs.Grammar.{one as one_slot, opt, row}
 use Rattle.parse_slots.proofs.Steps.{fill_both, fill_none, fill_taken, filled_by, filled_void, may_both}
 use Rattle.parse_references.specs.Sound.{AreSound}

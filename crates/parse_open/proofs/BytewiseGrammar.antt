@@ -14,10 +14,9 @@ use Rattle.event_grammar.specs.declared.slot.Between.TheVariants.{Nothing, Space
 use Rattle.event_grammar.specs.declared.slot.Form.{Form}
 use Rattle.event_grammar.specs.declared.slot.Slot.{Slot}
 use Rattle.event_grammar.specs.declared.slot.Slot.TheVariants.{One, Opt, Lead, Many}
-use Rattle.event_grammar.specs.Checks.{stands_between}
 use Rattle.event_grammar.specs.Grammar.{row, document_row}
 use Rattle.event_grammar.specs.InGrammar.{Within, inside, Before, before, node_name, NodeFits, fits, KidsFit, end, takes, between, PlacesFit}
-use Rattle.event_grammar.specs.Slots.{Taken, taken, take_child}
+use Rattle.event_grammar.specs.Slots.{Taken, taken, take_child, stands_between}
 use Rattle.event_grammar.specs.Trees.{events_of}
 use Rattle.parse_output.specs.Children.{has_place}
 use Rattle.parse_open.specs.BytewiseLaws.{GrammarIsSound}

@@ -16,10 +16,9 @@ use Rattle.event_grammar.specs.declared.slot.Form.{Form}
 use Rattle.event_grammar.specs.declared.slot.Form.TheVariants.{Plain}
 use Rattle.event_grammar.specs.declared.slot.Slot.{Slot}
 use Rattle.event_grammar.specs.declared.slot.Slot.TheVariants.{Lead, Many, One, Opt}
-use Rattle.event_grammar.specs.Checks.{between_of, spot_of, stands_between}
 use Rattle.event_grammar.specs.Grammar.{document_row, row}
-use Rattle.event_grammar.specs.Points.{edge}
-use Rattle.event_grammar.specs.Slots.{Taken, form_of, has, take_child, taken}
+use Rattle.event_grammar.specs.Points.{edge, spot_of}
+use Rattle.event_grammar.specs.Slots.{Taken, form_of, has, take_child, taken, between_of, stands_between}
 use Rattle.event_grammar.specs.Trees.{AreNodes, Cons, Growth, events_of, followed_by, grown, tree}
 use Rattle.parse_output.proofs.Marks.{same_self}
 use Rattle.parse_output.specs.Children.{HaveChildren, are_children, may_enter, may_follow, may_hold}

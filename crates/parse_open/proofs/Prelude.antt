@@ -23,10 +23,9 @@ pub use Rattle.engine_events.specs.contracts.event.Name.{the_type}
 pub use Rattle.engine_events.specs.declared.event.Event.{Event}
 pub use Rattle.engine_events.specs.declared.event.Name.{Name}
 pub use Rattle.event_check.specs.Loose.{has_loose_item, is_loose_item}
-pub use Rattle.event_grammar.specs.Checks.{spot_of}
 pub use Rattle.event_grammar.specs.Grammar.{block_names}
 pub use Rattle.event_grammar.specs.InGrammar.{node_name}
-pub use Rattle.event_grammar.specs.Points.{edge, spot}
+pub use Rattle.event_grammar.specs.Points.{edge, spot, spot_of}
 pub use Rattle.event_grammar.specs.References.{named, own}
 pub use Rattle.event_grammar.specs.Slots.{has}
 pub use Rattle.event_grammar.specs.Trees.{Around, Cons, followed_by, growth, Nil, Node, Nodes, Part, tree}

@@ -5,8 +5,7 @@ use denote.Enum.Bare.{same_true}
 use Rattle.parse_open.proofs.Prelude.{append, Around, Event, is_listed, Name, Names, Nil, Nodes, one, same_name, the_type}
 use Rattle.markdown_options.specs.declared.configuration.Constructs.{Constructs}
 use Rattle.engine_events.specs.declared.event.Name.TheVariants as n
-use Rattle.event_grammar.specs.Checks.{spot_of}
-use Rattle.event_grammar.specs.Points.{edge}
+use Rattle.event_grammar.specs.Points.{edge, spot_of}
 use Rattle.event_grammar.specs.Trees.{Cons, tree}
 use Rattle.parse_output.specs.Children.{HaveChildren, may_enter, may_hold}
 use Rattle.parse_output.specs.Forest.{byte_nodes, bytes_from, bytewise, is_nil, node_bytewise}

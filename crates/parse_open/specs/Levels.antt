@@ -12,7 +12,7 @@ use Rattle.definition_page.specs.Read.{Reading, Standing, in_container, list_num
 use Rattle.event_check.specs.Loose.{has_loose_item}
 use Rattle.event_grammar.specs.declared.slot.Child.{Child}
 use Rattle.event_grammar.specs.declared.slot.Child.TheVariants.{Only, Block}
-use Rattle.event_grammar.specs.Checks.{spot_of}
+use Rattle.event_grammar.specs.Points.{spot_of}
 use Rattle.event_grammar.specs.InGrammar.{kids_of, node_name}
 use Rattle.event_grammar.specs.References.{named}
 use Rattle.event_grammar.specs.Trees.{Growth, Nodes, Part, Nil, Cons}

@@ -12,7 +12,7 @@ use Rattle.engine_events.specs.declared.event.Name.TheVariants as n
 use Rattle.event_check.specs.Loose.{are_apart, has_loose_item, is_loose_item, lines_in}
 use Rattle.event_grammar.specs.declared.slot.Child.{Child}
 use Rattle.event_grammar.specs.declared.spot.Spot.{Spot}
-use Rattle.event_grammar.specs.Checks.{spot_of}
+use Rattle.event_grammar.specs.Points.{spot_of}
 use Rattle.event_grammar.specs.InGrammar.{node_name}
 use Rattle.event_grammar.specs.Slots.{has}
 use Rattle.event_grammar.specs.Trees.{Node, Nodes, Around, Nil, Cons, followed_by}

@@ -9,8 +9,7 @@ use Rattle.std.proofs.Common.{append_assoc, inl, inr}
 use Rattle.std.proofs.lemmas.Bool.{cases_Bool, cond-true, cond-false}
 use Rattle.std.proofs.lemmas.List.{drop-drop}
 use Rattle.engine_events.specs.declared.event.Name.TheVariants as n
-use Rattle.event_grammar.specs.Checks.{spot_of}
-use Rattle.event_grammar.specs.Points.{spot}
+use Rattle.event_grammar.specs.Points.{spot, spot_of}
 use Rattle.event_grammar.specs.References.{label_text, node_text, nodes_text}
 use Rattle.event_grammar.specs.declared.spot.Spot.{Spot}
 use Rattle.parse_output.specs.declared.draft.Draft.TheVariants as draft

@@ -8,7 +8,7 @@ use Rattle.event_grammar.specs.declared.slot.Between.TheVariants.{Lines}
 use Rattle.event_grammar.specs.declared.slot.Form.{Form}
 use Rattle.event_grammar.specs.declared.slot.Form.TheVariants.{Plain, Ordered, OfImage, OfCall}
 use Rattle.event_grammar.specs.declared.slot.Slot.{Slot}
-use Rattle.event_grammar.specs.Checks.{between_of, stands_between}
+use Rattle.event_grammar.specs.Slots.{between_of, stands_between}
 use Rattle.event_grammar.specs.Grammar.{row, string_names, text_names}
 use Rattle.event_grammar.specs.Void.{is_empty, is_void}
 use Rattle.event_grammar.proofs.EveryName.{of_each, of_listed}

@@ -6,7 +6,7 @@ use Rattle.std.proofs.lemmas.Bool.{cases_Bool}
 use Rattle.std.specs.Prelude.{if◌then◌else◌, map}
 use denote.Enum.Bare.{same_true}
 use Rattle.engine_events.specs.declared.event.Name.TheVariants as n
-use Rattle.event_grammar.specs.CheckViews.{is_enter}
+use Rattle.event_grammar.specs.Trees.{is_enter}
 use Rattle.event_grammar.specs.Void.{is_void}
 use Rattle.event_tokens.specs.Shape.{is_cut, no_neighbours, none_after}
 use Rattle.parse_output.specs.declared.draft.Draft.TheVariants as draft

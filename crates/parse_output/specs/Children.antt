@@ -8,9 +8,8 @@ use Rattle.event_grammar.specs.declared.slot.Form.{Form}
 use Rattle.event_grammar.specs.declared.slot.Form.TheVariants.{Plain, Ordered, OfImage, OfCall}
 use Rattle.event_grammar.specs.declared.slot.Slot.{Slot}
 use Rattle.event_grammar.specs.Grammar.{row, document_row, block_names, string_names, text_names, space_names, line_names}
-use Rattle.event_grammar.specs.Slots.{has}
+use Rattle.event_grammar.specs.Slots.{has, between_of, stands_between}
 use Rattle.event_grammar.specs.SlotViews.{child_of}
-use Rattle.event_grammar.specs.Checks.{between_of, stands_between}
 use Rattle.parse_output.specs.Open.{Mark, Entered, Exited, mark_of, then_mark}
 
 -- whether a row has a place for a name

@@ -7,8 +7,7 @@ use Rattle.engine_events.specs.declared.event.Kind.TheVariants as kind
 use Rattle.engine_events.specs.declared.event.Name.{Name}
 use Rattle.engine_events.specs.declared.event.Name.TheVariants as n
 use Rattle.engine_events.specs.declared.place.Point.{Point}
-use Rattle.event_grammar.specs.Checks.{spot_of}
-use Rattle.event_grammar.specs.Points.{edge}
+use Rattle.event_grammar.specs.Points.{edge, spot_of}
 use Rattle.event_grammar.specs.Trees.{Node, Nodes, Around, Nil, Cons, Part, Growth, growth}
 use Rattle.event_grammar.specs.Void.{is_void}
 use Rattle.parse_output.specs.declared.draft.Draft.{Draft}

@@ -1,7 +1,6 @@
 -- Nodes, each of which begins where the one before it ends, and their text.
 use Rattle.std.specs.Prelude.{◌≡◌, ◌≤◌, ℕ, List, [], ◌++◌}
-use Rattle.event_grammar.specs.Checks.{spot_of}
-use Rattle.event_grammar.specs.Points.{bytes_between, edge, spot}
+use Rattle.event_grammar.specs.Points.{bytes_between, edge, spot, spot_of}
 use Rattle.event_grammar.specs.References.{node_text}
 use Rattle.event_grammar.specs.Trees.{Nodes, Around, Nil, Cons}
 use Rattle.event_grammar.specs.declared.spot.Spot.{Spot}

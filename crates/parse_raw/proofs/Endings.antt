@@ -10,9 +10,8 @@ use Rattle.engine_events.specs.declared.event.Name.TheVariants as n
 use Rattle.event_grammar.specs.declared.slot.Between.TheVariants.{Lines}
 use Rattle.event_grammar.specs.declared.slot.Form.TheVariants.{Plain}
 use Rattle.event_grammar.specs.declared.slot.Slot.{Slot}
-use Rattle.event_grammar.specs.Checks.{stands_between}
 use Rattle.event_grammar.specs.Grammar.{row}
-use Rattle.event_grammar.specs.Slots.{may_end, take_child}
+use Rattle.event_grammar.specs.Slots.{may_end, take_child, stands_between}
 use Rattle.event_meaning.specs.Raw.{ending_of}
 use Rattle.parse_slots.specs.Left.{Fill}
 use Rattle.parse_slots.proofs.Steps.{fill_between, fill_none, filled_void}

@@ -14,9 +14,8 @@ use Rattle.definition_text.proofs.ContentBytes.{IsInLine, codes_in_line}
 use Rattle.event_grammar.specs.declared.slot.Between.TheVariants.{Spaces}
 use Rattle.event_grammar.specs.declared.slot.Form.TheVariants.{Plain}
 use Rattle.event_grammar.specs.declared.slot.Slot.{Slot}
-use Rattle.event_grammar.specs.Checks.{between_of}
 use Rattle.event_grammar.specs.Grammar.{opt, string_row}
-use Rattle.event_grammar.specs.Slots.{take_child}
+use Rattle.event_grammar.specs.Slots.{take_child, between_of}
 use Rattle.event_meaning.specs.Strings.{string_of}
 use Rattle.parse_output.specs.declared.output.Output.{Output}
 use Rattle.parse_lines.specs.Content.{BeginsLineHere, EntersInLine, StandsInLine}

@@ -10,11 +10,10 @@ use Rattle.event_grammar.specs.declared.slot.Between.{Between}
 use Rattle.event_grammar.specs.declared.slot.Form.{Form}
 use Rattle.event_grammar.specs.declared.slot.Form.TheVariants.{Plain}
 use Rattle.event_grammar.specs.declared.slot.Slot.{Slot}
-use Rattle.event_grammar.specs.Checks.{between_of, stands_between}
 use Rattle.event_grammar.specs.Grammar.{line_names, link_names, row, space_names}
 use Rattle.event_grammar.specs.InGrammar.{kids_of, node_name}
 use Rattle.event_grammar.specs.References.{leads, leads_on, media_names, own_label}
-use Rattle.event_grammar.specs.Slots.{may_end, Taken, take_child}
+use Rattle.event_grammar.specs.Slots.{may_end, Taken, take_child, between_of, stands_between}
 use Rattle.event_grammar.specs.Trees.{Node, Nodes, Around, Nil, Cons}
 use Rattle.parse_output.specs.Forest.{append}
 use Rattle.parse_slots.specs.Left.{ends, Fill, is_filled, IsFilled, left_after, left_by}

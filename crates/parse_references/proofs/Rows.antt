@@ -14,10 +14,9 @@ use Rattle.event_grammar.specs.declared.slot.Child.TheVariants.{Only, As, Either
 use Rattle.event_grammar.specs.declared.slot.Form.{Form}
 use Rattle.event_grammar.specs.declared.slot.Slot.{Slot}
 use Rattle.event_grammar.specs.declared.slot.Slot.TheVariants.{One, Opt, Lead, Many}
-use Rattle.event_grammar.specs.Checks.{stands_between}
 use Rattle.event_grammar.specs.Grammar.{block_names, line_names, row, space_names, string_names, text_names}
 use Rattle.event_grammar.specs.References.{media_names}
-use Rattle.event_grammar.specs.Slots.{Taken, form_of, has, take_child, taken}
+use Rattle.event_grammar.specs.Slots.{Taken, form_of, has, take_child, taken, stands_between}
 
 -- ---- names
 

@@ -12,11 +12,10 @@ use Rattle.definition_inline.specs.CharacterReference.{Names}
 use Rattle.event_grammar.specs.declared.slot.Between.{Between}
 use Rattle.event_grammar.specs.declared.slot.Form.{Form}
 use Rattle.event_grammar.specs.declared.slot.Slot.{Slot}
-use Rattle.event_grammar.specs.Checks.{between_of, spot_of}
 use Rattle.event_grammar.specs.Grammar.{row}
 use Rattle.event_grammar.specs.InGrammar.{kids_of, node_name}
-use Rattle.event_grammar.specs.Points.{edge}
-use Rattle.event_grammar.specs.Slots.{may_end}
+use Rattle.event_grammar.specs.Points.{edge, spot_of}
+use Rattle.event_grammar.specs.Slots.{may_end, between_of}
 use Rattle.event_grammar.specs.Trees.{Node, Nodes, Around, Nil, Cons}
 use Rattle.parse_output.specs.declared.end.End.{End}
 use Rattle.parse_output.specs.Ends.{enter_at, exit_at, same_end}

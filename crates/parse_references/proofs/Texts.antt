@@ -16,12 +16,11 @@ use Rattle.event_grammar.specs.declared.slot.Child.TheVariants.{TextPart}
 use Rattle.event_grammar.specs.declared.slot.Form.{Form}
 use Rattle.event_grammar.specs.declared.slot.Form.TheVariants.{Plain}
 use Rattle.event_grammar.specs.declared.slot.Slot.{Slot}
-use Rattle.event_grammar.specs.Checks.{between_of, stands_between}
 use Rattle.event_grammar.specs.Grammar.{line_names, link_names, row, space_names, text_row}
 use Rattle.event_grammar.specs.Grammar as grammar
 use Rattle.event_grammar.specs.InGrammar.{kids_of, node_name}
 use Rattle.event_grammar.specs.References.{is_defined, label_text, leads_on, media_names, own, own_label}
-use Rattle.event_grammar.specs.Slots.{Taken, take_child, taken}
+use Rattle.event_grammar.specs.Slots.{Taken, take_child, taken, between_of, stands_between}
 use Rattle.event_grammar.specs.Trees.{Node, Nodes, Around, Nil, Cons}
 use Rattle.event_meaning.specs.Children.{text_of}
 use Rattle.event_meaning.specs.Texts.{inlines_of, label_or_none, text_names, text_part, text_within}

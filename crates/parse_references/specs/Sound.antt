@@ -8,10 +8,9 @@ use Rattle.engine_events.specs.Names.{is_listed, same_name}
 use Rattle.engine_events.specs.declared.event.Name.{Name}
 use Rattle.engine_events.specs.declared.event.Name.TheVariants as n
 use Rattle.definition_inline.specs.CharacterReference.{Names}
-use Rattle.event_grammar.specs.Checks.{spot_of}
 use Rattle.event_grammar.specs.Facts.{decodes, is_size}
 use Rattle.event_grammar.specs.InGrammar.{node_name}
-use Rattle.event_grammar.specs.Points.{bytes_between, edge}
+use Rattle.event_grammar.specs.Points.{bytes_between, edge, spot_of}
 use Rattle.event_grammar.specs.Trees.{Node, Nodes, Around, Nil, Cons}
 use Rattle.event_tokens.specs.Shape.{full_names}
 pub use Rattle.event_tokens.specs.Shape.{outside_strings}

@@ -6,10 +6,9 @@ use Rattle.event_grammar.specs.declared.slot.Form.TheVariants.{Plain}
 use Rattle.event_grammar.specs.declared.slot.Slot.{Slot}
 use Rattle.event_check.proofs.Matching.{kids_match}
 use Rattle.event_grammar.specs.declared.slot.Between.TheVariants.{Lines}
-use Rattle.event_grammar.specs.Checks.{stands_between}
 use Rattle.event_grammar.specs.Grammar.{document_row}
 use Rattle.event_grammar.specs.InGrammar.{Within, within, Before, before, after, node_name, NodeFits, fits, KidsFit, end, takes, between}
-use Rattle.event_grammar.specs.Slots.{Taken, take_child}
+use Rattle.event_grammar.specs.Slots.{Taken, take_child, stands_between}
 use Rattle.event_grammar.specs.Trees.{Node, Nodes, Around, Nil, Cons}
 use Rattle.parse_slots.specs.Left.{ends, is_filled, left_after, left_by}
 use Rattle.parse_slots.proofs.Steps.{left_between, left_taken}

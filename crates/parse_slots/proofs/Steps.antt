@@ -14,10 +14,9 @@ use Rattle.event_grammar.specs.declared.slot.Form.{Form}
 use Rattle.event_grammar.specs.declared.slot.Form.TheVariants.{Plain}
 use Rattle.event_grammar.specs.declared.slot.Slot.{Slot}
 use Rattle.event_grammar.specs.declared.slot.Slot.TheVariants.{Many}
-use Rattle.event_grammar.specs.Checks.{between_of, stands_between}
 use Rattle.event_grammar.specs.Grammar.{one_line_names, row}
 use Rattle.event_grammar.specs.InGrammar.{kids_of, node_name}
-use Rattle.event_grammar.specs.Slots.{Taken, has, take_child, taken, may_end}
+use Rattle.event_grammar.specs.Slots.{Taken, has, take_child, taken, may_end, between_of, stands_between}
 use Rattle.event_grammar.specs.Trees.{Node, Nodes, Around, Nil, Cons}
 use Rattle.event_grammar.specs.Void.{is_empty}
 use Rattle.parse_output.specs.Forest.{append, byte_node, byte_nodes, one}

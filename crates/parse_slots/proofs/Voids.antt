@@ -12,9 +12,8 @@ use Rattle.event_grammar.specs.declared.slot.Form.{Form}
 use Rattle.event_grammar.specs.declared.slot.Form.TheVariants.{Plain}
 use Rattle.event_grammar.specs.declared.slot.Slot.{Slot}
 use Rattle.event_grammar.specs.declared.slot.Slot.TheVariants.{Many}
-use Rattle.event_grammar.specs.Checks.{stands_between}
 use Rattle.event_grammar.specs.Grammar.{row}
-use Rattle.event_grammar.specs.Slots.{has, may_end, take_child}
+use Rattle.event_grammar.specs.Slots.{has, may_end, stands_between, take_child}
 use Rattle.event_grammar.specs.Trees.{Node, Nodes, Around, Nil}
 use Rattle.parse_output.specs.declared.end.End.{End}
 use Rattle.parse_output.specs.Ends.{enter_at, exit_at, same_end}

@@ -8,11 +8,10 @@ use Rattle.event_grammar.specs.declared.slot.Between.TheVariants.{Lines}
 use Rattle.event_grammar.specs.declared.slot.Form.{Form}
 use Rattle.event_grammar.specs.declared.slot.Form.TheVariants.{Plain}
 use Rattle.event_grammar.specs.declared.slot.Slot.{Slot}
-use Rattle.event_grammar.specs.Checks.{spot_of}
 use Rattle.event_grammar.specs.Facts.{is_fact}
 use Rattle.event_grammar.specs.Grammar.{document_row, row, mdx_names, link_names}
 use Rattle.event_grammar.specs.InGrammar.{Within, within, inside, Before, before, after, node_name, CellsAgree, KidsFit, PlacesFit}
-use Rattle.event_grammar.specs.Points.{bytes_between, spot}
+use Rattle.event_grammar.specs.Points.{bytes_between, spot, spot_of}
 use Rattle.event_grammar.specs.References.{first_lost}
 use Rattle.event_grammar.specs.Slots.{Taken, take_child}
 use Rattle.event_grammar.specs.Trees.{Node, Nodes, Around, Nil, Cons, events_of}

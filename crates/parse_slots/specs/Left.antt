@@ -8,10 +8,9 @@ use Rattle.event_grammar.specs.declared.slot.Between.TheVariants.{Nothing, Space
 use Rattle.event_grammar.specs.declared.slot.Form.{Form}
 use Rattle.event_grammar.specs.declared.slot.Form.TheVariants.{Plain}
 use Rattle.event_grammar.specs.declared.slot.Slot.{Slot}
-use Rattle.event_grammar.specs.Checks.{between_of, stands_between}
 use Rattle.event_grammar.specs.Grammar.{row}
 use Rattle.event_grammar.specs.InGrammar.{node_name}
-use Rattle.event_grammar.specs.Slots.{Taken, take_child, may_end}
+use Rattle.event_grammar.specs.Slots.{Taken, take_child, may_end, between_of, stands_between}
 use Rattle.event_grammar.specs.Trees.{Node, Nodes, Around, Nil, Cons}
 
 -- after a child that the row takes, or that may stand between others; what is in it must fill its own row

@@ -6,7 +6,7 @@ use crate::names::Names;
 use crate::pages::print_page_of;
 use engine_events::event::Event;
 use event_check::{CompileError, check_events, gfm_table_align, list_item_loose, list_loose};
-use event_grammar::EventFault;
+use event_faults::EventFault;
 use markdown_tables::Builtin;
 use std::alloc::{AllocError, Global};
 use std::io::{self, ErrorKind};

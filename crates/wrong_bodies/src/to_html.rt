@@ -4,7 +4,7 @@ ghost use Rattle.markdown_compile_options.specs.RawHtml.{keeps_listed_html};
 ghost use Rattle.event_meaning.specs.Spelled.{html_of_events};
 ghost use Rattle.html_listed.specs.Laws.{HasOneListedReading};
 ghost use Rattle.laws_safe_page.specs.SafeHtml.{AreSafe, HasOneReadingBy, table_of};
-ghost use Rattle.event_grammar.specs.Faults.{fault};
+ghost use Rattle.event_faults.specs.Faults.{fault};
 ghost use Rattle.event_check.specs.Matches.{MatchesGrammar};
 ghost use Rattle.event_check.specs.Checked.{Refuses};
 ghost use Rattle.event_check.specs.declared.error.CompileError.TheVariants.{Memory};

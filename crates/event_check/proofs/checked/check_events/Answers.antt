@@ -1,6 +1,6 @@
 use Rattle.std.proofs.Common.{◌∙◌, sym}
 use Rattle.event_check.proofs.Prelude.{event_fault, MatchesGrammar}
-use Rattle.event_grammar.specs.declared.fault.FaultKind.TheVariants as kinds
+use Rattle.event_faults.specs.declared.fault.FaultKind.TheVariants as kinds
 use Rattle.event_check.proofs.Joined.{first_is, reference_is, holds, not_both}
 use Rattle.event_check.proofs.Matching.{in_matches, matches_in}
 use Rattle.event_check.proofs.checked.check_events.Goals as goal

@@ -1,0 +1,4 @@
+pub mod Checks
+pub mod CheckViews
+pub mod Faults
+pub mod Spaces
