@@ -374,7 +374,8 @@ module _ {A : Type 0} (on : Constructs) (names : Names) (text bytes : List ℕ) 
       ∙ ap₂ (λ (xs ys : List ℕ). xs ++ ys) (ap content_codes (sym same)) p.left in
       let l = inline.Html (content_codes html) in
       leaves_of_front names text stop on a b bytes region content Anywhere (html_leaves (content_codes region)) (l ∷ []) to parts p.left
-      (written front content (same ∙ closed) (ap (λ xs. slice_index xs 0) same ∙ html_first html is.opened) (subst IsUtf8 (sym same) utf8) cut (subst (λ xs. StandsInContent text xs stop a) parts st) whole)
+      (written front content (same ∙ closed) (ap (λ xs. slice_index xs 0) same ∙ html_first html is.opened)
+      (subst IsUtf8 (sym same) utf8) cut (subst (λ xs. StandsInContent text xs stop a) parts st) whole)
       (λ m m'. leaf_alike m m' l (leaves (html_leaves (content_codes region))) (ap (λ xs. leaves (html_leaves (content_codes xs))) same))
 
   pub nothing_part : from ≡ to → WritesLeaves on names text bytes Anywhere [] to stop a a

@@ -173,14 +173,14 @@ pub nothing : (bs : List ℕ) → length bs ≡ 0 → bs ≡ []
 nothing [] none = refl
 nothing (b ∷ bs) none = absurd (omega (arith, none))
 
+-- a text that isn't empty
+pub some_bytes : (bs : List ℕ) → false ≡ eqb (length bs) 0 → 0 < length bs
+some_bytes [] none = absurd (true≢false (sym none))
+some_bytes (b ∷ bs) some = omega arith
+
 -- the first of the lines of a content has no line ending
 pub first_clear : (pieces : List Piece) (none : Piece) → AreContentLines (piece_lines pieces) → 0 < length pieces
     → HaveNoEnding (piece_line (get_or pieces 0 none)).codes
 first_clear [] none are some = absurd (omega (arith, some))
 first_clear (p ∷ []) none are some = are
 first_clear (p ∷ q ∷ others) none are some = are.0
-
--- a text that isn't empty
-pub some_bytes : (bs : List ℕ) → false ≡ eqb (length bs) 0 → 0 < length bs
-some_bytes [] none = absurd (true≢false (sym none))
-some_bytes (b ∷ bs) some = omega arith

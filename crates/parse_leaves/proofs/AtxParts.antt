@@ -125,7 +125,8 @@ module _ {A : Type 0} (text : List ℕ) (ending : Option LineEnding) (left : Lis
     sound = tt;
   }
 
-  pub heading_text : (r : Reading) (piece : Piece) (old mid new : Walk A) → piece.owed ≡ 0 → 0 < length piece.text.now → list_any is_tab_column piece.text.now ≡ false
+  pub heading_text : (r : Reading) (piece : Piece) (old mid new : Walk A) → piece.owed ≡ 0 → 0 < length piece.text.now
+      → list_any is_tab_column piece.text.now ≡ false
       → list_any ends_line piece.text.now ≡ false
       → IsOnLine text ending left (piece.text.now ++ behind) old → standing mid ≡ standing old → BeginsLineHere old mid
       → (mid.place ≡ 0) × (mid.out ≡ old.out)

@@ -8,8 +8,8 @@ use Rattle.markdown_options.specs.declared.line_ending.LineEnding.{LineEnding}
 use Rattle.definition_text.specs.Columns.{is_byte}
 use Rattle.parse_leaves.proofs.Prelude.{append-nil, append_assoc, AreContentLines, AreLines, AreTaken, AtEnding, Between, BlockLine, code_byte, Constructs}
 use Rattle.parse_leaves.proofs.Prelude.{Container, content_from, content_text, ending_text, flat_map-cons, IsRestLine, IsTextLine, last_ending, line_left}
-use Rattle.parse_leaves.proofs.Prelude.{block_codes, bytes_of, is_blank, is_tab_column, is_white, line_text, LineRest, own_lines, Place, Prefixed, Rest, rest_line}
-use Rattle.parse_leaves.proofs.Prelude.{Within}
+use Rattle.parse_leaves.proofs.Prelude.{block_codes, bytes_of, is_blank, is_tab_column, is_white, line_text, LineRest, own_lines, Place, Prefixed, Rest}
+use Rattle.parse_leaves.proofs.Prelude.{rest_line, Within}
 use Rattle.parse_lines.proofs.Columns.{dark_is_byte}
 use Rattle.definition_text.specs.BlockLines.{last_ending_or}
 use Rattle.parse_laid.specs.Leaves.{EndsAt}

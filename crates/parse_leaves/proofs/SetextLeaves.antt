@@ -266,5 +266,6 @@ module _ {A : Type 0} (text : List ℕ) where
       let on_line : IsOn old.on.now (around (standing old)) (Between entered.0) (InAll laid.2) laid.3 =
       subst (λ p. IsOn old.on.now (around (standing old)) p (InAll laid.2) laid.3) entered.1 laid.6 in
       subst (λ p. WritesLeaf r.parse.constructs r.tables.names text top (page.Heading rank is) [] p old new) (sym laid.8)
-      (setext_on r top rank is here left entered.0 (last_ending taken) (content_text ls) old a b c d new laid.2 laid.3 entered.2 entered.3 writes passes next kept by on_line
+      (setext_on r top rank is here left entered.0 (last_ending taken) (content_text ls) old a b c d new laid.2 laid.3 entered.2 entered.3 writes passes next
+      kept by on_line
       laid.7 under same end exits)

@@ -6,7 +6,8 @@ use Rattle.parse_leaves.proofs.Prelude.{AreDefinitionsAlike, AreMeanings, ArePar
 use Rattle.parse_leaves.proofs.Prelude.{content_done, content_text, cut_one, definition_of, End, end_at, end_in, enter_at, EntersAt, EntersText, exit_at}
 use Rattle.parse_leaves.proofs.Prelude.{Exits, flat_map, HasSameOpen, inline_content, Inlines, inlines_of, IsInOrder, IsLeafLaid, IsWrittenToRest, last_ending}
 use Rattle.parse_leaves.proofs.Prelude.{line_text, LineRest, Meaning, Name, named, Names, Node, Nodes, one, own_lines, Paragraph, Place, read_content, Reading}
-use Rattle.parse_leaves.proofs.Prelude.{is_white, rest_line, same_name, SpellsLeaf, Standing, standing, StandsAt, Stop, text_stop, Walk, Within, Writes, writes_around, writes_both}
+use Rattle.parse_leaves.proofs.Prelude.{is_white, rest_line}
+use Rattle.parse_leaves.proofs.Prelude.{same_name, SpellsLeaf, Standing, standing, StandsAt, Stop, text_stop, Walk, Within, Writes, writes_around, writes_both}
 use Rattle.parse_leaves.proofs.Prelude.{WritesContent, WritesLeaf, WritesText, written_to}
 use Rattle.markdown_options.specs.declared.beside.Kind.TheVariants.{Whitespace}
 use Rattle.engine_events.specs.declared.event.Name.TheVariants as n

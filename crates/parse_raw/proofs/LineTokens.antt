@@ -28,7 +28,8 @@ fits_word i n m le small = omega (arith, le, small)
 module _ {A : Type 0} (text : List ℕ) where
   -- a token of the next bytes, which ends there
   pub up_to_first : (old new : Walk A) (name : Name) (front line : List ℕ) (to : End) → same_name name n.Data ≡ false
-      → (0 < length front → is_token name front ≡ true) → to ≡ end_after (end_in old.out) (length front) → standing new ≡ standing old → written_to new ≡ to → WritesUpTo name to old new
+      → (0 < length front → is_token name front ≡ true) → to ≡ end_after (end_in old.out) (length front)
+      → standing new ≡ standing old → written_to new ≡ to → WritesUpTo name to old new
       → IsBefore text (front ++ line) old → WritesFirst text front (tokens text name (end_in old.out).index front) line old new
   up_to_first old new name front line to other may is same end writes at =
       let e = end_in old.out in

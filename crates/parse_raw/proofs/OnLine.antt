@@ -96,7 +96,8 @@ module _ {A : Type 0} (text : List ℕ) (ending : Option LineEnding) (left : Lis
 
   -- a token of the first of these bytes, so many
   pub some_on : (a b : Walk A) (name : Name) (bytes : List ℕ) (k : ℕ) → same_name name n.Data ≡ false
-      → (0 < k → is_token name (take k bytes) ≡ true) → k ≤ length bytes → TokenCall name k a b → IsOnLine text ending left bytes a → WritesOnLine text ending left (tokens text name (written_to a).index (take k bytes)) (drop k bytes) a b
+      → (0 < k → is_token name (take k bytes) ≡ true) → k ≤ length bytes → TokenCall name k a b
+      → IsOnLine text ending left bytes a → WritesOnLine text ending left (tokens text name (written_to a).index (take k bytes)) (drop k bytes) a b
   some_on a b name bytes k other may fits call on =
       let parts = sym (take-append-drop k bytes) in
       first_on_line text ending left (take k bytes) (drop k bytes) (tokens text name (written_to a).index (take k bytes)) a b

@@ -61,7 +61,8 @@ module _ {A : Type 0} (w0 w1 w2 w3 w4 w5 w6 w7 : Walk A) (bytes : List ℕ) wher
       let end3 : end_in w3.out ≡ colon = first_token.end (omega (arith, start_fits, all)) in
       let second_token : IsToken n.GfmTableDelimiterFiller (suc k) w3 w4 = subst (λ (j : ℕ). IsToken n.GfmTableDelimiterFiller j w3 w4) dashes_size t2 in
       let fits3 = place_fits text ending lines w3 (fill ++ after) one_done.before in
-      let two = token_written text ending lines w3 w4 n.GfmTableDelimiterFiller (suc k) fill after second_token (sym fill_size) (λ some. filler_fits k) one_done.before in
+      let two = token_written text ending lines w3 w4 n.GfmTableDelimiterFiller (suc k) fill after second_token (sym fill_size)
+      (λ some. filler_fits k) one_done.before in
       let line3 : length (fill ++ after) ≡ suc k + length after = length-append fill after ∙ ap (λ (j : ℕ). j + length after) fill_size in
       let end4 : end_in w4.out ≡ dash = second_token.end (omega (arith, fits3, line3)) ∙ ap (λ (x : End). end_at (x.index + suc k) 0) end3 in
       let two_done : WritesTo text after ending lines (void_nodes text n.GfmTableDelimiterFiller colon dash) w3 w4 =

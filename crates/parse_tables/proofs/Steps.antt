@@ -62,7 +62,8 @@ module _ {A : Type 0} (text : List ℕ) (ending : Option LineEnding) (left : Lis
 
   -- a token of so many bytes
   pub before_token : (old new : Walk A) (name : Name) (front line : List ℕ) (to : End) → to ≡ end_at ((end_in old.out).index + length front) 0
-      → (0 < length front → is_token name front ≡ true) → IsBefore text (front ++ line) ending left old → standing new ≡ standing old → written_to new ≡ to → WritesUpTo name to old new
+      → (0 < length front → is_token name front ≡ true) → IsBefore text (front ++ line) ending left old
+      → standing new ≡ standing old → written_to new ≡ to → WritesUpTo name to old new
       → WritesTo text line ending left (void_nodes text name (end_in old.out) to) old new
   before_token old new name front line to place may b same end written =
       let follows = subst (λ (e : End). Follows text (end_in old.out) e) (place_after old front line b ∙ sym place) (follows_after text front line (end_in old.out) b.next) in

@@ -565,7 +565,8 @@ module _ (context : InlineContext) where
       (closed_begins c cs is true (email_end content) (email_inner content) (email_alone content)))
       (λ _. tt)
 
-  html_formed : (from : List InlineCode) (o : Option (List ℕ)) → begins_with (codes "<") (codes_of from) ≡ true → WhereSome (λ rest. EndsWith (map html_byte (codes_of from)) (62 ∷ rest)) o
+  html_formed : (from : List InlineCode) (o : Option (List ℕ)) → begins_with (codes "<") (codes_of from) ≡ true
+      → WhereSome (λ rest. EndsWith (map html_byte (codes_of from)) (62 ∷ rest)) o
       → Begins from (html_leaf (codes_of from) o)
   html_formed from None begins closes = tt
   html_formed from (Some rest) begins closes =

@@ -1,5 +1,5 @@
 -- The form of each leaf as it is written (CommonMark 2.4, 2.5, 6.1 and 6.5 to 6.8): which codes stand there, and where it ends.
-use Rattle.std.specs.Prelude.{◌≡◌, ◌<◌, ◌≤◌, ◌==◌, ℕ, Bool, true, false, List, [], ◌∷◌, ◌++◌, Some, codes, drop, length, replicate}
+use Rattle.std.specs.Prelude.{◌≡◌, ◌<◌, ◌≤◌, ◌==◌, ℕ, Bool, true, false, List, [], ◌∷◌, ◌++◌, Some, drop, length, replicate}
 use Rattle.std.specs.Char.{is_ascii_punctuation}
 use Rattle.definition_text.specs.Ascii.{backslash, backtick, dollar, greater_than, less_than, semicolon, space}
 use Rattle.definition_text.specs.Bytes.{begins_with}
@@ -62,7 +62,7 @@ pub record IsAutolink (email : Bool) (text : List ContentCode) (from to : List I
 -- raw HTML, which begins with `<` and ends with `>` (CommonMark 6.6)
 pub record IsHtml (text : List ContentCode) (from to : List InlineCode) : Type 0 where
   pub codes : AreCodes text from to
-  pub opened : begins_with (codes "<") text ≡ true
+  pub opened : begins_with (less_than ∷ []) text ≡ true
   pub front : List ContentCode
   pub closed : text ≡ front ++ greater_than ∷ []
 

@@ -30,5 +30,6 @@ returns-clause-written g c = λ marker are.
     c.run-size.ensures.within (λ k. omega (arith, c.type_inv.bytes k))
     (marker_front marker c.first.result c.run-size.result c.args.bytes.now are (omega (arith, c.white_size-white.ensures.size, c.if-white-gt0.false))
     c.first.ensures c.run-size.ensures.size)
-    (part_fits marker c.first.result c.run-size.result c.args.bytes.now (omega (arith, run, c.run-size.ensures.size)) are (omega (arith, c.white_size-white.ensures.size, c.if-white-gt0.false)) c.first.ensures
+    (part_fits marker c.first.result c.run-size.result c.args.bytes.now (omega (arith, run, c.run-size.ensures.size)) are
+    (omega (arith, c.white_size-white.ensures.size, c.if-white-gt0.false)) c.first.ensures
     c.run-size.ensures.size) token.stays token.end token.written
