@@ -1,5 +1,5 @@
 -- A page with raw HTML in elements without a name, as the code cuts it.
-use Rattle.std.specs.Prelude.{ℕ, ◌-◌, Bool, false, not, if◌then◌else◌, List, [], ◌∷◌, ◌++◌, Option, None, Some, codes, length}
+use Rattle.std.specs.Prelude.{◌≡◌, ℕ, ◌-◌, Bool, true, false, not, if◌then◌else◌, List, [], ◌∷◌, ◌++◌, Option, None, Some, codes, drop, length}
 use Rattle.std.proofs.Common.{Bor}
 use Rattle.std.specs.List.{fold, take_while}
 use Rattle.std.specs.Option.{option_map}
@@ -10,7 +10,7 @@ use Rattle.definition_inline.specs.CharacterReference.{Names}
 use Rattle.definition_inline.specs.GfmAutolinkLiteral.{ends_with}
 use Rattle.html_safe_page.specs.Machine.{is_mark}
 use Rattle.html_safe_page.specs.Reader.{read_text}
-use Rattle.definition_html.specs.PageParts.{raw_run, page_parts}
+use Rattle.definition_html.specs.PageParts.{after_tag, is_in_tag, raw_run, page_parts}
 use Rattle.definition_html.specs.State.{State, says, with_room, entered, left, all_ended}
 use Rattle.definition_html.specs.Listed.{page_part}
 
@@ -56,3 +56,19 @@ own_printed s inside =
 -- the state after what is left of a page
 abbrev pub parts_after : Names → CompileOptions → State → List ℕ → State
 parts_after names options s bytes = fold (page_part names options) s (page_parts bytes)
+
+-- ---- text and tags of the page's own
+
+-- a page begins with a tag of its own: what stands in it, and what follows its `>`
+pub record IsOwnTag (page inside after : List ℕ) : Type 0 where
+  pub spelling : page ≡ in_brackets inside ++ after
+  pub named : begins_with (codes "<>") page ≡ false
+  pub cut : inside ≡ take_while is_in_tag (drop 1 page)
+  pub rest : after ≡ after_tag (drop 1 page)
+
+-- a text up to `<` or to its end prints itself: it leads from one state to another, in which it isn't printed yet
+pub record IsPlain (before after : State) (text rest : List ℕ) : Type 0 where
+  pub run : List ℕ
+  pub whole : text ≡ run ++ rest
+  pub passed : (names : Names) (options : CompileOptions) → parts_after names options (says run after) rest ≡ parts_after names options before text
+  pub stops : (length rest ≡ 0 → ⊥) → begins_with (codes "<") rest ≡ true

@@ -50,7 +50,8 @@ pub(crate) fn split_tag(text: &str) -> (&str, &str)
     }
 }
 
-fn split_inside(text: &str) -> (&str, &str)
+/// What stands in a tag, and its `>` with what follows.
+pub(crate) fn split_inside(text: &str) -> (&str, &str)
     ensures inside { result.0.now ≡ take_while is_in_tag text.now }
     ensures end { result.1.now ≡ after_all is_in_tag text.now }
 {

@@ -1,19 +1,21 @@
 //! A page with raw HTML as text in elements without a name, to one in which listed tags are tags.
-ghost use Rattle.std.specs.Prelude.{◌≡◌, ◌++◌, ◌<◌, IfOk, OnOk, codes, length, string_bytes, true};
-ghost use Rattle.std.specs.List.{prefix_len, take_while};
-ghost use Rattle.definition_text.specs.Bytes.{after_all, begins_with, is_letter_or_digit};
+ghost use Rattle.std.specs.Prelude.{◌≡◌, ◌++◌, ◌<◌, ◌≤◌, ℕ, List, IfOk, IfSome, OnOk, codes, length, string_bytes, true};
+ghost use Rattle.std.specs.List.{prefix_len};
+ghost use Rattle.definition_text.specs.Bytes.{begins_with, is_letter_or_digit};
+ghost use Rattle.definition_inline.specs.CharacterReference.{Names};
+ghost use Rattle.definition_inline.specs.GfmAutolinkLiteral.{ends_with};
+ghost use Rattle.markdown_compile_options.specs.declared.configuration.CompileOptions.{CompileOptions};
 ghost use Rattle.definition_html.specs.Listed.{listed, with_listed};
 ghost use Rattle.html_listed.specs.Laws.{HasOneListedReading, HaveSafeProtocols, IsMixedPage};
 ghost use Rattle.html_listed.specs.MarkedPage.{IsMarkedPage};
 ghost use Rattle.html_listed.specs.Mixed.{tags_of};
-ghost use Rattle.definition_html.specs.PageParts.{is_in_text};
 ghost use Rattle.definition_html.specs.State.{says, with_room, entered, left, all_ended};
 ghost use Rattle.html_safe_page.specs.SafePage.{IsSafePageBy};
 ghost use Rattle.html_safe_page.specs.declared.table.TagTable.{TagTable};
-ghost use Rattle.html_sanitizer.specs.Elements.{first_name, in_brackets, own_printed, parts_after};
+ghost use Rattle.html_sanitizer.specs.Elements.{IsOwnTag, IsPlain, first_name, in_brackets, own_printed, parts_after};
 ghost use Rattle.html_sanitizer.specs.Page.{page_state};
 
-use crate::elements::{push_elements, push_read, split_tag, split_text};
+use crate::elements::{push_elements, push_read, split_inside, split_tag, split_text};
 use crate::page::Page;
 use crate::sanitized::push_raw;
 use markdown_compile_options::CompileOptions;
@@ -47,10 +49,10 @@ pub fn listed_html<A: Allocator + Clone, T: Tables>(
     ensures unmarked { (table : TagTable) → IsSafePageBy table page.now → IfOk result (λ html. string_bytes html ≡ page.now) }
 {
     let mut out = Page::new(alloc.clone()?)?;
-    let mut rest = push_letters(&mut out.out, page)?;
+    let mut rest = push_plain(&mut out, &alloc, page)?;
     while !rest.is_empty() {
         let after = push_tag(&mut out, alloc.clone()?, options, tables, rest)?;
-        rest = push_letters(&mut out.out, after)?;
+        rest = push_plain(&mut out, &alloc, after)?;
     }
     out.end_all()?;
     Ok(out.out)
@@ -72,14 +74,75 @@ pub fn with_listed<A: Allocator + Clone, T: Tables>(
     Ok(page)
 }
 
-/// Appends a text up to the first `<`. Returns what follows.
-fn push_letters<'a, A: Allocator>(out: &mut String<A>, text: &'a str) -> Result<&'a str, AllocError>
-    ensures printed { OnOk result (string_bytes out.new ≡ string_bytes out.old ++ take_while is_in_text text.now) }
-    ensures rest { IfOk result (λ rest. rest.now ≡ after_all is_in_text text.now) }
+/// Appends text and tags of the page's own, up to an element without a name, or to a tag where raw
+/// elements are open. Returns what follows.
+fn push_plain<'a, A: Allocator + Clone>(
+    page: &mut Page<A>,
+    alloc: &A,
+    text: &'a str,
+) -> Result<&'a str, AllocError>
+    ensures printed { IfOk result (λ rest. (names : Names) (options : CompileOptions)
+        → parts_after names options (page_state page.new) rest.now ≡ parts_after names options (page_state page.old) text.now) }
+    ensures tag { IfOk result (λ rest. (length rest.now ≡ 0 → ⊥) → begins_with (codes "<") rest.now ≡ true) }
+    ensures shorter { IfOk result (λ rest. length rest.now ≤ length text.now) }
 {
-    let (letters, rest) = split_text(text);
-    out.push_str(letters)?;
+    let rest = pass_plain(page, alloc, text)?;
+    page.out.push_str(&text[..text.len() - rest.len()])?;
     Ok(rest)
+}
+
+/// Enters and leaves the elements of a text that [`push_plain`] appends. Returns what follows.
+fn pass_plain<'a, A: Allocator + Clone>(
+    page: &mut Page<A>,
+    alloc: &A,
+    text: &'a str,
+) -> Result<&'a str, AllocError>
+    ensures plain { IfOk result (λ rest. IsPlain (page_state page.old) (page_state page.new) text.now rest.now) }
+    ensures shorter { IfOk result (λ rest. length rest.now ≤ length text.now) }
+{
+    let mut rest = split_text(text).1;
+    while page.level.names.is_empty() {
+        let Some((inside, after)) = split_own(rest) else {
+            return Ok(rest);
+        };
+        pass_own(page, alloc, inside)?;
+        rest = split_text(after).1;
+    }
+    Ok(rest)
+}
+
+/// What stands in the tag of the page's own that a text begins with, and what follows its `>`.
+fn split_own(text: &str) -> Option<(&str, &str)>
+    ensures { IfSome result (λ p. IsOwnTag text.now p.0.now p.1.now) }
+{
+    let tag = text.strip_prefix('<')?;
+    let (inside, end) = split_inside(tag);
+    let after = end.strip_prefix('>')?;
+    if inside.is_empty() {
+        return None;
+    }
+    Some((inside, after))
+}
+
+/// Enters or leaves the element of a tag of the page's own, where no raw element is open.
+fn pass_own<A: Allocator + Clone>(
+    page: &mut Page<A>,
+    alloc: &A,
+    inside: &str,
+) -> Result<(), AllocError>
+    requires { length page.old.level.names.items ≡ 0 }
+    ensures { OnOk result ((run : List ℕ)
+        → says (run ++ in_brackets inside.now) (page_state page.new) ≡ own_printed (says run (page_state page.old)) inside.now) }
+{
+    if is_end(inside) {
+        page.leave();
+        return Ok(());
+    }
+    if is_void(inside) {
+        return Ok(());
+    }
+    page.enter(alloc.clone()?, first_name(inside))?;
+    Ok(())
 }
 
 /// Prints what begins with `<`: a tag of the page's own, or raw HTML. Returns what follows.
@@ -133,13 +196,27 @@ fn push_marked<'a, A: Allocator + Clone, T: Tables>(
 fn push_own<A: Allocator>(page: &mut Page<A>, alloc: A, inside: &str) -> Result<(), AllocError>
     ensures { OnOk result (page_state page.new ≡ own_printed (page_state page.old) inside.now) }
 {
-    if inside.as_bytes().starts_with(b"/") {
+    if is_end(inside) {
         return push_end(page, inside);
     }
-    if inside.as_bytes().ends_with(b" /") {
+    if is_void(inside) {
         return push_void(page, inside);
     }
     push_start(page, alloc, inside)
+}
+
+/// Whether a tag is an end tag, by what stands in it.
+fn is_end(inside: &str) -> bool
+    ensures { result ≡ begins_with (codes "/") inside.now }
+{
+    inside.as_bytes().starts_with(b"/")
+}
+
+/// Whether a tag is that of a void element.
+fn is_void(inside: &str) -> bool
+    ensures { result ≡ ends_with (codes " /") inside.now }
+{
+    inside.as_bytes().ends_with(b" /")
 }
 
 fn push_end<A: Allocator>(page: &mut Page<A>, inside: &str) -> Result<(), AllocError>
