@@ -1,22 +1,21 @@
 -- Attributes as they are printed.
-use Rattle.std.proofs.Common.{◌≡◌, ℕ, false, List, [], ◌∷◌, ◌++◌, Option, None, Some, codes, map, refl, sym, ap, ◌∙◌, append_assoc}
-use Rattle.std.proofs.Common.{Bor, arith, inl, inr}
+use Rattle.std.proofs.Common.{◌≡◌, ℕ, Bool, List, [], ◌∷◌, ◌++◌, Option, None, Some, codes, map, refl, sym, ap, ◌∙◌, append_assoc}
+use Rattle.std.proofs.Common.{Bor, arith}
 use Rattle.std.specs.List.{flat_map}
 use Rattle.std.specs.Option.{option_map, option_copied}
-use Rattle.std.specs.Str.{bytes_eq}
-use Rattle.std.proofs.lemmas.Bool.{cases_Bool, cond-false, ne_eqb}
-use Rattle.std.proofs.lemmas.Slice.Eq.{bytes_eq-Decides}
+use Rattle.std.proofs.lemmas.Bool.{ne_eqb}
 use Rattle.std.proofs.lemmas.Grind.{flat_map-append}
 use Rattle.std.proofs.lemmas.List.{append-nil}
 use Rattle.markdown_compile_options.specs.declared.configuration.CompileOptions.{CompileOptions}
 use Rattle.definition_text.specs.Encode.{encode}
 use Rattle.definition_inline.specs.CharacterReference.{Names}
 use Rattle.definition_inline.specs.Decoded.{decode}
-use Rattle.definition_page.specs.InlinePieces.{link_url, image_url}
+use Rattle.definition_page.specs.InlinePieces.{permitted_url}
 use Rattle.definition_page.specs.Tags.{attribute, attribute_bytes}
 use Rattle.definition_html.specs.Listing.{listed_attributes}
 use Rattle.definition_html.specs.Attributes.{Written, code_bytes, decoded, first_of, if_written, url_bytes, url_attributes, kept}
 use Rattle.html_sanitizer.specs.Attributes.{Attribute, read_attribute, named_attributes, first_value}
+use Rattle.html_sanitizer.specs.Urls.{url_if_written}
 use Rattle.html_sanitizer.proofs.Codes.{own_bytes}
 use Rattle.html_sanitizer.proofs.Reading.{first_read}
 use Rattle.html_sanitizer.proofs.Tokens.{AreBytes}
@@ -55,39 +54,17 @@ pub if_found : (names : Names) (name : List ℕ) (items : List Attribute) (found
     → option_copied found ≡ first_value name items → found ≡ Some value → first_of name (map (read_attribute names) items) ≡ Some (decoded names value.now)
 if_found names name items found value e is = first_read names name items ∙ ap (option_map (decoded names)) (sym e ∙ ap option_copied is)
 
--- the attributes of a link and of an image
-pub href_some : (options : CompileOptions) (ws : List Written) (value : List ℕ) → first_of (codes "href") ws ≡ Some value
-    → flat_map attribute_bytes (url_attributes options (codes "a") ws) ≡ attribute_bytes (attribute (codes "href") (link_url options (url_bytes value)))
-href_some options ws value e =
-    ap (λ o. flat_map attribute_bytes (if_written (codes "href") (option_map (λ v. link_url options (url_bytes v)) o))) e
-    ∙ append-nil (attribute_bytes (attribute (codes "href") (link_url options (url_bytes value))))
+-- an attribute with a URL
+pub url_some : (all : Bool) (protocols : List (List ℕ)) (name value : List ℕ) (found : Option (List ℕ)) → found ≡ Some value
+    → flat_map attribute_bytes (url_if_written all protocols name found)
+    ≡ attribute_bytes (attribute name (permitted_url all protocols (url_bytes value)))
+url_some all protocols name value found e =
+    ap (λ o. flat_map attribute_bytes (url_if_written all protocols name o)) e
+    ∙ append-nil (attribute_bytes (attribute name (permitted_url all protocols (url_bytes value))))
 
-pub href_none : (options : CompileOptions) (ws : List Written) → first_of (codes "href") ws ≡ None
-    → flat_map attribute_bytes (url_attributes options (codes "a") ws) ≡ []
-href_none options ws e = ap (λ o. flat_map attribute_bytes (if_written (codes "href") (option_map (λ v. link_url options (url_bytes v)) o))) e
-
-pub src_some : (options : CompileOptions) (ws : List Written) (value : List ℕ) → first_of (codes "src") ws ≡ Some value
-    → flat_map attribute_bytes (url_attributes options (codes "img") ws) ≡ attribute_bytes (attribute (codes "src") (image_url options (url_bytes value)))
-src_some options ws value e =
-    ap (λ o. flat_map attribute_bytes (if_written (codes "src") (option_map (λ v. image_url options (url_bytes v)) o))) e
-    ∙ append-nil (attribute_bytes (attribute (codes "src") (image_url options (url_bytes value))))
-
-pub src_none : (options : CompileOptions) (ws : List Written) → first_of (codes "src") ws ≡ None
-    → flat_map attribute_bytes (url_attributes options (codes "img") ws) ≡ []
-src_none options ws e = ap (λ o. flat_map attribute_bytes (if_written (codes "src") (option_map (λ v. image_url options (url_bytes v)) o))) e
-
-no_word : (xs ys : List ℕ) → (xs ≡ ys → ⊥) → bytes_eq xs ys ≡ false
-no_word xs ys h = elim (cases_Bool (bytes_eq xs ys)) [
-  | inl e ↦ absurd (h ((bytes_eq-Decides xs ys).0 e))
-  | inr e ↦ e
-]
-
--- an element with no attribute with a URL
-pub no_url : (options : CompileOptions) (name : List ℕ) (ws : List Written) → (name ≡ codes "a" → ⊥) → (name ≡ codes "img" → ⊥)
-    → url_attributes options name ws ≡ []
-no_url options name ws link image =
-    cond-false (bytes_eq name (codes "a")) _ _ (no_word name (codes "a") link)
-    ∙ cond-false (bytes_eq name (codes "img")) _ [] (no_word name (codes "img") image)
+pub url_none : (all : Bool) (protocols : List (List ℕ)) (name : List ℕ) (found : Option (List ℕ)) → found ≡ None
+    → flat_map attribute_bytes (url_if_written all protocols name found) ≡ []
+url_none all protocols name found e = ap (λ o. flat_map attribute_bytes (url_if_written all protocols name o)) e
 
 -- both kinds of attributes
 pub kept_printed : (options : CompileOptions) (name : List ℕ) (ws : List Written)

@@ -10,14 +10,16 @@ ghost use Rattle.html_sanitizer.specs.Attributes.{is_space_code, is_unquoted_cod
 ghost use Rattle.html_sanitizer.specs.Attributes.{attribute_start, cut, rest_after};
 ghost use Rattle.html_sanitizer.specs.Attributes.{read_attribute, named_attributes, attributes_of, part_of, split_of, first_value};
 ghost use Rattle.html_safe_page.specs.Views.{names_of};
+ghost use Rattle.html_sanitizer.specs.Urls.{url_if_written};
 
 use crate::listing::is_lower;
-use crate::urls::{Buffers, clean_url, push_image_url, push_link_url};
+use crate::urls::{Buffers, clean_url, push_permitted_url};
 use html_escape::push_encoded;
 use html_listed::listing::LISTED_ATTRIBUTES;
 use inline_references::push_decoded;
 use markdown_compile_options::CompileOptions;
 use markdown_options::Tables;
+use markdown_options::constants::{SAFE_PROTOCOL_HREF, SAFE_PROTOCOL_SRC};
 use std::alloc::{AllocError, Allocator};
 
 /// An attribute as it is written: its name, and its value without quotes.
@@ -238,43 +240,27 @@ fn read_url<A: Allocator, T: Tables>(
     clean_url(&mut buffers.url, &mut buffers.other, buffers.text.as_str())
 }
 
-/// Appends the `href` of a link, if it is written.
-fn push_href<A: Allocator, T: Tables>(
+/// Appends an attribute with a URL, if it is written; unless all protocols are permitted, only with
+/// one of these or with none.
+fn push_url<A: Allocator, T: Tables>(
     out: &mut String<A>,
     buffers: &mut Buffers<A>,
-    options: &CompileOptions,
     tables: &T,
+    name: &str,
+    all: bool,
+    protocols: &[&str],
     written: &[Written<'_>],
 ) -> Result<(), AllocError>
     ensures { let attributes = map (read_attribute (T.reference_of tables.now)) (attributes_of written.now) in
-        OnOk result (string_bytes out.new ≡ string_bytes out.old ++ flat_map attribute_bytes (url_attributes options.now (codes "a") attributes)) }
+        OnOk result (string_bytes out.new ≡ string_bytes out.old
+        ++ flat_map attribute_bytes (url_if_written all (names_of protocols.now) name.now (first_of name.now attributes))) }
 {
-    let Some(value) = first_of("href", written) else {
+    let Some(value) = first_of(name, written) else {
         return Ok(());
     };
     read_url(buffers, tables, value)?;
-    push_start(out, "href")?;
-    push_link_url(out, options, buffers.url.as_str())?;
-    out.push_str("\"")
-}
-
-/// Appends the `src` of an image, if it is written.
-fn push_src<A: Allocator, T: Tables>(
-    out: &mut String<A>,
-    buffers: &mut Buffers<A>,
-    options: &CompileOptions,
-    tables: &T,
-    written: &[Written<'_>],
-) -> Result<(), AllocError>
-    ensures { let attributes = map (read_attribute (T.reference_of tables.now)) (attributes_of written.now) in
-        OnOk result (string_bytes out.new ≡ string_bytes out.old ++ flat_map attribute_bytes (url_attributes options.now (codes "img") attributes)) }
-{
-    let Some(value) = first_of("src", written) else {
-        return Ok(());
-    };
-    read_url(buffers, tables, value)?;
-    push_start(out, "src")?;
-    push_image_url(out, options, buffers.url.as_str())?;
+    push_start(out, name)?;
+    push_permitted_url(out, all, protocols, buffers.url.as_str())?;
     out.push_str("\"")
 }
 
@@ -307,8 +293,30 @@ fn push_url_attribute<A: Allocator, T: Tables>(
         OnOk result (string_bytes out.new ≡ string_bytes out.old ++ flat_map attribute_bytes (url_attributes options.now name.now attributes)) }
 {
     match name {
-        "a" => push_href(out, buffers, options, tables, written),
-        "img" => push_src(out, buffers, options, tables, written),
+        "a" => {
+            let all = options.allow_dangerous_protocol;
+            push_url(
+                out,
+                buffers,
+                tables,
+                "href",
+                all,
+                &SAFE_PROTOCOL_HREF,
+                written,
+            )
+        }
+        "img" => {
+            let all = options.allow_any_img_src || options.allow_dangerous_protocol;
+            push_url(
+                out,
+                buffers,
+                tables,
+                "src",
+                all,
+                &SAFE_PROTOCOL_SRC,
+                written,
+            )
+        }
         _ => Ok(()),
     }
 }

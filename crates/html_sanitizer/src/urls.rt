@@ -1,13 +1,12 @@
 //! URLs as they are printed in attributes.
 ghost use Rattle.std.specs.Prelude.{◌≡◌, ◌++◌, ◌<◌, OnOk, string_bytes};
 ghost use Rattle.definition_text.specs.Encode.{encode};
-ghost use Rattle.definition_page.specs.InlinePieces.{image_url, link_url};
+ghost use Rattle.definition_page.specs.InlinePieces.{permitted_url};
 ghost use Rattle.definition_html.specs.Attributes.{code_bytes, url_bytes};
+ghost use Rattle.html_safe_page.specs.Views.{names_of};
 ghost use Rattle.html_sanitizer.specs.Urls.{replaced};
 
 use html_escape::{push_sanitized, push_sanitized_with_protocols};
-use markdown_compile_options::CompileOptions;
-use markdown_options::constants::{SAFE_PROTOCOL_HREF, SAFE_PROTOCOL_SRC};
 use std::alloc::{AllocError, Allocator};
 
 /// Buffers for the value of an attribute.
@@ -55,32 +54,18 @@ fn push_replaced<A: Allocator>(
     out.push_str(rest)
 }
 
-/// Appends the URL of a link, only with the protocols that are permitted there, unless all are.
-pub(crate) fn push_link_url<A: Allocator>(
+/// Appends a URL; unless all protocols are permitted, only with one of these or with none.
+pub(crate) fn push_permitted_url<A: Allocator>(
     out: &mut String<A>,
-    options: &CompileOptions,
+    all: bool,
+    protocols: &[&str],
     url: &str,
 ) -> Result<(), AllocError>
-    ensures { OnOk result (string_bytes out.new ≡ string_bytes out.old ++ encode (link_url options.now url.now)) }
+    ensures { OnOk result (string_bytes out.new ≡ string_bytes out.old ++ encode (permitted_url all (names_of protocols.now) url.now)) }
 {
-    if options.allow_dangerous_protocol {
+    if all {
         push_sanitized(out, url)
     } else {
-        push_sanitized_with_protocols(out, url, &SAFE_PROTOCOL_HREF)
-    }
-}
-
-/// Appends the URL of an image.
-pub(crate) fn push_image_url<A: Allocator>(
-    out: &mut String<A>,
-    options: &CompileOptions,
-    url: &str,
-) -> Result<(), AllocError>
-    ensures { OnOk result (string_bytes out.new ≡ string_bytes out.old ++ encode (image_url options.now url.now)) }
-{
-    if options.allow_any_img_src || options.allow_dangerous_protocol {
-        push_sanitized(out, url)
-    } else {
-        push_sanitized_with_protocols(out, url, &SAFE_PROTOCOL_SRC)
+        push_sanitized_with_protocols(out, url, protocols)
     }
 }
