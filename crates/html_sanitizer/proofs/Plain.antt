@@ -1,6 +1,6 @@
 -- Text and tags of the page's own are printed as they are.
-use Rattle.std.proofs.Common.{◌≡◌, ℕ, ◌+◌, ◌-◌, ◌<◌, ◌≤◌, Bool, true, false, not, ◌&&◌, cond, eqb, List, [], ◌∷◌, ◌++◌, codes, length, take, drop, refl, sym, ap, ◌∙◌}
-use Rattle.std.proofs.Common.{Bor, arith, append_assoc, length-append, subst, inl, inr}
+use Rattle.std.proofs.Common.{◌≡◌, ℕ, ◌+◌, ◌-◌, ◌<◌, ◌≤◌, Bool, true, false, not, ◌&&◌, cond, eqb, List, [], ◌∷◌, ◌++◌, codes, length, take, drop}
+use Rattle.std.proofs.Common.{refl, sym, ap, ◌∙◌, Bor, arith, append_assoc, length-append, subst, inl, inr}
 use Rattle.std.specs.List.{prefix_len, take_while}
 use Rattle.std.specs.Str.{IsCharBoundary, IsUtf8}
 use Rattle.std.proofs.Math.Seq.{take-append_seam}
