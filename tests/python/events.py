@@ -171,6 +171,7 @@ def fault_of(data, events):
 
 
 def listed(source):
-    """The events of a list as rows have it: `+` is an enter, `-` an exit, and a number the offset. All lines and columns are 1."""
-    found = re.findall(r"([+-])(\w+):(\d+)", source)
-    return [(int(offset), 1, 1, NUMBER[name], int(sign == "-"), 0, 0) for sign, name, offset in found]
+    """The events of a list as rows have it: `+` is an enter, `-` an exit, a number the offset, and one after `.` the columns of the tab
+    there that are before. All lines and columns are 1."""
+    found = re.findall(r"([+-])(\w+):(\d+)(?:\.(\d+))?", source)
+    return [(int(offset), 1, 1, NUMBER[name], int(sign == "-"), int(columns or 0), 0) for sign, name, offset, columns in found]

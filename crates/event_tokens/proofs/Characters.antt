@@ -1,5 +1,5 @@
 -- The bytes of a token are whole characters.
-use Rattle.std.proofs.Common.{◌≡◌, ◌<◌, ℕ, zero, suc, Bool, true, ◌==◌, ◌&&◌, ◌||◌, not, List, [], ◌∷◌, inl, inr, refl, sym, ap, ◌∙◌, arith}
+use Rattle.std.proofs.Common.{◌≡◌, ◌<◌, ℕ, zero, suc, Bool, true, ◌==◌, ◌||◌, not, List, [], ◌∷◌, inl, inr, refl, sym, ap, ◌∙◌, arith}
 use Rattle.std.specs.Prelude.{codes, leb, length, nat_lt}
 use Rattle.std.specs.Char.{is_ascii_alphanumeric, is_ascii_digit, is_ascii_punctuation}
 use Rattle.std.specs.List.{list_all}
@@ -15,7 +15,7 @@ use Rattle.engine_events.specs.declared.event.Name.{Name}
 use Rattle.engine_events.specs.declared.event.Name.TheVariants as n
 use Rattle.event_grammar.specs.Facts.{is_size}
 use Rattle.event_tokens.specs.Laws.{AreBytes, TokensAreCharacters}
-use Rattle.event_tokens.specs.Tokens.{Form, fits, is_among, is_nothing, is_run, one_of, token_form, Characters, Ending, Number, All, Most, Run, Only, Least, Such}
+use Rattle.event_tokens.specs.Tokens.{Form, fits, is_among, is_run, one_of, token_form, Characters, Ending, Number, All, Most, Run, Only, Least, Such}
 use Rattle.event_tokens.specs.Tokens.{Either, Both, begins_address, begins_link, is_address, is_email, is_uri}
 
 -- ---- bytes of a kind
@@ -70,10 +70,6 @@ among_ascii (c ∷ marks) low b byte is =
 HasCharacters : Form → Type 0
 HasCharacters form = (bytes : List ℕ) → AreBytes bytes → fits form bytes ≡ true → is_utf8 bytes ≡ true
 
-nothing_characters : (bytes : List ℕ) → is_nothing bytes ≡ true → is_utf8 bytes ≡ true
-nothing_characters [] is = is_utf8-from_IsUtf8 [] IsUtf8-nil
-nothing_characters (b ∷ bs) is = absurd (true≢false (sym is))
-
 same_characters : (bytes text : List ℕ) → is_utf8 text ≡ true → bytes_eq bytes text ≡ true → is_utf8 bytes ≡ true
 same_characters bytes text are same = ap is_utf8 ((bytes_eq-Decides bytes text).0 same) ∙ are
 
@@ -114,7 +110,7 @@ all kind ascii bytes are is = ascii_characters kind bytes ascii are is
 
 most : (size : ℕ) (kind : ℕ → Bool) → IsAsciiKind kind → HasCharacters (Most size kind)
 unfolding HasCharacters
-most size kind ascii bytes are is = ascii_characters kind bytes ascii are (and_parts (leb (length bytes) size) (list_all kind bytes) is).1
+most size kind ascii bytes are is = ascii_characters kind bytes ascii are (and_parts (is_size size bytes) (list_all kind bytes) is).1
 
 run : (marks : List ℕ) → list_all (λ c. nat_lt c 128) marks ≡ true → HasCharacters (Run marks)
 unfolding HasCharacters
@@ -125,19 +121,11 @@ mark marks low = most 1 (is_among marks) (among_ascii marks low)
 
 only : (text : List ℕ) → is_utf8 text ≡ true → HasCharacters (Only text)
 unfolding HasCharacters
-only text utf8 bytes are is =
-    elim (or_cases (is_nothing bytes) (bytes_eq bytes text) is) [
-      | inl none ↦ nothing_characters bytes none
-      | inr same ↦ same_characters bytes text utf8 same
-    ]
+only text utf8 bytes are is = same_characters bytes text utf8 is
 
 least : (size : ℕ) (kind : ℕ → Bool) → IsAsciiKind kind → HasCharacters (Least size kind)
 unfolding HasCharacters
-least size kind ascii bytes are is =
-    elim (or_cases (is_nothing bytes) (leb size (length bytes) && list_all kind bytes) is) [
-      | inl none ↦ nothing_characters bytes none
-      | inr some ↦ ascii_characters kind bytes ascii are (and_parts (leb size (length bytes)) (list_all kind bytes) some).1
-    ]
+least size kind ascii bytes are is = ascii_characters kind bytes ascii are (and_parts (leb size (length bytes)) (list_all kind bytes) is).1
 
 either : (one other : Form) → HasCharacters one → HasCharacters other → HasCharacters (Either one other)
 unfolding HasCharacters
@@ -165,6 +153,14 @@ equals : is_utf8 (codes "==") ≡ true
 unfolding is_utf8 chars encode
 equals = refl
 
+hyphens : is_utf8 (codes "---") ≡ true
+unfolding is_utf8 chars encode
+hyphens = refl
+
+pluses : is_utf8 (codes "+++") ≡ true
+unfolding is_utf8 chars encode
+pluses = refl
+
 token_characters : (name : Name) → HasCharacters (token_form name)
 token_characters n.SpaceOrTab = all is_white white_ascii
 token_characters n.LineEnding = ending
@@ -177,7 +173,7 @@ token_characters n.ListItemMarker = mark (codes "-+*.)") refl
 token_characters n.GfmFootnoteDefinitionLabelMarker = mark (codes "[]") refl
 token_characters n.GfmFootnoteDefinitionMarker = mark (codes "^") refl
 token_characters n.DefinitionMarker = mark (codes ":") refl
-token_characters n.FrontmatterSequence = run (codes "-+") refl
+token_characters n.FrontmatterSequence = either (Only (codes "---")) (Only (codes "+++")) (only (codes "---") hyphens) (only (codes "+++") pluses)
 token_characters n.FrontmatterChunk = text (All (λ b. not (ends_line b)))
 token_characters n.ThematicBreakSequence = run (codes "*-_") refl
 token_characters n.CodeFencedFenceSequence = run (codes "`~") refl

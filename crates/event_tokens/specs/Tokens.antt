@@ -1,5 +1,5 @@
 -- Which bytes an event that holds no other may have, by its name: none, if its name may hold others. They are whole characters: those that need not be ASCII
--- are asked to be UTF-8. One of no bytes may be columns of a tab, unless it is a line ending or a number.
+-- are asked to be UTF-8. Only white space, data and chunks may have no bytes: these are columns of a tab.
 use Rattle.std.specs.Prelude.{ℕ, Bool, true, false, not, ◌||◌, ◌&&◌, ◌==◌, leb, List, [], ◌∷◌, Option, None, Some, codes, length}
 use Rattle.std.specs.Char.{is_ascii_alphanumeric, is_ascii_punctuation}
 use Rattle.std.specs.List.{list_all, list_any}
@@ -13,7 +13,7 @@ use Rattle.definition_inline.specs.Autolink.{email_end, uri_end}
 use Rattle.definition_inline.specs.GfmAutolinkLiteral.{begins_caselessly}
 use Rattle.engine_events.specs.declared.event.Name.{Name}
 use Rattle.engine_events.specs.declared.event.Name.TheVariants as n
-use Rattle.event_grammar.specs.Facts.{are_digits, is_ending}
+use Rattle.event_grammar.specs.Facts.{are_digits, is_ending, is_size}
 
 -- ---- forms of bytes
 
@@ -26,9 +26,9 @@ pub data Form : Type 0 where
   Number : ℕ → Form
   -- each byte is of a kind
   All : (ℕ → Bool) → Form
-  -- at most so many bytes, each of a kind
+  -- a byte or more, and at most so many, each of a kind
   Most : ℕ → (ℕ → Bool) → Form
-  -- the same byte, again and again
+  -- the same byte, once or more
   Run : List ℕ → Form
   -- these bytes
   Only : List ℕ → Form
@@ -49,7 +49,7 @@ abbrev pub is_among : List ℕ → ℕ → Bool
 is_among codes b = list_any (λ c. b == c) codes
 
 abbrev pub is_run : List ℕ → Bool
-is_run [] = true
+is_run [] = false
 is_run (b ∷ bs) = list_all (λ c. c == b) bs
 
 abbrev pub fits : Form → List ℕ → Bool
@@ -57,11 +57,11 @@ fits Characters bytes = is_utf8 bytes
 fits Ending bytes = is_ending bytes
 fits (Number most) bytes = are_digits most bytes
 fits (All kind) bytes = list_all kind bytes
-fits (Most most kind) bytes = leb (length bytes) most && list_all kind bytes
+fits (Most most kind) bytes = is_size most bytes && list_all kind bytes
 fits (Run marks) bytes = is_run bytes && list_all (is_among marks) bytes
-fits (Only text) bytes = is_nothing bytes || bytes_eq bytes text
-fits (Least least kind) bytes = is_nothing bytes || (leb least (length bytes) && list_all kind bytes)
-fits (Such test) bytes = is_nothing bytes || test bytes
+fits (Only text) bytes = bytes_eq bytes text
+fits (Least least kind) bytes = leb least (length bytes) && list_all kind bytes
+fits (Such test) bytes = test bytes
 fits (Either one other) bytes = fits one bytes || fits other bytes
 fits (Both one other) bytes = fits one bytes && fits other bytes
 
@@ -128,7 +128,7 @@ token_form n.GfmFootnoteDefinitionLabelMarker = one_of (codes "[]")
 token_form n.GfmFootnoteDefinitionMarker = one_of (codes "^")
 token_form n.DefinitionMarker = one_of (codes ":")
 -- raw blocks
-token_form n.FrontmatterSequence = Run (codes "-+")
+token_form n.FrontmatterSequence = Either (Only (codes "---")) (Only (codes "+++"))
 token_form n.FrontmatterChunk = line
 token_form n.ThematicBreakSequence = Run (codes "*-_")
 token_form n.CodeFencedFenceSequence = Run (codes "`~")

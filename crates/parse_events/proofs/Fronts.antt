@@ -17,8 +17,11 @@ use Rattle.event_tokens.specs.Tokens.{is_token}
 use Rattle.parse_output.specs.Joined.{text_between}
 use Rattle.engine_events.specs.Columns.{between, mark_size}
 use Rattle.engine_events.specs.declared.event.Name.TheVariants as n
+use Rattle.parse_lines.specs.Content.{end_after}
 use Rattle.parse_lines.specs.Standing.{IsLineStart}
 use Rattle.parse_lines.specs.Steps.{BeginsAt}
+use Rattle.parse_lines.proofs.Ahead.{after_bytes}
+use Rattle.parse_lines.proofs.Bytes.{apart_some}
 use Rattle.parse_lines.proofs.Spots.{bytes_after}
 use Rattle.parse_output.specs.Ends.{first_end}
 use Rattle.parse_output.specs.Spots.{next_spot, start}
@@ -43,14 +46,14 @@ pub record MarkParts (text : List ℕ) : Type 0 where
   pub mark : List ℕ
   pub parts : text ≡ mark ++ without_mark text
   pub first : IsLineStart text (length mark)
-  pub fits : is_token n.ByteOrderMark mark ≡ true
+  pub fits : 0 < length mark → is_token n.ByteOrderMark mark ≡ true
 
 no_mark : (text : List ℕ) → has_mark text ≡ false → mark_size text ≡ 0 → MarkParts text
 no_mark text none size = record {
   mark = [];
   parts = sym (cond-false (has_mark text) _ _ none);
   first = record { column = refl; mark = omega (arith, size); apart = λ some. absurd (omega (arith, some)) };
-  fits = refl;
+  fits = λ some. absurd (omega (arith, some));
 }
 
 pub mark_parts : (text : List ℕ) → MarkParts text
@@ -73,7 +76,7 @@ mark_parts (a ∷ b ∷ c ∷ others) =
               mark = omega (arith, size);
               apart = λ some return feed. absurd (omega (arith, last, return));
             };
-            fits =
+            fits = λ some.
                 ap₂ (λ (x : ℕ) (xs : List ℕ). is_token n.ByteOrderMark (x ∷ xs)) (eqb-true a 239 first.0)
                 (ap₂ (λ (x y : ℕ). x ∷ y ∷ []) (eqb-true b 187 first.1) last);
           }
@@ -173,7 +176,13 @@ module _ {A : Type 0} where
       let between_is : text_between text (written_to old) to ≡ mp.mark =
       ap₂ (text_between text) start (ap (λ (k : ℕ). end_at k 0) reached)
       ∙ ap (between 0 (length mp.mark)) parts ∙ ap (λ (k : ℕ). take k (mp.mark ++ rest)) none ∙ take-append_seam mp.mark rest in
-      let written = writes short text order (record { follows = follows; bytes = λ apart. ap (is_token n.ByteOrderMark) between_is ∙ mp.fits }) in
+      let there : (written_to old).index + size ≡ 0 + length mp.mark = omega (arith, reached) in
+      let after : to ≡ end_after (written_to old) (length mp.mark) =
+      ap (λ (k : ℕ). end_at k 0) there ∙ sym (ap (λ (e : End). end_after e (length mp.mark)) start ∙ after_bytes 0 (length mp.mark)) in
+      let written = writes short text order (record {
+        follows = follows;
+        bytes = λ apart. ap (is_token n.ByteOrderMark) between_is ∙ mp.fits (apart_some (written_to old) to mp.mark after apart);
+      }) in
       let nodes = void_nodes text n.ByteOrderMark (written_to old) to in
       let st : StandsAt text (Between (unread before (lines rest))) (standing old) = begins text mp.mark before fits refl bytes parts mp.first in
       record {

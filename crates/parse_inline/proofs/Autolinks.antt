@@ -1,8 +1,7 @@
 -- What is written of an autolink (CommonMark 6.5).
 use Rattle.std.proofs.Common.{◌≡◌, ◌<◌, ℕ, Bool, true, false, ◌||◌, List, [], ◌∷◌, ◌++◌, refl, ap, ap₂, subst, ◌∙◌, append_assoc, length, arith}
-use Rattle.std.proofs.lemmas.Bool.{or_right}
 use Rattle.markdown_options.specs.declared.configuration.Constructs.{Constructs}
-use Rattle.event_tokens.specs.Tokens.{is_email, is_nothing, is_token, is_uri}
+use Rattle.event_tokens.specs.Tokens.{is_token}
 use Rattle.parse_written.specs.Leaves.{is_target}
 use Rattle.parse_lines.proofs.Bytes.{has_bytes}
 use Rattle.parse_inline.proofs.Prelude.{Anywhere, append, ArePlain, Around, End, end_after, end_in, ends_line, enter_at, EntersInLine, exit_at, ExitsInLine}
@@ -73,8 +72,8 @@ address_prefix true = refl
 address_prefix false = refl
 
 address_may : (email : Bool) (bytes : List ℕ) → IsUtf8 bytes → is_target email bytes ≡ true → is_token (address_name email) bytes ≡ true
-address_may true bytes utf8 is = with_characters bytes _ utf8 (or_right (is_nothing bytes) (is_email bytes) is)
-address_may false bytes utf8 is = with_characters bytes _ utf8 (or_right (is_nothing bytes) (is_uri bytes) is)
+address_may true bytes utf8 is = with_characters bytes _ utf8 is
+address_may false bytes utf8 is = with_characters bytes _ utf8 is
 
 module _ {A : Type 0} (names : Names) (text : List ℕ) (stop : Stop) where
   pub autolink_front : (on : Constructs) (email : Bool) (name : Name) (a b c d e f : Walk A) (address content : List ℕ) (size : ℕ) → name ≡ address_name email

@@ -5,9 +5,9 @@ use Rattle.std.proofs.Common.{◌≤◌, zero, suc, ◌&&◌, replicate}
 use Rattle.std.specs.Char.{is_ascii_punctuation}
 use Rattle.std.specs.List.{list_all}
 use Rattle.std.specs.Prelude.{leb}
-use Rattle.std.proofs.lemmas.Bool.{le-leb, or_right}
+use Rattle.std.proofs.lemmas.Bool.{le-leb}
 use Rattle.std.proofs.lemmas.List.{length-replicate}
-use Rattle.event_tokens.specs.Tokens.{is_among, is_nothing, is_token}
+use Rattle.event_tokens.specs.Tokens.{is_among, is_token}
 use Rattle.event_grammar.specs.declared.slot.Child.TheVariants.{TextPart}
 use Rattle.event_grammar.specs.Grammar.{text_row}
 use Rattle.parse_slots.proofs.Steps.{fill_none}
@@ -62,8 +62,7 @@ are_spaces (suc n) = are_spaces n
 -- two spaces or more may be a hard break
 spaces_may : (size : ℕ) → 2 ≤ size → is_token n.HardBreakTrailing (replicate size 32) ≡ true
 spaces_may size some =
-    or_right (is_nothing (replicate size 32)) (leb 2 (length (replicate size 32)) && list_all (is_among (32 ∷ [])) (replicate size 32))
-    (ap₂ (λ (s t : Bool). s && t) (le-leb 2 (length (replicate size 32)) (omega (arith, some, length-replicate {A = ℕ} size 32))) (are_spaces size))
+    ap₂ (λ (s t : Bool). s && t) (le-leb 2 (length (replicate size 32)) (omega (arith, some, length-replicate {A = ℕ} size 32))) (are_spaces size)
 
 abbrev AreSmall : List ℕ → Type 0
 AreSmall bytes = (k : ℕ) → slice_index bytes k < 256

@@ -7,7 +7,7 @@ use Rattle.definition_text.specs.Bytes.{begins_with}
 use Rattle.definition_inline.specs.GfmAutolinkLiteral.{begins_caselessly}
 use Rattle.definition_inline.specs.Inline.{Email, Protocol, Www}
 use Rattle.engine_events.specs.declared.event.Name.TheVariants as n
-use Rattle.event_tokens.specs.Tokens.{begins_address, begins_link, is_address, is_nothing, is_token}
+use Rattle.event_tokens.specs.Tokens.{begins_address, begins_link, is_token}
 use Rattle.parse_strings.proofs.Characters.{with_characters}
 use Rattle.parse_written.specs.Written.{is_literal}
 use Rattle.parse_inline.proofs.Prelude.{IsUtf8}
@@ -55,10 +55,10 @@ pub x_is : (b : ℕ) → b ≡ 120 → is_one 88 120 b ≡ true
 x_is b is = ap (is_one 88 120) is
 
 pub www_may : (bytes : List ℕ) → IsUtf8 bytes → is_literal Www bytes ≡ true → is_token n.GfmAutolinkLiteralWww bytes ≡ true
-www_may bytes utf8 is = with_characters bytes _ utf8 (or_right (is_nothing bytes) (begins_link (codes "www.") bytes) is)
+www_may bytes utf8 is = with_characters bytes _ utf8 is
 
 pub email_may : (bytes : List ℕ) → IsUtf8 bytes → is_literal Email bytes ≡ true → is_token n.GfmAutolinkLiteralEmail bytes ≡ true
-email_may bytes utf8 is = with_characters bytes _ utf8 (or_right (is_nothing bytes) (is_address bytes) is)
+email_may bytes utf8 is = with_characters bytes _ utf8 is
 
 mail_lower : (b : ℕ) → is_either 77 109 b → to_ascii_lowercase b ≡ 109
 mail_lower b (inl is) = ap to_ascii_lowercase is
@@ -70,7 +70,7 @@ mailto_may bytes utf8 m is =
     let lower = mail_lower (slice_index bytes 0) m in
     protocol_by (is_token n.GfmAutolinkLiteralMailto bytes ≡ true) bytes is (λ _ first. absurd (let no : 104 ≡ 109 = first ∙ lower in omega (arith, no)))
     (λ _ first. absurd (let no : 104 ≡ 109 = first ∙ lower in omega (arith, no)))
-    (λ a _. with_characters bytes _ utf8 (or_right (is_nothing bytes) (begins_address (codes "mailto:") bytes) a))
+    (λ a _. with_characters bytes _ utf8 a)
     (λ _ first. absurd (let no : 120 ≡ 109 = ap to_ascii_lowercase first ∙ lower in omega (arith, no)))
 
 chat_lower : (b : ℕ) → is_either 88 120 b → to_ascii_lowercase b ≡ 120
@@ -84,16 +84,15 @@ xmpp_may bytes utf8 x is =
     protocol_by (is_token n.GfmAutolinkLiteralXmpp bytes ≡ true) bytes is (λ _ first. absurd (let no : 104 ≡ 120 = first ∙ lower in omega (arith, no)))
     (λ _ first. absurd (let no : 104 ≡ 120 = first ∙ lower in omega (arith, no)))
     (λ _ first. absurd (let no : 109 ≡ 120 = ap to_ascii_lowercase first ∙ lower in omega (arith, no)))
-    (λ a _. with_characters bytes _ utf8 (or_right (is_nothing bytes) (begins_address (codes "xmpp:") bytes) a))
+    (λ a _. with_characters bytes _ utf8 a)
 
 pub protocol_may : (bytes : List ℕ) → IsUtf8 bytes → (slice_index bytes 0 ≡ 109 → ⊥) → (slice_index bytes 0 ≡ 120 → ⊥) → is_literal Protocol bytes ≡ true
     → is_token n.GfmAutolinkLiteralProtocol bytes ≡ true
 protocol_may bytes utf8 no_mail no_chat is =
-    let nothing = is_nothing bytes in
     let http = begins_link (codes "http://") bytes in
     let https = begins_link (codes "https://") bytes in
     protocol_by (is_token n.GfmAutolinkLiteralProtocol bytes ≡ true) bytes is
-    (λ a _. with_characters bytes _ utf8 (or_left (nothing || http) (nothing || https) (or_right nothing http a)))
-    (λ b _. with_characters bytes _ utf8 (or_right (nothing || http) (nothing || https) (or_right nothing https b)))
+    (λ a _. with_characters bytes _ utf8 (or_left http https a))
+    (λ b _. with_characters bytes _ utf8 (or_right http https b))
     (λ _ first. absurd (no_mail (sym first)))
     (λ _ first. absurd (no_chat (sym first)))

@@ -112,7 +112,7 @@ record RawNames (marker : ℕ) (text sequence chunk : Name) : Type 0 where
   sequence_prefix : same_name sequence n.BlockQuotePrefix ≡ false
   sequence_sought : is_listed sought_names sequence ≡ false
   sequence_other : is_listed (line_names chunk) sequence ≡ false
-  sequence_may : (bytes : List ℕ) (size : ℕ) → size ≤ run marker bytes → is_token sequence (take size bytes) ≡ true
+  sequence_may : (bytes : List ℕ) (size : ℕ) → 0 < size → size ≤ run marker bytes → is_token sequence (take size bytes) ≡ true
   spells : (names : Names) (bytes : List ℕ) (linked : Bool) (from to : End) (kids : Nodes)
       → inlines_of names bytes linked (one (Around (enter_at bytes text from) kids (exit_at bytes text to))) ≡ leaves (raw_leaf text (code_of names bytes sequence kids) ∷ [])
   alike : (m m' : Meaning) (printed : List ℕ) → ArePartsAlike m m' (leaves (raw_leaf text printed ∷ [])) (leaves (raw_leaf text printed ∷ []))
@@ -140,7 +140,7 @@ raw_names marker text sequence chunk are =
       sequence_prefix = refl;
       sequence_sought = refl;
       sequence_other = refl;
-      sequence_may = λ bytes size few. run_fits (codes "`") 96 bytes size refl few;
+      sequence_may = λ bytes size some few. run_fits (codes "`") 96 bytes size refl some few;
       spells = λ names bytes linked from to kids. refl;
       alike = λ m m' printed. leaf_alike m m' (inline.Code printed) (leaves (inline.Code printed ∷ [])) refl;
     })
@@ -164,7 +164,7 @@ raw_names marker text sequence chunk are =
       sequence_prefix = refl;
       sequence_sought = refl;
       sequence_other = refl;
-      sequence_may = λ bytes size few. run_fits (codes "$") 36 bytes size refl few;
+      sequence_may = λ bytes size some few. run_fits (codes "$") 36 bytes size refl some few;
       spells = λ names bytes linked from to kids. refl;
       alike = λ m m' printed. leaf_alike m m' (inline.Math printed) (leaves (inline.Math printed ∷ [])) refl;
     })
@@ -331,7 +331,7 @@ module _ {A : Type 0} (names : Names) (text : List ℕ) (stop : Stop) where
       let t =
       token_in names text stop b c sequence opening tail size opening_size
       (omega (arith, some, opening_size)) opening_dark known.sequence_data known.sequence_prefix
-      (known.sequence_may bytes size (omega (arith, size_is)))
+      (known.sequence_may bytes size some (omega (arith, size_is)))
       (subst (λ xs. StandsInContent text xs stop b) parts entered.stands) (ap (λ (x : End). x.owed) entered.end ∙ whole) same_c first in
       let (others, begins) = run_first marker raw.end (omega (arith, next.size_is, some)) in
       let cut : AreCutBetween inner (closing ++ after) =
@@ -347,7 +347,7 @@ module _ {A : Type 0} (names : Names) (text : List ℕ) (stop : Stop) where
       let u =
       token_in names text stop d e sequence closing after size closing_size
       (omega (arith, some, closing_size)) closing_dark known.sequence_data known.sequence_prefix
-      (known.sequence_may raw.end size (omega (arith, next.size_is)))
+      (known.sequence_may raw.end size some (omega (arith, next.size_is)))
       w.writes.stands whole_d same_e second in
       let exited = line_exits text stop e f name after u.writes.stands same_f exits in
       let t_node = token text sequence (end_in b.out).index (length opening) in

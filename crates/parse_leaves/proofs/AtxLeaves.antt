@@ -134,7 +134,7 @@ module _ {A : Type 0} (text : List ℕ) where
       let fits : size ≤ length bytes =
       subst (λ bs. size ≤ length bs) (sym all)
       (subst (λ k. k ≤ length line) (sym size_is) (prefix_len-le-length (λ x. x == number_sign) line)) in
-      let hash = run_fits (codes "#") number_sign bytes size refl (omega (arith, size_is, ap (run number_sign) all)) in
+      let hash = λ (some : 0 < size). run_fits (codes "#") number_sign bytes size refl some (omega (arith, size_is, ap (run number_sign) all)) in
       -- what is left of the line at each walk
       let on_a : IsOnLine text ending left bytes a = subst (λ bs. IsOnLine text ending left bs a) (sym all) white.on in
       let on_b = entered_on text ending left a b n.HeadingAtx bytes enter on_a in

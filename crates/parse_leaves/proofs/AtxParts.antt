@@ -57,7 +57,8 @@ module _ {A : Type 0} (text : List ℕ) (ending : Option LineEnding) (left : Lis
   closing_written old a b new bytes k few sized white first token to_end =
       let front = take (indent bytes) bytes in
       let rest = drop (indent bytes) bytes in
-      let second = some_on text ending left a b n.HeadingAtxSequence rest k refl (run_fits (codes "#") number_sign rest k refl (omega (arith, sized))) few token first.on in
+      let second = some_on text ending left a b n.HeadingAtxSequence rest k refl
+      (λ some. run_fits (codes "#") number_sign rest k refl some (omega (arith, sized))) few token first.on in
       let last = drop k rest in
       let third = all_on text ending left b new n.SpaceOrTab last refl (ap (λ (i : ℕ). list_all is_white (drop i rest)) sized ∙ white) to_end second.on in
       let ns = tokens text n.SpaceOrTab (written_to old).index front in

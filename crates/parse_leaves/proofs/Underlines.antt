@@ -62,7 +62,8 @@ module _ {A : Type 0} (text : List ℕ) where
       let own : AreUnderline bytes = subst AreUnderline (sym all) are in
       let blank : list_all is_white rest ≡ true =
       ap (λ (k : ℕ). list_all is_white (drop k bytes)) (is_size ∙ ap (λ (x : ℕ). run x bytes) is_marker) ∙ own.1 in
-      let runs = run_fits (codes "=-") marker bytes size (ap (is_among (codes "=-")) is_marker ∙ own.0) (omega (arith, is_size)) in
+      let runs = λ (size_some : 0 < size).
+      run_fits (codes "=-") marker bytes size (ap (is_among (codes "=-")) is_marker ∙ own.0) size_some (omega (arith, is_size)) in
       let first = some_on text ending left b c n.HeadingSetextUnderlineSequence bytes size refl runs fits token on_b in
       let last = all_on text ending left c d n.SpaceOrTab rest refl blank to_end first.on in
       let kids = on_line_both text ending left rest [] sequence space b c d first last in

@@ -1,9 +1,10 @@
 -- The bytes that are next, between the ends that they lie between, and which events may have them.
-use Rattle.std.proofs.Common.{◌≡◌, ℕ, ◌+◌, ◌-◌, zero, suc, Bool, true, false, not, ◌&&◌, List, [], ◌∷◌, ◌++◌, refl, sym, ap, ap₂, ◌∙◌, subst, arith, drop, take}
+use Rattle.std.proofs.Common.{◌≡◌, ℕ, ◌+◌, ◌-◌, ◌<◌, zero, suc, Bool, true, false, not, ◌&&◌, List, [], ◌∷◌, ◌++◌, refl, sym, ap, ap₂, ◌∙◌, subst, arith, drop, take}
 use Rattle.std.proofs.Common.{length}
 use Rattle.parse_lines.proofs.Prelude.{and_parts, AreNext, between, End, end_after, end_at, end_edge, end_in, ends_line, HasBytes, is_token, list_all, list_any}
-use Rattle.parse_lines.proofs.Prelude.{Name, none_between, or_parts, StandsInLine, text_between, Walk}
-use Rattle.parse_lines.proofs.Prelude.{ending_bytes, index_spot, IsInTab, LineEnding}
+use Rattle.parse_lines.proofs.Prelude.{Name, none_between, or_parts, same_end, StandsInLine, text_between, true≢false, Walk}
+use Rattle.parse_lines.proofs.Prelude.{ending_bytes, index_spot, IsInTab, LineEnding, ◌==◌}
+use Rattle.std.proofs.lemmas.Bool.{and_from, eq-eqb}
 use Rattle.markdown_options.specs.declared.line_ending.LineEnding.TheVariants.{CarriageReturnLineFeed, CarriageReturn, LineFeed}
 use Rattle.engine_events.specs.declared.event.Name.TheVariants as n
 use Rattle.parse_output.proofs.Between.{text_on}
@@ -17,6 +18,14 @@ dark_line [] dark = refl
 dark_line (x ∷ xs) dark =
     let parts = or_parts (ends_line x) (list_any ends_line xs) dark in
     ap₂ (λ (a b : Bool). not a && b) parts.0 (dark_line xs parts.1)
+
+-- a token that ends at another place than it begins has bytes
+pub apart_some : (from to : End) (front : List ℕ) → to ≡ end_after from (length front) → same_end to from ≡ false → 0 < length front
+apart_some from to [] is apart =
+    let same : same_end from from ≡ true =
+    and_from (from.index == from.index) (from.owed == from.owed) (eq-eqb from.index from.index refl) (eq-eqb from.owed from.owed refl) in
+    absurd (true≢false (sym same ∙ (ap (λ (e : End). same_end e from) (sym is) ∙ apart)))
+apart_some from to (b ∷ bs) is apart = omega arith
 
 module _ (text : List ℕ) where
   take_next : (index : ℕ) (front line : List ℕ) → AreNext text (end_at index 0) (front ++ line) → take (length front) (drop index text) ≡ front

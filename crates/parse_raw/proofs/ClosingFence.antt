@@ -45,13 +45,13 @@ module _ {A : Type 0} (math : Bool) (fence_names : FenceNames) (text : List ℕ)
       let is : AreClosing math own = subst (AreClosing math) (sym here_is) closing in
       let run_is : size ≡ run first own = sized ∙ ap (λ (xs : List ℕ). run (get_or xs 0 0) xs) bytes_is in
       let fits_count : size ≤ length own = omega (arith, run_is, prefix_len-le-length (λ (x : ℕ). eqb x first) own) in
-      let sequence = sequence_fits fence_names math (take size own) are (run_fits (fence_marks math) first own size is.0 (omega (arith, run_is))) in
       let blank : list_all is_white (drop size own) ≡ true = ap (λ (k : ℕ). list_all is_white (drop k own)) run_is ∙ is.1 in
       let left_b = left_same text own a b white.after entered.order same_b end_b in
       let seq = sequence_other fence_names math are in
       let slots = row (fence_name math) Closing in
       let has = sequence_row fence_names math are in
       let some : 0 < size = omega (arith, run_is, run_some own first (mark_some math first own is.0 refl) refl) in
+      let sequence = sequence_fits fence_names math (take size own) are (run_fits (fence_marks math) first own size is.0 some (omega (arith, run_is))) in
       let both = filled_both slots [] [] own (drop size own) [] b c d
       (token_filled fence_names.sequence slots [] own size b c seq.1 some fits_count sequence same_c end_c token has.closing has.void)
       (white_filled [] (drop size own) c d blank same_d end_d all refl) in

@@ -5,7 +5,7 @@ use Rattle.parse_raw.proofs.Prelude.{void_nodes, Walk, whole_end, Writes, Writes
 use Rattle.parse_raw.proofs.Prelude.{is_token, text_between}
 use Rattle.engine_events.specs.declared.event.Name.TheVariants as n
 use Rattle.parse_lines.proofs.Ahead.{follows_after}
-use Rattle.parse_lines.proofs.Bytes.{whole_between}
+use Rattle.parse_lines.proofs.Bytes.{apart_some, whole_between}
 use Rattle.parse_strings.proofs.Spelled.{void_one}
 use Rattle.parse_raw.specs.Before.{IsBefore}
 
@@ -28,13 +28,14 @@ fits_word i n m le small = omega (arith, le, small)
 module _ {A : Type 0} (text : List ℕ) where
   -- a token of the next bytes, which ends there
   pub up_to_first : (old new : Walk A) (name : Name) (front line : List ℕ) (to : End) → same_name name n.Data ≡ false
-      → is_token name front ≡ true → to ≡ end_after (end_in old.out) (length front) → standing new ≡ standing old → written_to new ≡ to → WritesUpTo name to old new
+      → (0 < length front → is_token name front ≡ true) → to ≡ end_after (end_in old.out) (length front)
+      → standing new ≡ standing old → written_to new ≡ to → WritesUpTo name to old new
       → IsBefore text (front ++ line) old → WritesFirst text front (tokens text name (end_in old.out).index front) line old new
   up_to_first old new name front line to other may is same end writes at =
       let e = end_in old.out in
       let follows : Follows text e to = subst (Follows text e) (sym is) (follows_after text front line e at.next) in
       let bytes : text_between text e to ≡ front = ap (text_between text e) is ∙ whole_between text e front line at.whole at.next in
-      let written = writes text at.order (record { follows = follows; bytes = λ apart. ap (is_token name) bytes ∙ may }) in
+      let written = writes text at.order (record { follows = follows; bytes = λ apart. ap (is_token name) bytes ∙ may (apart_some e to front is apart) }) in
       let to_bytes : to ≡ end_at (e.index + length front) 0 = is ∙ after_first e (length front) at.whole in
       record {
         writes =
@@ -50,7 +51,8 @@ module _ {A : Type 0} (text : List ℕ) where
       }
 
   -- a token of so many bytes
-  pub token_first : (old new : Walk A) (name : Name) (front line : List ℕ) (size : ℕ) → same_name name n.Data ≡ false → is_token name front ≡ true → size ≡ length front
+  pub token_first : (old new : Walk A) (name : Name) (front line : List ℕ) (size : ℕ) → same_name name n.Data ≡ false
+      → (0 < length front → is_token name front ≡ true) → size ≡ length front
       → standing new ≡ standing old
       → ((written_to old).index + size < 2 ^ 64 → written_to new ≡ end_at ((written_to old).index + size) 0)
       → ((written_to old).index + size < 2 ^ 64 → WritesUpTo name (end_at ((written_to old).index + size) 0) old new)

@@ -95,13 +95,15 @@ module _ {A : Type 0} (text : List ℕ) (ending : Option LineEnding) (left : Lis
   entered_on a b name line call on = let entered = call.2 on.before.order in stays_on a b line call.0 call.1 entered.order on
 
   -- a token of the first of these bytes, so many
-  pub some_on : (a b : Walk A) (name : Name) (bytes : List ℕ) (k : ℕ) → same_name name n.Data ≡ false → is_token name (take k bytes) ≡ true → k ≤ length bytes → TokenCall name k a b
+  pub some_on : (a b : Walk A) (name : Name) (bytes : List ℕ) (k : ℕ) → same_name name n.Data ≡ false
+      → (0 < k → is_token name (take k bytes) ≡ true) → k ≤ length bytes → TokenCall name k a b
       → IsOnLine text ending left bytes a → WritesOnLine text ending left (tokens text name (written_to a).index (take k bytes)) (drop k bytes) a b
   some_on a b name bytes k other may fits call on =
       let parts = sym (take-append-drop k bytes) in
       first_on_line text ending left (take k bytes) (drop k bytes) (tokens text name (written_to a).index (take k bytes)) a b
       (subst (λ bs. IsOnLine text ending left bs a) parts on)
-      (token_first text a b name (take k bytes) (drop k bytes) k other may (sym (length-take-le k bytes fits)) call.0 call.1 call.2
+      (token_first text a b name (take k bytes) (drop k bytes) k other (λ some. may (omega (arith, some, length-take-le k bytes fits)))
+      (sym (length-take-le k bytes fits)) call.0 call.1 call.2
       (subst (λ bs. IsBefore text bs a) parts on.before))
 
   -- all that is left of the line
@@ -112,7 +114,7 @@ module _ {A : Type 0} (text : List ℕ) (ending : Option LineEnding) (left : Lis
       ap (λ k. end_at k 0) (sym on.end) ∙ sym (after_first (end_in a.out) (length line) on.before.whole) in
       let all = subst (λ bs. IsOnLine text ending left bs a) (sym (append-nil line)) on in
       first_on_line text ending left line [] (tokens text name (written_to a).index line) a b all
-      (up_to_first text a b name line [] (end_at a.line_end 0) other may is call.0 call.1 call.2 all.before)
+      (up_to_first text a b name line [] (end_at a.line_end 0) other (λ some. may) is call.0 call.1 call.2 all.before)
 
   -- nodes in an event that is entered before them and exited after them
   pub around_on : (a b c d : Walk A) (name : Name) (line : List ℕ) (ns : Nodes) → same_name name n.Data ≡ false → EnterCall text name a b

@@ -68,12 +68,12 @@ module _ {A : Type 0} (on : Constructs) (names : Names) (fence : FenceNames) (ma
       sym (length-take-le size bare (omega (arith, size_is, prefix_len-le-length (λ (x : ℕ). eqb x byte) bare))) in
       let bare_is : take size bare ++ rest ≡ bare =
       ap (λ (xs : List ℕ). take size bare ++ xs) (rest_is ∙ ap (λ (k : ℕ). drop k bare) (sym size_is)) ∙ take-append-drop size bare in
-      let sequence = sequence_fits fence math (take size bare) are (run_fits (fence_marks math) byte bare size mark (omega (arith, size_is))) in
       let own = row (fence_name math) Plain in
       let slots = fence_slots math in
       let last_slots = meta_slots math trimmed in
       let has = sequence_row fence math are in
       let some : 0 < size = omega (arith, size_is, run_some bare byte (mark_some math byte bare mark marked) (sym marked)) in
+      let sequence = sequence_fits fence math (take size bare) are (run_fits (fence_marks math) byte bare size mark some (omega (arith, size_is))) in
       let first = subst (λ (xs : List ℕ). LeadsTo on names None own slots xs rest b c) bare_is (
       token_part on names fence.sequence own slots (take size bare) rest size b c
       (sequence_fills fence.sequence size own slots some seq.1.no_data has.opening has.void) seq.1 seq.0 sequence count same_c end_c token_c

@@ -39,6 +39,7 @@ pub fn push_thematic_break<A: Allocator>(walk: &mut Walk<'_, A>) -> Result<(), A
 fn push_part<A: Allocator>(walk: &mut Walk<'_, A>, bytes: &[u8]) -> Result<usize, AllocError>
     requires space { may_enter (still_open walk.old) SpaceOrTab ≡ true }
     requires sequence { may_enter (still_open walk.old) ThematicBreakSequence ≡ true }
+    requires some { 0 < length bytes.now }
     ensures open { OnOk result (still_open walk.new ≡ still_open walk.old) }
     ensures size { IfOk result (λ size. size ≤ length bytes.now) }
     ensures some { IfOk result (λ size. 0 < length bytes.now → 0 < size) }

@@ -77,7 +77,7 @@ module _ {A : Type 0} (r : Reading) (text : List ℕ) (ending : Option LineEndin
       void_cases (λ ms. text_within r.tables.names text false ms ≡ inline.Nil) text n.SpaceOrTab from to refl (λ _. refl) (λ _. refl) in
       record {
         nodes = ns;
-        writes = token_written text ending left old new n.SpaceOrTab (length bytes) bytes behind token refl white before;
+        writes = token_written text ending left old new n.SpaceOrTab (length bytes) bytes behind token refl (λ some. white) before;
         spells = λ m m' are.
             subst (λ is. ArePartsAlike m m' is (in_cell (text_within r.tables.names text false ns))) (sym (blank_reads r c blank)) (ap in_cell nothing);
         in_row = in_row_void text n.SpaceOrTab from to refl refl refl;
@@ -121,7 +121,7 @@ module _ {A : Type 0} (r : Reading) (text : List ℕ) (ending : Option LineEndin
         nodes = append (one w.node) bar;
         writes =
             before_both text ending left old mid new (124 ∷ rest) rest (one w.node) bar w.writes
-            (token_written text ending left mid new n.GfmTableCellDivider 1 (124 ∷ []) rest token refl refl w.writes.before);
+            (token_written text ending left mid new n.GfmTableCellDivider 1 (124 ∷ []) rest token refl (λ some. refl) w.writes.before);
         spell = spell_after r text (c ∷ []) (one w.node) bar (children_void text n.GfmTableCell n.GfmTableCellDivider from to refl refl)
             (spell_one r text c w.node w.name w.spells);
         in_row = in_row_both (one w.node) bar w.in_row (in_row_void text n.GfmTableCellDivider from to refl refl refl);
@@ -278,9 +278,9 @@ module _ {A : Type 0} (bytes : List ℕ) (white : ℕ) (is : white ≡ prefix_le
       (eq-eqb (slice_index bytes (prefix_len is_white bytes)) 124 here)
       ∙ ap (λ (k : ℕ). drop (k + 1) bytes) (sym is) in
       let first = token_written text ending left old mid n.SpaceOrTab white (take white bytes) (124 ∷ rest) space size
-      (all_prefix is_white white bytes (omega (arith, is)))
+      (λ some. all_prefix is_white white bytes (omega (arith, is)))
       (subst (λ (xs : List ℕ). IsBefore text xs ending left old) split before) in
-      let second = token_written text ending left mid new n.GfmTableCellDivider 1 (124 ∷ []) rest divider refl refl first.before in
+      let second = token_written text ending left mid new n.GfmTableCellDivider 1 (124 ∷ []) rest divider refl (λ some. refl) first.before in
       let start = end_in old.out in
       let there = end_at (start.index + white) 0 in
       let at_bar = end_in mid.out in

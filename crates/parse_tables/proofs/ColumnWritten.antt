@@ -2,7 +2,7 @@
 use Rattle.std.proofs.Common.{◌≡◌, ℕ, suc, ◌+◌, ◌-◌, ◌^◌, Bool, true, List, [], ◌∷◌, ◌++◌, drop, length, length-append, replicate, min, refl, sym, ap, ap₂, subst, ◌∙◌, arith}
 use Rattle.parse_tables.proofs.Prelude.{alignment, Around, colon_if, End, end_at, end_in, enter_at, exit_at, IsBefore, length-replicate, one}
 use Rattle.parse_tables.proofs.Prelude.{run, void_nodes, Walk, WritesColumnHere, WritesTo}
-use Rattle.std.proofs.Common.{zero, false, ◌&&◌, ◌==◌}
+use Rattle.std.proofs.Common.{zero, false, ◌<◌, ◌&&◌, ◌==◌}
 use Rattle.std.specs.List.{list_all}
 use Rattle.std.specs.Prelude.{codes}
 use Rattle.event_tokens.specs.Tokens.{is_among, is_token}
@@ -11,9 +11,9 @@ use Rattle.parse_tables.proofs.ColumnNodes.{column_aligns, column_definitions, c
 use Rattle.parse_tables.proofs.Fills.{cell_columns}
 use Rattle.parse_tables.proofs.Steps.{IsEntered, IsExited, IsToken, around_written, before_both, entered_before, place_fits, token_written}
 
-colon_fits : (some : Bool) → is_token n.GfmTableDelimiterMarker (colon_if some) ≡ true
-colon_fits true = refl
-colon_fits false = refl
+colon_fits : (there : Bool) → 0 < length (colon_if there) → is_token n.GfmTableDelimiterMarker (colon_if there) ≡ true
+colon_fits true some = refl
+colon_fits false some = absurd (omega (arith, some))
 
 dashes_same : (k : ℕ) → list_all (λ c. c == 45) (replicate k 45) ≡ true
 dashes_same zero = refl
@@ -61,7 +61,8 @@ module _ {A : Type 0} (w0 w1 w2 w3 w4 w5 w6 w7 : Walk A) (bytes : List ℕ) wher
       let end3 : end_in w3.out ≡ colon = first_token.end (omega (arith, start_fits, all)) in
       let second_token : IsToken n.GfmTableDelimiterFiller (suc k) w3 w4 = subst (λ (j : ℕ). IsToken n.GfmTableDelimiterFiller j w3 w4) dashes_size t2 in
       let fits3 = place_fits text ending lines w3 (fill ++ after) one_done.before in
-      let two = token_written text ending lines w3 w4 n.GfmTableDelimiterFiller (suc k) fill after second_token (sym fill_size) (filler_fits k) one_done.before in
+      let two = token_written text ending lines w3 w4 n.GfmTableDelimiterFiller (suc k) fill after second_token (sym fill_size)
+      (λ some. filler_fits k) one_done.before in
       let line3 : length (fill ++ after) ≡ suc k + length after = length-append fill after ∙ ap (λ (j : ℕ). j + length after) fill_size in
       let end4 : end_in w4.out ≡ dash = second_token.end (omega (arith, fits3, line3)) ∙ ap (λ (x : End). end_at (x.index + suc k) 0) end3 in
       let two_done : WritesTo text after ending lines (void_nodes text n.GfmTableDelimiterFiller colon dash) w3 w4 =

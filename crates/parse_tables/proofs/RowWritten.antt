@@ -88,7 +88,7 @@ module _ {A : Type 0} (w0 w1 : Walk A) (bytes : List ℕ) where
   token_columns text ending left name size front line t is may b no_data no_column no_definition fill =
       record {
         nodes = void_nodes text name (end_in w0.out) (end_at ((end_in w0.out).index + size) 0);
-        writes = token_written text ending left w0 w1 name size front line t is may b;
+        writes = token_written text ending left w0 w1 name size front line t is (λ some. may) b;
         aligns =
             ap (map value_align) (named_void text n.GfmTableDelimiterCellValue name (end_in w0.out) (end_at ((end_in w0.out).index + size) 0) no_data no_column);
         definitions = named_void text n.Definition name (end_in w0.out) (end_at ((end_in w0.out).index + size) 0) no_data no_definition;

@@ -112,7 +112,7 @@ module _ {A : Type 0} (r : Reading) (line : BlockLine) (owed : ℕ) (bytes : Lis
       let cs = cells_written text (after_first_bar bytes) ending left are bar.writes.before in
       let b = cs.writes.before in
       let last : end_at celled.line_end 0 ≡ end_at ((end_in celled.out).index + length cs.behind) 0 = ap (λ (k : ℕ). end_at k 0) (sym b.end) in
-      let white = before_token text ending left celled all n.SpaceOrTab cs.behind [] (end_at celled.line_end 0) last cs.ahead
+      let white = before_token text ending left celled all n.SpaceOrTab cs.behind [] (end_at celled.line_end 0) last (λ some. cs.ahead)
       (subst (λ (xs : List ℕ). IsBefore text xs ending left celled) (sym (append-nil cs.behind)) b) same_all end_all to_all in
       let behind = end_in celled.out in
       let line_end = end_at celled.line_end 0 in

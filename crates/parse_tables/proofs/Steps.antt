@@ -8,7 +8,7 @@ use Rattle.std.proofs.Common.{true}
 use Rattle.event_tokens.specs.Tokens.{is_token}
 use Rattle.parse_output.specs.Joined.{text_between}
 use Rattle.parse_output.proofs.Written.{writes_none}
-use Rattle.parse_lines.proofs.Bytes.{whole_between}
+use Rattle.parse_lines.proofs.Bytes.{apart_some, whole_between}
 use Rattle.parse_lines.proofs.Parts.{line_size}
 
 pub dark_after : (front line : List ℕ) → list_any ends_line (front ++ line) ≡ false → list_any ends_line line ≡ false
@@ -62,13 +62,15 @@ module _ {A : Type 0} (text : List ℕ) (ending : Option LineEnding) (left : Lis
 
   -- a token of so many bytes
   pub before_token : (old new : Walk A) (name : Name) (front line : List ℕ) (to : End) → to ≡ end_at ((end_in old.out).index + length front) 0
-      → is_token name front ≡ true → IsBefore text (front ++ line) ending left old → standing new ≡ standing old → written_to new ≡ to → WritesUpTo name to old new
+      → (0 < length front → is_token name front ≡ true) → IsBefore text (front ++ line) ending left old
+      → standing new ≡ standing old → written_to new ≡ to → WritesUpTo name to old new
       → WritesTo text line ending left (void_nodes text name (end_in old.out) to) old new
   before_token old new name front line to place may b same end written =
       let follows = subst (λ (e : End). Follows text (end_in old.out) e) (place_after old front line b ∙ sym place) (follows_after text front line (end_in old.out) b.next) in
       let between : text_between text (end_in old.out) to ≡ front =
       ap (text_between text (end_in old.out)) (place ∙ sym (place_after old front line b)) ∙ whole_between text (end_in old.out) front line b.bare b.next in
-      let writes = written text b.order (record { follows = follows; bytes = λ apart. ap (is_token name) between ∙ may }) in
+      let some = apart_some (end_in old.out) to front (place ∙ sym (place_after old front line b)) in
+      let writes = written text b.order (record { follows = follows; bytes = λ apart. ap (is_token name) between ∙ may (some apart) }) in
       record { writes = writes; before = before_after old new front line b same writes.order (end ∙ place); around = same_open old new same }
 
   -- what is entered and exited around other nodes
@@ -127,7 +129,7 @@ pub record IsToken {A : Type 0} (name : Name) (size : ℕ) (a b : Walk A) : Type
 module _ {A : Type 0} (text : List ℕ) (ending : Option LineEnding) (left : List LineRest) where
   -- so many bytes by a name
   pub token_written : (a b : Walk A) (name : Name) (size : ℕ) (front line : List ℕ) → IsToken name size a b → size ≡ length front
-      → is_token name front ≡ true → IsBefore text (front ++ line) ending left a
+      → (0 < length front → is_token name front ≡ true) → IsBefore text (front ++ line) ending left a
       → WritesTo text line ending left (void_nodes text name (end_in a.out) (end_at ((end_in a.out).index + size) 0)) a b
   token_written a b name size front line t is may before =
       let fits = place_fits text ending left a (front ++ line) before in

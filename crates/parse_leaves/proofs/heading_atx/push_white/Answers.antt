@@ -9,6 +9,7 @@ returns-clause-written g c = λ text ending left on.
     let bytes = c.args.bytes.now in
     let token = c.in_ok-token.ensures in
     let size = c.white_size-size.ensures in
-    some_on text ending left c.args.walk.now c.token.new.self SpaceOrTab bytes (indent bytes) refl (all_prefix is_white (indent bytes) bytes (omega arith))
+    some_on text ending left c.args.walk.now c.token.new.self SpaceOrTab bytes (indent bytes) refl
+    (λ some. all_prefix is_white (indent bytes) bytes (omega arith))
     (subst (λ k. k ≤ length bytes) size.size size.within)
     (subst (λ k. TokenCall SpaceOrTab k c.args.walk.now c.token.new.self) size.size (token.stays, token.end, token.written)) on

@@ -1,6 +1,6 @@
 use Rattle.std.proofs.Common.{arith}
 use Rattle.parse_raw.proofs.Prelude.{all_prefix, is_white}
-use Rattle.parse_raw.proofs.Breaks.{dark_some, sequence_part, space_part}
+use Rattle.parse_raw.proofs.Breaks.{sequence_part, space_part}
 use Rattle.parse_raw.proofs.Tokens.{run_some}
 use Rattle.parse_raw.proofs.Runs.{part_fits}
 use Rattle.parse_raw.proofs.BreakPieces.{marker_front}
@@ -24,11 +24,12 @@ returns-clause-some g c some =
 pub returns-clause-written : goal.returns-clause-written
 returns-clause-written g c = λ marker are.
     let token = c.in_ok-token-2.ensures in
+    let run = run_some c.args.bytes.now c.first.result c.requires.some c.first.ensures in
     sequence_part c.args.bytes.now c.run-size.result c.args.walk.now c.token-2.new.self
-    (λ dark.
-    let run = run_some c.args.bytes.now c.first.result (dark_some c.args.bytes.now dark) c.first.ensures in omega (arith, run, c.run-size.ensures.size))
+    (λ dark. omega (arith, run, c.run-size.ensures.size))
     c.run-size.ensures.within (λ k. omega (arith, c.type_inv.bytes k))
     (marker_front marker c.first.result c.run-size.result c.args.bytes.now are (omega (arith, c.white_size-white.ensures.size, c.if-white-gt0.false))
     c.first.ensures c.run-size.ensures.size)
-    (part_fits marker c.first.result c.run-size.result c.args.bytes.now are (omega (arith, c.white_size-white.ensures.size, c.if-white-gt0.false)) c.first.ensures
+    (part_fits marker c.first.result c.run-size.result c.args.bytes.now (omega (arith, run, c.run-size.ensures.size)) are
+    (omega (arith, c.white_size-white.ensures.size, c.if-white-gt0.false)) c.first.ensures
     c.run-size.ensures.size) token.stays token.end token.written

@@ -28,7 +28,8 @@ returns-clause-written g c =
     let at_value = stands_by text _ _ _ (append_assoc value (59 ∷ []) line) marked.writes.stands in
     let size : c.saturating_sub-2.result ≡ length value =
     omega (arith, c.saturating_sub-2.ensures, c.saturating_sub.ensures, sized, c.in_ok-marker.ensures.size marks (first ∷ after) bare are) in
-    let may : is_token n.CharacterReferenceValue value ≡ true = ap₂ (λ (s t : Bool). s && t) (le-leb (length value) 31 most) alphanumeric in
+    let may : is_token n.CharacterReferenceValue value ≡ true =
+    ap₂ (λ (s t : Bool). s && t) (ap₂ (λ (s t : Bool). s && t) (le-leb 1 (length value) some) (le-leb (length value) 31 most)) alphanumeric in
     let valued = c.in_ok-text-2.ensures.written text value (59 ∷ line) size refl at_value
     (has_bytes text value (59 ∷ line) _ _ n.CharacterReferenceValue size at_value marked.whole may) in
     let closed = c.in_ok-text-3.ensures.written text (59 ∷ []) line refl refl valued.stands
