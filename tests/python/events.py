@@ -1,5 +1,6 @@
-"""What holds of the events of a text: their places tile the text, they are balanced, and each that holds no other is a token. Strings and
-raw HTML hold something, and data isn't after data.
+"""What holds of the events of a text: their places tile the text, they are balanced, and each that holds no other is a token. Strings,
+raw HTML, paragraphs and the texts of headings hold something, and data isn't after data. Raw HTML in a text begins with `<`, and calls of
+footnotes hold what a string may hold.
 
 What may be a token of a name is written here a second time, by hand, and not taken from the grammar of events.
 """
@@ -25,13 +26,22 @@ def void_names():
 
 VOID = void_names()
 IS_VOID = [name in VOID for name in EVENT_NAMES]
-DATA = NUMBER["Data"]
+DATA, HTML_TEXT, CALL = NUMBER["Data"], NUMBER["HtmlText"], NUMBER["GfmFootnoteCall"]
 # Events that hold something.
 FULL = {
     NUMBER[name]
     for name in (
-        "HtmlFlow HtmlText CodeFencedFenceInfo CodeFencedFenceMeta MathFlowFenceMeta DefinitionLabelString DefinitionDestinationString "
+        "Paragraph HeadingAtxText HeadingSetextText HtmlFlow HtmlText CodeFencedFenceInfo CodeFencedFenceMeta MathFlowFenceMeta DefinitionLabelString DefinitionDestinationString "
         "DefinitionTitleString ReferenceString ResourceDestinationString ResourceTitleString"
+    ).split()
+}
+# Events that no string holds.
+OUTSIDE_STRINGS = {
+    NUMBER[name]
+    for name in (
+        "Link Image GfmFootnoteCall Emphasis Strong GfmStrikethrough Mark CodeText MathText HtmlText Autolink GfmAutolinkLiteralEmail "
+        "GfmAutolinkLiteralMailto GfmAutolinkLiteralProtocol GfmAutolinkLiteralWww GfmAutolinkLiteralXmpp HardBreakEscape HardBreakTrailing "
+        "GfmTaskListItemCheck"
     ).split()
 }
 WHITE, ENDS, ENDINGS = b" \t", b"\n\r", (b"\n", b"\r", b"\r\n")
@@ -147,7 +157,7 @@ def fault_of(data, events):
     first, last = events[0], events[-1]
     if first[:3] != (0, 1, 1) or first[5] or last[0] != len(data) or last[5]:
         return "the places of the first or the last event"
-    names, before = [], first
+    names, before, in_call = [], first, False
     for event in events:
         offset, _, _, name, is_exit, columns, _ = event
         if not is_exit:
@@ -166,6 +176,12 @@ def fault_of(data, events):
             return f"{EVENT_NAMES[name]} with nothing in it"
         if not is_exit and before[4] and name == DATA == before[3]:
             return "data after data"
+        if not before[4] and before[3] == HTML_TEXT and data[offset : offset + 1] != b"<":
+            return "HtmlText that doesn't begin with `<`"
+        if in_call and not is_exit and name in OUTSIDE_STRINGS:
+            return f"{EVENT_NAMES[name]} in a call of a footnote"
+        if name == CALL:
+            in_call = not is_exit
         before = event
     return f"{EVENT_NAMES[names[0]]} without an exit" if names else None
 

@@ -19,7 +19,7 @@ use Rattle.markdown_buffers.specs.Events.{HoldsEvents, OfEvents, StoresEvents}
 
 -- what `parse` promises
 pub are_events : (options : ParseOptions) (text : List ℕ) (events : List Event) → ArePlaced text events → IsNested events → HaveChildren events
-    → HaveTheirBytes text events → HaveShape events → MatchesGrammar builtin_tables.names text events
+    → HaveTheirBytes text events → HaveShape text events → MatchesGrammar builtin_tables.names text events
     → IsPageOfText builtin_tables options text (spelled builtin_tables.names events text) → NothingIsOff options.constructs events
     → AreEventsOf builtin_tables options text events
 are_events options text events placed nested children tokens shape grammar page on =

@@ -37,7 +37,7 @@ use Rattle.parse_events.specs.Stands.{IsAt}
 use Rattle.parse_events.proofs.Bytewise.{spells_the_same}
 use Rattle.parse_events.proofs.NestedLaw.{nested}
 use Rattle.event_tokens.specs.Bytes.{HaveTheirBytes}
-use Rattle.event_tokens.specs.Shape.{is_hollow, no_neighbours}
+use Rattle.event_tokens.specs.Shape.{calls_hold, is_hollow, is_untagged, no_neighbours}
 use Rattle.parse_output.specs.Whole.{DataIsWhole}
 use Rattle.parse_grammar.proofs.Shape.{sound_nodes_hold}
 
@@ -130,7 +130,19 @@ module _ (tables : TextTables) (options : ParseOptions) (text : List ℕ) where
     pub nodes_hold : no_neighbours is_hollow events ≡ true
     nodes_hold =
         ap (no_neighbours is_hollow) are.nested.each
-        ∙ sound_nodes_hold options.constructs tables.names text nodes are.nested.named nodes_sound
+        ∙ sound_nodes_hold.some options.constructs tables.names text nodes are.nested.named nodes_sound
+
+    -- raw HTML in texts begins with a `<`
+    pub nodes_tagged : no_neighbours (is_untagged text) events ≡ true
+    nodes_tagged =
+        ap (no_neighbours (is_untagged text)) are.nested.each
+        ∙ sound_nodes_hold.tags options.constructs tables.names text nodes are.nested.named nodes_sound
+
+    -- calls hold what strings may hold
+    pub calls_are_strings : calls_hold false events ≡ true
+    calls_are_strings =
+        ap (calls_hold false) are.nested.each
+        ∙ sound_nodes_hold.calls options.constructs tables.names text nodes are.nested.named nodes_sound
 
     -- the list of events matches the grammar
     pub nodes_match : ((k : ℕ) → get_or text k 0 < 256) → is_utf8 text ≡ true → ArePlaced text events → HaveTheirBytes text events
@@ -230,6 +242,8 @@ are_events tables options text w bytes out events bytes_are out_is placed tokens
         apart =
             whole_same text bytes out w.out events bytes_are out_is whole are.stands.order
             (all_written text (all_rows tables options text) w are.stands.at) none;
+        tags = nodes_tagged tables options text w events are;
+        calls = calls_are_strings tables options text w events are;
       };
       grammar = nodes_match tables options text w events are numbers utf8 own_placed own_tokens;
       spelled = events_spelled tables options text w events are (places_fit text events utf8 own_placed own_tokens);

@@ -27,7 +27,7 @@ pub record AreEventsOf (tables : TextTables) (options : ParseOptions) (text : Li
   pub nested : IsNested events
   pub children : HaveChildren events
   pub tokens : HaveTheirBytes text events
-  pub shape : HaveShape events
+  pub shape : HaveShape text events
   pub grammar : MatchesGrammar tables.names text events
   pub spelled : IsPageOfText tables options text (spelled tables.names events text)
   pub on : NothingIsOff options.constructs events

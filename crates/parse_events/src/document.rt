@@ -55,8 +55,9 @@ pub const SIZE_MAX: usize = usize::MAX / 8;
 /// name can hold no other, it has at least a byte, or a column of a tab. If its name may hold others, it has
 /// none.
 ///
-/// Strings and raw HTML hold something, and data isn't directly followed by data. The names are in
-/// `event_tokens`.
+/// Strings, raw HTML, paragraphs and the texts of headings hold something, and data isn't directly followed
+/// by data. Raw HTML in a text begins with `<`, and a call of a footnote holds only what a string may hold.
+/// The names are in `event_tokens`.
 ///
 /// No event is of a construct that is off, by the table of names in `parse_grammar`.
 pub fn parse<'a, T: Tables, A: Allocator + Clone>(
@@ -71,7 +72,7 @@ pub fn parse<'a, T: Tables, A: Allocator + Clone>(
     ensures nested { IfOk result (λ parsed. IsNested parsed.0.items) }
     ensures children { IfOk result (λ parsed. HaveChildren parsed.0.items) }
     ensures tokens { IfOk result (λ parsed. HaveTheirBytes value.now parsed.0.items) }
-    ensures shape { IfOk result (λ parsed. HaveShape parsed.0.items) }
+    ensures shape { IfOk result (λ parsed. HaveShape value.now parsed.0.items) }
     ensures grammar { IfOk result (λ parsed. MatchesGrammar (T.reference_of tables.now) value.now parsed.0.items) }
     ensures spelled { IfOk result (λ parsed. let names = T.reference_of tables.now in
         IsPageOfText (text_tables names (T.punctuation_of tables.now)) options.now value.now (spelled names parsed.0.items value.now)) }

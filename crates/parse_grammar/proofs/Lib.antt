@@ -25,4 +25,5 @@ pub mod Voids
 pub mod Facts
 pub mod Places
 pub mod MatchLaw
+pub mod CallShape
 pub mod Shape

@@ -52,7 +52,8 @@ pub fn places_law()
     ensures { TokensFit }
 {}
 
-/// Strings and raw HTML among the events of sound nodes hold something.
+/// Strings, raw HTML, paragraphs and the texts of headings among the events of sound nodes hold something,
+/// raw HTML in texts begins with a `<`, and calls of footnotes hold what strings may hold.
 #[tactic(auto, using(crate::proofs::Shape::sound_nodes_hold))]
 pub fn shape_law()
     ensures { SoundNodesHold }

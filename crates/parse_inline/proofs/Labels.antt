@@ -251,6 +251,7 @@ module _ (text : List ℕ) (l : Label) (is : IsLabel l) where
         call = λ same. ((refl, (is.first_strings, ((refl, strings), (is.last_strings, tt)))), tt);
         reference = λ same. absurd (true≢false (ap (same_name n.GfmFootnoteCall) same));
         heading = λ same. absurd (true≢false (ap (same_name n.GfmFootnoteCall) same));
+        html = λ same. absurd (true≢false (ap (same_name n.GfmFootnoteCall) same));
         some = λ full. absurd (true≢false (sym full));
       },
       (label_sound text l is Nil on names sound, tt),

@@ -16,6 +16,8 @@ use Rattle.parse_references.specs.Sound.{is_asked_on}
 use Rattle.parse_references.proofs.Sound.{data_sound}
 use Rattle.parse_lines.specs.Content.{HasBytes}
 use Rattle.parse_inline.proofs.Prelude.{Anywhere, AreBytesAt, AreCodes, AreCutBetween, ArePartsAlike, bare, cases_Bool, codes_of, codes_split, content_codes}
+use Rattle.definition_text.specs.Bytes.{begins_with}
+use Rattle.parse_inline.proofs.Prelude.{after_return_code, and_parts, codes, cond-false, cond-true, eqb-true, ◌==◌}
 use Rattle.parse_inline.proofs.Prelude.{contents_none, Data, data_nodes, End, end_after, end_in, ending_bytes, EndNoLine, ends_line, Escape, escaped}
 use Rattle.parse_inline.proofs.Prelude.{html_leaves, if◌then◌else◌, in_angles, indent, inline_bytes_law, InlineCode, InlineContext, InlineLeaf, is_eol}
 use Rattle.parse_inline.proofs.Prelude.{is_listed, is_white, IsApart, IsData, IsLeafLaid, IsPartLaid, IsUtf8, IsWhole, Leaf, LeafPart, leaves, line_bytes}
@@ -105,6 +107,26 @@ html_end : (html codes : List ℕ) → content_codes html ≡ codes ++ 62 ∷ []
 html_end html codes is =
     let cut = codes_split codes (62 ∷ []) html is in
     (cut.front, cut.parts ∙ ap (λ xs. cut.front ++ xs) (sym (line_bytes cut.after (ap (list_any is_eol) cut.last)) ∙ cut.last))
+
+-- bytes whose codes begin with `<`
+no_return : (bs cs : List ℕ) → begins_with (codes "<") (after_return_code bs cs) ≡ true → ⊥
+no_return [] cs is = true≢false (sym is)
+no_return (b ∷ bs) cs is = elim (cases_Bool (b == 10)) [
+  | inl feed ↦ true≢false (sym is ∙ ap (begins_with (codes "<")) (cond-true (b == 10) (257 ∷ drop 1 cs) (13 ∷ cs) feed))
+  | inr other ↦ true≢false (sym is ∙ ap (begins_with (codes "<")) (cond-false (b == 10) (257 ∷ drop 1 cs) (13 ∷ cs) other))
+]
+
+html_first : (html : List ℕ) → begins_with (codes "<") (content_codes html) ≡ true → slice_index html 0 ≡ 60
+html_first [] is = absurd (true≢false (sym is))
+html_first (b ∷ bs) is =
+    let more = after_return_code bs (content_codes bs) in
+    let next = b ∷ content_codes bs in
+    elim (cases_Bool (b == 13)) [
+      | inl return ↦ absurd (no_return bs (content_codes bs) (ap (begins_with (codes "<")) (sym (cond-true (b == 13) more next return)) ∙ is))
+      | inr other ↦
+          let here : begins_with (codes "<") next ≡ true = ap (begins_with (codes "<")) (sym (cond-false (b == 13) more next other)) ∙ is in
+          sym (eqb-true 60 b (and_parts (60 == b) true here).0)
+    ]
 
 -- what is known of its name
 record LiteralName (kind : LiteralKind) (name : Name) : Type 0 where
@@ -334,7 +356,7 @@ module _ {A : Type 0} (on : Constructs) (names : Names) (text bytes : List ℕ) 
 
   pub html_part : (html region : List ℕ) → IsUtf8 html → AreSmall html → AreSmall bytes → region ≡ take (length html) bytes
       → IsHtml (content_codes html) from to
-      → ((front content : List ℕ) → region ≡ front ++ 62 ∷ [] → IsUtf8 region → AreCutBetween region content
+      → ((front content : List ℕ) → region ≡ front ++ 62 ∷ [] → slice_index region 0 ≡ 60 → IsUtf8 region → AreCutBetween region content
       → StandsInContent text (region ++ content) stop a → IsWhole a
       → WritesFront on names text region content Anywhere (html_leaves (content_codes region)) stop a b)
       → WritesLeaves on names text bytes Anywhere (inline.Html (content_codes html) ∷ []) to stop a b
@@ -352,7 +374,8 @@ module _ {A : Type 0} (on : Constructs) (names : Names) (text bytes : List ℕ) 
       ∙ ap₂ (λ (xs ys : List ℕ). xs ++ ys) (ap content_codes (sym same)) p.left in
       let l = inline.Html (content_codes html) in
       leaves_of_front names text stop on a b bytes region content Anywhere (html_leaves (content_codes region)) (l ∷ []) to parts p.left
-      (written front content (same ∙ closed) (subst IsUtf8 (sym same) utf8) cut (subst (λ xs. StandsInContent text xs stop a) parts st) whole)
+      (written front content (same ∙ closed) (ap (λ xs. slice_index xs 0) same ∙ html_first html is.opened)
+      (subst IsUtf8 (sym same) utf8) cut (subst (λ xs. StandsInContent text xs stop a) parts st) whole)
       (λ m m'. leaf_alike m m' l (leaves (html_leaves (content_codes region))) (ap (λ xs. leaves (html_leaves (content_codes xs))) same))
 
   pub nothing_part : from ≡ to → WritesLeaves on names text bytes Anywhere [] to stop a a

@@ -21,7 +21,15 @@ use Rattle.event_grammar.specs.Grammar.{many, text_row}
 use Rattle.parse_slots.specs.Left.{IsFilled, MayEndLines, TakesNoBetween}
 use Rattle.parse_slots.proofs.Steps.{fill_both, fill_none, fill_taken, may_both}
 use Rattle.parse_lines.proofs.SomeNodes.{written_some}
-use Rattle.parse_references.proofs.Sound.{sound_filled_full, sound_one}
+use Rattle.event_grammar.specs.Points.{edge, spot_of}
+use Rattle.event_grammar.specs.Trees.{Cons}
+use Rattle.std.proofs.lemmas.List.{get_or-drop}
+use Rattle.parse_output.specs.Joined.{AreJoined, end_edge}
+use Rattle.parse_output.proofs.Characters.{whole_edge}
+use Rattle.parse_references.specs.Sound.{BeginTag}
+use Rattle.parse_references.proofs.Sound.{sound_one, sound_tag}
+use Rattle.parse_inline.proofs.Prelude.{line_in_content, slice_index}
+use Rattle.parse_inline.proofs.Fronts.{next_here}
 use Rattle.parse_inline.proofs.Fills.{filled_around}
 use Rattle.parse_inline.proofs.Kids.{code_append, html_append, named_both}
 use Rattle.parse_inline.proofs.LeavesAlike.{append_append, append_none}
@@ -53,6 +61,9 @@ dark_end front b first second =
     either : (t : Bool) → at_line_start t b ≡ false
     either true = first
     either false = second
+
+add_none : (k : ℕ) → k ≡ k + 0
+add_none k = omega arith
 
 not_some : (k : ℕ) → (0 < k → ⊥) → k ≡ 0
 not_some zero none = refl
@@ -129,19 +140,33 @@ module _ {A : Type 0} (names : Names) (text : List ℕ) where
         fill = λ around slots takes none may. w.fill around slots takes none (subst (MayEndLines around) (sym all) may);
       }
 
+  -- what is written from a `<` on begins there
+  tag_begins : (bytes content : List ℕ) (ns : Nodes) (stop : Stop) (w : Walk A) (to : ℕ) → slice_index bytes 0 ≡ 60 → 0 < length bytes
+      → StandsInContent text (bytes ++ content) stop w → IsWhole w → AreJoined (end_edge text (end_in w.out)) ns to → BeginTag text ns
+  tag_begins bytes content Nil stop w to opened some st whole joined = tt
+  tag_begins [] content (Cons (Around enter kids exit) ns) stop w to opened some st whole joined = absurd (omega (arith, some))
+  tag_begins (b ∷ bs) content (Cons (Around enter kids exit) ns) stop w to opened some st whole joined =
+      let index = (end_in w.out).index in
+      let at = subst (λ (x : ℕ). StandsInContent text (x ∷ (bs ++ content)) stop w) opened st in
+      let ahead = line_in_content text stop w (60 ∷ []) (bs ++ content) at refl in
+      let next = next_here text (60 ∷ ahead.line) w ahead.stands whole in
+      let place : edge (spot_of enter) ≡ index = sym joined.0 ∙ whole_edge text (end_in w.out) whole in
+      ap (slice_index text) place ∙ ap (slice_index text) (add_none index) ∙ sym (get_or-drop index text 0 0) ∙ ap (λ xs. slice_index xs 0) next.0
+
   -- raw HTML
   pub html_front : (on : Constructs) (a b c d : Walk A) (front bytes content : List ℕ) (stop : Stop) → on.html_text ≡ true → bytes ≡ front ++ 62 ∷ []
-      → StandsInContent text (bytes ++ content) stop a → IsWhole a
+      → slice_index bytes 0 ≡ 60 → StandsInContent text (bytes ++ content) stop a → IsWhole a
       → standing b ≡ standing a → ((line : List ℕ) → StandsInLine text line a → EntersInLine text n.HtmlText line a b)
       → (StandsInContent text (bytes ++ content) stop b → WritesLines names text n.HtmlTextData true bytes content stop b c) → standing d ≡ standing c
       → ((line : List ℕ) → StandsInLine text line c → ExitsInLine text n.HtmlText line c d)
       → WritesFront on names text bytes content Anywhere (html_leaves (content_codes bytes)) stop a d
-  html_front on a b c d front bytes content stop is_on closed st whole same_b enters lines same_d exits =
+  html_front on a b c d front bytes content stop is_on closed opened st whole same_b enters lines same_d exits =
       let entered = line_enters text stop a b n.HtmlText (bytes ++ content) st same_b enters in
       let w = lines entered.stands in
       let exited = line_exits text stop c d n.HtmlText content w.writes.stands same_d exits in
       let node = Around (enter_at text n.HtmlText (end_in a.out)) w.nodes (exit_at text n.HtmlText (end_in c.out)) in
       let all = contents_around text stop a b c d n.HtmlText bytes content w.nodes entered w.writes exited refl in
+      let some : 0 < length bytes = omega (arith, ap length closed, length-append front (62 ∷ [])) in
       let whole_b : IsWhole b = ap (λ (e : End). e.owed) entered.end ∙ whole in
       let filled : (around : Between) → MayEndLines around bytes → IsFilled around Plain node =
       λ around may.
@@ -155,7 +180,7 @@ module _ {A : Type 0} (names : Names) (text : List ℕ) where
         fill = λ around may. fill_taken around text_row n.HtmlText Plain text_row node refl refl (filled around may);
         sound =
             sound_one on names text node (
-            sound_filled_full on names text 2 Lines Plain n.HtmlText node refl refl is_on
-            (written_some text bytes w.nodes content stop b c (omega (arith, ap length closed, length-append front (62 ∷ []))) whole_b w.writes)
+            sound_tag on names text 2 Lines Plain node refl is_on (written_some text bytes w.nodes content stop b c some whole_b w.writes)
+            (tag_begins bytes content w.nodes stop b (end_edge text (end_in c.out)) opened some entered.stands whole_b w.writes.joined)
             refl (filled Lines tt));
       }

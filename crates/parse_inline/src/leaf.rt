@@ -1,12 +1,12 @@
 //! Constructs that hold no other (CommonMark 2.4, 2.5, 6.1 and 6.5 to 6.8).
-ghost use Rattle.std.specs.Prelude.{◌≡◌, ◌<◌, ◌++◌, ◌∷◌, [], List, OnOk, drop, false, length, map, true, ℕ};
+ghost use Rattle.std.specs.Prelude.{◌≡◌, ◌<◌, ◌++◌, ◌∷◌, [], List, OnOk, drop, false, length, map, slice_index, true, ℕ};
 ghost use Rattle.std.specs.Char.{is_ascii_punctuation};
 ghost use Rattle.std.specs.List.{list_all, list_any};
 ghost use Rattle.std.specs.Str.{IsUtf8};
 ghost use Rattle.markdown_options.specs.declared.configuration.Constructs.{Constructs};
 ghost use Rattle.markdown_options.specs.LineEndings.{ending_bytes};
 ghost use Rattle.markdown_options.specs.declared.line_ending.LineEnding.{LineEnding};
-ghost use Rattle.definition_text.specs.Ascii.{greater_than};
+ghost use Rattle.definition_text.specs.Ascii.{greater_than, less_than};
 ghost use Rattle.definition_text.specs.Columns.{bare, indent};
 ghost use Rattle.definition_text.specs.Content.{content_codes, line_ending_code};
 ghost use Rattle.definition_text.specs.InlineCode.{InlineCode};
@@ -167,7 +167,8 @@ fn push_html<A: Allocator>(walk: &mut Walk<'_, A>, bytes: &[u8]) -> Result<(), A
     requires child { may_enter (still_open walk.old) HtmlText ≡ true }
     ensures open { OnOk result (still_open walk.new ≡ still_open walk.old) }
     ensures written { OnOk result ((on : Constructs) (names : Names) (text front content : List ℕ) (stop : Stop) → on.html_text ≡ true
-        → bytes.now ≡ front ++ greater_than ∷ [] → IsUtf8 bytes.now → AreCutBetween bytes.now content → StandsInContent text (bytes.now ++ content) stop walk.old → IsWhole walk.old
+        → bytes.now ≡ front ++ greater_than ∷ [] → slice_index bytes.now 0 ≡ less_than → IsUtf8 bytes.now → AreCutBetween bytes.now content
+        → StandsInContent text (bytes.now ++ content) stop walk.old → IsWhole walk.old
         → WritesFront on names text bytes.now content Anywhere (html_leaves (content_codes bytes.now)) stop walk.old walk.new) }
 {
     walk.enter(Name::HtmlText)?;

@@ -94,6 +94,7 @@ module _ (on : Constructs) (names : Names) (text : List ℕ) (top : Bool) (rank 
             call = λ same. absurd (true≢false (ap (same_name n.HeadingAtx) same));
             reference = λ same. absurd (true≢false (ap (same_name n.HeadingAtx) same));
             heading = λ same. sequence_rank names text i hashes line (append (tokens text n.SpaceOrTab j white) (append inner last)) some next sized;
+            html = λ same. absurd (true≢false (ap (same_name n.HeadingAtx) same));
             some = λ full. absurd (true≢false (sym full));
           },
           sound_both on names text (tokens text n.HeadingAtxSequence i hashes) (append (tokens text n.SpaceOrTab j white) (append inner last))

@@ -173,6 +173,11 @@ pub nothing : (bs : List ℕ) → length bs ≡ 0 → bs ≡ []
 nothing [] none = refl
 nothing (b ∷ bs) none = absurd (omega (arith, none))
 
+-- a text that isn't empty
+pub some_bytes : (bs : List ℕ) → false ≡ eqb (length bs) 0 → 0 < length bs
+some_bytes [] none = absurd (true≢false (sym none))
+some_bytes (b ∷ bs) some = omega arith
+
 -- the first of the lines of a content has no line ending
 pub first_clear : (pieces : List Piece) (none : Piece) → AreContentLines (piece_lines pieces) → 0 < length pieces
     → HaveNoEnding (piece_line (get_or pieces 0 none)).codes

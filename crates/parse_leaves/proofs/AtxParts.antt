@@ -1,5 +1,5 @@
 -- The parts of a heading by `#`, as they are written (CommonMark 4.2).
-use Rattle.std.proofs.Common.{◌≡◌, ℕ, ◌+◌, ◌≤◌, false, List, [], ◌∷◌, ◌++◌, Option, None, refl, sym, ap, ap₂, ◌∙◌, inl, inr, subst, length, length-append, map, replicate, take, drop, arith}
+use Rattle.std.proofs.Common.{◌≡◌, ℕ, ◌+◌, ◌<◌, ◌≤◌, false, List, [], ◌∷◌, ◌++◌, Option, None, refl, sym, ap, ap₂, ◌∙◌, inl, inr, subst, length, length-append, map, replicate, take, drop, arith}
 use Rattle.parse_leaves.proofs.Prelude.{all_on, append, append-nil, AreNext, ArePartsAlike, Around, AtEnding, block_line, cases_Bool, code_byte, cond-false}
 use Rattle.parse_leaves.proofs.Prelude.{cond-true, Constructs, content_text, End, end_at, end_in, ends_line, enter_at, exit_at, indent, inline_content}
 use Rattle.parse_leaves.proofs.Prelude.{is_tab_column, IsOnLine, LineEnding, LineRest, list_any, named, Names, Nil, Node, Nodes, NoInlines, on_line_both, one}
@@ -20,7 +20,8 @@ use Rattle.event_grammar.specs.declared.slot.Form.TheVariants.{Plain}
 use Rattle.event_grammar.specs.Grammar.{opt}
 use Rattle.parse_output.proofs.Written.{writes_none}
 use Rattle.parse_slots.proofs.Steps.{fill_none, fill_taken}
-use Rattle.parse_references.proofs.Sound.{asks_nothing}
+use Rattle.parse_references.proofs.Sound.{sound_full}
+use Rattle.parse_lines.proofs.SomeNodes.{some_of}
 use Rattle.parse_lines.specs.Content.{BeginsLineHere}
 use Rattle.parse_lines.proofs.Ahead.{next_after}
 use Rattle.parse_lines.proofs.Parts.{part_begins, same_line}
@@ -124,14 +125,15 @@ module _ {A : Type 0} (text : List ℕ) (ending : Option LineEnding) (left : Lis
     sound = tt;
   }
 
-  pub heading_text : (r : Reading) (piece : Piece) (old mid new : Walk A) → piece.owed ≡ 0 → list_any is_tab_column piece.text.now ≡ false
+  pub heading_text : (r : Reading) (piece : Piece) (old mid new : Walk A) → piece.owed ≡ 0 → 0 < length piece.text.now
+      → list_any is_tab_column piece.text.now ≡ false
       → list_any ends_line piece.text.now ≡ false
       → IsOnLine text ending left (piece.text.now ++ behind) old → standing mid ≡ standing old → BeginsLineHere old mid
       → (mid.place ≡ 0) × (mid.out ≡ old.out)
       → WritesContentIn r n.HeadingAtxText (content_text (piece_line piece ∷ []))
       (read_content r false (inline_content r.tables.is_punctuation Whitespace (own_lines (piece_line piece ∷ [])))) mid new
       → WritesHeadingText r.parse.constructs r.tables.names text (read_text r (own_lines (piece_line piece ∷ []))) ending left behind old new
-  heading_text r piece old mid new none bytes dark on same begun begins writes =
+  heading_text r piece old mid new none holds bytes dark on same begun begins writes =
       let content = piece.text.now in
       let ls = piece_line piece ∷ [] in
       let stop : Stop = record { place = AtEnding ending left; behind = length behind } in
@@ -150,6 +152,10 @@ module _ {A : Type 0} (text : List ℕ) (ending : Option LineEnding) (left : Lis
       subst (λ (e : End). AreNext text e behind)
       (after_first (end_in old.out) (length content) on.before.whole ∙ ap (λ k. end_at k 0) (sym index) ∙ sym (whole_end (end_in new.out) t.whole))
       (next_after text content behind (end_in old.out) on.before.next) in
+      let front : drop mid.place (content_text ls) ≡ content = ap₂ (λ (k : ℕ) bs. drop k bs) begins.0 (sym is_content) in
+      let whole : (end_in mid.out).owed ≡ 0 = ap (λ o. (end_in o).owed) begins.1 ∙ on.before.whole in
+      let some = some_of text (drop mid.place (content_text ls)) t.nodes (subst (λ bs. 0 < length bs) (sym front) holds)
+      (t.has_text false (λ owes. absurd (omega (arith, whole, owes)))) in
       let node = Around (enter_at text n.HeadingAtxText t.from) t.nodes (exit_at text n.HeadingAtxText t.to) in
       let closing_row = opt n.HeadingAtxSequence ∷ [] in
       record {
@@ -174,5 +180,5 @@ module _ {A : Type 0} (text : List ℕ) (ending : Option LineEnding) (left : Lis
               (t.fill Spaces (ap₂ (λ (k : ℕ) bs. list_any ends_line (drop k bs)) begins.0 (sym is_content) ∙ dark)));
           ends = record { sequence = refl; space = refl; may = refl };
         };
-        sound = ((asks_nothing r.parse.constructs r.tables.names text n.HeadingAtxText t.nodes refl, t.sound), tt);
+        sound = (sound_full r.parse.constructs r.tables.names text node refl refl some t.sound, tt);
       }

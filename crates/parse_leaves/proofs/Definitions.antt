@@ -58,7 +58,7 @@ use Rattle.parse_leaves.specs.Definition.{IsOnOneLine, WritesDefinition, WritesR
 use Rattle.parse_leaves.proofs.Entered.{white_entered}
 use Rattle.parse_leaves.proofs.Fills.{filled_up}
 use Rattle.parse_leaves.proofs.Indents.{void_quiet, whole_start}
-use Rattle.parse_leaves.proofs.Lines.{text_begins, text_stops}
+use Rattle.parse_leaves.proofs.Lines.{first_dark, text_begins, text_stops}
 use Rattle.parse_leaves.proofs.Starts.{BeginsDark, count_dark, count_white, start_dark, white_count, white_fits}
 use Rattle.parse_leaves.proofs.TakenLines.{lines_after, taken_codes, text_lines}
 use Rattle.parse_leaves.proofs.TextLeaves.{open_both, same_content}
@@ -276,12 +276,6 @@ on_one_line text bs more i end next dark is =
       begins = sym size;
       ends = omega (arith, is, size);
     }
-
--- the line that is begun isn't blank
-first_dark : (on : Constructs) (containers : List Container) (here : LineRest) (left : List LineRest) (taken : List BlockLine) (end : Place) → 0 < length taken
-    → AreTaken on containers (IsTextLine on) taken (Within here left) end → is_blank here.rest ≡ false
-first_dark on containers here left [] end some are = absurd (omega (arith, some))
-first_dark on containers here left (line ∷ others) end some are = ap (λ (p : Prefixed). is_blank (line_left p).rest) are.2.0 ∙ are.3.0.1
 
 -- ---- the whole
 

@@ -1,9 +1,11 @@
 -- A text in an event of its own.
-use Rattle.std.proofs.Common.{◌≡◌, ℕ, false, List, sym, ap, ◌∙◌, subst, drop, ◌≤◌, ◌+◌}
+use Rattle.std.proofs.Common.{◌≡◌, ℕ, false, List, sym, ap, ◌∙◌, subst, drop, ◌<◌, ◌≤◌, ◌+◌}
 use Rattle.parse_leaves.proofs.Prelude.{content_done, cut_one, End, end_in, EntersInLine, Exits, Inlines, is_white, IsInOrder, line_enters, Name, prefix_len}
 use Rattle.parse_leaves.proofs.Prelude.{Reading, same_name, Standing, standing, StandsAt, StandsInContent, StandsInLine, Walk, Writes, writes_around}
 use Rattle.parse_leaves.proofs.Prelude.{WritesContent, WritesContentIn, written_to}
 use Rattle.engine_events.specs.declared.event.Name.TheVariants as n
+use Rattle.parse_output.specs.Joined.{flat_text}
+use Rattle.parse_lines.specs.InContent.{IsSameText}
 use Rattle.parse_inline.specs.Texts.{FillsText}
 
 pub text_in_event : {A : Type 0} (r : Reading) (name : Name) (content : List ℕ) (is : Inlines) (old b c new : Walk A) → same_name name n.Data ≡ false
@@ -41,4 +43,7 @@ text_in_event r name content is old b c new other same_b enters writes same end 
         ap (λ (s : Standing). s.outermost) same ∙ written.writes.around.1 ∙ entered.around.1,
       );
       sound = written.sound;
+      has_text = λ start may.
+          subst (λ k. IsSameText start (drop k content) (flat_text text ns)) place
+          (written.writes.has_text start (λ owes. may (subst (λ (e : End). 0 < e.owed) entered.end owes))).same;
     }

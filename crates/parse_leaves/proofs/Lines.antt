@@ -1,8 +1,16 @@
 -- The lines of a text, as the content of a walk (CommonMark 4.8).
-use Rattle.std.proofs.Common.{◌≡◌, ◌<◌, List, [], ◌∷◌, ◌++◌, sym, ap, ◌∙◌, subst, length, map, arith}
+use Rattle.std.proofs.Common.{◌≡◌, ◌<◌, ℕ, Bool, true, false, not, ◌&&◌, List, [], ◌∷◌, ◌++◌, Option, refl, inl, inr, sym, ap, ap₂, ◌∙◌, subst, length, map, take, arith}
+use Rattle.std.specs.List.{list_all, prefix_len}
+use Rattle.std.proofs.Math.Bool.{and-false}
+use Rattle.std.proofs.lemmas.Bool.{cases_Bool, cond-false, cond-true, eqb-true}
+use Rattle.std.proofs.lemmas.List.Folds.{list_all-append}
+use Rattle.markdown_options.specs.declared.line_ending.LineEnding.{LineEnding}
+use Rattle.definition_text.specs.Columns.{is_byte}
 use Rattle.parse_leaves.proofs.Prelude.{append-nil, append_assoc, AreContentLines, AreLines, AreTaken, AtEnding, Between, BlockLine, code_byte, Constructs}
 use Rattle.parse_leaves.proofs.Prelude.{Container, content_from, content_text, ending_text, flat_map-cons, IsRestLine, IsTextLine, last_ending, line_left}
-use Rattle.parse_leaves.proofs.Prelude.{line_text, LineRest, own_lines, Place, Prefixed, rest_line, Within}
+use Rattle.parse_leaves.proofs.Prelude.{block_codes, bytes_of, is_blank, is_tab_column, is_white, line_text, LineRest, own_lines, Place, Prefixed, Rest}
+use Rattle.parse_leaves.proofs.Prelude.{rest_line, Within}
+use Rattle.parse_lines.proofs.Columns.{dark_is_byte}
 use Rattle.definition_text.specs.BlockLines.{last_ending_or}
 use Rattle.parse_laid.specs.Leaves.{EndsAt}
 use Rattle.parse_laid.proofs.Taken.{after_taken, each_taken}
@@ -58,3 +66,56 @@ module _ (on : Constructs) (around : List Container) (here : LineRest) (left : L
       let lefts : Between b.after ≡ Between ends.0 = sym b.end_is ∙ ends.1 in
       let same_left : b.after ≡ ends.0 = cc in
       ends.2 ∙ ap (λ ls. AtEnding (last_ending ls) ends.0) b.same ∙ ap (λ l. AtEnding (last_ending_or here.beside.ending b.others) l) (sym same_left)
+
+-- ---- a line of a text isn't blank, so its content isn't, either
+
+dark_bytes : (rest : Rest) → is_blank rest ≡ false → list_all is_white (bytes_of rest) ≡ false
+dark_bytes [] dark = dark
+dark_bytes (code ∷ rest) dark = elim (cases_Bool (is_white code)) [
+  | inl white ↦
+      let others = dark_bytes rest (sym (ap (λ (t : Bool). t && is_blank rest) white) ∙ dark) in
+      elim (cases_Bool (is_byte code)) [
+        | inl byte ↦
+            ap (list_all is_white) (cond-true (is_byte code) (code ∷ bytes_of rest) (bytes_of rest) byte)
+            ∙ ap (λ (t : Bool). t && list_all is_white (bytes_of rest)) white ∙ others
+        | inr column ↦ ap (list_all is_white) (cond-false (is_byte code) (code ∷ bytes_of rest) (bytes_of rest) column) ∙ others
+      ]
+  | inr black ↦
+      ap (list_all is_white) (cond-true (is_byte code) (code ∷ bytes_of rest) (bytes_of rest) (ap not (dark_is_byte code black)))
+      ∙ ap (λ (t : Bool). t && list_all is_white (bytes_of rest)) black
+]
+
+code_white : (code : ℕ) → is_white (code_byte code) ≡ is_white code
+code_white code = elim (cases_Bool (is_tab_column code)) [
+  | inl column ↦ ap is_white (cond-true (is_tab_column code) 32 code column) ∙ sym (ap is_white (eqb-true code 256 column))
+  | inr other ↦ ap is_white (cond-false (is_tab_column code) 32 code other)
+]
+
+codes_white : (codes : Rest) → list_all is_white (map code_byte codes) ≡ list_all is_white codes
+codes_white [] = refl
+codes_white (code ∷ codes) = ap₂ (λ (s t : Bool). s && t) (code_white code) (codes_white codes)
+
+pub rest_dark : (rest : Rest) → is_blank rest ≡ false → list_all is_white (map code_byte (block_codes rest)) ≡ false
+rest_dark rest dark =
+    let columns = take (prefix_len is_tab_column rest) rest in
+    codes_white (block_codes rest)
+    ∙ list_all-append is_white columns (bytes_of rest)
+    ∙ ap (λ (t : Bool). list_all is_white columns && t) (dark_bytes rest dark) ∙ and-false (list_all is_white columns)
+
+from_dark : (line : List ℕ) (ending : Option LineEnding) (others : List BlockLine) → list_all is_white line ≡ false
+    → list_all is_white (content_from line ending others) ≡ false
+from_dark line ending [] dark = dark
+from_dark line ending (next ∷ others) dark =
+    let more = ending_text ending ++ content_from (map code_byte next.codes) next.ending others in
+    list_all-append is_white line more ∙ ap (λ (t : Bool). t && list_all is_white more) dark
+
+pub content_dark : (first : BlockLine) (others : List BlockLine) → list_all is_white (map code_byte first.codes) ≡ false
+    → list_all is_white (content_text (first ∷ others)) ≡ false
+content_dark first others dark =
+    ap (list_all is_white) (sym (lines_ahead first others)) ∙ from_dark (map code_byte first.codes) first.ending others dark
+
+-- the line that is begun isn't blank
+pub first_dark : (on : Constructs) (containers : List Container) (here : LineRest) (left : List LineRest) (taken : List BlockLine) (end : Place)
+    → 0 < length taken → AreTaken on containers (IsTextLine on) taken (Within here left) end → is_blank here.rest ≡ false
+first_dark on containers here left [] end some are = absurd (omega (arith, some))
+first_dark on containers here left (line ∷ others) end some are = ap (λ (p : Prefixed). is_blank (line_left p).rest) are.2.0 ∙ are.3.0.1

@@ -30,7 +30,9 @@ use Rattle.parse_laid.specs.Places.{InAll, IsOn}
 use Rattle.parse_slots.specs.Left.{IsFilled}
 use Rattle.parse_slots.proofs.Steps.{filled_by}
 use Rattle.parse_references.specs.Sound.{AreSound}
-use Rattle.parse_references.proofs.Sound.{asks_construct, asks_nothing, sound_both, sound_filled, sound_one, void_sound}
+use Rattle.parse_output.specs.Forest.{is_nil}
+use Rattle.parse_references.proofs.Sound.{asks_construct, sound_both, sound_filled, sound_full, sound_one, void_sound}
+use Rattle.parse_lines.proofs.SomeNodes.{dark_left, dark_some}
 use Rattle.parse_strings.proofs.SoundNodes.{quiet_sound}
 use Rattle.parse_lines.specs.Ends.{WritesNextLine, line_after}
 use Rattle.parse_lines.specs.Steps.{PassesLine}
@@ -137,9 +139,9 @@ module _ (on : Constructs) (names : Names) (text : List ℕ) (top : Bool) (rank 
       → (if eqb (get_or (text_in text n.HeadingSetextUnderlineSequence (kids_of under)) 0 0) 45 then 2 else 1) ≡ rank
       → named n.Definition (one under) ≡ [] → ArePlain ns
       → ((m m' : Meaning) → AreMeanings on names m m' → ArePartsAlike m m' is (inlines_of names text false ns))
-      → IsFilled Lines Plain under → on.heading_setext ≡ true → AreSound on names text ns
+      → IsFilled Lines Plain under → on.heading_setext ≡ true → AreSound on names text ns → is_nil ns ≡ false
       → SpellsLeaf on names text top (page.Heading rank is) [] (Around (enter_at text n.HeadingSetext start) kids (exit_at text n.HeadingSetext end))
-  setext_spells start end are_quiet are_before is_under is_rank none plain spells filled made sound =
+  setext_spells start end are_quiet are_before is_under is_rank none plain spells filled made sound some =
       let void = void_nodes text n.LineEnding from to in
       let void_child : child n.HeadingSetextUnderline void ≡ None =
       void_cases (λ ms. child n.HeadingSetextUnderline ms ≡ None) text n.LineEnding from to refl (λ h. refl) (λ h. refl) in
@@ -169,7 +171,7 @@ module _ (on : Constructs) (names : Names) (text : List ℕ) (top : Bool) (rank 
         definitions = λ m m' means.
             none_alike m m' names text (named n.Definition kids)
             (ap (λ ds. ds ++ named n.Definition (append (append void quiet) (append before (one under)))) plain.definitions ∙ others);
-        sound = (asks_construct on names text n.HeadingSetext kids refl made, ((asks_nothing on names text n.HeadingSetextText ns refl, sound), sound_others));
+        sound = (asks_construct on names text n.HeadingSetext kids refl made, (sound_full on names text text_node refl refl some sound, sound_others));
       }
 
 -- ---- the whole
@@ -177,7 +179,7 @@ module _ (on : Constructs) (names : Names) (text : List ℕ) (top : Bool) (rank 
 module _ {A : Type 0} (text : List ℕ) where
   setext_on : (r : Reading) (top : Bool) (rank : ℕ) (is : Inlines) (here : LineRest) (left after : List LineRest) (ending : Option LineEnding)
       (content : List ℕ) (old a b c d new : Walk A) (under : LineRest) (others : List LineRest)
-      → EntersAt text n.HeadingSetext content (record { place = AtEnding ending after; behind = 0 }) old a
+      → EntersAt text n.HeadingSetext content (record { place = AtEnding ending after; behind = 0 }) old a → list_all is_white content ≡ false
       → WritesContentIn r n.HeadingSetextText content is a b → PassesLine (standing b) (standing c) → WritesNextLine b c
       → HasSameOpen (standing b) (standing c) → old.on.now ≡ r.parse.constructs → IsOn old.on.now (around (standing old)) (Between after) (InAll under) others
       → underline old.on.now under.rest ≡ Some rank
@@ -185,15 +187,16 @@ module _ {A : Type 0} (text : List ℕ) where
       → 0 < length (bytes_of (bare here.rest)) → AreUnderline (bytes_of (bare here.rest)) → WritesUnderline text here left c d)
       → standing new ≡ standing d → written_to new ≡ written_to d → (IsInOrder text d.out → Exits text n.HeadingSetext d.out new.out)
       → WritesLeaf r.parse.constructs r.tables.names text top (page.Heading rank is) [] (AtEnding under.beside.ending others) old new
-  setext_on r top rank is here left [] ending content old a b c d new under others entered writes passes next_written kept by is_on found
+  setext_on r top rank is here left [] ending content old a b c d new under others entered dark writes passes next_written kept by is_on found
       under_written same end exits =
       absurd is_on
-  setext_on r top rank is here left (next ∷ after) ending content old a b c d new under others entered writes passes next_written kept by is_on found
+  setext_on r top rank is here left (next ∷ after) ending content old a b c d new under others entered dark writes passes next_written kept by is_on found
       under_written same end exits =
       let on = r.parse.constructs in
       let names = r.tables.names in
       let stop : Stop = record { place = AtEnding ending (next ∷ after); behind = 0 } in
       let t = writes text stop entered.stands entered.white in
+      let some = dark_some text (drop a.place content) t.nodes (dark_left a.place content entered.white dark) (t.has_text true (λ owes. refl)) in
       let at_end : written_to b ≡ end_at b.line_end 0 = whole_end (end_in b.out) t.whole ∙ ap (λ k. end_at k 0) (omega (arith, t.index)) in
       let to = line_after b in
       let done = next_written text ending next after t.at t.writes.order (ending_token text n.LineEnding b line_ending_fits t.at.line at_end) in
@@ -228,7 +231,7 @@ module _ {A : Type 0} (text : List ℕ) where
         spells =
             setext_spells on names text top rank is t.nodes quiet u.before u.node (written_to b) to t.from t.to from last done.2 u.are_quiet u.is_underline
             (ap (λ k. if eqb k 45 then 2 else 1) u.marker ∙ rank_found.1) u.definitions t.plain t.spells u.filled
-            (subst (λ (c : Constructs). c.heading_setext ≡ true) by line_is.1) t.sound;
+            (subst (λ (c : Constructs). c.heading_setext ≡ true) by line_is.1) t.sound some;
         writes =
             writes_both text old.out entered.space new.out entered.before (one node) entered.writes
             (subst (Writes text entered.space new.out) (cut_one text n.HeadingSetext from last kids refl)
@@ -263,5 +266,6 @@ module _ {A : Type 0} (text : List ℕ) where
       let on_line : IsOn old.on.now (around (standing old)) (Between entered.0) (InAll laid.2) laid.3 =
       subst (λ p. IsOn old.on.now (around (standing old)) p (InAll laid.2) laid.3) entered.1 laid.6 in
       subst (λ p. WritesLeaf r.parse.constructs r.tables.names text top (page.Heading rank is) [] p old new) (sym laid.8)
-      (setext_on r top rank is here left entered.0 (last_ending taken) (content_text ls) old a b c d new laid.2 laid.3 entered.2 writes passes next kept by on_line
+      (setext_on r top rank is here left entered.0 (last_ending taken) (content_text ls) old a b c d new laid.2 laid.3 entered.2 entered.3 writes passes next
+      kept by on_line
       laid.7 under same end exits)

@@ -1,5 +1,5 @@
 -- The start of a block that holds a text (CommonMark 4.3 and 4.8).
-use Rattle.std.specs.Prelude.{◌≡◌, ◌≤◌, ◌+◌, ℕ, true, false, List, [], ◌∷◌, codes, drop, slice_index}
+use Rattle.std.specs.Prelude.{◌≡◌, ◌≤◌, ◌+◌, ℕ, Bool, true, false, List, [], ◌∷◌, codes, drop, slice_index}
 use Rattle.std.specs.List.{list_all, prefix_len}
 use Rattle.markdown_options.specs.declared.configuration.Constructs.{Constructs}
 use Rattle.engine_events.specs.declared.event.Name.{Name}
@@ -24,6 +24,7 @@ use Rattle.event_meaning.specs.Texts.{inlines_of}
 use Rattle.parse_output.specs.declared.end.End.{End}
 use Rattle.parse_output.specs.Ends.{end_at, enter_at, exit_at}
 use Rattle.parse_output.specs.Forest.{append, one}
+use Rattle.parse_output.specs.Joined.{flat_text}
 use Rattle.parse_output.specs.declared.output.Output.{Output}
 use Rattle.parse_output.specs.Written.{Enters, IsInOrder, Writes, end_in}
 use Rattle.parse_alike.specs.Inline.{ArePartsAlike}
@@ -33,7 +34,7 @@ use Rattle.parse_laid.specs.Leaves.{AreTaken}
 use Rattle.parse_laid.specs.Places.{LineRest, Between, Within, AtEnding}
 use Rattle.parse_lines.specs.declared.walk.Walk.{Walk}
 use Rattle.parse_lines.specs.Ends.{IsWrittenToRest, written_to}
-use Rattle.parse_lines.specs.InContent.{IsRestLine, StandsInContent, Stop}
+use Rattle.parse_lines.specs.InContent.{IsRestLine, IsSameText, MayStart, StandsInContent, Stop}
 use Rattle.parse_lines.specs.Quiet.{AreQuiet}
 use Rattle.parse_lines.specs.Standing.{StandsAt, around, standing}
 use Rattle.parse_lines.specs.Steps.{HasSameOpen}
@@ -79,6 +80,7 @@ pub record WritesTextIn {A : Type 0} (on : Constructs) (names : Names) (text : L
   pub index : (end_in new.out).index + stop.behind ≡ new.line_end
   pub around : HasSameOpen (standing old) (standing new)
   pub sound : AreSound on names text nodes
+  pub has_text : (start : Bool) → MayStart start old → IsSameText start front (flat_text text nodes)
 
 -- from a walk that stands in a content it is written so
 abbrev pub WritesContentIn : {A : Type 0} → Reading → Name → List ℕ → Inlines → Walk A → Walk A → Type 0

@@ -11,7 +11,7 @@ use Rattle.parse_output.specs.Children.{HaveChildren, may_enter, may_hold}
 use Rattle.parse_output.specs.Forest.{byte_nodes, bytes_from, bytewise, is_nil, node_bytewise}
 use Rattle.parse_output.specs.Open.{Entered, Mark}
 use Rattle.parse_references.specs.Leads.{AreWithout}
-use Rattle.parse_references.specs.Sound.{AreSound, Decode, HoldsAsked, IsRank, IsSound, outside_strings}
+use Rattle.parse_references.specs.Sound.{AreSound, BeginTag, Decode, HoldsAsked, IsRank, IsSound, outside_strings}
 use Rattle.parse_references.proofs.Sound.{asks_nothing, sound_both, sound_parts}
 use Rattle.parse_open.specs.NodeLaws.{DocumentsAreSound}
 use Rattle.parse_open.proofs.FilledBytes.{all_held, AreHeld, tree_is}
@@ -96,6 +96,24 @@ module _ (names : Names) (text : List ℕ) where
       decode_cut (is_cut enter.name inner) sibling enter exit kids inner ns (bytewise ns)
       (λ is. no_data marks enter.name held.0.0 (cut_named enter.name inner is)) (λ s. decode_whole marks s ns held.1) h
 
+-- ---- raw HTML holds no data
+
+no_data_in_tag : (marks : List Mark) (name : Name) → may_enter (Entered n.HtmlText ∷ marks) name ≡ true → name ≡ n.Data → ⊥
+unfolding may_enter may_hold
+no_data_in_tag marks name may is = true≢false (sym may ∙ ap (may_hold n.HtmlText) is)
+
+tag_cut : (text : List ℕ) (b : Bool) (enter exit : Event) (kids inner ns others : Nodes) → (b ≡ true → ⊥)
+    → BeginTag text (append (if b then bytes_from enter exit else one (Around enter inner exit)) others) → BeginTag text (Cons (Around enter kids exit) ns)
+tag_cut text true enter exit kids inner ns others never h = absurd (never refl)
+tag_cut text false enter exit kids inner ns others never h = h
+
+tag_whole : (text : List ℕ) (marks : List Mark) (ns : Nodes) → AreHeld (Entered n.HtmlText ∷ marks) ns → BeginTag text (bytewise ns) → BeginTag text ns
+tag_whole text marks Nil held h = tt
+tag_whole text marks (Cons (Around enter kids exit) ns) held h =
+    let inner = bytewise kids in
+    tag_cut text (is_cut enter.name inner) enter exit kids inner ns (bytewise ns)
+    (λ is. no_data_in_tag marks enter.name held.0.0 (cut_named enter.name inner is)) h
+
 module _ (on : Constructs) (names : Names) (text : List ℕ) where
   -- ---- all nodes
 
@@ -110,6 +128,7 @@ module _ (on : Constructs) (names : Names) (text : List ℕ) where
     call = λ is. without_whole outside_strings kids refl (h.call is);
     reference = λ is. decode_whole names text marks None kids (subst (λ (a : Name). AreHeld (Entered a ∷ marks) kids) is held) (h.reference is);
     heading = λ is. rank_whole names text kids (h.heading is);
+    html = λ is. tag_whole text marks kids (subst (λ (a : Name). AreHeld (Entered a ∷ marks) kids) is held) (h.html is);
     some = λ full. some_whole kids (h.some full);
   }
 

@@ -35,7 +35,7 @@ module _ (text : List ℕ) where
       }
 
   -- an end that owes nothing is at its index
-  whole_edge : (end : End) → end.owed ≡ 0 → end_edge text end ≡ end.index
+  pub whole_edge : (end : End) → end.owed ≡ 0 → end_edge text end ≡ end.index
   whole_edge end none =
       let columns : end_columns text end ≡ 0 = grind (arith, nat_tests, none) in
       grind (arith, nat_tests, columns)

@@ -23,7 +23,7 @@ use Rattle.event_tokens.specs.Shape.{full_names}
 use Rattle.parse_output.specs.Forest.{append, byte_nodes, bytes_from, cut, data_nodes, is_nil, one, void_nodes}
 use Rattle.parse_slots.specs.Left.{Fill, IsFilled}
 use Rattle.parse_references.specs.Leads.{AreWithout, IsWithout}
-use Rattle.parse_references.specs.Sound.{AreSound, HoldsAsked, IsSound, asked_names, holding_names, is_asked_on, ruled_names}
+use Rattle.parse_references.specs.Sound.{AreSound, BeginTag, HoldsAsked, IsSound, asked_names, holding_names, is_asked_on, ruled_names}
 use Rattle.parse_references.proofs.Bare.{without_fill, without_filled, without_kids}
 use Rattle.parse_references.proofs.Rows.{all_pass, is_without, row_without}
 
@@ -74,6 +74,7 @@ module _ (on : Constructs) (names : Names) (text : List ℕ) where
         call = λ same. absurd (never n.GfmFootnoteCall refl same);
         reference = λ same. absurd (never n.CharacterReference refl same);
         heading = λ same. absurd (never n.HeadingAtx refl same);
+        html = λ same. absurd (never n.HtmlText refl same);
         some = λ full. absurd (never name (full_holds name full) refl);
       }
 
@@ -88,6 +89,7 @@ module _ (on : Constructs) (names : Names) (text : List ℕ) where
         call = λ same. absurd (never n.GfmFootnoteCall refl same);
         reference = λ same. absurd (never n.CharacterReference refl same);
         heading = λ same. absurd (never n.HeadingAtx refl same);
+        html = λ same. absurd (never n.HtmlText refl same);
         some = λ full. some;
       }
 
@@ -149,6 +151,23 @@ module _ (on : Constructs) (names : Names) (text : List ℕ) where
       sound_full (Around enter kids exit) (ap (is_listed ruled_names) is ∙ other) (ap (is_asked_on on) is ∙ is_on) some
       (without_are_sound kids (without_kids asked_names refl refl (between_of (row enter.name form) around enter.name) kids k (row enter.name form)
       (ap (λ (a : Name). row_without asked_names k (row a form)) is ∙ without) filled.filled))
+
+  -- raw HTML in a text
+  pub sound_tag : (k : ℕ) (around : Between) (form : Form) (node : Node) → node_name node ≡ n.HtmlText → on.html_text ≡ true
+      → is_nil (kids_of node) ≡ false → BeginTag text (kids_of node) → row_without asked_names k (row n.HtmlText form) ≡ true → IsFilled around form node
+      → IsSound on names text node
+  sound_tag k around form (Around enter kids exit) is is_on some begins without filled = (
+    record {
+      is_on = ap (is_asked_on on) is ∙ is_on;
+      call = λ same. absurd (true≢false (ap (same_name n.GfmFootnoteCall) (sym same ∙ is)));
+      reference = λ same. absurd (true≢false (ap (same_name n.CharacterReference) (sym same ∙ is)));
+      heading = λ same. absurd (true≢false (ap (same_name n.HeadingAtx) (sym same ∙ is)));
+      html = λ same. begins;
+      some = λ full. some;
+    },
+    without_are_sound kids (without_kids asked_names refl refl (between_of (row enter.name form) around enter.name) kids k (row enter.name form)
+        (ap (λ (a : Name). row_without asked_names k (row a form)) is ∙ without) filled.filled),
+  )
 
   -- ---- what holds no other
 

@@ -1,24 +1,25 @@
 -- What is known of some events beside their rows and what they spell. The grammar asks that calls of footnotes hold strings alone, that references decode, and
 -- that a heading begins with at most six `#` (CommonMark 2.5 and 4.2, GFM footnotes). Where the page doesn't tell which construct made an event, that one is on.
--- Strings and raw HTML hold something.
-use Rattle.std.specs.Prelude.{◌≡◌, ℕ, Bool, true, false, if◌then◌else◌, List, [], ◌∷◌, Option, None, Some}
+-- Strings, raw HTML, paragraphs and the texts of headings hold something. Raw HTML in a text begins with a `<` (CommonMark 6.6).
+use Rattle.std.specs.Prelude.{◌≡◌, ℕ, Bool, true, false, if◌then◌else◌, List, [], ◌∷◌, Option, None, Some, slice_index}
+use Rattle.definition_text.specs.Ascii.{less_than}
 use Rattle.markdown_options.specs.declared.configuration.Constructs.{Constructs}
 use Rattle.engine_events.specs.Names.{is_listed, same_name}
 use Rattle.engine_events.specs.declared.event.Name.{Name}
 use Rattle.engine_events.specs.declared.event.Name.TheVariants as n
 use Rattle.definition_inline.specs.CharacterReference.{Names}
 use Rattle.event_grammar.specs.Facts.{decodes, is_size}
-use Rattle.event_grammar.specs.Grammar.{block_names}
 use Rattle.event_grammar.specs.InGrammar.{node_name}
-use Rattle.event_grammar.specs.Points.{bytes_between, spot_of}
+use Rattle.event_grammar.specs.Points.{bytes_between, edge, spot_of}
 use Rattle.event_grammar.specs.Trees.{Node, Nodes, Around, Nil, Cons}
 use Rattle.event_tokens.specs.Shape.{full_names}
+pub use Rattle.event_tokens.specs.Shape.{outside_strings}
 use Rattle.parse_output.specs.Forest.{is_nil}
 use Rattle.parse_references.specs.Leads.{AreWithout}
 
 -- the names of events for whose children there is a rule beside their row
 abbrev pub ruled_names : List Name
-ruled_names = n.GfmFootnoteCall ∷ n.CharacterReference ∷ n.HeadingAtx ∷ []
+ruled_names = n.GfmFootnoteCall ∷ n.CharacterReference ∷ n.HeadingAtx ∷ n.HtmlText ∷ []
 
 -- the names of events whose children are asked for more than their row: these, and those that hold something
 abbrev pub holding_names : List Name
@@ -49,13 +50,6 @@ is_asked_on on n.MathFlow = on.math_flow
 is_asked_on on n.Frontmatter = on.frontmatter
 is_asked_on on name = true
 
--- what no string holds: what stands in texts alone, and blocks
-abbrev pub outside_strings : List Name
-outside_strings =
-    n.Link ∷ n.Image ∷ n.GfmFootnoteCall ∷ n.Emphasis ∷ n.Strong ∷ n.GfmStrikethrough ∷ n.Mark ∷ n.CodeText ∷ n.MathText ∷ n.HtmlText ∷ n.Autolink
-    ∷ n.GfmAutolinkLiteralEmail ∷ n.GfmAutolinkLiteralMailto ∷ n.GfmAutolinkLiteralProtocol ∷ n.GfmAutolinkLiteralWww ∷ n.GfmAutolinkLiteralXmpp
-    ∷ n.HardBreakEscape ∷ n.HardBreakTrailing ∷ n.GfmTaskListItemCheck ∷ n.ListItem ∷ block_names
-
 module _ (names : Names) (text : List ℕ) where
   abbrev pub node_bytes : Node → List ℕ
   node_bytes (Around enter kids exit) = bytes_between text (spot_of enter) (spot_of exit)
@@ -78,6 +72,11 @@ module _ (names : Names) (text : List ℕ) where
       (same_name (node_name node) n.HeadingAtxSequence ≡ true → is_size 6 (node_bytes node) ≡ true)
       × (same_name (node_name node) n.HeadingAtxSequence ≡ false → IsRank ns)
 
+-- the first of these nodes begins at a `<`
+abbrev pub BeginTag : List ℕ → Nodes → Type 0
+BeginTag text Nil = Unit {0}
+BeginTag text (Cons (Around enter kids exit) ns) = slice_index text (edge (spot_of enter)) ≡ less_than
+
 module _ (on : Constructs) (names : Names) (text : List ℕ) where
   -- the construct of an event of a name is on, and its children are as the grammar asks
   pub record HoldsAsked (name : Name) (kids : Nodes) : Type 0 where
@@ -85,6 +84,7 @@ module _ (on : Constructs) (names : Names) (text : List ℕ) where
     pub call : name ≡ n.GfmFootnoteCall → AreWithout outside_strings kids
     pub reference : name ≡ n.CharacterReference → Decode names text None kids
     pub heading : name ≡ n.HeadingAtx → IsRank names text kids
+    pub html : name ≡ n.HtmlText → BeginTag text kids
     pub some : is_listed full_names name ≡ true → is_nil kids ≡ false
 
   abbrev mutual

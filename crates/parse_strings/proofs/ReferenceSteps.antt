@@ -98,6 +98,7 @@ reference_sound on names text kids a b is_on decode sound = (
     call = λ same. other_kid (ap (λ name. same_name name n.GfmFootnoteCall) same);
     reference = λ same. decode;
     heading = λ same. other_kid (ap (λ name. same_name name n.HeadingAtx) same);
+    html = λ same. other_kid (ap (λ name. same_name name n.HtmlText) same);
     some = λ full. absurd (true≢false (sym full));
   },
   sound,

@@ -26,7 +26,7 @@ use Rattle.parse_written.specs.Leaves.{Lacks, IsReference, IsRaw, HasForm, is_ta
 use Rattle.parse_written.proofs.Autolinks.{email_whole, uri_whole}
 use Rattle.parse_written.proofs.Passed.{passed_all}
 use Rattle.parse_written.proofs.Codes.{codes_dropped, run_marks}
-use Rattle.parse_written.proofs.HtmlEnds.{EndsWith, html_closed, html_closes}
+use Rattle.parse_written.proofs.HtmlEnds.{EndsWith, html_closed, html_closes, taken_begins}
 use Rattle.parse_written.proofs.Leaves.{is_its_text, codes_of_take}
 
 -- ---- codes at the front
@@ -565,14 +565,16 @@ module _ (context : InlineContext) where
       (closed_begins c cs is true (email_end content) (email_inner content) (email_alone content)))
       (λ _. tt)
 
-  html_formed : (from : List InlineCode) (o : Option (List ℕ)) → WhereSome (λ rest. EndsWith (map html_byte (codes_of from)) (62 ∷ rest)) o
+  html_formed : (from : List InlineCode) (o : Option (List ℕ)) → begins_with (codes "<") (codes_of from) ≡ true
+      → WhereSome (λ rest. EndsWith (map html_byte (codes_of from)) (62 ∷ rest)) o
       → Begins from (html_leaf (codes_of from) o)
-  html_formed from None closes = tt
-  html_formed from (Some rest) closes =
+  html_formed from None begins closes = tt
+  html_formed from (Some rest) begins closes =
       let n = length (codes_of from) - length rest in
       let ends = html_closed (codes_of from) rest closes in
       λ _. record {
         codes = subst (λ text. AreCodes text from (drop n from)) (codes_of_take n from) (codes_dropped n from);
+        opened = taken_begins n (codes_of from) ends.0 ends.1 begins;
         front = ends.0;
         closed = ends.1;
       }
@@ -580,8 +582,9 @@ module _ (context : InlineContext) where
   html_begins : (from : List InlineCode) → Begins from (html_text_at context.options.constructs (codes_of from))
   html_begins from =
       let rest = html_end (map html_byte (codes_of from)) in
-      cond_both (context.options.constructs.html_text && _) (html_leaf (codes_of from) rest) None (Begins from)
-      (λ _. html_formed from rest (html_closes (map html_byte (codes_of from)))) (λ _. tt)
+      cond_both (context.options.constructs.html_text && begins_with (codes "<") (codes_of from)) (html_leaf (codes_of from) rest) None (Begins from)
+      (λ is. html_formed from rest (and_parts context.options.constructs.html_text (begins_with (codes "<") (codes_of from)) is).1
+      (html_closes (map html_byte (codes_of from)))) (λ _. tt)
 
   -- ---- any construct
 

@@ -5,7 +5,7 @@ use Rattle.parse_written.proofs.Prelude.{take-append_seam, WhereSome, ◌==◌}
 use Rattle.std.specs.Option.{option_or}
 use Rattle.std.proofs.lemmas.Bool.Decides.{nat_tests}
 use Rattle.std.proofs.lemmas.List.{length-map}
-use Rattle.std.proofs.lemmas.Bool.{false≢true}
+use Rattle.std.proofs.lemmas.Bool.{false≢true, true≢false}
 use Rattle.definition_text.specs.Bytes.{without_slash}
 use Rattle.definition_inline.specs.HtmlTags.{then_part, is_tag_space, tag_space, is_tag_name_byte, after_tag_name, begins_attribute, is_attribute_byte}
 use Rattle.definition_inline.specs.HtmlTags.{is_unquoted, quoted_value, unquoted_value, value, value_or, specification, attribute, has_attribute, attributes}
@@ -232,3 +232,10 @@ html_closed content rest ends =
     let all : content ≡ text ++ p.others = p.parts ∙ sym (append_assoc p.front (62 ∷ []) p.others) in
     let size : length content - length rest ≡ length text = omega (arith, p.left, ap length all, length-append text p.others) in
     (p.front, ap (λ n. take n content) size ∙ ap (take (length text)) all ∙ take-append_seam text p.others)
+
+-- some of the codes before it begin with `<` if all do
+pub taken_begins : (count : ℕ) (content front : List ℕ) → take count content ≡ front ++ 62 ∷ [] → begins_with (codes "<") content ≡ true
+    → begins_with (codes "<") (take count content) ≡ true
+taken_begins zero content front is begins = absurd (omega (arith, ap length is, length-append front (62 ∷ [])))
+taken_begins (suc count) [] front is begins = absurd (true≢false (sym begins))
+taken_begins (suc count) (c ∷ cs) front is begins = begins

@@ -2,6 +2,7 @@
 use Rattle.std.specs.Prelude.{◌≡◌, ◌<◌, ◌≤◌, ◌==◌, ℕ, Bool, true, false, List, [], ◌∷◌, ◌++◌, Some, drop, length, replicate}
 use Rattle.std.specs.Char.{is_ascii_punctuation}
 use Rattle.definition_text.specs.Ascii.{backslash, backtick, dollar, greater_than, less_than, semicolon, space}
+use Rattle.definition_text.specs.Bytes.{begins_with}
 use Rattle.definition_text.specs.Columns.{Code as ContentCode, indent}
 use Rattle.definition_text.specs.Content.{is_eol, text_before}
 use Rattle.definition_text.specs.InlineCode.{InlineCode, codes_of}
@@ -58,9 +59,10 @@ pub record IsAutolink (email : Bool) (text : List ContentCode) (from to : List I
   pub inline : EndNoLine text
   pub target : is_target email text ≡ true
 
--- raw HTML, which ends with `>` (CommonMark 6.6)
+-- raw HTML, which begins with `<` and ends with `>` (CommonMark 6.6)
 pub record IsHtml (text : List ContentCode) (from to : List InlineCode) : Type 0 where
   pub codes : AreCodes text from to
+  pub opened : begins_with (less_than ∷ []) text ≡ true
   pub front : List ContentCode
   pub closed : text ≡ front ++ greater_than ∷ []
 

@@ -78,8 +78,8 @@ returns-in-Html-clause-written g c =
     (λ k. subst (λ xs. slice_index xs k < 256) (sym c.bytes_from-bytes.ensures.rest)
     (bytes_drop c.place.result c.as_bytes.result.now (utf8_bytes c.as_bytes.result.now c.as_bytes.ensures.utf8) k)) (c.bytes_up_to.ensures ∙ ap
     (λ xs. take (length xs) c.bytes_from-bytes.result.now) c.as_bytes-in-Html.ensures.value)
-    form (λ front content closed utf8 cut next outside. written context.options.constructs context.names text front content stop
-    (html_on context c.args.part c.in-Html.text from to c.in-Html.is laid) closed utf8 cut next outside)))
+    form (λ front content closed opened utf8 cut next outside. written context.options.constructs context.names text front content stop
+    (html_on context c.args.part c.in-Html.text from to c.in-Html.is laid) closed opened utf8 cut next outside)))
     c.push_html.ensures.written c.push_html.ensures.open
 
 pub returns-in-EscapedBreak-clause-written : goal.returns-in-EscapedBreak-clause-written

@@ -3,7 +3,7 @@ use Rattle.parse_leaves.proofs.Prelude.{AreContentLines, content_text, eqb-true,
 use Rattle.parse_leaves.proofs.Prelude.{read_content, reading_by, tab_column, WritesContentIn}
 use Rattle.markdown_options.specs.declared.beside.Kind.TheVariants.{Whitespace}
 use Rattle.engine_events.specs.declared.event.Name.TheVariants.{HeadingAtxText}
-use Rattle.parse_leaves.proofs.AtxLists.{clear_text, nothing}
+use Rattle.parse_leaves.proofs.AtxLists.{clear_text, nothing, some_bytes}
 use Rattle.parse_leaves.proofs.AtxParts.{heading_text, no_heading_text}
 use Rattle.parse_leaves.proofs.heading_atx.push_heading_text.Goals as goal
 
@@ -25,6 +25,7 @@ returns-clause-written g c =
     subst (λ ls. AreContentLines (piece_lines ls) → WritesContentIn r HeadingAtxText (content_text (piece_lines ls))
     (read_content r false (inline_content r.tables.is_punctuation Whitespace (own_lines (piece_lines ls)))) mid new)
     c.from_ref.ensures.value (λ are. written ds known are refl) in
-    heading_text text ending left behind r piece c.args.walk.now mid new none bytes (clear_text piece.text.now bare) on c.begin_here.ensures.stays
+    heading_text text ending left behind r piece c.args.walk.now mid new none (some_bytes piece.text.now c.if-is_empty.ensures) bytes
+    (clear_text piece.text.now bare) on c.begin_here.ensures.stays
     c.begin_here.ensures.begun c.begin_here.ensures.begins (is clear))
     c.push_text_in.ensures.written
