@@ -42,6 +42,7 @@ pub mod BlankLineReads
 pub mod HeadingSetextReads
 pub mod ClosingReads
 pub mod ColumnReads
+pub mod ColumnLoops
 pub mod CodeIndentedReads
 pub mod FrontmatterReads
 pub mod FrontmatterCloses
