@@ -32,6 +32,7 @@ pub mod TextReads
 pub mod TextChoices
 pub mod BlockTurns
 pub mod LineCodes
+pub mod TextBlanks
 pub mod Skips
 pub mod WhiteReads
 pub mod TaskCheckReads

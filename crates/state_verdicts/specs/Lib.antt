@@ -1,6 +1,7 @@
 pub mod Codes
 pub mod TextCodes
 pub mod TextBytes
+pub mod TextBlank
 pub mod Verdicts
 pub mod Choices
 pub mod Beginnings
