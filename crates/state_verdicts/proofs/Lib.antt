@@ -44,6 +44,7 @@ pub mod HeadingSetextReads
 pub mod ClosingReads
 pub mod ColumnReads
 pub mod ColumnLoops
+pub mod ColumnSees
 pub mod CodeIndentedReads
 pub mod FrontmatterReads
 pub mod FrontmatterCloses
@@ -59,6 +60,10 @@ pub mod HeadingAtxLines
 pub mod FenceStates
 pub mod FenceLines
 pub mod FenceInfo
+pub mod RawStays
+pub mod RawFlowStates
+pub mod RawFlowCloses
+pub mod RawFlowLines
 pub mod CodeFencedReads
 pub mod AttemptTurns
 pub mod FlowFails
