@@ -33,6 +33,7 @@ pub mod TextChoices
 pub mod BlockTurns
 pub mod LineCodes
 pub mod TextBlanks
+pub mod Shown
 pub mod Skips
 pub mod WhiteReads
 pub mod TaskCheckReads
@@ -59,12 +60,18 @@ pub mod HeadingAtxReads
 pub mod HeadingAtxLines
 pub mod FenceStates
 pub mod FenceLines
+pub mod FenceRuns
+pub mod FenceRest
+pub mod FenceMeta
 pub mod FenceInfo
 pub mod RawStays
 pub mod RawFlowStates
 pub mod RawFlowCloses
 pub mod RawFlowLines
 pub mod CodeFencedReads
+pub mod FenceWhole
+pub mod CodeFencedWhole
+pub mod MathFlowReads
 pub mod AttemptTurns
 pub mod FlowFails
 pub mod FlowChoiceReads

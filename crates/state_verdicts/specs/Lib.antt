@@ -33,6 +33,7 @@ pub mod ThematicBreak
 pub mod HeadingSetext
 pub mod HeadingAtx
 pub mod CodeFenced
+pub mod MathFlow
 pub mod DocumentVerdicts
 pub mod Frontmatter
 pub mod Bom
