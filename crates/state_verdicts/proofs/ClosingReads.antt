@@ -15,7 +15,8 @@ use Rattle.engine_states.specs.declared.state.Name.TheVariants.{Block}
 use Rattle.engine_states.specs.declared.state.State.TheVariants as states
 use Rattle.markdown_engine.specs.Reading.{at_point}
 use Rattle.state_flow.specs.Flows.{flows_bodies}
-use Rattle.state_verdicts.specs.RawFlow.{ClosingFenceVerdict, ClosingVerdict, after_closing, closing_events, closing_size, is_fence_byte}
+use Rattle.state_verdicts.specs.RawFlow.{ClosingFenceVerdict, ClosingVerdict, after_closing, closing_events, closing_size, counting}
+use Rattle.state_verdicts.specs.RawFlow.{is_fence_byte}
 use Rattle.state_verdicts.specs.BlockVerdicts.{at_hand, line}
 use Rattle.state_verdicts.specs.WhiteSpace.{white_events}
 use Rattle.state_verdicts.proofs.BlockTurns.{and_on, byte_at, does, does_next, end_at, ends_well, fails, fed, still_at}
@@ -132,14 +133,14 @@ no_less a b = elim (cases_lt b a) [
 ]
 
 -- what is known of the byte of a fence
-record IsFence (m : ℕ) : Type 0 where
+pub record IsFence (m : ℕ) : Type 0 where
   pub marker : Marker m
   pub inner : is_eol m ≡ false
 
 of_byte : (m n : ℕ) → IsFence n → (m == n) ≡ true → IsFence m
 of_byte m n f h = subst (λ (i : ℕ). IsFence i) (sym (eqb-true m n h)) f
 
-is_fence : (m : ℕ) → is_fence_byte m ≡ true → IsFence m
+pub is_fence : (m : ℕ) → is_fence_byte m ≡ true → IsFence m
 is_fence m h = elim (or_cases ((m == 96) || (m == 126)) (m == 36) h) [
   | inl l ↦ elim (or_cases (m == 96) (m == 126) l) [
     | inl e ↦ of_byte m 96 (record { marker = marker_of 96 refl refl refl refl refl refl; inner = refl }) e
@@ -177,7 +178,11 @@ module _ {T : Type 0} (here : InLine T) (once : SkipsOnce here.text) (few : leng
   begins = states.Retry start
 
   stops : run (flows_bodies x start) c0 ≡ plain c0 states.Nok → ClosingVerdict here false
-  stops h = (c0, fails x text c0 c0 begins (does x text start c0 c0 states.Nok h))
+  stops h = (
+    c0,
+    fails x text c0 c0 begins (does x text start c0 c0 states.Nok h),
+    record { size = k.size_b; columns = k.size_c; kept = refl; map = refl; resolvers = refl },
+  )
 
   none_by : (l : List ℕ) → line here ≡ l → run_length m l ≡ 0 → ClosingVerdict here false → ClosingVerdict here (is_run k.size m (line here))
   none_by l e h v =
@@ -263,15 +268,20 @@ module _ {T : Type 0} (here : InLine T) (once : SkipsOnce here.text) (few : leng
                 (white_events (drop count cs) (text.start o.mid) (text.start o.end)) (event Exit k.token_2 (text.start o.end) None)
                 ∙ ap (λ (l : List ℕ). c0.events ++ closing_events k l (text.start p) (text.start o.mid) (text.start o.end)) rest));
             at = still_at refl refl refl o.at;
-            kept = o.here.kept ∙ ap (λ (i : ℕ). record k { size_b = i; size_c = o.columns }) (few_bytes ∙ sym size_is);
+            kept = o.here.kept ∙ ap (λ (i : ℕ). counting i o.columns k) (few_bytes ∙ sym size_is);
             map = o.here.map;
             resolvers = o.here.resolvers;
           },
+          o.apart,
           subst (λ (l : List ℕ). Sees text o.mid l) rest o.middle,
           o.over.ends,
           subst (λ (l : List ℕ). Sees text o.end l) (sym (ap after_line is ∙ after_more m cs fence.inner)) o.over.sees,
         )
-    by_end false (d, g, left) = (d, fails x text c0 d begins (and_on x text goes_first g))
+    by_end false (d, g, left) = (
+      d,
+      fails x text c0 d begins (and_on x text goes_first g),
+      record { size = min left.size no_limit; columns = left.columns; kept = left.kept; map = left.map; resolvers = left.resolvers },
+    )
 
     begun : ClosingVerdict here (is_run k.size m (line here))
     begun =

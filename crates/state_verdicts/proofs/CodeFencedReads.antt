@@ -4,7 +4,8 @@ use Rattle.std.proofs.Common.{◌∷◌, ◌++◌}
 use Rattle.std.proofs.Common.{drop, length, length-drop, Option, Some, None, inl, inr, refl, sym, ap, subst, arith, append_assoc, append-nil}
 use Rattle.state_verdicts.proofs.BlockPrelude.{after_line, and_right, as_byte, AtHand, bare, byte, cases_Bool, Config, Context, eq-eqb, eqb-true}
 use Rattle.state_verdicts.proofs.BlockPrelude.{event, Event}
-use Rattle.state_verdicts.proofs.BlockPrelude.{feed, Flows, GoesOn, indent, InLine, is_eol, is_feed, is_space_or_tab, is_white, KeptState, line_of, LineEnds}
+use Rattle.state_verdicts.proofs.BlockPrelude.{feed, Flows, GoesOn, indent, InLine, Leaves, is_eol, is_feed}
+use Rattle.state_verdicts.proofs.BlockPrelude.{is_space_or_tab, is_white, KeptState, line_of, LineEnds}
 use Rattle.state_verdicts.proofs.BlockPrelude.{list_all, lt-ltb}
 use Rattle.state_verdicts.proofs.BlockPrelude.{more}
 use Rattle.state_verdicts.proofs.BlockPrelude.{no_limit, nothing, or_cases, part, plain, Point, run, Sees, SkipsOnce, State, tab, Text, text_byte, tries}
@@ -22,103 +23,16 @@ use Rattle.state_verdicts.specs.WhiteSpace.{white_events, white_if}
 use Rattle.state_verdicts.specs.BlockVerdicts.{at_hand, line}
 use Rattle.state_verdicts.proofs.BreakTexts.{is_few}
 use Rattle.state_verdicts.proofs.FenceInfo.{named_on}
-use Rattle.state_verdicts.proofs.FenceLines.{FenceByte, Outcome, Held, by_white, follow_bare, from_there, may_follow, reads}
+use Rattle.state_verdicts.proofs.FenceRest.{Anyhow, ReadsRest, reads_anyhow}
+use Rattle.state_verdicts.proofs.FenceRuns.{Opened, Opening, over_fence}
+use Rattle.state_verdicts.proofs.FenceLines.{FenceByte, Outcome, Held, marker_is, by_white, follow_bare, from_there, may_follow, reads}
 use Rattle.state_verdicts.proofs.FenceStates as steps
 use Rattle.state_verdicts.proofs.LineCodes.{after_bare, after_more, bare_apart, line_more, line_none, prefix_more, prefix_none, rest_more, weight, weight_four}
 use Rattle.state_verdicts.proofs.LineCodes.{weight_line_bare, white_within}
 use Rattle.state_verdicts.proofs.Seen.{seen_sort, seen_white}
-use Rattle.state_verdicts.proofs.BlockTurns.{and_on, byte_at, does, does_next, end_at, fails, fed, fed_again, feeds, stays, still_at, tried}
+use Rattle.state_verdicts.proofs.BlockTurns.{and_on, byte_at, does, does_next, end_at, fails, fed, fed_again, feeds, still_at, tried}
 use Rattle.state_verdicts.proofs.Standing.{Here, exits, fed_here}
 use Rattle.state_verdicts.proofs.WhiteReads.{Attempted, attempted, flows_white, spaced}
-
--- ---- the fence
-
-module _ {T : Type 0} (x : Context T) (text : Text) (c0 : Config Flows) (m : ℕ) (fence : FenceByte m) (inner_m : is_eol m ≡ false) (es : List Event) where
-  -- at a place after so many bytes of the fence
-  record Opening (n : ℕ) (c : Config Flows) (p : Point) : Type 0 where
-    pub columns : ℕ
-    pub at : AtHand text c p
-    pub here : Here text c0 es (fencing m (min n no_limit) columns c0.tokenize_state) c
-    pub apart : is_feed c.previous ≡ false
-
-  -- the fence is behind
-  record Opened (c : Config Flows) (n : ℕ) (codes : List ℕ) : Type 0 where
-    pub config : Config Flows
-    pub mid : Point
-    pub rest : List ℕ
-    pub goes : GoesOn x text c (states.Retry steps.sequence) config (states.Retry steps.sequence)
-    pub opening : Opening (n + run_length m (line_of codes)) config mid
-    pub sees : Sees text mid rest
-    pub is : rest ≡ drop (run_length m (line_of codes)) codes
-    pub line : line_of rest ≡ after_run m (line_of codes)
-    pub same : after_line rest ≡ after_line codes
-    pub stop : run_length m (line_of rest) ≡ 0
-
-  stops : (c : Config Flows) (n : ℕ) (p : Point) (codes : List ℕ) → Opening n c p → Sees text p codes → run_length m (line_of codes) ≡ 0 → Opened c n codes
-  stops c n p codes h s none = record {
-    config = c;
-    mid = p;
-    rest = codes;
-    goes = stays x text c (states.Retry steps.sequence);
-    opening = subst (λ (i : ℕ). Opening i c p) (let k : n ≡ n + run_length m (line_of codes) = omega (arith, none) in k) h;
-    sees = s;
-    is = ap (λ (i : ℕ). drop i codes) (sym none);
-    line = ap (λ (i : ℕ). drop i (line_of codes)) (sym none);
-    same = refl;
-    stop = none;
-  }
-
-  marker_is : {n : ℕ} {c : Config Flows} {p : Point} → Opening n c p → c.tokenize_state.marker ≡ m
-  marker_is h = ap (λ (k : KeptState). k.marker) h.here.kept
-
-  longer_is : (n b : ℕ) (c : Config Flows) (p q : Point) → Opening n c p → text.byte (text.start p) ≡ Some (as_byte b q) → (b == m) ≡ true
-      → Opening (n + 1) (feed text (steps.longer c)) q
-  longer_is n b c p q h e is = record {
-    columns = h.columns;
-    at = fed text (steps.longer c) q (h.at.next (as_byte b q) e);
-    here = record {
-      events = h.here.events;
-      kept = ap (λ (k : KeptState). record k { size = more k.size }) h.here.kept
-          ∙ ap (λ (i : ℕ). fencing m i h.columns c0.tokenize_state) (let k : more (min n no_limit) ≡ min (n + 1) no_limit = omega arith in k);
-      map = h.here.map;
-      resolvers = h.here.resolvers;
-    };
-    apart = ap is_feed (byte_at h.at e) ∙ (ap (λ (i : ℕ). i == 10) (eqb-true b m is) ∙ fence.no_feed);
-  }
-
-  no_marker : (code : ℕ) (cs : List ℕ) → (code == m) ≡ false → run_length m (line_of (code ∷ cs)) ≡ 0
-  no_marker code cs other = elim (cases_Bool (is_eol code)) [
-    | inl eol ↦ ap (run_length m) (line_none code cs eol)
-    | inr inner ↦ ap (run_length m) (line_more code cs inner) ∙ prefix_none (λ b. b == m) code (line_of cs) other
-  ]
-
-  -- over the fence
-  over_fence : (codes : List ℕ) {p : Point} → Sees text p codes → (n : ℕ) (c : Config Flows) → Opening n c p → Opened c n codes
-  over_fence [] {p} (nothing e) n c h = stops c n p [] h (nothing e) refl
-  over_fence (code ∷ cs) {p} (byte {q = q} apart e s) n c h = elim (cases_Bool (code == m)) [
-    | inl is ↦
-        let inner : is_eol code ≡ false = ap is_eol (eqb-true code m is) ∙ inner_m in
-        let seen : (text_byte code == m) ≡ true = fence.itself code ∙ is in
-        let l = line_more code cs inner in
-        let size : run_length m (line_of (code ∷ cs)) ≡ suc (run_length m (line_of cs)) =
-        ap (run_length m) l ∙ prefix_more (λ b. b == m) code (line_of cs) is in
-        let o = over_fence cs s (n + 1) (feed text (steps.longer c)) (longer_is n (text_byte code) c p q h e seen) in record {
-          config = o.config;
-          mid = o.mid;
-          rest = o.rest;
-          goes = and_on x text (does_next x text steps.sequence steps.sequence c (steps.longer c) (steps.sequence_longer x (text_byte code) c (byte_at h.at e)
-              (ap (λ (i : ℕ). text_byte code == i) (marker_is h) ∙ seen))) o.goes;
-          opening = subst (λ (i : ℕ). Opening i o.config o.mid)
-              (let k : n + 1 + run_length m (line_of cs) ≡ n + run_length m (line_of (code ∷ cs)) = omega (arith, size) in k) o.opening;
-          sees = o.sees;
-          is = o.is ∙ ap (λ (i : ℕ). drop i (code ∷ cs)) (sym size);
-          line = o.line ∙ sym (ap (after_run m) l ∙ rest_more (λ b. b == m) code (line_of cs) is);
-          same = o.same ∙ sym (after_more code cs inner);
-          stop = o.stop;
-        }
-    | inr other ↦ stops c n p (code ∷ cs) h (byte apart e s) (no_marker code cs other)
-  ]
-  over_fence (code ∷ cs) {p} (tab most e f s) n c h = stops c n p (9 ∷ cs) h (tab most e f s) (no_marker 9 cs (fence.white_apart 9 refl))
 
 -- ---- what the definition says
 
@@ -193,7 +107,10 @@ tilde_byte = record {
 }
 
 module _ {T : Type 0} (here : InLine T) (once : SkipsOnce here.text) (few : length (line_of here.codes) < 2 ^ 62)
-    (whole : here.config.tokenize_state.connect ≡ false) (columns : ℕ) where
+    (whole : here.config.tokenize_state.connect ≡ false) (columns : ℕ) (Says : Point → List Event → Point → Type 0)
+    (says_none : (p : Point) → LineEnds here.text p → Says p [] p)
+    (reads_on : (m size : ℕ) → FenceByte m
+    → ReadsRest here.context here.text (at_hand here) (fencing m size 0 here.config.tokenize_state) Says m) where
   abbrev c0 : Config Flows
   c0 = at_hand here
 
@@ -215,7 +132,18 @@ module _ {T : Type 0} (here : InLine T) (once : SkipsOnce here.text) (few : leng
   goes_in : GoesOn x text c0 begins c0 (states.Retry steps.before)
   goes_in = does x text steps.start c0 c0 (states.Retry steps.before) (steps.start_does x c0)
 
-  refused : run (flows_bodies x steps.before) c0 ≡ plain c0 states.Nok → FenceVerdict here None
+  -- what an attempt comes to, with what is said of the events after the info
+  abbrev pub Opens : Option Fence → Type 0
+  Opens None = FenceVerdict here None
+  Opens (Some opening) =
+      (d : Config Flows) × (spare : ℕ) × (mid : Point) × (info : Point) × (rest : Point) × (end : Point) × (named : List Event) × (further : List Event)
+      × GoesOn x text c0 begins d (states.Retry steps.info_before)
+      × Leaves text c0 d (fencing opening.byte opening.run spare here.config.tokenize_state) (fence_events (text.start p) (text.start mid)
+      ++ (white_events (drop opening.run here.codes) (text.start mid) (text.start info) ++ (named ++ further))) end
+      × (is_feed d.previous ≡ false) × Sees text mid (drop opening.run here.codes) × Sees text info (bare (drop opening.run here.codes))
+      × InfoAt text info named rest × Says rest further end × LineEnds text end × Sees text end (after_line here.codes)
+
+  refused : run (flows_bodies x steps.before) c0 ≡ plain c0 states.Nok → Opens None
   refused h = (c0, fails x text c0 c0 begins (and_on x text goes_in (does x text steps.before c0 c0 states.Nok h)))
 
   abbrev started : List Event
@@ -237,7 +165,7 @@ module _ {T : Type 0} (here : InLine T) (once : SkipsOnce here.text) (few : leng
     abbrev first : Config Flows
     first = feed text (steps.opened m c0)
 
-    first_is : Opening x text c0 m fence inner started 1 first q
+    first_is : Opening x text c0 m (marker_is m fence) (fencing m 0 0 c0.tokenize_state) started 1 first q
     first_is = record {
       columns = c0.tokenize_state.size_c;
       at = fed text (steps.opened m c0) q (at_p.next (as_byte m q) e);
@@ -245,8 +173,8 @@ module _ {T : Type 0} (here : InLine T) (once : SkipsOnce here.text) (few : leng
       apart = ap is_feed (byte_at at_p e) ∙ fence.no_feed;
     }
 
-    over : Opened x text c0 m fence inner started first 1 cs
-    over = over_fence x text c0 m fence inner started cs s 1 first first_is
+    over : Opened x text c0 m (marker_is m fence) (fencing m 0 0 c0.tokenize_state) started first 1 cs
+    over = over_fence x text c0 m (marker_is m fence) (fencing m 0 0 c0.tokenize_state) started cs s 1 first first_is
 
     -- how many bytes the fence has
     abbrev size : ℕ
@@ -320,8 +248,10 @@ module _ {T : Type 0} (here : InLine T) (once : SkipsOnce here.text) (few : leng
       pub at : AtHand text config end
       pub stands : Here text c0 (fenced over.mid ++ (white_events over.rest (text.start over.mid) (text.start info) ++ (named ++ further))) (spaced spare kept)
           config
+      pub apart : is_feed config.previous ≡ false
       pub seen : Sees text info (bare over.rest)
       pub said : InfoAt text info named rest
+      pub says : Says rest further end
       pub ends : LineEnds text end
       pub sees : Sees text end (after_line over.rest)
 
@@ -344,7 +274,8 @@ module _ {T : Type 0} (here : InLine T) (once : SkipsOnce here.text) (few : leng
     passes_told none_there h = by_follow (may_follow m (line_of over.rest)) refl
       where
         by_follow : (good : Bool) → may_follow m (line_of over.rest) ≡ good → Tells good
-        by_follow true e = let o = named_on x text once c0 kept whole m fence refl refl over.rest over.mid over.sees none_there e room (fenced over.mid)
+        by_follow true e = let o = named_on x text once c0 kept whole m fence refl refl Says says_none
+            (reads_on m size fence) over.rest over.mid over.sees none_there e room (fenced over.mid)
             (steps.closed last) (record { columns = after_fence.columns; at = after_fence.at; here = after_here; apart = after_fence.apart }) in record {
               config = o.config;
               spare = o.columns;
@@ -363,8 +294,10 @@ module _ {T : Type 0} (here : InLine T) (once : SkipsOnce here.text) (few : leng
                 map = o.here.map;
                 resolvers = o.here.resolvers;
               };
+              apart = o.apart;
               seen = subst (λ (i : ℕ). Sees text over.mid (drop i over.rest)) (sym none_there) over.sees;
               said = o.info;
+              says = o.says;
               ends = o.ends;
               sees = o.sees;
             }
@@ -429,7 +362,8 @@ module _ {T : Type 0} (here : InLine T) (once : SkipsOnce here.text) (few : leng
             (let most = white_within (code ∷ rest) in let l = ap (λ (l : List ℕ). weight (line_of l)) now in let r = room in omega (arith, most, l, r))
 
         by_follow : (good : Bool) → may_follow m (line_of over.rest) ≡ good → Tells good
-        by_follow true e = let o = named_on x text once c0 kept whole m fence refl refl (bare (code ∷ rest)) a.end a.sees (bare_apart (code ∷ rest))
+        by_follow true e = let o = named_on x text once c0 kept whole m fence refl refl Says says_none (reads_on m size fence) (bare (code ∷ rest)) a.end
+            a.sees (bare_apart (code ∷ rest))
             (follow_bare m fence (code ∷ rest) ∙ (ap (λ (l : List ℕ). may_follow m (line_of l)) (sym now) ∙ e))
             (let v = weight_line_bare (code ∷ rest) in let l = ap (λ (l : List ℕ). weight (line_of l)) now in let r = room in omega (arith, v, l, r))
             ((fenced over.mid ++ event Enter names.SpaceOrTab (text.start over.mid) None ∷ []) ++ event Exit names.SpaceOrTab (text.start a.end) None ∷ [])
@@ -458,8 +392,10 @@ module _ {T : Type 0} (here : InLine T) (once : SkipsOnce here.text) (few : leng
                 map = o.here.map;
                 resolvers = o.here.resolvers;
               };
+              apart = o.apart;
               seen = subst (λ (l : List ℕ). Sees text a.end (bare l)) (sym now) a.sees;
               said = o.info;
+              says = o.says;
               ends = o.ends;
               sees = subst (λ (l : List ℕ). Sees text o.end l) (after_bare (code ∷ rest) ∙ ap after_line (sym now)) o.sees;
             }
@@ -496,7 +432,7 @@ module _ {T : Type 0} (here : InLine T) (once : SkipsOnce here.text) (few : leng
         at_byte (text_byte code) code rest (byte_at over.opening.at stands) (fence.itself code) (seen_white code) now
     at_rest (code ∷ rest) now (tab most stands f more) = at_byte 9 9 rest (byte_at over.opening.at stands) refl refl now
 
-    by_outcome : (good : Bool) (run_is : ℕ) (after : List ℕ) → run_is ≡ size → Tells good → FenceVerdict here (fence_if good m run_is columns after)
+    by_outcome : (good : Bool) (run_is : ℕ) (after : List ℕ) → run_is ≡ size → Tells good → Opens (fence_if good m run_is columns after)
     by_outcome true run_is after count o =
         let rest_is : over.rest ≡ drop run_is here.codes =
         over.is ∙ (ap (λ (i : ℕ). drop i (m ∷ cs)) (let k : suc (run_length m (line_of cs)) ≡ run_is = omega (arith, count) in k)
@@ -521,9 +457,11 @@ module _ {T : Type 0} (here : InLine T) (once : SkipsOnce here.text) (few : leng
             map = o.stands.map;
             resolvers = o.stands.resolvers;
           },
+          o.apart,
           subst (λ (l : List ℕ). Sees text over.mid l) rest_is over.sees,
           subst (λ (l : List ℕ). Sees text o.info (bare l)) rest_is o.seen,
           o.said,
+          o.says,
           o.ends,
           subst (λ (l : List ℕ). Sees text o.end l) (over.same ∙ sym (ap after_line is ∙ after_more m cs inner)) o.sees,
         )
@@ -534,7 +472,7 @@ module _ {T : Type 0} (here : InLine T) (once : SkipsOnce here.text) (few : leng
     )
 
     -- the line begins with a fence, or with too few bytes of one, or a backtick follows
-    begun : FenceVerdict here (fence_if (leb 3 (run_length m (m ∷ line_of cs)) && may_follow m (after_run m (m ∷ line_of cs))) m
+    begun : Opens (fence_if (leb 3 (run_length m (m ∷ line_of cs)) && may_follow m (after_run m (m ∷ line_of cs))) m
         (run_length m (m ∷ line_of cs)) columns (after_run m (m ∷ line_of cs)))
     begun =
         let marks = eq-eqb m m refl in
@@ -543,19 +481,19 @@ module _ {T : Type 0} (here : InLine T) (once : SkipsOnce here.text) (few : leng
         let good : (leb 3 (run_length m (m ∷ line_of cs)) && may_follow m (after_run m (m ∷ line_of cs))) ≡ (leb 3 size && may_follow m (line_of over.rest)) =
         ap (λ (i : ℕ). leb 3 i && may_follow m (after_run m (m ∷ line_of cs))) count
         ∙ ap (λ (l : List ℕ). leb 3 size && may_follow m l) (rest_more (λ b. b == m) m (line_of cs) marks ∙ sym over.line) in
-        subst (λ (b : Bool). FenceVerdict here (fence_if b m (run_length m (m ∷ line_of cs)) columns (after_run m (m ∷ line_of cs)))) (sym good)
+        subst (λ (b : Bool). Opens (fence_if b m (run_length m (m ∷ line_of cs)) columns (after_run m (m ∷ line_of cs)))) (sym good)
         (by_outcome (leb 3 size && may_follow m (line_of over.rest)) (run_length m (m ∷ line_of cs)) (after_run m (m ∷ line_of cs)) count
         (at_rest over.rest refl over.sees))
 
-  none_by : (on : Bool) (l : List ℕ) → line here ≡ l → run_length 96 l ≡ 0 → run_length 126 l ≡ 0 → FenceVerdict here None
-      → FenceVerdict here (if on then fence_of columns (line here) else None)
-  none_by true l is h k v = subst (λ (o : Option Fence). FenceVerdict here o) (sym (ap (fence_of columns) is ∙ no_fence columns l h k)) v
+  none_by : (on : Bool) (l : List ℕ) → line here ≡ l → run_length 96 l ≡ 0 → run_length 126 l ≡ 0 → Opens None
+      → Opens (if on then fence_of columns (line here) else None)
+  none_by true l is h k v = subst (λ (o : Option Fence). Opens o) (sym (ap (fence_of columns) is ∙ no_fence columns l h k)) v
   none_by false l is h k v = v
 
   -- at a byte that begins no fence
   elsewhere : (on : Bool) (code : ℕ) (cs : List ℕ) (q : Point) (b : ℕ) → here.codes ≡ code ∷ cs → text.byte (text.start p) ≡ Some (as_byte b q)
       → (b == 96) ≡ false → (b == 126) ≡ false → (b == 36) ≡ false → (code == 96) ≡ false → (code == 126) ≡ false
-      → FenceVerdict here (if on then fence_of columns (line here) else None)
+      → Opens (if on then fence_of columns (line here) else None)
   elsewhere on code cs q b is e h k l other apart =
       let v = refused (steps.before_other x b c0 (byte_at at_p e) h k l) in
       elim (cases_Bool (is_eol code)) [
@@ -565,17 +503,17 @@ module _ {T : Type 0} (here : InLine T) (once : SkipsOnce here.text) (few : leng
       ]
 
   at_backtick : (on : Bool) → x.options.constructs.code_fenced ≡ on → (cs : List ℕ) (q : Point) → here.codes ≡ 96 ∷ cs
-      → text.byte (text.start p) ≡ Some (as_byte 96 q) → Sees text q cs → FenceVerdict here (if on then fence_of columns (line here) else None)
+      → text.byte (text.start p) ≡ Some (as_byte 96 q) → Sees text q cs → Opens (if on then fence_of columns (line here) else None)
   at_backtick true h cs q is e s =
-      subst (λ (o : Option Fence). FenceVerdict here o)
+      subst (λ (o : Option Fence). Opens o)
       (sym (ap (fence_of columns) (ap line_of is ∙ line_more 96 cs refl) ∙ backtick_fence columns (line_of cs)))
       (begun 96 backtick_byte refl cs q is e s (steps.before_backtick x c0 true (byte_at at_p e) h))
   at_backtick false h cs q is e s = refused (steps.before_backtick x c0 false (byte_at at_p e) h)
 
   at_tilde : (on : Bool) → x.options.constructs.code_fenced ≡ on → (cs : List ℕ) (q : Point) → here.codes ≡ 126 ∷ cs
-      → text.byte (text.start p) ≡ Some (as_byte 126 q) → Sees text q cs → FenceVerdict here (if on then fence_of columns (line here) else None)
+      → text.byte (text.start p) ≡ Some (as_byte 126 q) → Sees text q cs → Opens (if on then fence_of columns (line here) else None)
   at_tilde true h cs q is e s =
-      subst (λ (o : Option Fence). FenceVerdict here o)
+      subst (λ (o : Option Fence). Opens o)
       (sym (ap (fence_of columns) (ap line_of is ∙ line_more 126 cs refl) ∙ tilde_fence columns (line_of cs)))
       (begun 126 tilde_byte refl cs q is e s (steps.before_tilde x c0 true (byte_at at_p e) h))
   at_tilde false h cs q is e s = refused (steps.before_tilde x c0 false (byte_at at_p e) h)
@@ -587,7 +525,7 @@ module _ {T : Type 0} (here : InLine T) (once : SkipsOnce here.text) (few : leng
   no_dollar code cs is none false h = refl
 
   by_codes : (on : Bool) → x.options.constructs.code_fenced ≡ on → run_length 36 (line here) ≡ 0 → (codes : List ℕ) → here.codes ≡ codes → Sees text p codes
-      → FenceVerdict here (if on then fence_of columns (line here) else None)
+      → Opens (if on then fence_of columns (line here) else None)
   by_codes on h none [] is (nothing e) = none_by on [] (ap line_of is) refl refl (refused (steps.before_none x c0 (end_at at_p e)))
   by_codes on h none (code ∷ cs) is (byte {q = q} apart e s) = elim (cases_Bool (code == 96)) [
     | inl k ↦
@@ -603,6 +541,26 @@ module _ {T : Type 0} (here : InLine T) (once : SkipsOnce here.text) (few : leng
   ]
   by_codes on h none (code ∷ cs) is (tab {q = q} most e f s) = elsewhere on 9 cs q 9 is e refl refl refl refl refl
 
+  -- the whole line
+  pub opens : Sees text p here.codes → run_length 36 (line here) ≡ 0 → Opens (if x.options.constructs.code_fenced then fence_of columns (line here) else None)
+  opens s none = by_codes x.options.constructs.code_fenced refl none here.codes refl s
+
+-- whatever is said of the events after the info
+dropped : {T : Type 0} (here : InLine T) (once : SkipsOnce here.text) (few : length (line_of here.codes) < 2 ^ 62)
+    (whole : here.config.tokenize_state.connect ≡ false) (columns : ℕ) (Says : Point → List Event → Point → Type 0)
+    (says_none : (p : Point) → LineEnds here.text p → Says p [] p) (reads_on : (m size : ℕ) → FenceByte m
+    → ReadsRest here.context here.text (at_hand here) (fencing m size 0 here.config.tokenize_state) Says m)
+    (o : Option Fence) → Opens here once few whole columns Says says_none reads_on o → FenceVerdict here o
+dropped here once few whole columns Says says_none reads_on None v = v
+dropped here once few whole columns Says says_none reads_on (Some opening)
+    (d, spare, mid, info, rest, end, named, further, goes, leaves, apart, sees_mid, sees_info, said, says, ends, sees) =
+    (d, spare, mid, info, rest, end, named, further, goes, leaves, apart, sees_mid, sees_info, said, ends, sees)
+
 pub code_fenced_verdict : (T : Type 0) → CodeFencedVerdict T
 code_fenced_verdict T here s once few whole columns none =
-    by_codes here once few whole columns here.context.options.constructs.code_fenced refl none here.codes refl s
+    let read : (m size : ℕ) → FenceByte m
+        → ReadsRest here.context here.text (at_hand here) (fencing m size 0 here.config.tokenize_state) Anyhow m =
+    λ m size fence. reads_anyhow here.context here.text once (at_hand here) (fencing m size 0 here.config.tokenize_state) whole m fence refl in
+    dropped here once few whole columns Anyhow (λ p e. tt) read
+    (if here.context.options.constructs.code_fenced then fence_of columns (line here) else None)
+    (opens here once few whole columns Anyhow (λ p e. tt) read s none)

@@ -1,10 +1,10 @@
 -- An attempt at spaces and tabs goes over at most so many columns.
 use Rattle.std.proofs.Common.{◌≡◌, ◌∙◌, ℕ, zero, suc, ◌+◌, ◌-◌, ◌<◌, min, Bool, true, false, not, ◌==◌, ◌&&◌, nat_lt, if◌then◌else◌, List, [], ◌∷◌, ◌++◌}
-use Rattle.std.proofs.Common.{drop, append_assoc}
+use Rattle.std.proofs.Common.{◌≤◌, drop, length, append_assoc}
 use Rattle.std.proofs.Common.{Some, None, inl, inr, refl, replicate, sym, ap, subst, arith}
 use Rattle.state_verdicts.proofs.BlockPrelude.{and_right, as_byte, AtHand, byte, cases_Bool, cases_lt, Config, event, Event, feed, Flows, indent}
 use Rattle.state_verdicts.proofs.BlockPrelude.{InLine, is_feed, is_space_or_tab, is_white, KeptState, le-ltb, less, lt-ltb, Name, nothing, plain, Point, run}
-use Rattle.state_verdicts.proofs.BlockPrelude.{tab, Text, text_byte, with_exit}
+use Rattle.state_verdicts.proofs.BlockPrelude.{Sees, tab, Text, text_byte, with_exit}
 use Rattle.definition_text.specs.Columns.{bytes_of}
 use Rattle.engine_events.specs.declared.event.Kind.TheVariants.{Enter, Exit}
 use Rattle.engine_events.specs.declared.event.Name.TheVariants as names
@@ -18,10 +18,10 @@ use Rattle.state_verdicts.specs.Codes.{Fills, column, full}
 use Rattle.state_verdicts.specs.Columns.{ColumnsLaw, SeesColumns, along, ended}
 use Rattle.state_verdicts.specs.Machines.{GoesOnBy, ReadsBy}
 use Rattle.state_verdicts.specs.SpaceOrTab.{SpaceOrTabVerdict, WhiteVerdict, taken}
-use Rattle.state_verdicts.proofs.LineCodes.{prefix_more, prefix_none}
+use Rattle.state_verdicts.proofs.LineCodes.{prefix_more, prefix_none, weight, weight_some}
 use Rattle.state_verdicts.proofs.MachineTurns.{and_on, byte_at, does, does_next, end_at, ends_well, fails, fed, still_at}
 use Rattle.state_verdicts.proofs.Seen.{seen_white}
-use Rattle.state_verdicts.proofs.Standing.{Here, exits}
+use Rattle.state_verdicts.proofs.Standing.{Here, KeepsFlags, exits}
 use Rattle.state_verdicts.proofs.WhiteReads.{ReadsWhite, after, after_does, begun, flows_white, inside, inside_does, inside_full, inside_none, inside_other}
 use Rattle.state_verdicts.proofs.WhiteReads.{longer, spaced, start, start_does, start_fails, start_none, white_feed}
 
@@ -41,13 +41,28 @@ no_bytes (suc n) cs = no_bytes n cs
 same_bytes : (c : ℕ) (cs ds : List ℕ) → bytes_of cs ≡ bytes_of ds → bytes_of (c ∷ cs) ≡ bytes_of (c ∷ ds)
 same_bytes c cs ds h = ap (λ (l : List ℕ). if not (c == 256) then c ∷ l else l) h
 
+columns_length : (n : ℕ) (cs : List ℕ) → length (replicate n 256 ++ cs) ≡ n + length cs
+columns_length zero cs = omega arith
+columns_length (suc n) cs = let e = columns_length n cs in omega (arith, e)
+
+-- there are no more of them than the codes may give bytes
+pub few_columns : (text : Text) (p : Point) (codes : List ℕ) → Sees text p codes
+    → (columns : List ℕ) × SeesColumns text p columns × (bytes_of columns ≡ bytes_of codes) × (length columns ≤ weight codes)
+few_columns text p [] (nothing e) = ([], ended e, refl, omega arith)
+few_columns text p (c ∷ cs) (byte {q = q} apart e s) =
+    let rest = few_columns text q cs s in
+    let few = rest.3 in
+    let some = weight_some c cs in
+    (c ∷ rest.0, along e rest.1, same_bytes c rest.0 cs rest.2, omega (arith, few, some))
+few_columns text p (c ∷ cs) (tab {q = q} {r = r} {n = n} most e f s) =
+    let rest = few_columns text r cs s in
+    let few = rest.3 in
+    let size = columns_length n rest.0 in
+    (9 ∷ (replicate n 256 ++ rest.0), along e (filled f rest.1), same_bytes 9 (replicate n 256 ++ rest.0) cs (no_bytes n rest.0 ∙ rest.2),
+    omega (arith, few, size, most))
+
 pub columns_law : ColumnsLaw
-columns_law text p [] (nothing e) = ([], ended e, refl)
-columns_law text p (c ∷ cs) (byte {q = q} apart e s) =
-    let rest = columns_law text q cs s in (c ∷ rest.0, along e rest.1, same_bytes c rest.0 cs rest.2)
-columns_law text p (c ∷ cs) (tab {q = q} {r = r} {n = n} most e f s) =
-    let rest = columns_law text r cs s in
-    (9 ∷ (replicate n 256 ++ rest.0), along e (filled f rest.1), same_bytes 9 (replicate n 256 ++ rest.0) cs (no_bytes n rest.0 ∙ rest.2))
+columns_law text p codes s = let columns = few_columns text p codes s in (columns.0, columns.1, columns.2)
 
 -- ---- reading
 
@@ -68,6 +83,7 @@ module _ {W : Type 0} (bodies : Name → Body W) (spaces : ReadsWhite bodies) (t
     pub end : Point
     pub goes : GoesOnBy bodies text c (states.Retry inside) config states.Ok
     pub there : Within (es ++ event Exit names.SpaceOrTab (text.start end) None ∷ []) (w - takes w codes) config end
+    pub flags : KeepsFlags c config
     pub sees : SeesColumns text end (drop (takes w codes) codes)
 
   room : (w : ℕ) (is : Bool) (c : Config W) → c.tokenize_state ≡ spaced w k → nat_lt 0 w ≡ is → nat_lt 0 c.tokenize_state.size_c ≡ is
@@ -91,6 +107,7 @@ module _ {W : Type 0} (bodies : Name → Body W) (spaces : ReadsWhite bodies) (t
       };
       apart = h.apart;
     };
+    flags = record { lazy = refl; pierce = refl };
     sees = subst (λ (i : ℕ). SeesColumns text p (drop i codes)) (sym none) s;
   }
 
@@ -120,6 +137,7 @@ module _ {W : Type 0} (bodies : Name → Body W) (spaces : ReadsWhite bodies) (t
                 (room w true c h.here.kept (lt-ltb 0 w some)))) o.goes;
             there = subst (λ (i : ℕ). Within (es ++ event Exit names.SpaceOrTab (text.start o.end) None ∷ []) i o.config o.end)
                 (let j : w - 1 - takes (w - 1) cs ≡ w - takes w (code ∷ cs) = omega (arith, some, count) in j) o.there;
+            flags = record { lazy = o.flags.lazy; pierce = o.flags.pierce };
             sees = subst (λ (i : ℕ). SeesColumns text o.end (drop i (code ∷ cs))) (sym count) o.sees;
           }
       | inr is ↦ stops es w c p (code ∷ cs) h (along e s) (let size = prefix_none is_white code cs is in omega (arith, size))
@@ -138,6 +156,7 @@ module _ {W : Type 0} (bodies : Name → Body W) (spaces : ReadsWhite bodies) (t
     pub here : Here text c0 ((es ++ event Enter names.SpaceOrTab (text.start p) None ∷ []) ++ event Exit names.SpaceOrTab (text.start end) None ∷ [])
         (spaced (w - takes w codes) k) config
     pub apart : is_feed config.previous ≡ false
+    pub flags : KeepsFlags c config
     pub sees : SeesColumns text end (drop (takes w codes) codes)
 
   abbrev pub TakenIf : Bool → List Event → Config W → Point → ℕ → List ℕ → Type 0
@@ -187,6 +206,7 @@ module _ {W : Type 0} (bodies : Name → Body W) (spaces : ReadsWhite bodies) (t
             resolvers = o.there.here.resolvers;
           };
           apart = o.there.apart;
+          flags = record { lazy = o.flags.lazy; pierce = o.flags.pierce };
           sees = subst (λ (i : ℕ). SeesColumns text o.end (drop i (code ∷ cs))) (sym count) o.sees;
         }
 

@@ -1,7 +1,7 @@
 -- The info after an opening fence is read as one word.
 use Rattle.std.proofs.Common.{◌≡◌, ◌∙◌, ℕ, ◌+◌, ◌≤◌, Bool, true, false, not, ◌==◌, ◌&&◌, ◌||◌, List, [], ◌∷◌, ◌++◌, Some, None, inl, inr, refl, sym, ap, subst}
 use Rattle.std.proofs.Common.{arith, append_assoc, append-nil}
-use Rattle.state_verdicts.proofs.BlockPrelude.{after_line, and_parts, as_byte, AtHand, bare, byte, byte_of, cases_Bool, Config, Context, event}
+use Rattle.state_verdicts.proofs.BlockPrelude.{after_line, and_parts, as_byte, AtHand, byte, byte_of, cases_Bool, Config, Context, event}
 use Rattle.state_verdicts.proofs.BlockPrelude.{Event, EventName}
 use Rattle.state_verdicts.proofs.BlockPrelude.{feed, Flows, GoesOn, has, indent, is_eol, is_feed, is_space_or_tab, is_white, KeptState, line_of, LineEnds}
 use Rattle.state_verdicts.proofs.BlockPrelude.{no_limit}
@@ -15,9 +15,10 @@ use Rattle.state_table.specs.BlockWords.{chunk_of}
 use Rattle.state_verdicts.specs.CodeFenced.{InfoAt, info_events, is_word, none, word}
 use Rattle.state_verdicts.specs.Stretch.{Stretch, ended, longer}
 use Rattle.state_verdicts.proofs.BlockTurns.{and_on, byte_at, does, does_next, end_at, fed, stays, still_at}
-use Rattle.state_verdicts.proofs.FenceLines.{FenceByte, Outcome, Well, by_white, may_follow, reads_meta}
+use Rattle.state_verdicts.proofs.FenceLines.{FenceByte, may_follow}
+use Rattle.state_verdicts.proofs.FenceRest.{ReadsRest, Stood}
 use Rattle.state_verdicts.proofs.FenceStates as steps
-use Rattle.state_verdicts.proofs.LineCodes.{after_more, after_none, line_more, none_white, weight, weight_line_bare, weight_some}
+use Rattle.state_verdicts.proofs.LineCodes.{after_more, after_none, line_more, none_white, weight, weight_some}
 use Rattle.state_verdicts.proofs.Markers.{flop}
 use Rattle.state_verdicts.proofs.Seen.{seen_eol, seen_feed, seen_white}
 use Rattle.state_verdicts.proofs.Standing.{Here, exits, fed_here, past_here}
@@ -46,13 +47,11 @@ stops (ended h) = h
 stops (longer e k rest) = stops rest
 
 module _ {T : Type 0} (x : Context T) (text : Text) (once : SkipsOnce text) (c0 : Config Flows) (k : KeptState) (whole : k.connect ≡ false)
-    (m : ℕ) (fence : FenceByte m) (marker : k.marker ≡ m) (info_name : k.token_4 ≡ names.CodeFencedFenceInfo) where
+    (m : ℕ) (fence : FenceByte m) (marker : k.marker ≡ m) (info_name : k.token_4 ≡ names.CodeFencedFenceInfo) (Says : Point → List Event → Point → Type 0)
+    (says_none : (p : Point) → LineEnds text p → Says p [] p) (reads_rest : ReadsRest x text c0 k Says m) where
   -- at a place after the fence, with these events so far
-  pub record Standing (es : List Event) (c : Config Flows) (p : Point) : Type 0 where
-    pub columns : ℕ
-    pub at : AtHand text c p
-    pub here : Here text c0 es (spaced columns k) c
-    pub apart : is_feed c.previous ≡ false
+  abbrev Standing : List Event → Config Flows → Point → Type 0
+  Standing es c p = Stood text c0 k es c p
 
   -- the word is behind
   record Word (es : List Event) (c : Config Flows) (q : Point) (codes : List ℕ) : Type 0 where
@@ -143,8 +142,10 @@ module _ {T : Type 0} (x : Context T) (text : Text) (once : SkipsOnce text) (c0 
     pub further : List Event
     pub goes : GoesOn x text c (retry state_block.RawFlowInfoBefore) config (retry state_block.RawFlowInfoBefore)
     pub info : InfoAt text p named rest
+    pub says : Says rest further end
     pub at : AtHand text config end
     pub here : Here text c0 (es ++ (named ++ further)) (spaced columns k) config
+    pub apart : is_feed config.previous ≡ false
     pub ends : LineEnds text end
     pub sees : Sees text end (after_line codes)
 
@@ -160,8 +161,10 @@ module _ {T : Type 0} (x : Context T) (text : Text) (once : SkipsOnce text) (c0 
     further = [];
     goes = stays x text c (retry state_block.RawFlowInfoBefore);
     info = none ends;
+    says = says_none p ends;
     at = h.at;
     here = record { events = h.here.events ∙ sym (append-nil es); kept = h.here.kept; map = h.here.map; resolvers = h.here.resolvers };
+    apart = h.apart;
     ends = ends;
     sees = s;
   }
@@ -267,57 +270,41 @@ module _ {T : Type 0} (x : Context T) (text : Text) (once : SkipsOnce text) (c0 
       further = [];
       goes = and_on x text goes_first (and_on x text w.goes g);
       info = info_is;
+      says = says_none w.end ends;
       at = ended_is.at;
       here = ended_is.here;
+      apart = ended_is.apart;
       ends = ends;
       sees = sees;
     }
 
     -- more follows it
-    at_more : Well x text once c0 told k whole m fence marker last (states.Retry steps.info) w.rest → Named es c p (code ∷ cs)
-    at_more o = record {
-      config = o.config;
-      columns = o.held.columns;
-      rest = w.end;
-      end = o.end;
-      named = info_events (text.start p) (text.start w.end);
-      further = o.held.further;
-      goes = and_on x text goes_first (and_on x text w.goes o.goes);
-      info = info_is;
-      at = o.held.at;
-      here = record {
-        events = o.held.here.events ∙ append_assoc es (info_events (text.start p) (text.start w.end)) o.held.further;
-        kept = o.held.here.kept;
-        map = o.held.here.map;
-        resolvers = o.held.here.resolvers;
-      };
-      ends = o.ends;
-      sees = subst (λ (l : List ℕ). Sees text o.end l) same_line o.sees;
-    }
-
     at_white : (other : ℕ) (others : List ℕ) → w.rest ≡ other ∷ others → (b : ℕ) → last.current ≡ Some b → (b == 10) ≡ false → is_space_or_tab b ≡ true
         → is_white other ≡ true → Named es c p (code ∷ cs)
-    at_white other others now b here_is line white is = at_more (subst (λ (l : List ℕ). Well x text once c0 told k whole m fence marker last
-        (states.Retry steps.info) l) (sym now) (subst (λ (good : Bool). Outcome x text once c0 told k whole m fence marker good last (states.Retry steps.info)
-        (other ∷ others)) (ap (λ (l : List ℕ). may_follow m (line_of l)) (sym now) ∙ w.follow)
-        (by_white x text once c0 told k whole m fence marker steps.info steps.meta_before last (steps.info_ended last) w.end other others
-        (record {
-          columns = ended_is.columns;
-          further = [];
-          at = ended_is.at;
+    at_white other others now b here_is line white is =
+        let o = reads_rest told steps.info last (steps.info_ended last) w.end other others ended_is (subst (λ (l : List ℕ). Sees text w.end l) now w.sees) is
+        (ap (λ (l : List ℕ). may_follow m (line_of l)) (sym now) ∙ w.follow) (subst (λ (l : List ℕ). weight (line_of l) ≤ no_limit) now least)
+        (steps.info_white x b last here_is line white) in record {
+          config = o.config;
+          columns = o.columns;
+          rest = w.end;
+          end = o.end;
+          named = info_events (text.start p) (text.start w.end);
+          further = o.further;
+          goes = and_on x text goes_first (and_on x text w.goes o.goes);
+          info = info_is;
+          says = o.says;
+          at = o.at;
           here = record {
-            events = ended_is.here.events ∙ sym (append-nil told);
-            kept = ended_is.here.kept;
-            map = ended_is.here.map;
-            resolvers = ended_is.here.resolvers;
+            events = o.here.events ∙ append_assoc es (info_events (text.start p) (text.start w.end)) o.further;
+            kept = o.here.kept;
+            map = o.here.map;
+            resolvers = o.here.resolvers;
           };
-          apart = ended_is.apart;
-        })
-        (subst (λ (l : List ℕ). Sees text w.end l) now w.sees) is (subst (λ (l : List ℕ). weight (line_of l) ≤ no_limit) now least)
-        (steps.info_white x b last here_is line white)
-        (λ d r j t. reads_meta x text once c0 told k whole m fence marker (bare (other ∷ others)) d r j t
-        (let v = weight_line_bare (other ∷ others) in
-        let o : weight (line_of (other ∷ others)) ≤ no_limit = subst (λ (l : List ℕ). weight (line_of l) ≤ no_limit) now least in omega (arith, v, o))))))
+          apart = o.apart;
+          ends = o.ends;
+          sees = subst (λ (l : List ℕ). Sees text o.end l) (ap after_line (sym now) ∙ same_line) o.sees;
+        }
 
     by_rest : (rest : List ℕ) → w.rest ≡ rest → Sees text w.end rest → Named es c p (code ∷ cs)
     by_rest [] now (nothing f) = at_end (ap (λ v. has (λ b. not (b == 10)) (byte_of v)) f)

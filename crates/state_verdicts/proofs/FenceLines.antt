@@ -1,11 +1,11 @@
 -- What follows an opening fence is read up to the end of the line, unless a backtick follows backticks.
-use Rattle.std.proofs.Common.{◌≡◌, ◌∙◌, ℕ, zero, suc, ◌+◌, ◌<◌, ◌≤◌, Bool, true, false, not, ◌==◌, ◌&&◌, ◌||◌, if◌then◌else◌, List, [], ◌∷◌, ◌++◌}
+use Rattle.std.proofs.Common.{◌≡◌, ◌∙◌, ℕ, zero, suc, ◌<◌, ◌≤◌, Bool, true, false, not, ◌==◌, ◌&&◌, ◌||◌, if◌then◌else◌, List, [], ◌∷◌, ◌++◌}
 use Rattle.std.proofs.Common.{Some, None}
-use Rattle.std.proofs.Common.{inl, inr, refl, replicate, sym, ap, subst, arith, append_assoc}
-use Rattle.state_verdicts.proofs.BlockPrelude.{after_line, and_parts, as_byte, AtHand, bare, byte, byte_of, cases_Bool, Config, Context, event, Event}
+use Rattle.std.proofs.Common.{inl, inr, refl, sym, ap, subst, arith, append_assoc}
+use Rattle.state_verdicts.proofs.BlockPrelude.{after_line, and_parts, as_byte, AtHand, bare, byte_of, cases_Bool, Config, Context, event, Event}
 use Rattle.state_verdicts.proofs.BlockPrelude.{EventName, feed, Flows}
 use Rattle.state_verdicts.proofs.BlockPrelude.{GoesOn, has, is_eol, is_feed, is_space_or_tab, is_white, KeptState, line_of, LineEnds, list_all, Name}
-use Rattle.state_verdicts.proofs.BlockPrelude.{no_limit, nothing, eqb-true, part, past_byte, plain, Point, retry, run, Sees, SkipsOnce, State, tab, Text}
+use Rattle.state_verdicts.proofs.BlockPrelude.{no_limit, nothing, or_cases, eqb-true, part, past_byte, plain, Point, retry, run, Sees, SkipsOnce, State, Text}
 use Rattle.state_verdicts.proofs.BlockPrelude.{text_byte, tries}
 use Rattle.engine_events.specs.declared.event.Kind.TheVariants.{Enter, Exit}
 use Rattle.engine_events.specs.declared.event.Name.TheVariants as names
@@ -15,11 +15,12 @@ use Rattle.engine_states.specs.declared.state.State.TheVariants as states
 use Rattle.state_flow.specs.Flows.{flows_bodies}
 use Rattle.state_table.specs.BlockWords.{string_link}
 use Rattle.state_flow_leaves.specs.RawFlow.{ends_meta, is_blank_ahead}
-use Rattle.state_verdicts.specs.Codes.{Fills, column, full}
 use Rattle.state_verdicts.proofs.FenceStates as steps
 use Rattle.state_verdicts.proofs.LineCodes.{after_bare, after_more, after_none, line_more, line_none, rest_more, rest_none, weight, weight_bare}
 use Rattle.state_verdicts.proofs.LineCodes.{weight_line_bare, weight_some, white_within}
-use Rattle.state_verdicts.proofs.Seen.{seen_feed, seen_white, white_inner}
+use Rattle.state_verdicts.proofs.Markers.{Marker, swap}
+use Rattle.state_verdicts.proofs.Seen.{white_inner}
+use Rattle.state_verdicts.proofs.Shown.{Shown, shows}
 use Rattle.state_verdicts.proofs.BlockTurns.{and_on, byte_at, does, does_next, end_at, fed, fed_again, feeds, stays, still_at, tried}
 use Rattle.state_verdicts.proofs.Standing.{Here}
 use Rattle.state_verdicts.proofs.WhiteReads.{attempted, flows_white, spaced}
@@ -34,6 +35,19 @@ pub record FenceByte (m : ℕ) : Type 0 where
   pub white_apart : (c : ℕ) → is_white c ≡ true → (c == m) ≡ false
   pub no_dollar : (m == 36) ≡ false
   pub no_feed : (m == 10) ≡ false
+
+spaces_white : (b : ℕ) → is_space_or_tab b ≡ true → is_white b ≡ true
+spaces_white b h = elim (or_cases (b == 9) (b == 32) h) [
+  | inl e ↦ ap is_white (eqb-true b 9 e)
+  | inr e ↦ ap is_white (eqb-true b 32 e)
+]
+
+pub marker_is : (m : ℕ) → FenceByte m → Marker m
+marker_is m fence = record {
+  itself = fence.itself;
+  no_white = λ b h. fence.white_apart b (spaces_white b h);
+  no_feed = swap 10 m ∙ fence.no_feed;
+}
 
 module _ (m : ℕ) (fence : FenceByte m) where
   bad_is : (c : ℕ) → steps.is_bad m (text_byte c) ≡ steps.is_bad m c
@@ -64,8 +78,8 @@ module _ {T : Type 0} (x : Context T) (text : Text) (once : SkipsOnce text) (c0 
     pub here : Here text c0 (es ++ further) (spaced columns k) c
     pub apart : is_feed c.previous ≡ false
 
-  marker_is : {c : Config Flows} {p : Point} → Held c p → c.tokenize_state.marker ≡ m
-  marker_is h = ap (λ (s : KeptState). s.marker) h.here.kept ∙ marker
+  byte_is : {c : Config Flows} {p : Point} → Held c p → c.tokenize_state.marker ≡ m
+  byte_is h = ap (λ (s : KeptState). s.marker) h.here.kept ∙ marker
 
   -- with more events
   adds : {c : Config Flows} {p : Point} (added : List Event) → Held c p
@@ -202,79 +216,6 @@ module _ {T : Type 0} (x : Context T) (text : Text) (once : SkipsOnce text) (c0 
       joined : (l : List Event) (a b : Event) → ((es ++ l) ++ a ∷ []) ++ b ∷ [] ≡ es ++ ((l ++ a ∷ []) ++ b ∷ [])
       joined l a b = simp append_assoc refl
 
-  -- ---- what a place shows
-
-  -- a code by its byte, and what is seen after that
-  record Shown (p : Point) (code : ℕ) (cs : List ℕ) : Type 0 where
-    pub byte : ℕ
-    pub next : Point
-    pub after : List ℕ
-    pub first : text.byte (text.start p) ≡ Some (as_byte byte next)
-    pub sees : Sees text next after
-    pub less : weight after < weight (code ∷ cs)
-    pub room : is_eol code ≡ false → weight (line_of after) ≤ weight (line_of (code ∷ cs))
-    pub follow : may_follow m (line_of after) ≡ may_follow m (line_of cs)
-    pub same : after_line after ≡ after_line cs
-    pub feeds : (byte == 10) ≡ is_eol code
-    pub white : is_space_or_tab byte ≡ is_white code
-    pub marks : (byte == m) ≡ (code == m)
-
-  -- the columns of a tab as codes
-  columns_seen : {n : ℕ} {q r : Point} {cs : List ℕ} → Fills text n q r → Sees text r cs → Sees text q (replicate n 256 ++ cs)
-  columns_seen full s = s
-  columns_seen {cs = cs} (column {n = n} {p = p} e f) s =
-      subst (λ (l : List ℕ). Sees text p (l ++ cs)) (let k : 256 ∷ replicate n 256 ≡ replicate (n + 1) 256 =
-      ap (λ (i : ℕ). replicate i 256) (let i : suc n ≡ n + 1 = omega arith in i) in k) (byte refl e (columns_seen f s))
-
-  columns_weigh : (n : ℕ) (cs : List ℕ) → weight (replicate n 256 ++ cs) ≡ n + weight cs
-  columns_weigh zero cs = omega arith
-  columns_weigh (suc n) cs = let e = columns_weigh n cs in omega (arith, e)
-
-  columns_line : (n : ℕ) (cs : List ℕ) → line_of (replicate n 256 ++ cs) ≡ replicate n 256 ++ line_of cs
-  columns_line zero cs = refl
-  columns_line (suc n) cs = line_more 256 (replicate n 256 ++ cs) refl ∙ ap (λ (l : List ℕ). 256 ∷ l) (columns_line n cs)
-
-  columns_after : (n : ℕ) (cs : List ℕ) → after_line (replicate n 256 ++ cs) ≡ after_line cs
-  columns_after zero cs = refl
-  columns_after (suc n) cs = after_more 256 (replicate n 256 ++ cs) refl ∙ columns_after n cs
-
-  columns_follow : (n : ℕ) (l : List ℕ) → may_follow m (replicate n 256 ++ l) ≡ may_follow m l
-  columns_follow zero l = refl
-  columns_follow (suc n) l = follow_more m fence 256 (replicate n 256 ++ l) false (white_good m fence 256 refl) ∙ columns_follow n l
-
-  shows : {p : Point} (code : ℕ) (cs : List ℕ) → Sees text p (code ∷ cs) → Shown p code cs
-  shows code cs (byte {q = q} apart e s) = record {
-    byte = text_byte code;
-    next = q;
-    after = cs;
-    first = e;
-    sees = s;
-    less = weight_some code cs;
-    room = λ inner. let l = ap weight (line_more code cs inner) in let some = weight_some code (line_of cs) in omega (arith, l, some);
-    follow = refl;
-    same = refl;
-    feeds = seen_feed code;
-    white = seen_white code;
-    marks = fence.itself code;
-  }
-  shows code cs (tab {q = q} {n = n} most e f s) = record {
-    byte = 9;
-    next = q;
-    after = replicate n 256 ++ cs;
-    first = e;
-    sees = columns_seen f s;
-    less = let w = columns_weigh n cs in omega (arith, w, most);
-    room = λ inner.
-        let l = ap weight (line_more 9 cs refl) in
-        let k = ap weight (columns_line n cs) in
-        let w = columns_weigh n (line_of cs) in omega (arith, l, k, w, most);
-    follow = ap (may_follow m) (columns_line n cs) ∙ columns_follow n (line_of cs);
-    same = columns_after n cs;
-    feeds = refl;
-    white = refl;
-    marks = refl;
-  }
-
   -- ---- the whole line
 
   -- what a state comes to before codes of less weight than this
@@ -303,18 +244,18 @@ module _ {T : Type 0} (x : Context T) (text : Text) (once : SkipsOnce text) (c0 
   ended_meta : (c : Config Flows) (p : Point) → Held c p → Held (steps.meta_ended c) p
   ended_meta c p h = adds (exit_at c.tokenize_state.token_5 c) (adds (exit_at names.Data c) h)
 
-  ten_is : {p : Point} (code : ℕ) (cs : List ℕ) (sh : Shown p code cs) → is_eol code ≡ true → text.byte (text.start p) ≡ Some (as_byte 10 sh.next)
+  ten_is : {p : Point} (code : ℕ) (cs : List ℕ) (sh : Shown text p code cs) → is_eol code ≡ true → text.byte (text.start p) ≡ Some (as_byte 10 sh.next)
   ten_is code cs sh eol = sh.first ∙ ap (λ (b : ℕ). Some (as_byte b sh.next)) (eqb-true sh.byte 10 (sh.feeds ∙ eol))
 
-  bad_at : {c : Config Flows} {p : Point} (code : ℕ) (cs : List ℕ) (sh : Shown p code cs) → Held c p
+  bad_at : {c : Config Flows} {p : Point} (code : ℕ) (cs : List ℕ) (sh : Shown text p code cs) → Held c p
       → steps.is_bad c.tokenize_state.marker sh.byte ≡ steps.is_bad m code
-  bad_at code cs sh h = ap (λ (i : ℕ). steps.is_bad i sh.byte) (marker_is h) ∙ ap (λ (b : Bool). b && (m == 96)) sh.marks
+  bad_at code cs sh h = ap (λ (i : ℕ). steps.is_bad i sh.byte) (byte_is h) ∙ ap (λ (b : Bool). b && (m == 96)) (sh.sort (λ b. b == m) fence.itself)
 
-  marked_at : {c : Config Flows} {p : Point} (code : ℕ) (cs : List ℕ) (sh : Shown p code cs) → Held c p
+  marked_at : {c : Config Flows} {p : Point} (code : ℕ) (cs : List ℕ) (sh : Shown text p code cs) → Held c p
       → ((sh.byte == c.tokenize_state.marker) && ((c.tokenize_state.marker == 96) || (c.tokenize_state.marker == 36))) ≡ steps.is_bad m code
   marked_at code cs sh h =
-      ap (λ (i : ℕ). (sh.byte == i) && ((i == 96) || (i == 36))) (marker_is h)
-      ∙ (ap (λ (b : Bool). b && ((m == 96) || (m == 36))) sh.marks
+      ap (λ (i : ℕ). (sh.byte == i) && ((i == 96) || (i == 36))) (byte_is h)
+      ∙ (ap (λ (b : Bool). b && ((m == 96) || (m == 36))) (sh.sort (λ b. b == m) fence.itself)
       ∙ (ap (λ (b : Bool). (code == m) && ((m == 96) || b)) fence.no_dollar ∙ ap (λ (b : Bool). (code == m) && b) (or_false (m == 96))))
     where
       or_false : (i : Bool) → (i || false) ≡ i
@@ -322,10 +263,11 @@ module _ {T : Type 0} (x : Context T) (text : Text) (once : SkipsOnce text) (c0 
       or_false false = refl
 
   -- from what comes after a code to what comes of it
-  from_after : {p : Point} (code : ℕ) (cs : List ℕ) (sh : Shown p code cs) (d : Config Flows) (t : State)
+  from_after : {p : Point} (code : ℕ) (cs : List ℕ) (sh : Shown text p code cs) (d : Config Flows) (t : State)
       → Outcome (may_follow m (line_of sh.after)) d t sh.after → Outcome (may_follow m (line_of cs)) d t cs
   from_after code cs sh d t o =
-      subst (λ (f : Bool). Outcome f d t cs) sh.follow (from_there (may_follow m (line_of sh.after)) d d t t sh.after cs (stays x text d t) sh.same o)
+      subst (λ (f : Bool). Outcome f d t cs) (sh.all (λ b. not (steps.is_bad m b)) (ap not (white_good m fence 256 refl)))
+      (from_there (may_follow m (line_of sh.after)) d d t t sh.after cs (stays x text d t) sh.same o)
 
   -- the end of the line is reached in another state
   to_end : (s : Name) (c d : Config Flows) (codes : List ℕ) → run (flows_bodies x s) c ≡ plain d (retry state_block.RawFlowInfoBefore)
@@ -396,7 +338,7 @@ module _ {T : Type 0} (x : Context T) (text : Text) (once : SkipsOnce text) (c0 
 
     -- in what follows the info, at a byte
     meta_at : (code : ℕ) (cs : List ℕ) → weight (code ∷ cs) < suc bound → (c : Config Flows) (p : Point) → Held c p → Sees text p (code ∷ cs)
-        → weight (line_of (code ∷ cs)) ≤ no_limit → is_eol code ≡ false → Shown p code cs → (ends : Bool) → ends_meta x.bytes c ≡ ends
+        → weight (line_of (code ∷ cs)) ≤ no_limit → is_eol code ≡ false → Shown text p code cs → (ends : Bool) → ends_meta x.bytes c ≡ ends
         → Outcome (may_follow m (line_of (code ∷ cs))) c (states.Retry steps.meta) (code ∷ cs)
     meta_at code cs few c p h s room inner sh true ends =
         let here = byte_at h.at sh.first in

@@ -7,10 +7,12 @@ use Rattle.engine_states.specs.declared.state.Block.TheVariants as state_block
 use Rattle.engine_states.specs.declared.state.Inline.TheVariants as state_inline
 use Rattle.engine_states.specs.declared.state.Name.TheVariants.{Block}
 use Rattle.engine_states.specs.declared.state.State.TheVariants as states
+use Rattle.markdown_engine.specs.Machine.{checks}
 use Rattle.state_table.specs.BlockWords.{string_link}
 use Rattle.state_flow.specs.Flows.{flows_bodies}
 use Rattle.state_flow_leaves.specs.RawFlow.{ends_meta}
 use Rattle.state_verdicts.specs.CodeFenced.{fencing}
+use Rattle.state_verdicts.specs.MathFlow.{math_fencing}
 
 abbrev pub start : Name
 start = Block state_block.RawFlowStart
@@ -38,6 +40,11 @@ abbrev pub opened : ℕ → Config Flows → Config Flows
 opened m c = past_byte (with_enter names.CodeFencedFenceSequence None (with_enter names.CodeFencedFence None (with_enter names.CodeFenced None
     (record c { tokenize_state = fencing m 1 c.tokenize_state.size_c c.tokenize_state }))))
 
+-- the same of math
+abbrev pub math_opened : Config Flows → Config Flows
+math_opened c = past_byte (with_enter names.MathFlowFenceSequence None (with_enter names.MathFlowFence None (with_enter names.MathFlow None
+    (record c { tokenize_state = math_fencing 1 c.tokenize_state.size_c c.tokenize_state }))))
+
 -- over a further one
 abbrev pub longer : Config Flows → Config Flows
 longer c = past_byte (record c { tokenize_state = record c.tokenize_state { size = more c.tokenize_state.size } })
@@ -63,6 +70,10 @@ info_ended c = with_exit c.tokenize_state.token_4 (with_exit names.Data c)
 
 abbrev pub meta_ended : Config Flows → Config Flows
 meta_ended c = with_exit c.tokenize_state.token_5 (with_exit names.Data c)
+
+-- at the end of the opening line
+abbrev pub line_ended : Config Flows → Config Flows
+line_ended c = record (with_exit c.tokenize_state.token_2 c) { concrete = true }
 
 -- a byte that no info of such a fence may have
 abbrev pub is_bad : ℕ → ℕ → Bool
@@ -92,6 +103,11 @@ module _ {T : Type 0} (x : Context T) where
   unfolding flows_bodies
   before_tilde c on h k = rw (h, k) refl
 
+  pub before_dollar : (c : Config Flows) (on : Bool) → c.current ≡ Some 36 → x.options.constructs.math_flow ≡ on
+      → run (flows_bodies x before) c ≡ (if on then plain (math_opened c) (next state_block.RawFlowSequenceOpen) else plain c states.Nok)
+  unfolding flows_bodies
+  before_dollar c on h k = rw (h, k) refl
+
   pub sequence_longer : (b : ℕ) (c : Config Flows) → c.current ≡ Some b → (b == c.tokenize_state.marker) ≡ true
       → run (flows_bodies x sequence) c ≡ plain (longer c) (next state_block.RawFlowSequenceOpen)
   unfolding flows_bodies
@@ -114,6 +130,35 @@ module _ {T : Type 0} (x : Context T) where
       else tries (next state_block.RawFlowInfoBefore) states.Nok (readied (closed c)) (part state_inline.SpaceOrTabStart))
   unfolding flows_bodies
   sequence_white b c few h k l m n = rw (h, k, l, m, n) refl
+
+  -- the same after dollars, of which there are at least two
+  pub dollars_none : (c : Config Flows) (few : Bool) → c.current ≡ None → (c.tokenize_state.marker == 36) ≡ true → nat_lt c.tokenize_state.size 2 ≡ few
+      → run (flows_bodies x sequence) c ≡ (if few then plain c states.Nok else plain (closed c) (retry state_block.RawFlowMetaBefore))
+  unfolding flows_bodies
+  dollars_none c few h k l = rw (h, k, l) refl
+
+  pub dollars_other : (b : ℕ) (c : Config Flows) (few : Bool) → c.current ≡ Some b → (b == c.tokenize_state.marker) ≡ false
+      → (c.tokenize_state.marker == 36) ≡ true → nat_lt c.tokenize_state.size 2 ≡ few → is_space_or_tab b ≡ false
+      → run (flows_bodies x sequence) c ≡ (if few then plain c states.Nok else plain (closed c) (retry state_block.RawFlowMetaBefore))
+  unfolding flows_bodies
+  dollars_other b c few h k l m n = rw (h, k, l, m, n) refl
+
+  pub dollars_white : (b : ℕ) (c : Config Flows) (few : Bool) → c.current ≡ Some b → (b == c.tokenize_state.marker) ≡ false
+      → (c.tokenize_state.marker == 36) ≡ true → nat_lt c.tokenize_state.size 2 ≡ few → is_space_or_tab b ≡ true
+      → run (flows_bodies x sequence) c ≡ (if few then plain c states.Nok
+      else tries (next state_block.RawFlowMetaBefore) states.Nok (readied (closed c)) (part state_inline.SpaceOrTabStart))
+  unfolding flows_bodies
+  dollars_white b c few h k l m n = rw (h, k, l, m, n) refl
+
+  pub info_before_none : (c : Config Flows) → c.current ≡ None → run (flows_bodies x info_before) c
+      ≡ checks (next state_block.RawFlowAtNonLazyBreak) (next state_block.RawFlowAfter) (line_ended c) (retry state_block.NonLazyContinuationStart)
+  unfolding flows_bodies
+  info_before_none c h = rw h refl
+
+  pub info_before_line : (c : Config Flows) → c.current ≡ Some 10 → run (flows_bodies x info_before) c
+      ≡ checks (next state_block.RawFlowAtNonLazyBreak) (next state_block.RawFlowAfter) (line_ended c) (retry state_block.NonLazyContinuationStart)
+  unfolding flows_bodies
+  info_before_line c h = rw h refl
 
   pub info_before_goes : (b : ℕ) (c : Config Flows) (bad : Bool) → c.current ≡ Some b → (b == 10) ≡ false
       → is_bad c.tokenize_state.marker b ≡ bad

@@ -32,6 +32,8 @@ pub mod TextReads
 pub mod TextChoices
 pub mod BlockTurns
 pub mod LineCodes
+pub mod TextBlanks
+pub mod Shown
 pub mod Skips
 pub mod WhiteReads
 pub mod TaskCheckReads
@@ -42,6 +44,8 @@ pub mod BlankLineReads
 pub mod HeadingSetextReads
 pub mod ClosingReads
 pub mod ColumnReads
+pub mod ColumnLoops
+pub mod ColumnSees
 pub mod CodeIndentedReads
 pub mod FrontmatterReads
 pub mod FrontmatterCloses
@@ -56,8 +60,18 @@ pub mod HeadingAtxReads
 pub mod HeadingAtxLines
 pub mod FenceStates
 pub mod FenceLines
+pub mod FenceRuns
+pub mod FenceRest
+pub mod FenceMeta
 pub mod FenceInfo
+pub mod RawStays
+pub mod RawFlowStates
+pub mod RawFlowCloses
+pub mod RawFlowLines
 pub mod CodeFencedReads
+pub mod FenceWhole
+pub mod CodeFencedWhole
+pub mod MathFlowReads
 pub mod AttemptTurns
 pub mod FlowFails
 pub mod FlowChoiceReads

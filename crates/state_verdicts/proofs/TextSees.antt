@@ -25,7 +25,7 @@ next_size n more = omega (arith, more)
 
 module _ (bytes : List ℕ) where
   -- nothing is skipped
-  stays : (p : Point) → (whole_text bytes).start p ≡ p
+  pub stays : (p : Point) → (whole_text bytes).start p ≡ p
   stays p = either_same (not (p.column == 1) || not (p.vs == 0)) p
 
   -- before the end there is a byte
@@ -43,13 +43,13 @@ module _ (bytes : List ℕ) where
   at_end p h = or_from (nat_lt p.index (length bytes)) ((p.index == length bytes) && nat_lt p.vs 0) (le-ltb p.index (length bytes) h)
       (both_no (p.index == length bytes) (nat_lt p.vs 0) (no_column p.vs))
 
-  byte_there : (p : Point) (v : VirtualByte) → p.index < length bytes → byte_given bytes p (get_or bytes p.index 0) ≡ v
+  pub byte_there : (p : Point) (v : VirtualByte) → p.index < length bytes → byte_given bytes p (get_or bytes p.index 0) ≡ v
       → (whole_text bytes).byte ((whole_text bytes).start p) ≡ Some v
   byte_there p v h k =
       ap (whole_text bytes).byte (stays p) ∙ (ap (λ (b : Bool). if b then Some (byte_given bytes p (get_or bytes p.index 0)) else None) (before_end p h)
       ∙ ap (λ (w : VirtualByte). Some w) k)
 
-  none_there : (p : Point) → length bytes ≤ p.index → (whole_text bytes).byte ((whole_text bytes).start p) ≡ None
+  pub none_there : (p : Point) → length bytes ≤ p.index → (whole_text bytes).byte ((whole_text bytes).start p) ≡ None
   none_there p h = ap (whole_text bytes).byte (stays p) ∙ ap (λ (b : Bool). if b then Some (byte_given bytes p (get_or bytes p.index 0)) else None) (at_end p h)
 
   -- ---- tabs

@@ -1,6 +1,7 @@
 pub mod Codes
 pub mod TextCodes
 pub mod TextBytes
+pub mod TextBlank
 pub mod Verdicts
 pub mod Choices
 pub mod Beginnings
@@ -32,6 +33,7 @@ pub mod ThematicBreak
 pub mod HeadingSetext
 pub mod HeadingAtx
 pub mod CodeFenced
+pub mod MathFlow
 pub mod DocumentVerdicts
 pub mod Frontmatter
 pub mod Bom

@@ -20,6 +20,7 @@ pub mod heading_setext;
 pub mod label_start_image;
 pub mod label_start_link;
 pub mod lines;
+pub mod math_flow;
 pub mod math_text;
 pub mod raw_flow;
 pub mod shown_bytes;
