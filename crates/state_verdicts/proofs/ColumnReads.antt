@@ -21,7 +21,7 @@ use Rattle.state_verdicts.specs.SpaceOrTab.{SpaceOrTabVerdict, WhiteVerdict, tak
 use Rattle.state_verdicts.proofs.LineCodes.{prefix_more, prefix_none}
 use Rattle.state_verdicts.proofs.MachineTurns.{and_on, byte_at, does, does_next, end_at, ends_well, fails, fed, still_at}
 use Rattle.state_verdicts.proofs.Seen.{seen_white}
-use Rattle.state_verdicts.proofs.Standing.{Here, exits}
+use Rattle.state_verdicts.proofs.Standing.{Here, KeepsFlags, exits}
 use Rattle.state_verdicts.proofs.WhiteReads.{ReadsWhite, after, after_does, begun, flows_white, inside, inside_does, inside_full, inside_none, inside_other}
 use Rattle.state_verdicts.proofs.WhiteReads.{longer, spaced, start, start_does, start_fails, start_none, white_feed}
 
@@ -68,6 +68,7 @@ module _ {W : Type 0} (bodies : Name → Body W) (spaces : ReadsWhite bodies) (t
     pub end : Point
     pub goes : GoesOnBy bodies text c (states.Retry inside) config states.Ok
     pub there : Within (es ++ event Exit names.SpaceOrTab (text.start end) None ∷ []) (w - takes w codes) config end
+    pub flags : KeepsFlags c config
     pub sees : SeesColumns text end (drop (takes w codes) codes)
 
   room : (w : ℕ) (is : Bool) (c : Config W) → c.tokenize_state ≡ spaced w k → nat_lt 0 w ≡ is → nat_lt 0 c.tokenize_state.size_c ≡ is
@@ -91,6 +92,7 @@ module _ {W : Type 0} (bodies : Name → Body W) (spaces : ReadsWhite bodies) (t
       };
       apart = h.apart;
     };
+    flags = record { lazy = refl; pierce = refl };
     sees = subst (λ (i : ℕ). SeesColumns text p (drop i codes)) (sym none) s;
   }
 
@@ -120,6 +122,7 @@ module _ {W : Type 0} (bodies : Name → Body W) (spaces : ReadsWhite bodies) (t
                 (room w true c h.here.kept (lt-ltb 0 w some)))) o.goes;
             there = subst (λ (i : ℕ). Within (es ++ event Exit names.SpaceOrTab (text.start o.end) None ∷ []) i o.config o.end)
                 (let j : w - 1 - takes (w - 1) cs ≡ w - takes w (code ∷ cs) = omega (arith, some, count) in j) o.there;
+            flags = record { lazy = o.flags.lazy; pierce = o.flags.pierce };
             sees = subst (λ (i : ℕ). SeesColumns text o.end (drop i (code ∷ cs))) (sym count) o.sees;
           }
       | inr is ↦ stops es w c p (code ∷ cs) h (along e s) (let size = prefix_none is_white code cs is in omega (arith, size))
@@ -138,6 +141,7 @@ module _ {W : Type 0} (bodies : Name → Body W) (spaces : ReadsWhite bodies) (t
     pub here : Here text c0 ((es ++ event Enter names.SpaceOrTab (text.start p) None ∷ []) ++ event Exit names.SpaceOrTab (text.start end) None ∷ [])
         (spaced (w - takes w codes) k) config
     pub apart : is_feed config.previous ≡ false
+    pub flags : KeepsFlags c config
     pub sees : SeesColumns text end (drop (takes w codes) codes)
 
   abbrev pub TakenIf : Bool → List Event → Config W → Point → ℕ → List ℕ → Type 0
@@ -187,6 +191,7 @@ module _ {W : Type 0} (bodies : Name → Body W) (spaces : ReadsWhite bodies) (t
             resolvers = o.there.here.resolvers;
           };
           apart = o.there.apart;
+          flags = record { lazy = o.flags.lazy; pierce = o.flags.pierce };
           sees = subst (λ (i : ℕ). SeesColumns text o.end (drop i (code ∷ cs))) (sym count) o.sees;
         }
 

@@ -5,7 +5,7 @@ use Rattle.state_verdicts.proofs.BlockPrelude.{after_line, as_byte, AtHand, byte
 use Rattle.state_verdicts.proofs.BlockPrelude.{is_eol, is_feed, is_inner, KeptState, line_of, LineEnds, Name, nothing, past_byte, plain, Point, prefix_len, run, Sees}
 use Rattle.state_verdicts.proofs.BlockPrelude.{SkipsOnce, tab, Text, text_byte, tries, with_enter, with_exit}
 use Rattle.definition_block.specs.Frontmatter.{after_metadata_fence, is_metadata_fence}
-use Rattle.definition_text.specs.Lines.{TextLine, in_first_line, text_line}
+use Rattle.definition_text.specs.Lines.{TextLine}
 use Rattle.engine_events.specs.declared.event.Kind.TheVariants.{Enter, Exit}
 use Rattle.engine_events.specs.declared.event.Name.TheVariants as names
 use Rattle.engine_programs.specs.Bodies.{Body}
@@ -13,21 +13,21 @@ use Rattle.engine_states.specs.declared.state.Block.TheVariants as state_block
 use Rattle.engine_states.specs.declared.state.Name.TheVariants.{Block}
 use Rattle.engine_states.specs.declared.state.State.TheVariants as states
 use Rattle.markdown_engine.specs.Reading.{hand_on}
-use Rattle.markdown_options.specs.declared.line_ending.LineEnding.{LineEnding}
-use Rattle.markdown_options.specs.declared.line_ending.LineEnding.TheVariants.{LineFeed}
 use Rattle.state_document.specs.Blocks.{blocks_bodies}
 use Rattle.state_document.specs.Readers.{Calls}
 use Rattle.state_verdicts.specs.DocumentVerdicts.{InDocument}
-use Rattle.state_verdicts.specs.Frontmatter.{ClosingVerdict, ContentAt, MetadataLines, blank, chunk, chunk_events, closes, closing_events, code_lines}
-use Rattle.state_verdicts.specs.Frontmatter.{ending_events, further, is_inner_byte, is_metadata_byte}
+use Rattle.state_verdicts.specs.Frontmatter.{ClosingVerdict, ContentAt, MetadataLines, blank, chunk, chunk_events, closes, closing_events}
+use Rattle.state_verdicts.specs.Frontmatter.{further, is_inner_byte, is_metadata_byte}
+use Rattle.state_verdicts.specs.Lines.{code_lines}
 use Rattle.state_verdicts.specs.Machines.{GoesOnBy}
 use Rattle.state_verdicts.specs.Stretch.{Stretch, ended, longer}
+use Rattle.state_verdicts.specs.WhiteSpace.{ending_events}
 use Rattle.state_verdicts.proofs.FrontmatterCloses.{frontmatter_closing_verdict}
-use Rattle.state_verdicts.proofs.LineCodes.{after_more, after_none, line_more, line_none, line_within, rest_more, rest_none, rest_within}
+use Rattle.state_verdicts.proofs.LineCodes.{after_more, after_none, first_line_is, line_within, rest_more, rest_none, rest_within}
 use Rattle.state_verdicts.proofs.MachineTurns.{and_on, byte_at, does, does_next, end_at, fed, fed_again, feeds, missed, stays, still_at, tried}
 use Rattle.state_verdicts.proofs.Markers.{flip, flop}
 use Rattle.state_verdicts.proofs.Seen.{seen_feed}
-use Rattle.state_verdicts.proofs.Standing.{exits}
+use Rattle.state_verdicts.proofs.Standing.{ended_events, exits, past_ending, two}
 use Rattle.state_verdicts.proofs.StretchReads.{over_stretch}
 use Rattle.state_verdicts.proofs.Stretches.{part_seen}
 
@@ -46,45 +46,7 @@ close_start = Block state_block.FrontmatterCloseStart
 abbrev pub after : Name
 after = Block state_block.FrontmatterAfter
 
-two : (l : List Event) (a b : Event) → (l ++ a ∷ []) ++ b ∷ [] ≡ l ++ (a ∷ b ∷ [])
-two l a b = simp append_assoc refl
-
 -- ---- lines of codes
-
--- the first line, and the lines after it
-pub record FirstLine (codes : List ℕ) : Type 0 where
-  pub ending : Option LineEnding
-  pub is : code_lines codes ≡ text_line (line_of codes) ending ∷ code_lines (drop 1 (after_line codes))
-
-at_eol : (code : ℕ) (cs : List ℕ) → is_eol code ≡ true → FirstLine (code ∷ cs)
-at_eol code cs h = record {
-  ending = Some LineFeed;
-  is = ap (λ (b : Bool). if b then text_line [] (Some LineFeed) ∷ code_lines cs else in_first_line code (code_lines cs)) h
-      ∙ (ap (λ (l : List ℕ). text_line l (Some LineFeed) ∷ code_lines cs) (sym (line_none code cs h))
-      ∙ ap (λ (l : List ℕ). text_line (line_of (code ∷ cs)) (Some LineFeed) ∷ code_lines (drop 1 l)) (sym (after_none code cs h)));
-}
-
-inner_first : (code : ℕ) (cs : List ℕ) → is_eol code ≡ false → code_lines (code ∷ cs) ≡ in_first_line code (code_lines cs)
-inner_first code cs h = ap (λ (b : Bool). if b then text_line [] (Some LineFeed) ∷ code_lines cs else in_first_line code (code_lines cs)) h
-
-pub first_line_is : (code : ℕ) (cs : List ℕ) → FirstLine (code ∷ cs)
-first_line_is code [] = elim (cases_Bool (is_eol code)) [
-  | inl h ↦ at_eol code [] h
-  | inr h ↦ record {
-    ending = None;
-    is = inner_first code [] h ∙ (ap (λ (l : List ℕ). text_line l None ∷ []) (sym (line_more code [] h))
-        ∙ ap (λ (l : List ℕ). text_line (line_of (code ∷ [])) None ∷ code_lines (drop 1 l)) (sym (after_more code [] h)));
-  }
-]
-first_line_is code (c ∷ cs) = elim (cases_Bool (is_eol code)) [
-  | inl h ↦ at_eol code (c ∷ cs) h
-  | inr h ↦ let f = first_line_is c cs in record {
-    ending = f.ending;
-    is = inner_first code (c ∷ cs) h ∙ (ap (in_first_line code) f.is
-        ∙ (ap (λ (l : List ℕ). text_line l f.ending ∷ code_lines (drop 1 (after_line (c ∷ cs)))) (sym (line_more code (c ∷ cs) h))
-        ∙ ap (λ (l : List ℕ). text_line (line_of (code ∷ c ∷ cs)) f.ending ∷ code_lines (drop 1 l)) (sym (after_more code (c ∷ cs) h))));
-  }
-]
 
 -- what is after the next fence, by the first line
 abbrev fence_else : ℕ → List ℕ → Bool → Option (List TextLine)
@@ -110,10 +72,6 @@ stops text is (longer e h rest) = stops text is rest
 -- ---- what the states do
 
 module _ {T V : Type 0} (calls : Calls T V) (x : Context T) where
-  -- over a line ending
-  abbrev pub past_ending : Config V → Config V
-  past_ending c = with_exit names.LineEnding (past_byte (with_enter names.LineEnding None c))
-
   end_does : (c : Config V) → c.current ≡ Some 10 → run (blocks_bodies calls x content_end) c
       ≡ tries (states.Next after) (states.Next content_start) (past_ending c) (states.Next close_start)
   unfolding blocks_bodies
@@ -145,16 +103,6 @@ module _ {T V : Type 0} (calls : Calls T V) (x : Context T) where
       → run (blocks_bodies calls x content_inside) c ≡ plain (past_byte c) (states.Next content_inside)
   unfolding blocks_bodies
   inside_goes b c h k = let f = flop (b == 10) k in rw (h, f) refl
-
-  -- the events of a line ending
-  pub ended_events : (text : Text) (c : Config V) (p q : Point) → c.current ≡ Some 10 → c.point ≡ p → c.next ≡ q
-      → (past_ending c).events ≡ c.events ++ ending_events p q
-  ended_events text c p q h at next =
-      ap (λ (b : Bool). (c.events ++ event Enter names.LineEnding c.point None ∷ [])
-      ++ event Exit names.LineEnding (if b then (if b then c.next else c.line_start) else c.next) None ∷ []) (ap is_feed h)
-      ∙ (ap (λ (r : Point). (c.events ++ event Enter names.LineEnding r None ∷ []) ++ event Exit names.LineEnding c.next None ∷ []) at
-      ∙ (ap (λ (r : Point). (c.events ++ event Enter names.LineEnding p None ∷ []) ++ event Exit names.LineEnding r None ∷ []) next
-      ∙ two c.events (event Enter names.LineEnding p None) (event Exit names.LineEnding q None)))
 
 -- ---- reading
 
@@ -269,7 +217,7 @@ module _ {T V : Type 0} (calls : Calls T V) (x : Context T) (text : Text) (once 
   module _ (bound : ℕ) (more : Lines bound) (code : ℕ) (codes : List ℕ) (few : length codes < suc bound) (small : length codes < 2 ^ 62) (c : Config V)
       (p q : Point) (h : Held c p) (e : text.byte (text.start p) ≡ Some (as_byte 10 q)) (s : Sees text q codes) where
     abbrev at_line : Config V
-    at_line = past_ending calls x c
+    at_line = past_ending c
 
     feed_is : c.current ≡ Some 10
     feed_is = byte_at h.at e
@@ -278,7 +226,7 @@ module _ {T V : Type 0} (calls : Calls T V) (x : Context T) (text : Text) (once 
     next_is = h.at.next (as_byte 10 q) e
 
     events_is : at_line.events ≡ c.events ++ ending_events (text.start p) q
-    events_is = ended_events calls x text c (text.start p) q feed_is h.at.point next_is
+    events_is = ended_events c (text.start p) q feed_is h.at.point next_is
 
     abbrev here : InDocument T V
     here = record { calls = calls; context = x; text = text; config = at_line; place = at_line.point; codes = codes }

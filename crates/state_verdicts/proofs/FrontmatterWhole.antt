@@ -17,15 +17,16 @@ use Rattle.state_document.specs.Blocks.{blocks_bodies}
 use Rattle.state_document.specs.Readers.{Calls}
 use Rattle.state_verdicts.specs.DocumentVerdicts.{GoesOn, InDocument, at_hand, line}
 use Rattle.state_verdicts.specs.Machines.{Leaves}
-use Rattle.state_verdicts.specs.Frontmatter.{FrontmatterWholeVerdict, MetadataLines, OpeningVerdict, WholeVerdict, after_events, code_lines, ending_events, fencing}
+use Rattle.state_verdicts.specs.Frontmatter.{FrontmatterWholeVerdict, MetadataLines, OpeningVerdict, WholeVerdict, after_events, fencing}
 use Rattle.state_verdicts.specs.Frontmatter.{is_metadata_byte, metadata_byte, opening_events}
-use Rattle.state_verdicts.specs.Lines.{has_ending, is_filled}
-use Rattle.state_verdicts.proofs.FrontmatterLines.{Closed, Outcome, after, content_end, ended_events, first_line_is, over_lines, past_ending}
+use Rattle.state_verdicts.specs.Lines.{code_lines, has_ending, is_filled}
+use Rattle.state_verdicts.specs.WhiteSpace.{ending_events}
+use Rattle.state_verdicts.proofs.FrontmatterLines.{Closed, Outcome, after, content_end, over_lines}
 use Rattle.state_verdicts.proofs.FrontmatterReads.{frontmatter_verdict}
-use Rattle.state_verdicts.proofs.LineCodes.{line_within, rest_within}
+use Rattle.state_verdicts.proofs.LineCodes.{first_line_is, line_within, rest_within}
 use Rattle.state_verdicts.proofs.MachineTurns.{and_on, byte_at, does, end_at, ends_well, fails}
 use Rattle.state_verdicts.proofs.Markers.{flip}
-use Rattle.state_verdicts.proofs.Standing.{Here, exits}
+use Rattle.state_verdicts.proofs.Standing.{ended_events, exits, Here, past_ending}
 
 -- ---- what the definition says
 
@@ -93,7 +94,7 @@ module _ {T V : Type 0} (calls : Calls T V) (x : Context T) where
   unfolding blocks_bodies
   after_none c h = rw h refl
 
-  after_line_does : (c : Config V) → c.current ≡ Some 10 → run (blocks_bodies calls x after) c ≡ plain (past_ending calls x (left_open c)) states.Ok
+  after_line_does : (c : Config V) → c.current ≡ Some 10 → run (blocks_bodies calls x after) c ≡ plain (past_ending (left_open c)) states.Ok
   unfolding blocks_bodies
   after_line_does c h = rw h refl
 
@@ -188,8 +189,8 @@ module _ {T V : Type 0} (here : InDocument T V) (once : SkipsOnce here.text) (sm
         by_left (code ∷ codes) is (byte {q = r} apart e s) =
             let at_feed : text.byte (text.start z.end) ≡ Some (as_byte 10 r) = e ∙ ap (λ (i : ℕ). Some (as_byte i r)) (feed_at e) in
             let next_is : z.config.next ≡ r = z.at.next (as_byte 10 r) at_feed in
-            let last : Config V = past_ending here.calls here.context (left_open here.calls here.context z.config) in
-            let added = ended_events here.calls here.context text (left_open here.calls here.context z.config) (text.start z.end) r (byte_at z.at at_feed)
+            let last : Config V = past_ending (left_open here.calls here.context z.config) in
+            let added = ended_events (left_open here.calls here.context z.config) (text.start z.end) r (byte_at z.at at_feed)
             z.at.point next_is in (
               last,
               byte_is,

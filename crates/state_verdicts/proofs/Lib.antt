@@ -43,6 +43,10 @@ pub mod HeadingSetextReads
 pub mod ClosingReads
 pub mod ColumnReads
 pub mod CodeIndentedReads
+pub mod CodeIndentedStates
+pub mod ColumnLoops
+pub mod CodeIndentedLines
+pub mod CodeIndentedWhole
 pub mod FrontmatterReads
 pub mod FrontmatterCloses
 pub mod FrontmatterLines

@@ -1,7 +1,11 @@
 -- Lines and white space at the front of codes.
-use Rattle.std.proofs.Common.{◌≡◌, ◌∙◌, ℕ, suc, ◌+◌, ◌*◌, ◌<◌, ◌≤◌, Bool, true, false, not, ◌==◌, if◌then◌else◌, List, [], ◌∷◌, length, take, drop, refl, sym}
-use Rattle.std.proofs.Common.{ap, arith, inl, inr}
-use Rattle.state_verdicts.proofs.BlockPrelude.{after_line, bare, cases_Bool, indent, is_eol, is_inner, is_white, line_of, prefix_len}
+use Rattle.std.proofs.Common.{◌≡◌, ◌∙◌, ℕ, suc, ◌+◌, ◌*◌, ◌<◌, ◌≤◌, Bool, true, false, not, ◌==◌, ◌&&◌, if◌then◌else◌, List, [], ◌∷◌, length, take, drop, refl, sym}
+use Rattle.std.proofs.Common.{ap, arith, inl, inr, Option, Some, None}
+use Rattle.definition_text.specs.Lines.{in_first_line, text_line}
+use Rattle.markdown_options.specs.declared.line_ending.LineEnding.{LineEnding}
+use Rattle.markdown_options.specs.declared.line_ending.LineEnding.TheVariants.{LineFeed}
+use Rattle.state_verdicts.proofs.BlockPrelude.{after_line, bare, cases_Bool, indent, is_eol, is_inner, is_white, line_of, list_all, prefix_len}
+use Rattle.state_verdicts.specs.Lines.{code_lines}
 use Rattle.state_verdicts.proofs.Seen.{white_inner}
 
 module _ (p : ℕ → Bool) where
@@ -129,6 +133,32 @@ module _ (p : ℕ → Bool) (inner : (c : ℕ) → p c ≡ true → is_eol c ≡
     | inr h ↦ ap after_line (rest_none p c cs h)
   ]
 
+  pub prefix_line : (cs : List ℕ) → prefix_len p (line_of cs) ≡ prefix_len p cs
+  prefix_line [] = refl
+  prefix_line (c ∷ cs) = elim (cases_Bool (p c)) [
+    | inl h ↦
+        let line = ap (prefix_len p) (line_more c cs (inner c h)) in
+        let there = prefix_more p c (line_of cs) h in
+        let more = prefix_more p c cs h in
+        let rest = prefix_line cs in omega (arith, line, there, more, rest)
+    | inr h ↦ elim (cases_Bool (is_eol c)) [
+      | inl eol ↦ ap (prefix_len p) (line_none c cs eol) ∙ sym (prefix_none p c cs h)
+      | inr other ↦ ap (prefix_len p) (line_more c cs other) ∙ (prefix_none p c (line_of cs) h ∙ sym (prefix_none p c cs h))
+    ]
+  ]
+
+  pub line_rest : (cs : List ℕ) → line_of (drop (prefix_len p cs) cs) ≡ drop (prefix_len p (line_of cs)) (line_of cs)
+  line_rest [] = refl
+  line_rest (c ∷ cs) = elim (cases_Bool (p c)) [
+    | inl h ↦ ap line_of (rest_more p c cs h)
+        ∙ (line_rest cs ∙ sym (ap (λ (l : List ℕ). drop (prefix_len p l) l) (line_more c cs (inner c h)) ∙ rest_more p c (line_of cs) h))
+    | inr h ↦ ap line_of (rest_none p c cs h) ∙ by_code h (is_eol c) refl
+  ]
+    where
+      by_code : p c ≡ false → (eol : Bool) → is_eol c ≡ eol → line_of (c ∷ cs) ≡ drop (prefix_len p (line_of (c ∷ cs))) (line_of (c ∷ cs))
+      by_code h true is = line_none c cs is ∙ sym (ap (λ (l : List ℕ). drop (prefix_len p l) l) (line_none c cs is))
+      by_code h false is = line_more c cs is ∙ sym (ap (λ (l : List ℕ). drop (prefix_len p l) l) (line_more c cs is) ∙ rest_none p c (line_of cs) h)
+
   pub weight_rest : (cs : List ℕ) → weight (line_of (drop (prefix_len p cs) cs)) ≤ weight (line_of cs)
   weight_rest [] = omega arith
   weight_rest (c ∷ cs) = elim (cases_Bool (p c)) [
@@ -160,3 +190,62 @@ white_within (c ∷ cs) = elim (cases_Bool (is_white c)) [
     by_first : (n : ℕ) → white_weight (c ∷ cs) ≡ n + white_weight cs → weight (line_of (c ∷ cs)) ≡ n + weight (line_of cs)
         → white_weight cs ≤ weight (line_of cs) → white_weight (c ∷ cs) ≤ weight (line_of (c ∷ cs))
     by_first n e l f = omega (arith, e, l, f)
+
+-- ---- lines
+
+-- the white space at the front is in the line
+pub indent_line : (codes : List ℕ) → indent (line_of codes) ≡ indent codes
+indent_line = prefix_line is_white white_inner
+
+-- a line is blank exactly if it is without its white space
+pub blank_bare : (cs : List ℕ) → list_all is_white (line_of (bare cs)) ≡ list_all is_white (line_of cs)
+blank_bare [] = refl
+blank_bare (c ∷ cs) = elim (cases_Bool (is_white c)) [
+  | inl h ↦
+      ap (λ (l : List ℕ). list_all is_white (line_of l)) (rest_more is_white c cs h)
+      ∙ (blank_bare cs ∙ sym (ap (list_all is_white) (line_more c cs (white_inner c h)) ∙ ap (λ (b : Bool). b && list_all is_white (line_of cs)) h))
+  | inr h ↦ ap (λ (l : List ℕ). list_all is_white (line_of l)) (rest_none is_white c cs h)
+]
+
+-- after a line nothing is left, or its ending
+pub after_eol : (cs : List ℕ) (c : ℕ) (ds : List ℕ) → after_line cs ≡ c ∷ ds → is_eol c ≡ true
+after_eol [] c ds h = absurd (cc)
+after_eol (d ∷ cs) c ds h = elim (cases_Bool (is_eol d)) [
+  | inl eol ↦ let e : d ∷ cs ≡ c ∷ ds = sym (after_none d cs eol) ∙ h in let f : d ≡ c = cc in sym (ap is_eol f) ∙ eol
+  | inr inner ↦ after_eol cs c ds (sym (after_more d cs inner) ∙ h)
+]
+
+-- the first line, and the lines after it
+pub record FirstLine (codes : List ℕ) : Type 0 where
+  pub ending : Option LineEnding
+  pub is : code_lines codes ≡ text_line (line_of codes) ending ∷ code_lines (drop 1 (after_line codes))
+
+at_eol : (code : ℕ) (cs : List ℕ) → is_eol code ≡ true → FirstLine (code ∷ cs)
+at_eol code cs h = record {
+  ending = Some LineFeed;
+  is = ap (λ (b : Bool). if b then text_line [] (Some LineFeed) ∷ code_lines cs else in_first_line code (code_lines cs)) h
+      ∙ (ap (λ (l : List ℕ). text_line l (Some LineFeed) ∷ code_lines cs) (sym (line_none code cs h))
+      ∙ ap (λ (l : List ℕ). text_line (line_of (code ∷ cs)) (Some LineFeed) ∷ code_lines (drop 1 l)) (sym (after_none code cs h)));
+}
+
+inner_first : (code : ℕ) (cs : List ℕ) → is_eol code ≡ false → code_lines (code ∷ cs) ≡ in_first_line code (code_lines cs)
+inner_first code cs h = ap (λ (b : Bool). if b then text_line [] (Some LineFeed) ∷ code_lines cs else in_first_line code (code_lines cs)) h
+
+pub first_line_is : (code : ℕ) (cs : List ℕ) → FirstLine (code ∷ cs)
+first_line_is code [] = elim (cases_Bool (is_eol code)) [
+  | inl h ↦ at_eol code [] h
+  | inr h ↦ record {
+    ending = None;
+    is = inner_first code [] h ∙ (ap (λ (l : List ℕ). text_line l None ∷ []) (sym (line_more code [] h))
+        ∙ ap (λ (l : List ℕ). text_line (line_of (code ∷ [])) None ∷ code_lines (drop 1 l)) (sym (after_more code [] h)));
+  }
+]
+first_line_is code (c ∷ cs) = elim (cases_Bool (is_eol code)) [
+  | inl h ↦ at_eol code (c ∷ cs) h
+  | inr h ↦ let f = first_line_is c cs in record {
+    ending = f.ending;
+    is = inner_first code (c ∷ cs) h ∙ (ap (in_first_line code) f.is
+        ∙ (ap (λ (l : List ℕ). text_line l f.ending ∷ code_lines (drop 1 (after_line (c ∷ cs)))) (sym (line_more code (c ∷ cs) h))
+        ∙ ap (λ (l : List ℕ). text_line (line_of (code ∷ c ∷ cs)) f.ending ∷ code_lines (drop 1 l)) (sym (after_more code (c ∷ cs) h))));
+  }
+]

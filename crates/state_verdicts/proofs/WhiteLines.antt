@@ -13,10 +13,10 @@ use Rattle.engine_states.specs.declared.state.State.TheVariants as states
 use Rattle.state_verdicts.specs.Lines.{has_ending, is_filled}
 use Rattle.state_verdicts.specs.Machines.{GoesOnBy}
 use Rattle.state_verdicts.specs.WhiteSpace.{white_events, white_if}
-use Rattle.state_verdicts.proofs.LineCodes.{after_bare, after_none, bare_apart, line_more, line_none, none_white, prefix_more}
-use Rattle.state_verdicts.proofs.LineCodes.{rest_more, rest_none, weight, white_within}
+use Rattle.state_verdicts.proofs.LineCodes.{after_bare, after_none, bare_apart, blank_bare, line_more, line_none, none_white, prefix_more}
+use Rattle.state_verdicts.proofs.LineCodes.{weight, white_within}
 use Rattle.state_verdicts.proofs.MachineTurns.{and_on, byte_at, does, end_at, fed_again, feeds, still_at, tried}
-use Rattle.state_verdicts.proofs.Seen.{seen_eol, seen_feed, white_inner}
+use Rattle.state_verdicts.proofs.Seen.{seen_eol, seen_feed}
 use Rattle.state_verdicts.proofs.Standing.{Here, fed_here}
 use Rattle.state_verdicts.proofs.WhiteReads.{Attempted, ReadsWhite, attempted, spaced}
 
@@ -26,15 +26,6 @@ pub record WantsEnd {W : Type 0} (bodies : Name → Body W) : Type 0 where
   pub may_end : Bool
   pub stops : (b : ℕ) (c : Config W) → c.current ≡ Some b → (b == 10) ≡ false → run (bodies name) c ≡ plain c states.Nok
   pub stops_at_end : may_end ≡ false → (c : Config W) → c.current ≡ None → run (bodies name) c ≡ plain c states.Nok
-
-blank_bare : (cs : List ℕ) → list_all is_white (line_of (bare cs)) ≡ list_all is_white (line_of cs)
-blank_bare [] = refl
-blank_bare (c ∷ cs) = elim (cases_Bool (is_white c)) [
-  | inl h ↦
-      ap (λ (l : List ℕ). list_all is_white (line_of l)) (rest_more is_white c cs h)
-      ∙ (blank_bare cs ∙ sym (ap (list_all is_white) (line_more c cs (white_inner c h)) ∙ ap (λ (b : Bool). b && list_all is_white (line_of cs)) h))
-  | inr h ↦ ap (λ (l : List ℕ). list_all is_white (line_of l)) (rest_none is_white c cs h)
-]
 
 or_true : (b : Bool) → (b || true) ≡ true
 or_true true = refl

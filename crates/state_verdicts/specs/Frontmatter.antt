@@ -1,9 +1,7 @@
 -- What the states of the opening line of frontmatter come to (in neither standard).
 use Rattle.std.specs.Prelude.{◌≡◌, ℕ, ◌^◌, ◌<◌, Bool, true, false, not, ◌==◌, ◌&&◌, ◌||◌, if◌then◌else◌, List, [], ◌∷◌, ◌++◌, drop, length, Option, None, Some}
 use Rattle.definition_block.specs.Frontmatter.{after_frontmatter, is_metadata_fence}
-use Rattle.definition_text.specs.Content.{is_eol}
-use Rattle.definition_text.specs.Lines.{TextLine, in_first_line, text_line}
-use Rattle.markdown_options.specs.declared.line_ending.LineEnding.TheVariants.{LineFeed}
+use Rattle.definition_text.specs.Lines.{TextLine}
 use Rattle.definition_text.specs.Ascii.{hyphen, line_feed, plus}
 use Rattle.engine_events.specs.Events.{event}
 use Rattle.engine_events.specs.declared.event.Event.{Event}
@@ -16,10 +14,10 @@ use Rattle.markdown_engine.specs.Reading.{Config}
 use Rattle.markdown_engine.specs.VirtualText.{Text, as_byte, is_feed}
 use Rattle.state_table.specs.BlockWords.{retry}
 use Rattle.state_verdicts.specs.Codes.{Sees}
-use Rattle.state_verdicts.specs.Lines.{LineEnds, SkipsOnce, after_line, has_ending, is_filled, line_of}
+use Rattle.state_verdicts.specs.Lines.{LineEnds, SkipsOnce, after_line, code_lines, has_ending, is_filled, line_of}
 use Rattle.state_verdicts.specs.Stretch.{Stretch}
 use Rattle.state_verdicts.specs.Machines.{Leaves}
-use Rattle.state_verdicts.specs.WhiteSpace.{white_events}
+use Rattle.state_verdicts.specs.WhiteSpace.{ending_events, white_events}
 use Rattle.state_verdicts.specs.DocumentVerdicts.{AtCodes, AtPlaces, GoesOn, InDocument, Reads, at_hand, line}
 
 -- the byte of the fence of metadata that a line is, if it is one
@@ -88,18 +86,9 @@ FrontmatterClosingVerdict T V = AtPlaces T V (λ here. is_metadata_byte here.con
 
 -- ---- all of it
 
--- the lines of codes
-abbrev pub code_lines : List ℕ → List TextLine
-code_lines [] = []
-code_lines (code ∷ codes) = if is_eol code then text_line [] (Some LineFeed) ∷ code_lines codes else in_first_line code (code_lines codes)
-
 -- a byte of a line
 abbrev pub is_inner_byte : ℕ → Bool
 is_inner_byte b = not (b == line_feed)
-
--- the events of a line ending from a place to the next line
-abbrev pub ending_events : Point → Point → List Event
-ending_events p q = event Enter names.LineEnding p None ∷ event Exit names.LineEnding q None ∷ []
 
 -- the events of what a line holds
 abbrev pub chunk_events : Point → Point → List Event

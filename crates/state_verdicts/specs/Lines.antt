@@ -1,11 +1,13 @@
 -- Lines among the codes of a text (CommonMark 2.1).
-use Rattle.std.specs.Prelude.{◌≡◌, ℕ, Bool, true, false, not, ◌==◌, List, [], ◌∷◌, drop, Some}
+use Rattle.std.specs.Prelude.{◌≡◌, ℕ, Bool, true, false, not, ◌==◌, if◌then◌else◌, List, [], ◌∷◌, drop, Some}
 use Rattle.std.specs.BTreeMap.{is_at}
 use Rattle.std.specs.List.{prefix_len, take_while}
 use Rattle.std.specs.Map.{lookup}
 use Rattle.std.specs.Ordering.{nat_cmp}
 use Rattle.definition_text.specs.Ascii.{line_feed}
 use Rattle.definition_text.specs.Content.{is_eol}
+use Rattle.definition_text.specs.Lines.{TextLine, in_first_line, text_line}
+use Rattle.markdown_options.specs.declared.line_ending.LineEnding.TheVariants.{LineFeed}
 use Rattle.engine_events.specs.declared.place.Point.{Point}
 use Rattle.engine_programs.specs.Bodies.{has}
 use Rattle.markdown_engine.specs.Reading.{byte_of}
@@ -26,6 +28,11 @@ after_line codes = drop (prefix_len is_inner codes) codes
 abbrev pub is_filled : List ℕ → Bool
 is_filled [] = false
 is_filled (code ∷ codes) = true
+
+-- the lines of codes
+abbrev pub code_lines : List ℕ → List TextLine
+code_lines [] = []
+code_lines (code ∷ codes) = if is_eol code then text_line [] (Some LineFeed) ∷ code_lines codes else in_first_line code (code_lines codes)
 
 -- a line ending follows the line
 abbrev pub has_ending : List ℕ → Bool
