@@ -25,6 +25,7 @@ pub mod AutolinkBytes
 pub mod AutolinkDomains
 pub mod AutolinkTexts
 pub mod AutolinkReads
+pub mod ListParts
 pub mod TrailingReads
 pub mod LabelStartReads
 pub mod ChoiceReads
@@ -58,6 +59,11 @@ pub mod ThematicBreakReads
 pub mod StretchReads
 pub mod HeadingAtxReads
 pub mod HeadingAtxLines
+pub mod HeadingAtxContent
+pub mod HeadingAtxShape
+pub mod HeadingAtxParts
+pub mod EventWalks
+pub mod HeadingAtxText
 pub mod FenceStates
 pub mod FenceLines
 pub mod FenceInfo

@@ -31,6 +31,7 @@ pub mod BlankLine
 pub mod ThematicBreak
 pub mod HeadingSetext
 pub mod HeadingAtx
+pub mod HeadingAtxText
 pub mod CodeFenced
 pub mod DocumentVerdicts
 pub mod Frontmatter
