@@ -64,6 +64,7 @@ pub mod HeadingAtxShape
 pub mod HeadingAtxParts
 pub mod EventWalks
 pub mod HeadingAtxText
+pub mod HeadingSetextText
 pub mod FenceStates
 pub mod FenceLines
 pub mod FenceInfo
