@@ -3,7 +3,7 @@ use Rattle.std.proofs.Common.{◌≡◌, ◌∙◌, ℕ, ◌-◌, ◌<◌, min, 
 use Rattle.std.proofs.Common.{inl, inr}
 use Rattle.std.proofs.Common.{refl, sym, ap, subst, arith, append_assoc}
 use Rattle.std.proofs.lemmas.Bool.{ne_eqb}
-use Rattle.state_verdicts.proofs.BlockPrelude.{AtHand, cases_Bool, cases_lt, Config, Context, event, Event, feed, Flows, GoesOn, has, indent, InLine}
+use Rattle.state_verdicts.proofs.BlockPrelude.{as_byte, AtHand, cases_Bool, cases_lt, Config, Context, event, Event, feed, Flows, GoesOn, has, indent, InLine}
 use Rattle.state_verdicts.proofs.BlockPrelude.{is_eol, is_space_or_tab, is_white, KeptState, le-leb, line_of, list_all, lt-leb, lt-ltb, Name, part, plain}
 use Rattle.state_verdicts.proofs.BlockPrelude.{Point}
 use Rattle.state_verdicts.proofs.BlockPrelude.{run, SkipsOnce, State, Text, text_byte, tries, with_enter}
@@ -20,22 +20,22 @@ use Rattle.state_verdicts.specs.CodeIndented.{CodeIndentedVerdict, IndentVerdict
 use Rattle.state_verdicts.specs.Columns.{SeesColumns, along, ended}
 use Rattle.state_verdicts.proofs.BlockTurns.{and_on, byte_at, does, fails, fed, fed_again, feeds, tried}
 use Rattle.state_verdicts.proofs.ColumnReads.{Taken, TakenIf, attempted}
-use Rattle.state_verdicts.proofs.LineCodes.{line_more, line_none, prefix_more, prefix_none, rest_more, rest_none}
+use Rattle.state_verdicts.proofs.LineCodes.{indent_line, line_more, line_none, prefix_more, prefix_none, rest_more, rest_none}
 use Rattle.state_verdicts.proofs.Seen.{seen_feed, seen_white, white_inner}
 use Rattle.state_verdicts.proofs.Standing.{fed_here}
 use Rattle.state_verdicts.proofs.WhiteReads.{flows_white, spaced}
 
-abbrev start : Name
+abbrev pub start : Name
 start = Block state_block.CodeIndentedStart
 
 abbrev at_break : Name
 at_break = Block state_block.CodeIndentedAtBreak
 
 -- before the indent
-abbrev readied : Config Flows → Config Flows
+abbrev pub readied : Config Flows → Config Flows
 readied c = record (with_enter names.CodeIndented None c) { tokenize_state = record c.tokenize_state { size_c = 4 } }
 
-three : (l : List Event) (a b e : Event) → ((l ++ a ∷ []) ++ b ∷ []) ++ e ∷ [] ≡ l ++ (a ∷ b ∷ e ∷ [])
+pub three : (l : List Event) (a b e : Event) → ((l ++ a ∷ []) ++ b ∷ []) ++ e ∷ [] ≡ l ++ (a ∷ b ∷ e ∷ [])
 three l a b e = simp append_assoc refl
 
 module _ {T : Type 0} (x : Context T) where
@@ -61,21 +61,6 @@ module _ {T : Type 0} (x : Context T) where
       → run (flows_bodies x at_break) c ≡ plain c states.Nok
   unfolding flows_bodies
   break_other b c h k l = rw (h, k, l) refl
-
--- the white space at the front is in the line
-indent_line : (codes : List ℕ) → indent (line_of codes) ≡ indent codes
-indent_line [] = refl
-indent_line (c ∷ cs) = elim (cases_Bool (is_white c)) [
-  | inl h ↦
-      let more = prefix_more is_white c cs h in
-      let there = prefix_more is_white c (line_of cs) h in
-      let line = ap indent (line_more c cs (white_inner c h)) in
-      let rest = indent_line cs in omega (arith, more, there, line, rest)
-  | inr h ↦ elim (cases_Bool (is_eol c)) [
-    | inl eol ↦ ap indent (line_none c cs eol) ∙ sym (prefix_none is_white c cs h)
-    | inr inner ↦ ap indent (line_more c cs inner) ∙ (prefix_none is_white c (line_of cs) h ∙ sym (prefix_none is_white c cs h))
-  ]
-]
 
 -- a line that isn't blank has something after its white space
 record Something (codes : List ℕ) : Type 0 where
@@ -128,7 +113,7 @@ module _ {T : Type 0} (here : InLine T) (once : SkipsOnce here.text) (whole : he
   abbrev es : List Event
   es = c0.events ++ event Enter names.CodeIndented (text.start p) None ∷ []
 
-  abbrev Reads_white : Type 0
+  abbrev pub Reads_white : Type 0
   Reads_white = Taken (flows_bodies x) (flows_white x) text c0 k es (readied c0) p 4 here.codes
 
   module _ (does_it : run (flows_bodies x start) c0 ≡ tries (states.Next at_break) states.Nok (readied c0) (part state_inline.SpaceOrTabStart))
@@ -195,19 +180,26 @@ module _ {T : Type 0} (here : InLine T) (once : SkipsOnce here.text) (whole : he
       → TakenIf (flows_bodies x) (flows_white x) text c0 k true es (readied c0) p 4 here.codes → IndentVerdict here (leb 4 (indent (line here)))
   indented h o = subst (λ (is : Bool). IndentVerdict here is) (ap (leb 4) (sym (indent_line here.codes))) (by_count h o (leb 4 (indent here.codes)) refl)
 
+  -- the white space at the front is read
+  pub white_read : (code : ℕ) (cs : List ℕ) → here.codes ≡ code ∷ cs → is_white code ≡ true → SeesColumns text p (code ∷ cs) → Reads_white
+  white_read code cs is white s =
+      let size = prefix_more is_white code cs white in
+      let all = ap indent is in
+      subst (λ (b : Bool). TakenIf (flows_bodies x) (flows_white x) text c0 k b es (readied c0) p 4 here.codes)
+      (lt-ltb 0 (min 4 (indent here.codes)) (omega (arith, size, all)))
+      (attempted (flows_bodies x) (flows_white x) text c0 k es 4 (readied c0) p (record { point = at_p.point; current = at_p.current; next = at_p.next })
+      (record { events = refl; kept = refl; map = refl; resolvers = refl }) whole here.codes (subst (λ (l : List ℕ). SeesColumns text p l) (sym is) s))
+
+  pub white_does : x.options.constructs.code_indented ≡ true → c0.interrupt ≡ false → (code : ℕ) {q : Point} → is_white code ≡ true
+      → text.byte (text.start p) ≡ Some (as_byte (text_byte code) q)
+      → run (flows_bodies x start) c0 ≡ tries (states.Next at_break) states.Nok (readied c0) (part state_inline.SpaceOrTabStart)
+  white_does on free code white e = start_white x c0 on free (ap (has is_space_or_tab) (byte_at at_p e) ∙ (seen_white code ∙ white))
+
   by_codes : x.options.constructs.code_indented ≡ true → c0.interrupt ≡ false → (codes : List ℕ) → here.codes ≡ codes → SeesColumns text p codes
       → IndentVerdict here (leb 4 (indent (line here)))
   by_codes on free [] is (ended e) = absurd (let f : true ≡ false = sym (ap (λ (l : List ℕ). list_all is_white (line_of l)) is) ∙ filled in cc)
   by_codes on free (code ∷ cs) is (along e s) = elim (cases_Bool (is_white code)) [
-    | inl white ↦
-        let size = prefix_more is_white code cs white in
-        let all = ap indent is in
-        indented (start_white x c0 on free (ap (has is_space_or_tab) (byte_at at_p e) ∙ (seen_white code ∙ white)))
-        (subst (λ (b : Bool). TakenIf (flows_bodies x) (flows_white x) text c0 k b es (readied c0) p 4 here.codes)
-        (lt-ltb 0 (min 4 (indent here.codes)) (omega (arith, size, all)))
-        (attempted (flows_bodies x) (flows_white x) text c0 k es 4 (readied c0) p (record { point = at_p.point; current = at_p.current; next = at_p.next })
-        (record { events = refl; kept = refl; map = refl; resolvers = refl }) whole here.codes
-        (subst (λ (l : List ℕ). SeesColumns text p l) (sym is) (along e s))))
+    | inl white ↦ indented (white_does on free code white e) (white_read code cs is white (along e s))
     | inr black ↦
         let none = prefix_none is_white code cs black in
         let all = ap indent is in

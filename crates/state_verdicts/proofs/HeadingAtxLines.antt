@@ -30,9 +30,10 @@ use Rattle.state_verdicts.specs.HeadingAtx.{HeadingAtxLineVerdict, HeadingPart, 
 use Rattle.state_verdicts.specs.HeadingAtx.{goes_on_with, opening_events, over, part_events, part_of}
 use Rattle.state_verdicts.specs.Stretch.{Stretch, ended, longer}
 use Rattle.state_verdicts.proofs.BlockTurns.{and_on, byte_at, does, does_next, end_at, ends_well, fed, fed_again, feeds, still_at, tried}
+use Rattle.state_verdicts.proofs.HeadingAtxContent.{heading_is}
 use Rattle.state_verdicts.proofs.HeadingAtxReads.{heading_atx_verdict}
 use Rattle.state_verdicts.proofs.LineCodes.{after_bare, after_more, after_none, after_rest, bare_apart, line_more, line_none, none_white}
-use Rattle.state_verdicts.proofs.LineCodes.{prefix_more, prefix_none, rest_more, rest_within, weight, weight_four}
+use Rattle.state_verdicts.proofs.LineCodes.{prefix_line, rest_more, rest_within, weight, weight_four}
 use Rattle.state_verdicts.proofs.LineCodes.{weight_line_bare, weight_rest, weight_some, white_within}
 use Rattle.state_verdicts.proofs.Markers.{flip, flop}
 use Rattle.state_verdicts.proofs.Seen.{seen_eol, seen_feed, seen_white}
@@ -339,32 +340,9 @@ module _ {T : Type 0} (now : InLine T) (once : SkipsOnce now.text) (whole : now.
 sign_inner : (c : ℕ) → (c == 35) ≡ true → is_eol c ≡ false
 sign_inner c h = ap is_eol (eqb-true c 35 h)
 
--- the `#` at the front are those of the line
-run_line : (cs : List ℕ) → run_length 35 (line_of cs) ≡ run_length 35 cs
-run_line [] = refl
-run_line (c ∷ cs) = elim (cases_Bool (c == 35)) [
-  | inl h ↦
-      let line = ap (run_length 35) (line_more c cs (sign_inner c h)) in
-      let there = prefix_more (λ b. b == 35) c (line_of cs) h in
-      let all = prefix_more (λ b. b == 35) c cs h in
-      let rest = run_line cs in omega (arith, line, there, all, rest)
-  | inr h ↦ elim (cases_Bool (is_eol c)) [
-    | inl eol ↦ ap (run_length 35) (line_none c cs eol) ∙ sym (prefix_none (λ b. b == 35) c cs h)
-    | inr inner ↦ ap (run_length 35) (line_more c cs inner) ∙ (prefix_none (λ b. b == 35) c (line_of cs) h ∙ sym (prefix_none (λ b. b == 35) c cs h))
-  ]
-]
-
-by_test : (is : Bool) (rank : ℕ) (content : List ℕ) (heading : Atx) → (if is then Some (atx rank content) else None) ≡ Some heading → rank ≡ heading.rank
-by_test true rank content heading e =
-    let f : Some (atx rank content) ≡ Some heading = e in
-    let g : atx rank content ≡ heading = cc in ap (λ (h : Atx). h.rank) g
-by_test false rank content heading e = absurd (let f : None ≡ Some heading = e in cc)
-
 -- the rank of a heading is how many there are
 rank_of : (on : Bool) (l : List ℕ) (heading : Atx) → (if on then atx_of l else None) ≡ Some heading → run_length 35 l ≡ heading.rank
-rank_of true l heading e =
-    by_test (leb 1 (run_length 35 l) && leb (run_length 35 l) 6 && begins_apart (after_run 35 l)) (run_length 35 l)
-    (without_closing (trim (after_run 35 l))) heading e
+rank_of true l heading e = sym (heading_is l heading e).0
 rank_of false l heading e = absurd (let f : None ≡ Some heading = e in cc)
 
 of_opening : {T : Type 0} (here : InLine T) → SkipsOnce here.text → length (line_of here.codes) < 2 ^ 62 → here.config.tokenize_state.connect ≡ false
@@ -372,7 +350,7 @@ of_opening : {T : Type 0} (here : InLine T) → SkipsOnce here.text → length (
 of_opening here once few whole None e (d, r) = (d, r)
 of_opening here once few whole (Some heading) e (d, mid, goes, leaves, apart, sees) =
     let rank = rank_of here.context.options.constructs.heading_atx (line here) heading e in
-    let size : heading.rank ≡ run_length 35 here.codes = sym rank ∙ run_line here.codes in
+    let size : heading.rank ≡ run_length 35 here.codes = sym rank ∙ prefix_line (λ c. c == 35) sign_inner here.codes in
     let rest : drop heading.rank here.codes ≡ drop (run_length 35 here.codes) here.codes = ap (λ (i : ℕ). drop i here.codes) size in
     let least = weight_rest (λ c. c == 35) sign_inner here.codes in
     let same = ap (λ (l : List ℕ). weight (line_of l)) rest in

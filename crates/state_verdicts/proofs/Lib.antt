@@ -25,6 +25,7 @@ pub mod AutolinkBytes
 pub mod AutolinkDomains
 pub mod AutolinkTexts
 pub mod AutolinkReads
+pub mod ListParts
 pub mod TrailingReads
 pub mod LabelStartReads
 pub mod ChoiceReads
@@ -47,6 +48,10 @@ pub mod ColumnReads
 pub mod ColumnLoops
 pub mod ColumnSees
 pub mod CodeIndentedReads
+pub mod CodeIndentedStates
+pub mod ColumnLoops
+pub mod CodeIndentedLines
+pub mod CodeIndentedWhole
 pub mod FrontmatterReads
 pub mod FrontmatterCloses
 pub mod FrontmatterLines
@@ -58,6 +63,12 @@ pub mod ThematicBreakReads
 pub mod StretchReads
 pub mod HeadingAtxReads
 pub mod HeadingAtxLines
+pub mod HeadingAtxContent
+pub mod HeadingAtxShape
+pub mod HeadingAtxParts
+pub mod EventWalks
+pub mod HeadingAtxText
+pub mod HeadingSetextText
 pub mod FenceStates
 pub mod FenceLines
 pub mod FenceRuns

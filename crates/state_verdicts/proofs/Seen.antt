@@ -68,7 +68,7 @@ white_is c = white_by c (c == 256) refl
         by_parts false false = refl
 
 -- a line ending is not white
-eol_white : (c : ℕ) → is_eol c ≡ true → is_white c ≡ false
+pub eol_white : (c : ℕ) → is_eol c ≡ true → is_white c ≡ false
 eol_white c h = elim (or_cases ((c == 10) || (c == 13)) (c == 257) h) [
   | inl l ↦ elim (or_cases (c == 10) (c == 13) l) [ inl e ↦ ap is_white (eqb-true c 10 e) | inr e ↦ ap is_white (eqb-true c 13 e) ]
   | inr e ↦ ap is_white (eqb-true c 257 e)

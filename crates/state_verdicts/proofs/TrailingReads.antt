@@ -20,6 +20,7 @@ use Rattle.state_edits_data.specs.Each.{around, around_if, data_part, place_at, 
 use Rattle.state_edits_data.specs.Whitespace.{are_spaces, begins, ends, head_size, is_line, is_space, may_break, part_edit, tail_name, tail_size, trimmed_data}
 use Rattle.state_verdicts.specs.HardBreakTrailing.{EarlierVerdict, Follows, TrailingVerdict, cut_before, data_edit, is_break, is_inner}
 use Rattle.state_verdicts.specs.HardBreakTrailing.{white_events}
+use Rattle.state_verdicts.proofs.ListParts.{drop_over, prefix_over, take_over}
 
 -- ---- what ends a list
 
@@ -61,21 +62,6 @@ module _ (p : ℕ → Bool) where
           let whole : list_all p xs ≡ true = ap (λ (n : ℕ). list_all p (drop n xs)) (let e : 0 ≡ length xs - suffix_len p xs = omega (arith, all) in
           e) ∙ rest in
           ap (λ (n : ℕ). list_all p (drop n (x ∷ xs))) (let e : suc (length xs) - suffix_len p (x ∷ xs) ≡ suc 0 = omega (arith, size) in e) ∙ whole
-
-  prefix_over : (w rest : List ℕ) → list_all p w ≡ true → prefix_len p rest ≡ 0 → prefix_len p (w ++ rest) ≡ length w
-  prefix_over [] rest all none = none
-  prefix_over (x ∷ w) rest all none =
-      let parts = and_parts (p x) (list_all p w) all in
-      ap (λ (b : Bool). if b then 1 + prefix_len p (w ++ rest) else 0) parts.0
-      ∙ (ap (λ (n : ℕ). 1 + n) (prefix_over w rest parts.1 none) ∙ (let e : 1 + length w ≡ suc (length w) = omega arith in e))
-
-drop_over : (w rest : List ℕ) → drop (length w) (w ++ rest) ≡ rest
-drop_over [] rest = refl
-drop_over (x ∷ w) rest = drop_over w rest
-
-take_over : (w rest : List ℕ) → take (length w) (w ++ rest) ≡ w
-take_over [] rest = refl
-take_over (x ∷ w) rest = ap (λ (l : List ℕ). x ∷ l) (take_over w rest)
 
 -- ---- the definition's leaf
 

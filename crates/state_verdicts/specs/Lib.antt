@@ -31,7 +31,9 @@ pub mod RawFlow
 pub mod BlankLine
 pub mod ThematicBreak
 pub mod HeadingSetext
+pub mod HeadingSetextText
 pub mod HeadingAtx
+pub mod HeadingAtxText
 pub mod CodeFenced
 pub mod MathFlow
 pub mod DocumentVerdicts
