@@ -559,7 +559,7 @@ dropped here once few whole columns Says says_none reads_on (Some opening)
 pub code_fenced_verdict : (T : Type 0) → CodeFencedVerdict T
 code_fenced_verdict T here s once few whole columns none =
     let read : (m size : ℕ) → FenceByte m
-        → ReadsRest here.context here.text (at_hand here) (fencing m size 0 here.config.tokenize_state) Anyhow m =
+    → ReadsRest here.context here.text (at_hand here) (fencing m size 0 here.config.tokenize_state) Anyhow m =
     λ m size fence. reads_anyhow here.context here.text once (at_hand here) (fencing m size 0 here.config.tokenize_state) whole m fence refl in
     dropped here once few whole columns Anyhow (λ p e. tt) read
     (if here.context.options.constructs.code_fenced then fence_of columns (line here) else None)

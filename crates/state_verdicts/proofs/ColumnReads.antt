@@ -57,9 +57,12 @@ few_columns text p (c ∷ cs) (byte {q = q} apart e s) =
 few_columns text p (c ∷ cs) (tab {q = q} {r = r} {n = n} most e f s) =
     let rest = few_columns text r cs s in
     let few = rest.3 in
-    let size = columns_length n rest.0 in
-    (9 ∷ (replicate n 256 ++ rest.0), along e (filled f rest.1), same_bytes 9 (replicate n 256 ++ rest.0) cs (no_bytes n rest.0 ∙ rest.2),
-    omega (arith, few, size, most))
+    let size = columns_length n rest.0 in (
+      9 ∷ (replicate n 256 ++ rest.0),
+      along e (filled f rest.1),
+      same_bytes 9 (replicate n 256 ++ rest.0) cs (no_bytes n rest.0 ∙ rest.2),
+      omega (arith, few, size, most),
+    )
 
 pub columns_law : ColumnsLaw
 columns_law text p codes s = let columns = few_columns text p codes s in (columns.0, columns.1, columns.2)

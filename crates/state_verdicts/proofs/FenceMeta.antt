@@ -577,8 +577,11 @@ module _ {T : Type 0} (x : Context T) (text : Text) (once : SkipsOnce text) (bla
       let inner = inner_is code cs bad in
       let line : (sh.byte == 10) ≡ false = sh.feeds ∙ inner in
       elim (cases_Bool (is_barred m code)) [
-        | inl barred ↦ (c, does x text steps.meta c c states.Nok (steps.meta_goes x sh.byte c true (byte_at h.at sh.first) line (no_end sh barred)
-            (barred_is code cs sh h ∙ barred)))
+        | inl barred ↦ (
+          c,
+          does x text steps.meta c c states.Nok (steps.meta_goes x sh.byte c true (byte_at h.at sh.first) line (no_end sh barred)
+              (barred_is code cs sh h ∙ barred)),
+        )
         | inr good ↦ by_end (ends_meta x.bytes c) refl sh inner line good
             (refuses bound sh.after (let l = sh.less in omega (arith, l, few)) es (feed text (past_byte c)) sh.next (passes sh.byte h sh.first line) sh.sees
             (shown_after code cs sh ∙ bad_after code cs inner good bad))
@@ -599,9 +602,11 @@ module _ {T : Type 0} (x : Context T) (text : Text) (once : SkipsOnce text) (bla
           let is : is_white code ≡ true = sym (ap (has is_space_or_tab) (byte_at h.at sh.first) ∙ sh.white) ∙ seen in
           let blank : is_blank_line (code ∷ cs) ≡ true = sym (blank_is code cs h.at s is) ∙ both.1 in
           absurd (let f : true ≡ false = sym (blank_follows (code ∷ cs) blank) ∙ bad in cc)
-      by_end false ends sh inner line good o =
-          (o.0, and_on x text (does_next x text steps.meta steps.meta c (past_byte c)
-          (steps.meta_goes x sh.byte c false (byte_at h.at sh.first) line ends (barred_at code cs sh h good))) o.1)
+      by_end false ends sh inner line good o = (
+        o.0,
+        and_on x text (does_next x text steps.meta steps.meta c (past_byte c)
+            (steps.meta_goes x sh.byte c false (byte_at h.at sh.first) line ends (barred_at code cs sh h good))) o.1,
+      )
 
   -- at once at what follows
   pub refuses_string : (codes : List ℕ) (p : Point) → Sees text p codes → may_be_meta m (line_of codes) ≡ false → (es : List Event) (c : Config Flows)
@@ -612,8 +617,11 @@ module _ {T : Type 0} (x : Context T) (text : Text) (once : SkipsOnce text) (bla
       let inner = inner_is code cs bad in
       let line : (sh.byte == 10) ≡ false = sh.feeds ∙ inner in
       elim (cases_Bool (is_barred m code)) [
-        | inl barred ↦ (c, does x text steps.meta_before c c states.Nok (steps.meta_before_goes x sh.byte c true (byte_at h.at sh.first) line
-            (barred_is code cs sh h ∙ barred)))
+        | inl barred ↦ (
+          c,
+          does x text steps.meta_before c c states.Nok (steps.meta_before_goes x sh.byte c true (byte_at h.at sh.first) line
+              (barred_is code cs sh h ∙ barred)),
+        )
         | inr good ↦
             let begun : Standing (steps.meta_begun c).events (feed text (past_byte (steps.meta_begun c))) sh.next = record {
               columns = h.columns;
@@ -623,9 +631,11 @@ module _ {T : Type 0} (x : Context T) (text : Text) (once : SkipsOnce text) (bla
             } in
             let o = refuses (suc (weight sh.after)) sh.after (omega arith) (steps.meta_begun c).events
             (feed text (past_byte (steps.meta_begun c))) sh.next begun
-            sh.sees (shown_after code cs sh ∙ bad_after code cs inner good bad) in
-            (o.0, and_on x text (does_next x text steps.meta_before steps.meta c (past_byte (steps.meta_begun c))
-            (steps.meta_before_goes x sh.byte c false (byte_at h.at sh.first) line (barred_at code cs sh h good))) o.1)
+            sh.sees (shown_after code cs sh ∙ bad_after code cs inner good bad) in (
+              o.0,
+              and_on x text (does_next x text steps.meta_before steps.meta c (past_byte (steps.meta_begun c))
+                  (steps.meta_before_goes x sh.byte c false (byte_at h.at sh.first) line (barred_at code cs sh h good))) o.1,
+            )
       ]
 
   -- over white space first
@@ -645,6 +655,8 @@ module _ {T : Type 0} (x : Context T) (text : Text) (once : SkipsOnce text) (bla
         at = fed_again text a.config a.end once a.there.at;
         here = fed_here text c0 a.there.here;
         apart = a.there.apart;
-      }) in
-      (o.0, and_on x text (and_on x text (tried x text s c (steps.readied d) a.config (states.Next steps.meta_before) states.Nok
-      (part state_inline.SpaceOrTabStart) does_it a.reads) (feeds x text steps.meta_before a.config)) o.1)
+      }) in (
+        o.0,
+        and_on x text (and_on x text (tried x text s c (steps.readied d) a.config (states.Next steps.meta_before) states.Nok
+            (part state_inline.SpaceOrTabStart) does_it a.reads) (feeds x text steps.meta_before a.config)) o.1,
+      )

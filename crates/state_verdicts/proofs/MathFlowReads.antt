@@ -383,7 +383,7 @@ module _ {T : Type 0} (here : InLine T) (once : SkipsOnce here.text) (few : leng
         let count : run_length 36 (36 ∷ line_of cs) ≡ size = prefix_more (λ b. b == 36) 36 (line_of cs) refl ∙
         (let k : suc (run_length 36 (line_of cs)) ≡ size = omega arith in k) in
         let good : (leb 2 (run_length 36 (36 ∷ line_of cs)) && list_all (λ b. not (b == 36)) (after_run 36 (36 ∷ line_of cs)))
-            ≡ (leb 2 size && may_be_meta 36 (line_of o.rest)) =
+        ≡ (leb 2 size && may_be_meta 36 (line_of o.rest)) =
         ap (λ (i : ℕ). leb 2 i && list_all (λ b. not (b == 36)) (after_run 36 (36 ∷ line_of cs))) count
         ∙ ap (λ (b : Bool). leb 2 size && b) (sym (follow_dollar (after_run 36 (36 ∷ line_of cs)))
         ∙ ap (may_be_meta 36) (rest_more (λ b. b == 36) 36 (line_of cs) refl ∙ sym o.line)) in

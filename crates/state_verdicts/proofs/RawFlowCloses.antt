@@ -238,7 +238,6 @@ module _ {T : Type 0} (x : Context T) (text : Text) (once : SkipsOnce text) (k :
     abbrev here : InLine T
     here = record { context = x; text = text; config = i.config; place = i.config.point; codes = drop taken codes }
 
-
     verdict : ClosingVerdict here (is_run k.size k.marker (line_of (drop taken codes)))
     verdict =
         subst (λ (b : Bool). ClosingVerdict here b) (ap (λ (s : KeptState). is_run s.size s.marker (line_of (drop taken codes))) i.kept_now)
