@@ -1,5 +1,5 @@
 -- After all rows of a text, its events are in the grammar, spell its page, and are of no construct that is off.
-use Rattle.std.proofs.Common.{◌≡◌, ◌<◌, inl, inr, ℕ, List, [], ◌∷◌, true, refl, sym, ap, ◌∙◌, subst, arith, get_or, length}
+use Rattle.std.proofs.Common.{◌≡◌, ◌<◌, inl, inr, ℕ, List, [], ◌∷◌, true, false, refl, sym, ap, ◌∙◌, subst, arith, get_or, length}
 use Rattle.std.specs.Str.{is_utf8}
 use Rattle.parse_events.proofs.Prelude.{AreOpen, bare_blocks, Between, document_targets, End, end_in, Event, forest_in, group_items, growth}
 use Rattle.parse_events.proofs.Prelude.{Growth, IsFront, IsInOrder, joined, Kind, kind_before_text, line_at, lines, lines_joined, Nodes, Opened, opened}
