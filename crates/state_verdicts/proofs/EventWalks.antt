@@ -2,6 +2,10 @@
 use Rattle.std.proofs.Common.{◌≡◌, ◌∙◌, ℕ, suc, ◌+◌, List, [], ◌∷◌, ◌++◌, length, Some, refl, sym, ap, arith, append_assoc, length-append, slice_get}
 use Rattle.engine_events.specs.declared.event.Event.{Event}
 
+-- the type of a value whose name isn't exported
+abbrev pub TypeOf : {A : Type 0} → A → Type 0
+TypeOf {A} a = A
+
 pub event_here : (before after : List Event) (e : Event) → slice_get (before ++ (e ∷ after)) (length before) ≡ Some e
 event_here [] after e = refl
 event_here (x ∷ before) after e = event_here before after e

@@ -14,7 +14,6 @@ use Rattle.engine_events.specs.declared.place.Point.{Point}
 use Rattle.engine_programs.specs.Bodies.{has}
 use Rattle.markdown_engine.specs.Reading.{byte_of}
 use Rattle.markdown_engine.specs.VirtualText.{Text}
-use Rattle.state_edits_blocks.specs.declared.heading_atx.Heading.{Heading}
 use Rattle.state_table.specs.Words.{is_space_or_tab}
 use Rattle.state_verdicts.specs.Codes.{Sees, byte, tab, text_byte}
 use Rattle.state_verdicts.specs.HeadingAtx.{HeadingPart, HeadingParts, Signs, White, Words, further, goes_on_with, over, part_events, part_of}
@@ -29,6 +28,7 @@ use Rattle.state_verdicts.proofs.HeadingAtxShape.{closed_signs, closed_suffix, c
 use Rattle.state_verdicts.proofs.HeadingAtxShape.{join_rest, join_two, knows, no_space, no_text, of_split, Own, PartOf, resort, seen_after, seen_both}
 use Rattle.state_verdicts.proofs.HeadingAtxShape.{Shape, signs_if_is, signs_indent, some_text, white_at, white_no_sign, word_not, word_seen, Worded}
 use Rattle.state_verdicts.proofs.HeadingAtxShape.{worded, worded_signs, worded_white, worded_words}
+use Rattle.state_verdicts.proofs.HeadingAtxShape.{Heading}
 use Rattle.state_verdicts.proofs.LineCodes.{line_more, line_none}
 use Rattle.state_verdicts.proofs.Markers.{flip, flop}
 use Rattle.state_verdicts.proofs.Seen.{eol_white, seen_feed, seen_white, white_inner}

@@ -16,8 +16,7 @@ use Rattle.engine_programs.specs.Bodies.{has}
 use Rattle.markdown_engine.specs.Reading.{byte_of}
 use Rattle.markdown_engine.specs.VirtualText.{Text, as_byte}
 use Rattle.markdown_engine.specs.declared.virtual_text.VirtualByte.{VirtualByte}
-use Rattle.state_edits_blocks.specs.HeadingAtx.{seen}
-use Rattle.state_edits_blocks.specs.declared.heading_atx.Heading.{Heading}
+use Rattle.state_edits_blocks.specs.HeadingAtx.{nothing as nothing_known, seen}
 use Rattle.state_table.specs.BlockWords.{chunk_of, is_white as is_white_byte}
 use Rattle.state_verdicts.specs.Codes.{Sees, byte, nothing, tab, text_byte}
 use Rattle.state_verdicts.specs.HeadingAtx.{Signs, White, Words, over, part_events}
@@ -25,6 +24,7 @@ use Rattle.state_verdicts.specs.HeadingAtxText.{signs_if}
 use Rattle.state_verdicts.specs.Lines.{is_filled}
 use Rattle.state_verdicts.specs.Stretch.{Stretch, ended, longer}
 use Rattle.state_verdicts.specs.WhiteSpace.{white_if}
+use Rattle.state_verdicts.proofs.EventWalks.{TypeOf}
 use Rattle.state_verdicts.proofs.HeadingAtxContent.{EndsWithWord, gap_apart, is_sign, sign_suffix, trim_is, word_suffix}
 use Rattle.state_verdicts.proofs.Markers.{flop}
 use Rattle.state_verdicts.proofs.Seen.{seen_feed, seen_white}
@@ -162,6 +162,10 @@ pub word_seen : (c : ℕ) → not (is_white_byte (text_byte c)) ≡ is_word c
 word_seen c = ap (λ (b : Bool). not (b || (text_byte c == 10))) (seen_white c) ∙ ap (λ (b : Bool). not (is_white c || b)) (seen_feed c)
 
 -- ---- what is known after some events
+
+-- what the resolver knows of a heading
+abbrev pub Heading : Type 0
+Heading = TypeOf nothing_known
 
 abbrev pub seen_after : Heading → ℕ → List Event → Heading
 seen_after h j [] = h

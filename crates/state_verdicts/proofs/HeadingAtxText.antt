@@ -15,7 +15,6 @@ use Rattle.engine_events.specs.declared.event.Name.TheVariants as names
 use Rattle.engine_events.specs.declared.place.Point.{Point}
 use Rattle.markdown_engine.specs.VirtualText.{Text}
 use Rattle.state_edits_blocks.specs.HeadingAtx.{atx_edits, known, seen_if, text_edit, text_events}
-use Rattle.state_edits_blocks.specs.declared.heading_atx.Heading.{Heading}
 use Rattle.state_edits_data.specs.Each.{is_bound, is_event, later, place_at, place_of}
 use Rattle.state_verdicts.specs.HeadingAtx.{HeadingPart, HeadingParts, Signs, White, Words, further, over, part_events, part_of}
 use Rattle.state_verdicts.specs.HeadingAtxText.{HeadingAtxTextVerdict, TextEdit, edit_if, heading_events}
@@ -24,7 +23,7 @@ use Rattle.state_verdicts.specs.WhiteSpace.{white_events}
 use Rattle.state_verdicts.proofs.EventWalks.{event_at, past_one, size_one}
 use Rattle.state_verdicts.proofs.HeadingAtxContent.{heading_is, is_sign}
 use Rattle.state_verdicts.proofs.HeadingAtxParts.{Final, Known, Unknown, text_parts}
-use Rattle.state_verdicts.proofs.HeadingAtxShape.{knows, seen_after}
+use Rattle.state_verdicts.proofs.HeadingAtxShape.{Heading, knows, seen_after}
 use Rattle.state_verdicts.proofs.LineCodes.{line_rest, prefix_line}
 use Rattle.state_verdicts.proofs.Markers.{flop}
 

@@ -10,14 +10,17 @@ use Rattle.engine_events.specs.declared.event.Event.{Event}
 use Rattle.engine_events.specs.declared.event.Kind.TheVariants.{Enter, Exit}
 use Rattle.engine_events.specs.declared.event.Name.TheVariants as names
 use Rattle.engine_events.specs.declared.place.Point.{Point}
-use Rattle.state_edits_blocks.specs.HeadingSetext.{after_event, after_if, heading_edit, last, setext_edits}
-use Rattle.state_edits_blocks.specs.declared.heading_setext.Paragraph.{Paragraph}
+use Rattle.state_edits_blocks.specs.HeadingSetext.{after_event, after_if, heading_edit, last, nothing as no_paragraph, setext_edits}
 use Rattle.state_edits_data.specs.Each.{is_bound, is_event, later, place_at, place_of}
 use Rattle.state_verdicts.specs.HeadingSetext.{underline_events}
 use Rattle.state_verdicts.specs.HeadingSetextText.{HeadingSetextTextVerdict, heading_edits, paragraph_events, stays_apart}
 use Rattle.state_verdicts.specs.WhiteSpace.{white_events, white_if}
-use Rattle.state_verdicts.proofs.EventWalks.{event_at, past_one, size_one}
+use Rattle.state_verdicts.proofs.EventWalks.{TypeOf, event_at, past_one, size_one}
 use Rattle.state_verdicts.proofs.Markers.{flop}
+
+-- what the resolver knows of a paragraph
+abbrev Paragraph : Type 0
+Paragraph = TypeOf no_paragraph
 
 abbrev stands : ℕ → ℕ → Paragraph
 stands enter exit = record { enter = Some enter; exit = Some exit }

@@ -49,7 +49,6 @@ pub mod ColumnLoops
 pub mod ColumnSees
 pub mod CodeIndentedReads
 pub mod CodeIndentedStates
-pub mod ColumnLoops
 pub mod CodeIndentedLines
 pub mod CodeIndentedWhole
 pub mod FrontmatterReads
