@@ -1,5 +1,5 @@
 -- An attempt at an ATX heading reads the parts of the line up to its end where the line is a heading, and fails elsewhere.
-use Rattle.std.proofs.Common.{◌≡◌, ◌∙◌, ℕ, zero, suc, ◌+◌, ◌^◌, ◌<◌, ◌≤◌, Bool, true, false, not, ◌==◌, ◌&&◌, leb, if◌then◌else◌, List, [], ◌∷◌, ◌++◌}
+use Rattle.std.proofs.Common.{◌≡◌, ◌∙◌, ℕ, zero, suc, ◌+◌, ◌^◌, ◌<◌, ◌≤◌, Bool, true, false, not, ◌==◌, if◌then◌else◌, List, [], ◌∷◌, ◌++◌}
 use Rattle.std.proofs.Common.{drop, length}
 use Rattle.std.proofs.Common.{Option, Some, None, inl, inr, refl, sym, ap, subst, arith, append_assoc}
 use Rattle.state_verdicts.proofs.BlockPrelude.{after_line, as_byte, AtHand, bare, byte, byte_of, cases_Bool, Config, Context, eqb-true, event, Event, EventName}
@@ -8,9 +8,8 @@ use Rattle.state_verdicts.proofs.BlockPrelude.{LineEnds}
 use Rattle.state_verdicts.proofs.BlockPrelude.{Name, no_limit, nothing, part, past_byte, plain, Point, prefix_len, run, Sees, SkipsOnce, tab}
 use Rattle.state_verdicts.proofs.BlockPrelude.{Text}
 use Rattle.state_verdicts.proofs.BlockPrelude.{text_byte, tries, with_enter, with_exit}
-use Rattle.definition_block.specs.HeadingAtx.{Atx, atx, atx_of, begins_apart, without_closing}
-use Rattle.definition_text.specs.Columns.{trim}
-use Rattle.definition_text.specs.Runs.{after_run, run as run_length}
+use Rattle.definition_block.specs.HeadingAtx.{Atx, atx_of}
+use Rattle.definition_text.specs.Runs.{run as run_length}
 use Rattle.engine_events.specs.declared.event.Content.TheVariants as contents
 use Rattle.engine_events.specs.declared.event.Kind.TheVariants.{Enter, Exit}
 use Rattle.engine_events.specs.declared.event.Link.{Link}
@@ -32,7 +31,7 @@ use Rattle.state_verdicts.specs.Stretch.{Stretch, ended, longer}
 use Rattle.state_verdicts.proofs.BlockTurns.{and_on, byte_at, does, does_next, end_at, ends_well, fed, fed_again, feeds, still_at, tried}
 use Rattle.state_verdicts.proofs.HeadingAtxContent.{heading_is}
 use Rattle.state_verdicts.proofs.HeadingAtxReads.{heading_atx_verdict}
-use Rattle.state_verdicts.proofs.LineCodes.{after_bare, after_more, after_none, after_rest, bare_apart, line_more, line_none, none_white}
+use Rattle.state_verdicts.proofs.LineCodes.{after_bare, after_more, after_none, after_rest, bare_apart, line_more, none_white}
 use Rattle.state_verdicts.proofs.LineCodes.{prefix_line, rest_more, rest_within, weight, weight_four}
 use Rattle.state_verdicts.proofs.LineCodes.{weight_line_bare, weight_rest, weight_some, white_within}
 use Rattle.state_verdicts.proofs.Markers.{flip, flop}

@@ -7,9 +7,7 @@ use Rattle.definition_block.specs.HeadingAtx.{without_closing}
 use Rattle.definition_text.specs.Columns.{bare, indent, is_blank, is_white, trim}
 use Rattle.definition_text.specs.Content.{is_eol}
 use Rattle.definition_text.specs.Runs.{after_run, run}
-use Rattle.engine_events.specs.declared.event.Content.TheVariants as contents
 use Rattle.engine_events.specs.declared.event.Event.{Event}
-use Rattle.engine_events.specs.declared.event.Name.TheVariants as names
 use Rattle.engine_events.specs.declared.place.Point.{Point}
 use Rattle.engine_programs.specs.Bodies.{has}
 use Rattle.markdown_engine.specs.Reading.{byte_of}

@@ -19,7 +19,7 @@ use Rattle.markdown_engine.specs.declared.virtual_text.VirtualByte.{VirtualByte}
 use Rattle.state_edits_blocks.specs.HeadingAtx.{nothing as nothing_known, seen}
 use Rattle.state_table.specs.BlockWords.{chunk_of, is_white as is_white_byte}
 use Rattle.state_verdicts.specs.Codes.{Sees, byte, nothing, tab, text_byte}
-use Rattle.state_verdicts.specs.HeadingAtx.{Signs, White, Words, over, part_events}
+use Rattle.state_verdicts.specs.HeadingAtx.{Signs, White, Words, part_events}
 use Rattle.state_verdicts.specs.HeadingAtxText.{signs_if}
 use Rattle.state_verdicts.specs.Lines.{is_filled}
 use Rattle.state_verdicts.specs.Stretch.{Stretch, ended, longer}
