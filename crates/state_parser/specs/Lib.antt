@@ -1,3 +1,5 @@
+pub mod Definitions
+pub mod Events
 pub mod Labels
 pub mod Refusal
 pub mod Starts

@@ -1,45 +1,44 @@
 -- Where texts begin that may have a check: paragraphs that are the first block of their item (GFM 5.3).
-use Rattle.std.specs.Prelude.{ℕ, ◌-◌, Bool, true, false, nat_le, ◌&&◌, ◌||◌, if◌then◌else◌, List, [], ◌∷◌, ◌++◌, length, replicate}
-use Rattle.std.specs.List.{fold}
-use denote.Enum.Bare.{sameb}
-use Rattle.engine_events.specs.contracts.event.Kind.{the_type}
+use Rattle.std.specs.Prelude.{◌≡◌, ◌↔◌, ℕ, ◌-◌, Bool, true, false, nat_lt, ◌||◌, if◌then◌else◌, List, [], ◌∷◌, ◌++◌, length, replicate, slice_get}
+use Rattle.std.specs.Prelude.{slice_set}
+use Rattle.std.specs.Prelude.{Option, None, Some, unwrap_or, Contains}
+use Rattle.std.specs.Option.{option_to_list}
 use Rattle.engine_events.specs.declared.event.Event.{Event}
-use Rattle.engine_events.specs.declared.event.Kind.{Kind}
 use Rattle.engine_events.specs.declared.event.Kind.TheVariants.{Enter, Exit}
-use Rattle.engine_events.specs.declared.event.Name.{Name}
 use Rattle.engine_events.specs.declared.event.Name.TheVariants as names
 use Rattle.engine_events.specs.Events.{point_of}
 use Rattle.engine_events.specs.Names.{same_name}
+use Rattle.state_parser.specs.Events.{is_bound}
 
--- what may stand between the prefix of an item and its first block
+-- what may be between the prefix of an item and its first block
 abbrev pub is_between : Event → Bool
 is_between e =
     same_name e.name names.SpaceOrTab || (same_name e.name names.LineEnding || (same_name e.name names.BlankLineEnding
     || (same_name e.name names.BlockQuotePrefix || same_name e.name names.BlockQuoteMarker)))
 
-abbrev pub is_bound : Kind → Name → Event → Bool
-is_bound kind name e = sameb the_type e.kind kind && same_name e.name name
+-- the index at which the first block of these events begins, if it is a paragraph
+abbrev pub first_paragraph : List Event → Option ℕ
+first_paragraph [] = None
+first_paragraph (e ∷ es) =
+    if is_between e then first_paragraph es
+    else (if is_bound Enter names.Paragraph e then Some (point_of e).index else None)
 
--- with an index marked, if it is after those that are
-abbrev pub marked : ℕ → List Bool → List Bool
-marked index starts = if nat_le (length starts) index then (starts ++ replicate (index - length starts) false) ++ true ∷ [] else starts
+-- the indices at which paragraphs begin that are the first block of their item
+abbrev pub start_indices : List Event → List ℕ
+start_indices [] = []
+start_indices (e ∷ es) =
+    if is_bound Exit names.ListItemPrefix e then option_to_list (first_paragraph es) ++ start_indices es else start_indices es
 
--- the marks, and whether the next block is the first of its item
-abbrev pub Marks : Type 0
-Marks = List Bool × Bool
+-- whether an index is marked; those after the last aren't
+abbrev pub is_marked : List Bool → ℕ → Bool
+is_marked marks index = unwrap_or (slice_get marks index) false
 
-abbrev pub is_first_paragraph : Bool → Event → Bool
-is_first_paragraph first e = first && is_bound Enter names.Paragraph e
+-- these indices are marked, and no others
+abbrev pub AreMarked : List ℕ → List Bool → Type 0
+AreMarked indices marks = (i : ℕ) → (is_marked marks i ≡ true) ↔ Contains indices i
 
-abbrev pub starts_after : List Bool → Bool → Event → List Bool
-starts_after starts first e = if is_first_paragraph first e then marked (point_of e).index starts else starts
-
-abbrev pub first_after : Bool → Event → Bool
-first_after first e = if is_between e then first else is_bound Exit names.ListItemPrefix e
-
-abbrev pub with_event : Marks → Event → Marks
-with_event m e = (starts_after m.0 m.1 e, first_after m.1 e)
-
--- at which indices paragraphs begin that are the first block of their item
-abbrev pub starts : List Event → List Bool
-starts events = (fold with_event ([], false) events).0
+-- the marks with one more
+abbrev pub marked : List Bool → ℕ → List Bool
+marked marks index =
+    if nat_lt index (length marks) then slice_set marks index true
+    else (marks ++ replicate (index - length marks) false) ++ true ∷ []

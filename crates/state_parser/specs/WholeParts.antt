@@ -1,10 +1,25 @@
--- Events of which the test holds are balanced, and in order.
-use Rattle.std.proofs.Common.{◌≡◌, true, List}
+-- What is promised of the events of a text: those of which the tests hold are balanced, in order, and end with the text.
+use Rattle.std.proofs.Common.{◌≡◌, ℕ, ◌-◌, true, List, length, slice_get, Option, None, Some}
 use Rattle.engine_events.specs.declared.event.Event.{Event}
 use Rattle.engine_events.specs.declared.place.Point.{Point}
-use Rattle.markdown_engine.specs.Order.{AreInOrder, IsBalanced}
+use Rattle.engine_events.specs.Events.{point_of}
+use Rattle.markdown_engine.specs.Chains.{ArePlaces}
+use Rattle.markdown_engine.specs.Order.{AreInOrder, IsBalanced, text_start}
 use Rattle.state_resolvers.specs.Whole.{is_whole}
 use Rattle.state_resolvers.specs.WholeLaws.{whole}
+
+abbrev pub place_of : Option Event → Point
+place_of None = text_start
+place_of (Some e) = point_of e
+
+-- where the last event is, or where a text starts
+abbrev pub end_of : List Event → Point
+end_of events = place_of (slice_get events (length events - 1))
+
+-- each event is at a place of the text, and the last at its end
+pub record ArePlaced (bytes : List ℕ) (events : List Event) : Type 0 where
+  pub places : ArePlaces bytes events
+  pub end : (end_of events).index ≡ length bytes
 
 pub whole_balanced : (es : List Event) (to : Point) → is_whole es to ≡ true → IsBalanced es
 whole_balanced es to h = (whole es to h).0

@@ -1,18 +1,11 @@
 //! The labels of definitions, as they are compared (CommonMark 6.3).
-ghost use Rattle.std.specs.Prelude.{◌≡◌, IfOk, OnOk, map, string_bytes};
-ghost use Rattle.state_parser.specs.Labels.{between, defined_labels, is_part, labels_view, nothing_found};
+ghost use Rattle.std.specs.Prelude.{◌≡◌, ◌++◌, ◌∷◌, [], IfOk, OnOk, map, string_bytes};
+ghost use Rattle.state_parser.specs.Labels.{between, defined_labels, is_part, label_bytes, label_of, part_bytes};
 
+use crate::events::is_bound;
 use inline_labels::normalize_label;
 use markdown_engine::event::{Event, Kind, Name};
 use std::alloc::{AllocError, Allocator};
-
-/// Labels, and the bytes of the one that is open.
-#[derive(Drop)]
-struct Labels<A: Allocator> {
-    all: Vec<String<A>, A>,
-    text: Vec<u8, A>,
-    inside: bool,
-}
 
 /// Whether an event has bytes of a label. What containers put before its lines isn't its.
 fn is_part(event: &Event) -> bool
@@ -32,105 +25,73 @@ fn between(bytes: &[u8], from: usize, to: usize) -> &[u8]
     &[]
 }
 
-/// No labels.
-fn no_labels<A: Allocator + Clone>(alloc: &A) -> Result<Labels<A>, AllocError>
-    ensures { IfOk result (λ labels. labels_view labels ≡ nothing_found) }
+/// Adds the bytes of an event up to the next, if they are of a label.
+fn push_part<A: Allocator>(
+    text: &mut Vec<u8, A>,
+    bytes: &[u8],
+    event: &Event,
+    after: &[Event],
+) -> Result<(), AllocError>
+    ensures { OnOk result (text.new.items ≡ text.old.items ++ part_bytes bytes.now event.now after.now) }
 {
-    let all = Vec::new(alloc.clone()?);
-    Ok(Labels {
-        all,
-        text: Vec::new(alloc.clone()?),
-        inside: false,
-    })
+    let Some(next) = after.first() else {
+        return Ok(());
+    };
+    if is_part(event) {
+        text.extend_from_slice(between(bytes, event.point().index, next.point().index))?;
+    }
+    Ok(())
 }
 
-impl<A: Allocator + Clone> Labels<A> {
-    ghost use Rattle.std.specs.Prelude.{◌≡◌, OnOk};
-    ghost use Rattle.state_parser.specs.Labels.{added, begun, ended, labels_view, over, over_at};
-
-    /// Begins a label.
-    fn begin(&mut self)
-        ensures { labels_view self.new ≡ begun (labels_view self.old) }
-    {
-        self.text.clear();
-        self.inside = true;
-    }
-
-    /// Adds the label that ends.
-    fn end(&mut self) -> Result<(), AllocError>
-        ensures { OnOk result (labels_view self.new ≡ ended (labels_view self.old)) }
-    {
-        let mut normal = String::new(self.text.allocator().clone()?);
-        normalize_label(&mut normal, &self.text)?;
-        self.inside = false;
-        self.all.push(normal)?;
-        Ok(())
-    }
-
-    /// Adds the bytes between two events.
-    fn add(&mut self, bytes: &[u8], event: &Event, after: &Event) -> Result<(), AllocError>
-        ensures { OnOk result (labels_view self.new ≡ added bytes.now event.now after.now (labels_view self.old)) }
-    {
-        self.text
-            .extend_from_slice(between(bytes, event.point().index, after.point().index))
-    }
-
-    /// Goes over an event that has another after it.
-    fn over(
-        &mut self,
-        bytes: &[u8],
-        name: Name,
-        event: &Event,
-        after: &Event,
-    ) -> Result<(), AllocError>
-        ensures { OnOk result (labels_view self.new ≡ over bytes.now name event.now after.now (labels_view self.old)) }
-    {
-        if event.name == name {
-            if event.kind == Kind::Exit {
-                return self.end();
-            }
-            self.begin();
-            return Ok(());
+/// The bytes of a label, whose events follow its start, up to its end.
+fn label_bytes<A: Allocator>(
+    alloc: A,
+    bytes: &[u8],
+    name: Name,
+    events: &[Event],
+) -> Result<Vec<u8, A>, AllocError>
+    ensures { IfOk result (λ text. text.items ≡ label_bytes bytes.now name events.now) }
+{
+    let mut text = Vec::new(alloc);
+    for (index, event) in events.iter().enumerate() {
+        if is_bound(Kind::Exit, name, event) {
+            return Ok(text);
         }
-        if self.inside && is_part(event) {
-            return self.add(bytes, event, after);
-        }
-        Ok(())
+        push_part(&mut text, bytes, event, &events[index + 1..])?;
     }
+    Ok(text)
+}
 
-    /// Goes over the event at an index.
-    fn go_over(
-        &mut self,
-        bytes: &[u8],
-        events: &[Event],
-        index: usize,
-        name: Name,
-    ) -> Result<(), AllocError>
-        ensures { OnOk result (labels_view self.new ≡ over_at bytes.now events.now name index (labels_view self.old)) }
-    {
-        let Some(event) = events.get(index) else {
-            return Ok(());
-        };
-        let Some(after) = events.get(index.saturating_add(1)) else {
-            return Ok(());
-        };
-        self.over(bytes, name, event, after)
-    }
+/// Adds the label whose events these are, up to its end.
+fn push_label<A: Allocator + Clone>(
+    labels: &mut Vec<String<A>, A>,
+    bytes: &[u8],
+    name: Name,
+    events: &[Event],
+) -> Result<(), AllocError>
+    ensures { OnOk result (map string_bytes labels.new.items ≡ map string_bytes labels.old.items ++ label_of bytes.now name events.now ∷ []) }
+{
+    let text = label_bytes(labels.allocator().clone()?, bytes, name, events)?;
+    let mut label = String::new(labels.allocator().clone()?);
+    normalize_label(&mut label, &text)?;
+    labels.push(label)?;
+    Ok(())
 }
 
 /// The labels that events of a name hold, in their order.
-#[tactic(auto, using(crate::proofs::Steps::found_more, crate::proofs::Steps::found_start))]
 pub(crate) fn defined_labels<A: Allocator + Clone>(
     alloc: &A,
     bytes: &[u8],
     events: &[Event],
     name: Name,
 ) -> Result<Vec<String<A>, A>, AllocError>
-    ensures { IfOk result (λ labels. map string_bytes labels.items ≡ defined_labels bytes.now events.now name) }
+    ensures { IfOk result (λ labels. map string_bytes labels.items ≡ defined_labels bytes.now name events.now) }
 {
-    let mut labels = no_labels(alloc)?;
-    for index in 0..events.len() {
-        labels.go_over(bytes, events, index, name)?;
+    let mut labels = Vec::new(alloc.clone()?);
+    for (index, event) in events.iter().enumerate() {
+        if is_bound(Kind::Enter, name, event) {
+            push_label(&mut labels, bytes, name, &events[index + 1..])?;
+        }
     }
-    Ok(labels.all)
+    Ok(labels)
 }

@@ -3,6 +3,7 @@
 
 mod blocks;
 mod containers;
+mod events;
 mod labels;
 mod merge;
 mod merged;

@@ -1,11 +1,12 @@
 //! The events of a text by the machines.
-ghost use Rattle.std.specs.Prelude.{◌≡◌, IfErr, IfOk, IfSome, OnOk, length};
+ghost use Rattle.std.specs.Prelude.{◌≡◌, ◌↔◌, IfErr, IfOk, IfSome, IsTrue, OnOk, length};
 ghost use Rattle.markdown_options.specs.Messages.{IsOutOfMemory};
 ghost use Rattle.markdown_engine.specs.Context.{context};
 ghost use Rattle.markdown_engine.specs.Machine.{AreCuts};
 ghost use Rattle.markdown_engine.specs.Order.{AreInOrder, IsBalanced};
-ghost use Rattle.state_parser.specs.Labels.{with_labels};
+ghost use Rattle.state_parser.specs.Definitions.{with_labels};
 ghost use Rattle.state_parser.specs.Refusal.{IsRefusal, IsUnreadable};
+ghost use Rattle.state_parser.specs.WholeParts.{ArePlaced, end_of};
 
 use crate::blocks::read_blocks;
 use crate::labels::defined_labels;
@@ -13,7 +14,7 @@ use crate::starts::starts;
 use crate::texts::read_texts;
 use markdown_engine::event::{Event, Name};
 use markdown_engine::place::{Point, START};
-use markdown_engine::{Message, ParseState};
+use markdown_engine::{Message, ParseState, are_places};
 use markdown_options::{ParseOptions, Tables};
 use state_resolvers::whole::is_whole;
 use std::alloc::{AllocError, Allocator, Global};
@@ -35,7 +36,9 @@ fn define<T: Tables, A: Allocator + Clone>(
     parse_state: &mut ParseState<'_, T, A>,
     alloc: &A,
     events: &[Event],
-) -> Result<(), AllocError> {
+) -> Result<(), AllocError>
+    ensures { OnOk result (context parse_state.new ≡ with_labels events.now (context parse_state.old)) }
+{
     let bytes = parse_state.bytes;
     parse_state.definitions = defined_labels(alloc, bytes, events, Name::DefinitionLabelString)?;
     let name = Name::GfmFootnoteDefinitionLabelString;
@@ -56,24 +59,39 @@ fn read_rest<T: Tables, A: Allocator + Clone>(
     read_texts(events, parse_state, &starts)
 }
 
-/// Where the last event is.
-fn end_of(events: &[Event]) -> Point {
+/// Where the last event is, or where a text starts.
+fn end_of(events: &[Event]) -> Point
+    ensures { result ≡ end_of events.now }
+{
     match events.last() {
         Some(event) => event.point(),
         None => START,
     }
 }
 
-/// These events, if they are whole.
+/// Whether each event is at a place of the text, and the last at its end.
+fn are_placed(bytes: &[u8], events: &[Event]) -> bool
+    ensures { IsTrue result ↔ ArePlaced bytes.now events.now }
+{
+    are_places(bytes, events) && end_of(events).index == bytes.len()
+}
+
+/// These events, if they are whole: balanced, in order, each at a place of the text, and the last at
+/// its end.
 #[tactic(auto, using(crate::specs::WholeParts::whole_balanced, crate::specs::WholeParts::whole_in_order))]
 fn whole_events<A: Allocator + Clone>(
     alloc: A,
+    bytes: &[u8],
     events: Vec<Event, A>,
 ) -> Result<Option<Vec<Event, A>>, Message>
     ensures balanced { IfOk result (λ found. IfSome found (λ events. IsBalanced events.items)) }
     ensures order { IfOk result (λ found. IfSome found (λ events. AreInOrder events.items)) }
+    ensures placed { IfOk result (λ found. IfSome found (λ events. ArePlaced bytes.now events.items)) }
     ensures memory { IfErr result IsOutOfMemory }
 {
+    if !are_placed(bytes, &events) {
+        return Ok(None);
+    }
     if is_whole(alloc, &events, end_of(&events))? {
         Ok(Some(events))
     } else {
@@ -92,6 +110,7 @@ fn read<T: Tables>(
     requires { AreCuts (0, 0) cuts.now (length text.now) }
     ensures balanced { IfOk result (λ found. IfSome found (λ events. IsBalanced events.items)) }
     ensures order { IfOk result (λ found. IfSome found (λ events. AreInOrder events.items)) }
+    ensures placed { IfOk result (λ found. IfSome found (λ events. ArePlaced text.now events.items)) }
     ensures memory { IfErr result IsOutOfMemory }
 {
     let mut parse_state = ParseState::new(alloc, text.as_bytes(), options, tables)?;
@@ -101,7 +120,7 @@ fn read<T: Tables>(
     if !read_rest(&alloc, &mut parse_state, &mut events)? {
         return Ok(None);
     }
-    whole_events(alloc, events)
+    whole_events(alloc, text.as_bytes(), events)
 }
 
 /// Returns the events of a text by the machines, as `parse_by_machines`. The machine of documents reads
@@ -117,6 +136,7 @@ pub fn parse_in_ranges<T: Tables>(
     requires { AreCuts (0, 0) cuts.now (length text.now) }
     ensures balanced { IfOk result (λ events. IsBalanced events.items) }
     ensures order { IfOk result (λ events. AreInOrder events.items) }
+    ensures placed { IfOk result (λ events. ArePlaced text.now events.items) }
     ensures err { IfErr result IsRefusal }
 {
     match read(alloc, text, options, tables, cuts)? {
@@ -128,9 +148,10 @@ pub fn parse_in_ranges<T: Tables>(
 /// Returns the events of a text by the machines: containers and flow line by line, then lists, headings,
 /// tables, paragraphs with their definitions, and what is in them.
 ///
-/// Each event ends inside the one it began in, and none is before the one before it. What states or
-/// resolvers leave is tested as events are put together. If such a test fails, the call returns a
-/// message with the rule `events`: that this never happens is only tested.
+/// Each event ends inside the one it began in, and none is before the one before it. Each is at a
+/// place of the text, and the last at its end. What states or resolvers leave is tested as events are
+/// put together. If such a test fails, the call returns a message with the rule `events`: that this
+/// never happens is only tested.
 ///
 /// The allocator is `Global`, since `FlowReader` has no other.
 pub fn parse_by_machines<T: Tables>(
@@ -141,6 +162,7 @@ pub fn parse_by_machines<T: Tables>(
 ) -> Result<Vec<Event>, Message>
     ensures balanced { IfOk result (λ events. IsBalanced events.items) }
     ensures order { IfOk result (λ events. AreInOrder events.items) }
+    ensures placed { IfOk result (λ events. ArePlaced text.now events.items) }
     ensures err { IfErr result IsRefusal }
 {
     parse_in_ranges(alloc, text, options, tables, &[])

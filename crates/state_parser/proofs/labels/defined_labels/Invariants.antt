@@ -1,7 +1,8 @@
-use Rattle.std.proofs.Common.{◌≡◌}
-use Rattle.state_parser.specs.Labels.{found_before, labels_view}
+use Rattle.std.proofs.Common.{◌≡◌, ◌++◌, drop, map, string_bytes}
+use Rattle.state_parser.specs.Labels.{defined_labels}
 use Rattle.state_parser.proofs.labels.defined_labels.Given as goal
 
--- what is found is that up to the index
+-- the labels of the events that are left follow
 abbrev pub invariant-loop-index : goal.invariant-loop-index
-invariant-loop-index g l = labels_view l.labels ≡ found_before l.bytes l.events l.name l.index
+invariant-loop-index g l =
+    map string_bytes l.labels.items ++ defined_labels l.bytes l.name (drop l.index l.events) ≡ defined_labels l.bytes l.name l.events

@@ -1,8 +1,8 @@
-use Rattle.std.proofs.Common.{◌≡◌, false, [], drop}
+use Rattle.std.proofs.Common.{◌≡◌, [], drop}
 use Rattle.std.specs.List.{fold}
-use Rattle.state_parser.specs.Starts.{with_event}
+use Rattle.state_parser.specs.Starts.{marked, start_indices}
 use Rattle.state_parser.proofs.starts.starts.Given as goal
 
--- the events that are left lead on from here as all do from the start
-abbrev pub invariant-loop-event : goal.invariant-loop-event
-invariant-loop-event g l = fold with_event (l.all.items, l.first) (drop l.event-index l.events) ≡ fold with_event ([], false) l.events
+-- the indices that are left lead on from here as all do from the start
+abbrev pub invariant-loop-index : goal.invariant-loop-index
+invariant-loop-index g l = fold marked l.marks.items (start_indices (drop l.index l.events)) ≡ fold marked [] (start_indices l.events)
