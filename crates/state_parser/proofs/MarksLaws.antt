@@ -1,5 +1,5 @@
 -- Which indices are marked.
-use Rattle.std.proofs.Common.{◌≡◌, ◌∙◌, ◌⊎◌, inl, inr, ⊎_elim, ℕ, ◌+◌, ◌-◌, ◌<◌, ◌≤◌, zero, suc, Bool, true, false, ltb, if◌then◌else◌, List, []}
+use Rattle.std.proofs.Common.{◌≡◌, ◌∙◌, ◌⊎◌, inl, inr, ⊎_elim, ℕ, ◌+◌, ◌-◌, ◌<◌, zero, suc, Bool, true, false, ltb, if◌then◌else◌, List, []}
 use Rattle.std.proofs.Common.{◌∷◌, ◌++◌}
 use Rattle.std.proofs.Common.{length, replicate, get_or, refl, sym, ap, arith}
 use Rattle.std.specs.Prelude.{Contains, slice_set}
@@ -8,7 +8,7 @@ use Rattle.std.proofs.lemmas.Bool.{cases_eq, ltb-true, ltb-false}
 use Rattle.std.proofs.lemmas.List.{get_or-set_same, get_or-set_other}
 use Rattle.std.proofs.lemmas.List.Elements.{Contains-append_right}
 use Rattle.std.proofs.lemmas.Option.{unwrap_or-slice_get}
-use Rattle.state_parser.specs.Starts.{AreMarked, is_marked, marked}
+use Rattle.state_parser.specs.Starts.{AreMarked, marked}
 
 -- ---- one mark
 

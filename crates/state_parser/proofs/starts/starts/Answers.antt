@@ -1,4 +1,4 @@
-use Rattle.std.proofs.Common.{◌∙◌, [], List, sym, arith}
+use Rattle.std.proofs.Common.{◌∙◌, List, sym, arith}
 use Rattle.std.specs.List.{fold}
 use Rattle.std.proofs.lemmas.List.{at_drop_all}
 use Rattle.engine_events.specs.declared.event.Event.{Event}
