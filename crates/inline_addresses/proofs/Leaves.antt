@@ -1,7 +1,8 @@
 -- A leaf is a byte of text, which makes a run longer, or it ends a run.
 use Rattle.std.proofs.Common.{◌≡◌, ℕ, suc, true, false, Bool, List, [], ◌∷◌, ◌++◌, Option, None, Some, refl, ap, ap₂, ◌∙◌, map, cond, eqb, inl, inr}
-use Rattle.inline_addresses.proofs.Prelude.{append-nil, cases_Bool, Cons, Data, data_rows, Each, flat_map, InlineLeaf, Inlines, Leaf, leaf_or_byte, leaf_without}
-use Rattle.inline_addresses.proofs.Prelude.{line_leaf, lines_rows, Literal, literal_text, Part, part_text, parts_of, row_linked, run_linked, with_literals}
+use Rattle.inline_addresses.proofs.Prelude.{append-nil, cases_Bool, Cons, Data, data_rows, Each, flat_map, InlineLeaf, Inlines, Leaf, leaf_or_byte}
+use Rattle.inline_addresses.proofs.Prelude.{leaf_without, line_leaf, lines_rows, Literal, literal_text, Part, part_text, parts_of, row_linked}
+use Rattle.inline_addresses.proofs.Prelude.{run_linked, with_literals}
 use Rattle.std.proofs.lemmas.Bool.{true≢false}
 use Rattle.definition_text.proofs.Each.{each_map}
 use Rattle.definition_inline.specs.GfmAutolinkLiteral.{addresses_before}

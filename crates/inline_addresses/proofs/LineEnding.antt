@@ -80,11 +80,12 @@ feed_ahead text rest later size at ends same =
     ∙ ap (drop at) (same ∙ ap (λ l. l ++ later) split ∙ append_assoc line (10 ∷ more) later)
     ∙ drop_at line (10 ∷ (more ++ later)) at (length-take-le at rest (omega (arith, ends.within)))
 
--- the places within
+-- what is left is within the text
 pub feed_within : (text rest later : List ℕ) (size : ℕ) → size ≤ length text → drop size text ≡ rest ++ later → size + length rest ≤ length text
 feed_within text rest later size within same =
     omega (arith, within, sym (length-drop size text) ∙ ap length same ∙ length-append rest later)
 
+-- the LF comes next after the line
 pub feed_next : (text rest later : List ℕ) (size at : ℕ) → size + length rest ≤ length text → EndsLine rest at → drop size text ≡ rest ++ later
     → IsNext text (size + at) (10 ∷ [])
 feed_next text rest later size at within ends same = record {
@@ -97,6 +98,7 @@ pub next_split : (text : List ℕ) (size : ℕ) (next : List ℕ) → IsNext tex
 next_split text size next is =
     sym (take-append-drop (length next) (drop size text)) ∙ ap (λ l. l ++ drop (length next) (drop size text)) is.same
 
+-- what comes after all that is left
 pub left_over : (text rest later : List ℕ) (size : ℕ) → drop size text ≡ rest ++ later → drop (size + length rest) text ≡ later
 left_over text rest later size same = sym (drop-drop (length rest) size text) ∙ ap (drop (length rest)) same ∙ drop_at rest later (length rest) refl
 

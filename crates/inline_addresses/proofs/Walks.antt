@@ -20,6 +20,7 @@ use Rattle.inline_addresses.proofs.Rows.{no_run}
 
 -- ---- rows of verbatim text
 
+-- a text is there
 pub some_text : {text : List ℕ} → Some text ≡ None → ⊥
 some_text {text} e = let wrong : Some text ≡ None = e in cc
 
