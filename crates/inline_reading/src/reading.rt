@@ -4,7 +4,7 @@
 //! first. Where a label forms something, the row of its start becomes the start of a link or an
 //! image, and the runs after it are told apart. The runs that are left are told apart at the end.
 ghost use Rattle.std.specs.Prelude.{◌≡◌, OnOk, IfOk};
-ghost use Rattle.std.specs.Prelude.{ℕ, false, List, ◌∷◌, ◌++◌, [], length, replicate};
+ghost use Rattle.std.specs.Prelude.{ℕ, false, List, ◌∷◌, ◌++◌, [], length, map, replicate};
 ghost use Rattle.definition_text.specs.Content.{content_codes};
 ghost use Rattle.definition_inline.specs.Inline.{Target, LinkTexts};
 ghost use Rattle.definition_inline.specs.LabelEnd.{LinkTail, Leads, Calls};
@@ -14,7 +14,7 @@ ghost use Rattle.definition_inline.specs.Scan.{read_tokens, whole_text};
 ghost use Rattle.definition_inline.specs.Spans.{Delimiters, Token, with_spans};
 ghost use Rattle.inline_leaves.specs.Leaves.{leaf_items, parts_of, text_items};
 ghost use Rattle.inline_runs.specs.View.{run_view};
-ghost use Rattle.inline_rows.specs.View.{rows_view, target_texts};
+ghost use Rattle.inline_rows.specs.View.{line_leaf, rows_view, target_texts};
 ghost use Rattle.inline_rows.specs.declared.row.InlineRow.{InlineRow as SeenRow};
 ghost use Rattle.inline_rows.specs.Container.{IsContainer, AreTold, AreWithin};
 ghost use Rattle.inline_links.specs.Codes.{IsRest};
@@ -115,12 +115,12 @@ impl<'a, A: Allocator> Reading<'a, A> {
         Ok(())
     }
 
-    /// Text that is printed as it is.
+    /// Text that is printed as it is, in which an LF is a soft line break.
     pub fn verbatim(&mut self, verbatim: VerbatimText<'a>) -> Result<(), AllocError>
         requires sound { IsSound self.old }
         ensures sound { OnOk result (IsSound self.new) }
         ensures from { KeepsStarts self.old result self.new }
-        ensures read { ShowsThen self.old result self.new (read_tokens (text_items verbatim.entry.text.now)) }
+        ensures read { ShowsThen self.old result self.new (read_tokens (leaf_items (map line_leaf verbatim.entry.text.now))) }
     {
         self.rows.push(InlineRow::Verbatim(verbatim))?;
         Ok(())

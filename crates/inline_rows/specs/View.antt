@@ -1,6 +1,7 @@
 -- Rows as the definition has them.
-use Rattle.std.specs.Prelude.{ℕ, List, [], ◌∷◌, map}
+use Rattle.std.specs.Prelude.{ℕ, if◌then◌else◌, ◌==◌, List, [], ◌∷◌, map}
 use Rattle.std.specs.List.{flat_map}
+use Rattle.definition_text.specs.Ascii.{line_feed}
 use Rattle.definition_text.specs.Content.{content_codes}
 use Rattle.definition_inline.specs.CodeText.{without_padding}
 use Rattle.definition_inline.specs.Inline as inline
@@ -24,6 +25,14 @@ target_texts at (Definition place) = at place
 abbrev pub data_rows : List ℕ → List rows.InlineRow
 data_rows bytes = map rows.Part (map inline.Data bytes)
 
+-- what a byte of verbatim text is: an LF is a soft line break (CommonMark 6.8)
+abbrev pub line_leaf : ℕ → inline.InlineLeaf
+line_leaf byte = if byte == line_feed then inline.LineEnd line_feed else inline.Data byte
+
+-- the rows of verbatim text
+abbrev pub lines_rows : List ℕ → List rows.InlineRow
+lines_rows bytes = map rows.Part (map line_leaf bytes)
+
 -- what a construct is that events spell
 abbrev pub spelled_view : SpelledLeaf → inline.InlineLeaf
 spelled_view (spelled.Code text) = inline.Code (without_padding text.now)
@@ -33,7 +42,7 @@ spelled_view (spelled.Check done) = inline.TaskCheck done
 -- the definition's rows that a row stands for
 abbrev pub row_view : (ℕ → inline.LinkTexts) → InlineRow → List rows.InlineRow
 row_view at (Text text) = data_rows text.now
-row_view at (Verbatim verbatim) = data_rows verbatim.text.now
+row_view at (Verbatim verbatim) = lines_rows verbatim.text.now
 row_view at (Leaf part) = map rows.Part (parts_of part)
 row_view at (Spelled leaf) = rows.Part (spelled_view leaf) ∷ []
 row_view at (EnterSpan span) = rows.EnterSpan (span_view span) ∷ []

@@ -17,7 +17,8 @@ pub enum LinkTarget<'a> {
     Definition(usize),
 }
 
-/// Text that is printed as it is: it has no NUL, `"`, `&`, `<` and `>`.
+/// Text that is printed as it is: it has no NUL, `"`, `&`, `<` and `>`. An LF in it is a soft line break
+/// (CommonMark 6.8).
 #[derive(Clone, Copy)]
 pub struct VerbatimText<'a> {
     /// Its bytes.
@@ -44,7 +45,7 @@ pub enum SpelledLeaf<'a> {
 pub enum InlineRow<'a> {
     /// Bytes that are text.
     Text(&'a str),
-    /// Bytes that are text, and are printed as they are.
+    /// Bytes that are text or soft line breaks, and are printed as they are.
     Verbatim(VerbatimText<'a>),
     /// A construct that holds no other.
     Leaf(LeafPart<'a>),
