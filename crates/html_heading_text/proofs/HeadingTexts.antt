@@ -1,13 +1,14 @@
 -- What rows say in a heading, one after another, is what their inline structure says.
-use Rattle.std.proofs.Common.{◌≡◌, ◌<◌, ◌+◌, ◌-◌, ℕ, zero, suc, List, [], ◌∷◌, ◌++◌, map, refl, sym, ap, ◌∙◌, append_assoc, arith, eqb, get_or, length}
+use Rattle.std.proofs.Common.{◌≡◌, ◌<◌, ◌+◌, ◌-◌, ℕ, zero, suc, List, [], ◌∷◌, ◌++◌, map, refl, sym, ap, ◌∙◌, append_assoc, arith, get_or, length}
 use Rattle.std.specs.Prelude.{◌≢◌}
 use Rattle.std.specs.List.{flat_map, fold}
-use Rattle.std.proofs.lemmas.Bool.{cond-false, ne_eqb}
-use Rattle.std.proofs.lemmas.List.{append-nil, map-append}
+use Rattle.std.proofs.lemmas.Bool.{ne_eqb}
+use Rattle.std.proofs.lemmas.List.{append-nil}
 use Rattle.std.proofs.lemmas.List.Concat.{flat_map-append}
 use Rattle.definition_text.specs.Encode.{plain_byte, plain}
 use Rattle.definition_inline.specs.Inline.{InlineLeaf, Data, Escape, LineEnd, Target, LinkTexts, Link, Image}
 use Rattle.definition_inline.specs.Inline.{Inline, Leaf, Span, Linked, Call, Inlines, Nil, Cons}
+use Rattle.inline_rows.proofs.LineEnding.{byte_leaf, leaves_joined}
 use Rattle.inline_rows.specs.InlineRows as spec
 use Rattle.inline_rows.specs.InlineRows.{Part, Leave, part_rows, inline_rows}
 use Rattle.inline_rows.specs.View.{data_rows, line_leaf, row_view, rows_view, spelled_view}
@@ -135,8 +136,7 @@ module _ (endings : Endings) where
   pub line_said : (line : List ℕ) → HasNoFeed line → lines_say endings line ≡ plain line
   line_said [] none = refl
   line_said (b ∷ bs) none =
-      let is : line_leaf b ≡ Data b = cond-false (eqb b 10) (LineEnd 10) (Data b) (ne_eqb b 10 (none zero (omega arith))) in
-      ap (λ (leaf : InlineLeaf). leaf_says endings leaf ++ lines_say endings bs) is
+      ap (λ (leaf : InlineLeaf). leaf_says endings leaf ++ lines_say endings bs) (byte_leaf b (ne_eqb b 10 (none zero (omega arith))))
       ∙ ap (λ (s : List ℕ). plain_byte b ++ s) (line_said bs (λ k lt. none (suc k) (omega arith)))
 
   -- up to the first LF in it
@@ -144,7 +144,7 @@ module _ (endings : Endings) where
       → lines_say endings text ≡ plain line ++ (ending_says endings 10 ++ lines_say endings others)
   lines_said text line others is none =
       ap (lines_say endings) is
-      ∙ ap (flat_map (leaf_says endings)) (map-append line_leaf line (10 ∷ others))
+      ∙ ap (flat_map (leaf_says endings)) (leaves_joined line (10 ∷ others))
       ∙ flat_map-append (leaf_says endings) (map line_leaf line) (map line_leaf (10 ∷ others))
       ∙ ap (λ (s : List ℕ). s ++ lines_say endings (10 ∷ others)) (line_said line none)
 

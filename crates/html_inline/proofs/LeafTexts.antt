@@ -1,8 +1,9 @@
 -- Bytes as leaves, and what these print.
 use Rattle.std.proofs.Common.{◌≡◌, Bool, true, false, ℕ, List, [], ◌∷◌, ◌++◌, eqb, inl, inr, refl, sym, ap, ◌∙◌}
-use Rattle.html_inline.proofs.Prelude.{append-nil, cases_Bool, CompileOptions, cond-false, cond-true, Data, encode, encoded_byte, eqb-true, Escape, flat_map}
+use Rattle.html_inline.proofs.Prelude.{append-nil, cases_Bool, CompileOptions, cond-true, Data, encode, encoded_byte, eqb-true, Escape, flat_map}
 use Rattle.html_inline.proofs.Prelude.{InlineLeaf, leaf_description, leaf_html, leaf_in, leaves_bytes, line_leaf, map, PrintedPart, said_bytes, say_bytes}
 use Rattle.definition_inline.specs.Inline.{LineEnd}
+use Rattle.inline_rows.proofs.LineEnding.{byte_leaf}
 use Rattle.definition_page.specs.Pieces.{Says}
 use Rattle.html_bytes.specs.Pieces.{piece_html}
 
@@ -21,7 +22,7 @@ line_shown cell shown byte ending b = elim (cases_Bool (eqb b 10)) [
   | inl h ↦
       ap (λ (leaf : InlineLeaf). shown (leaf_in cell leaf)) (cond-true (eqb b 10) (LineEnd 10) (Data b) h)
       ∙ ending ∙ ap (λ (n : ℕ). encode (n ∷ []) ++ []) (sym (eqb-true b 10 h))
-  | inr h ↦ ap (λ (leaf : InlineLeaf). shown (leaf_in cell leaf)) (cond-false (eqb b 10) (LineEnd 10) (Data b) h) ∙ byte b
+  | inr h ↦ ap (λ (leaf : InlineLeaf). shown (leaf_in cell leaf)) (byte_leaf b h) ∙ byte b
 ]
 
 module _ (cell : Bool) (options : CompileOptions) where
