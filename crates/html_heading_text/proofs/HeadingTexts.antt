@@ -1,18 +1,22 @@
 -- What rows say in a heading, one after another, is what their inline structure says.
-use Rattle.std.proofs.Common.{◌≡◌, ◌<◌, ◌+◌, ◌-◌, ℕ, zero, suc, List, [], ◌∷◌, ◌++◌, map, refl, sym, ap, ◌∙◌, append_assoc, arith}
+use Rattle.std.proofs.Common.{◌≡◌, ◌<◌, ◌+◌, ◌-◌, ℕ, zero, suc, List, [], ◌∷◌, ◌++◌, map, refl, sym, ap, ◌∙◌, append_assoc, arith, get_or, length}
+use Rattle.std.specs.Prelude.{◌≢◌}
 use Rattle.std.specs.List.{flat_map, fold}
+use Rattle.std.proofs.lemmas.Bool.{ne_eqb}
 use Rattle.std.proofs.lemmas.List.{append-nil}
+use Rattle.std.proofs.lemmas.List.Concat.{flat_map-append}
 use Rattle.definition_text.specs.Encode.{plain_byte, plain}
 use Rattle.definition_inline.specs.Inline.{InlineLeaf, Data, Escape, LineEnd, Target, LinkTexts, Link, Image}
 use Rattle.definition_inline.specs.Inline.{Inline, Leaf, Span, Linked, Call, Inlines, Nil, Cons}
+use Rattle.inline_rows.proofs.LineEnding.{byte_leaf, leaves_joined}
 use Rattle.inline_rows.specs.InlineRows as spec
 use Rattle.inline_rows.specs.InlineRows.{Part, Leave, part_rows, inline_rows}
-use Rattle.inline_rows.specs.View.{data_rows, row_view, rows_view, spelled_view}
+use Rattle.inline_rows.specs.View.{data_rows, line_leaf, row_view, rows_view, spelled_view}
 use Rattle.inline_rows.specs.declared.row.InlineRow.{InlineRow}
 use Rattle.inline_rows.specs.declared.row.InlineRow.TheVariants as row
 use Rattle.inline_leaves.specs.Leaves.{parts_of}
 use Rattle.definition_page.specs.HeadingText.{leaf_text, part_text, heading_text}
-use Rattle.html_heading_text.specs.HeadingLines.{heading_says, leaf_says, part_says}
+use Rattle.html_heading_text.specs.HeadingLines.{ending_says, heading_says, leaf_says, lines_say, part_says}
 use Rattle.html_heading_text.specs.HeadingRows.{one_less, one_more, row_says, rows_say, silent_after}
 use Rattle.html_heading_text.specs.declared.heading_text.Endings.{Endings}
 use Rattle.html_heading_text.specs.declared.heading_text.Endings.TheVariants.{Dropped}
@@ -60,6 +64,10 @@ one_more_zero (suc n) h = absurd (omega (arith, h))
 pub one_more_some : (n : ℕ) → 0 < n → n + 1 ≡ one_more n
 one_more_some zero h = absurd (omega (arith, h))
 one_more_some (suc n) h = omega arith
+
+-- without LF
+abbrev HasNoFeed : List ℕ → Type 0
+HasNoFeed text = (k : ℕ) → k < length text → get_or text k 0 ≢ 10
 
 module _ (endings : Endings) where
   -- ---- the rows of inline structure
@@ -124,6 +132,22 @@ module _ (endings : Endings) where
   pub data_said : (text : List ℕ) → flat_map (leaf_says endings) (map Data text) ≡ plain text
   data_said text = bytes_said Data (λ b. refl) text
 
+  -- verbatim text without LF
+  pub line_said : (line : List ℕ) → HasNoFeed line → lines_say endings line ≡ plain line
+  line_said [] none = refl
+  line_said (b ∷ bs) none =
+      ap (λ (leaf : InlineLeaf). leaf_says endings leaf ++ lines_say endings bs) (byte_leaf b (ne_eqb b 10 (none zero (omega arith))))
+      ∙ ap (λ (s : List ℕ). plain_byte b ++ s) (line_said bs (λ k lt. none (suc k) (omega arith)))
+
+  -- up to the first LF in it
+  pub lines_said : (text line others : List ℕ) → text ≡ line ++ (10 ∷ others) → HasNoFeed line
+      → lines_say endings text ≡ plain line ++ (ending_says endings 10 ++ lines_say endings others)
+  lines_said text line others is none =
+      ap (lines_say endings) is
+      ∙ ap (flat_map (leaf_says endings)) (leaves_joined line (10 ∷ others))
+      ∙ flat_map-append (leaf_says endings) (map line_leaf line) (map line_leaf (10 ∷ others))
+      ∙ ap (λ (s : List ℕ). s ++ lines_say endings (10 ∷ others)) (line_said line none)
+
   -- rows of constructs that hold no other
   pub parts_said : (ls : List InlineLeaf) → flat_map (row_says endings) (map Part ls) ≡ flat_map (leaf_says endings) ls
   parts_said [] = refl
@@ -147,7 +171,7 @@ module _ (endings : Endings) where
         → rows_say endings 0 (row_view at r ++ rest)
         ≡ flat_map (row_says endings) (row_view at r) ++ rows_say endings (fold silent_after 0 (row_view at r)) rest
     row_law (row.Text text) rest = parts_law (map Data text.now) rest
-    row_law (row.Verbatim verbatim) rest = parts_law (map Data verbatim.text.now) rest
+    row_law (row.Verbatim verbatim) rest = parts_law (map line_leaf verbatim.text.now) rest
     row_law (row.Leaf part) rest = parts_law (parts_of part) rest
     row_law (row.Spelled leaf) rest = parts_law (spelled_view leaf ∷ []) rest
     row_law (row.EnterSpan span) rest = refl
@@ -160,7 +184,7 @@ module _ (endings : Endings) where
     pub row_silent : (r : InlineRow) (n : ℕ) (rest : List spec.InlineRow)
         → rows_say endings (suc n) (row_view at r ++ rest) ≡ rows_say endings (fold silent_after (suc n) (row_view at r)) rest
     row_silent (row.Text text) n rest = parts_silent (map Data text.now) n rest
-    row_silent (row.Verbatim verbatim) n rest = parts_silent (map Data verbatim.text.now) n rest
+    row_silent (row.Verbatim verbatim) n rest = parts_silent (map line_leaf verbatim.text.now) n rest
     row_silent (row.Leaf part) n rest = parts_silent (parts_of part) n rest
     row_silent (row.Spelled leaf) n rest = refl
     row_silent (row.EnterSpan span) n rest = refl

@@ -12,7 +12,7 @@ ghost use Rattle.html_escape.specs.Prints.{Prints};
 ghost use Rattle.inline_leaves.specs.Leaves.{parts_of};
 ghost use Rattle.inline_rows.specs.InlineRows.{inline_rows};
 ghost use Rattle.inline_rows.specs.View.{row_view, rows_view, spelled_view};
-ghost use Rattle.html_heading_text.specs.HeadingLines.{ending_says, heading_lines, leaf_says};
+ghost use Rattle.html_heading_text.specs.HeadingLines.{ending_says, heading_lines, leaf_says, lines_say};
 ghost use Rattle.html_heading_text.specs.HeadingRows.{one_more, row_says, rows_say, silent_after};
 
 use crate::character_reference::push_number;
@@ -118,7 +118,7 @@ fn push_row<A: Allocator>(
 {
     match row {
         InlineRow::Text(text) => push_raw(out, text, false),
-        InlineRow::Verbatim(verbatim) => push_raw(out, verbatim.text, false),
+        InlineRow::Verbatim(verbatim) => push_lines(out, endings, verbatim.text),
         InlineRow::Leaf(part) => push_part(out, room, endings, part),
         InlineRow::Spelled(leaf) => push_spelled(out, leaf),
         InlineRow::EnterSpan(_) => Ok(()),
@@ -127,6 +127,23 @@ fn push_row<A: Allocator>(
         InlineRow::Call(_) => Ok(()),
         InlineRow::Exit => Ok(()),
     }
+}
+
+/// Appends what verbatim text says, in which an LF is a line ending.
+fn push_lines<A: Allocator>(
+    out: &mut String<A>,
+    endings: Endings,
+    text: &str,
+) -> Result<(), AllocError>
+    ensures { Prints result out.old out.new (lines_say endings text.now) }
+{
+    let mut rest = text;
+    while let Some((line, others)) = rest.split_once('\n') {
+        push_raw(out, line, false)?;
+        push_ending(out, endings, LineEnding::LineFeed)?;
+        rest = others;
+    }
+    push_raw(out, rest, false)
 }
 
 /// Appends what a construct says that holds no other.

@@ -1,14 +1,15 @@
 -- What is open, and rows that are printed.
 use Rattle.std.proofs.Common.{◌≡◌, ℕ, Bool, true, false, List, [], ◌∷◌, ◌++◌, sym, ap, ◌∙◌, append_assoc, take, get_or, length, ◌+◌, ◌<◌}
 use Rattle.html_inline.proofs.Prelude.{append-nil, cond-false, cond-true, Data, data_rows, encode, enter, flat_map-append, fold, fold-append, InlineLeaf}
-use Rattle.html_inline.proofs.Prelude.{InlineRow, is_described, LayoutState, leaf_in, leaves_bytes, map, Meaning, new_part, OpenElement, OpenPart, printed_at}
-use Rattle.html_inline.proofs.Prelude.{PrintState, reverse, row_printed_in, row_view, rows_view, take_more, with_more, with_text}
+use Rattle.html_inline.proofs.Prelude.{InlineRow, is_described, LayoutState, leaf_in, leaves_bytes, line_leaf, lines_rows, map, Meaning, new_part}
+use Rattle.html_inline.proofs.Prelude.{OpenElement, OpenPart, printed_at, PrintState, reverse, row_printed_in, row_view, rows_view, take_more, with_more}
+use Rattle.html_inline.proofs.Prelude.{with_text}
 use Rattle.std.proofs.lemmas.List.{reverse-append}
 use Rattle.definition_inline.specs.Inline as inline
 use Rattle.inline_rows.specs.InlineRows as rows_of
 use Rattle.html_inline.specs.declared.stack.OpenPart.TheVariants.{Silent}
 use Rattle.html_inline.specs.Printed.{leaf_bytes, leave}
-use Rattle.html_inline.proofs.LeafTexts.{data_shown}
+use Rattle.html_inline.proofs.LeafTexts.{data_shown, lines_shown}
 
 -- one more stands on the stack
 pub stack_more : (view : OpenPart → OpenElement) (items : List OpenPart) (part : OpenPart)
@@ -67,6 +68,12 @@ module _ (cell : Bool) (meaning : Meaning) (stack : List OpenElement) where
   text_printed l text =
       leaves_printed (map Data text) l
       ∙ ap (λ s. printed_at (with_more l s) stack) (data_shown cell meaning.compile (is_described stack) text)
+
+  pub lines_printed : (l : LayoutState) (text : List ℕ)
+      → fold (row_printed_in cell meaning) (printed_at l stack) (lines_rows text) ≡ printed_at (with_more l (encode text)) stack
+  lines_printed l text =
+      leaves_printed (map line_leaf text) l
+      ∙ ap (λ s. printed_at (with_more l s) stack) (lines_shown cell meaning.compile (is_described stack) text)
 
 -- one more row
 pub rows_more : (cell : Bool) (meaning : Meaning) (at : ℕ → inline.LinkTexts) (start : PrintState) (rows : List InlineRow) (i : ℕ) (d : InlineRow)

@@ -34,7 +34,7 @@ pub use Rattle.inline_labels.specs.Table.{HasLabels}
 pub use Rattle.inline_leaves.proofs.Codes.{at_return, plain_code}
 pub use Rattle.inline_leaves.specs.Leaves.{parts_of}
 pub use Rattle.inline_rows.specs.InlineRows.{EnterLinked, EnterSpan, inline_rows, Leave, Part, part_rows}
-pub use Rattle.inline_rows.specs.View.{data_rows, row_view, rows_view, spelled_view, target_texts}
+pub use Rattle.inline_rows.specs.View.{data_rows, line_leaf, lines_rows, row_view, rows_view, spelled_view, target_texts}
 pub use Rattle.inline_rows.specs.declared.row.InlineRow.{InlineRow}
 pub use Rattle.markdown_compile_options.specs.declared.configuration.CompileOptions.{CompileOptions}
 pub use Rattle.markdown_options.specs.declared.line_ending.LineEnding.{LineEnding}

@@ -15,7 +15,7 @@ ghost use Rattle.inline_rows.specs.InlineRows as rows_of;
 ghost use Rattle.inline_runs.specs.View.{span_view};
 ghost use Rattle.inline_leaves.specs.Leaves.{parts_of};
 ghost use Rattle.inline_links.specs.View.{link_texts_view};
-ghost use Rattle.inline_rows.specs.View.{data_rows, row_view, rows_view, spelled_view, target_texts};
+ghost use Rattle.inline_rows.specs.View.{data_rows, lines_rows, row_view, rows_view, spelled_view, target_texts};
 ghost use Rattle.inline_rows.specs.declared.row.InlineRow.{InlineRow};
 ghost use Rattle.inline_rows.specs.declared.row.InlineRow.TheVariants.{Exit};
 ghost use Rattle.html_inline.specs.GfmTable.{parts_in_cell, leaf_in, row_printed_in};
@@ -99,13 +99,14 @@ fn push_plain<A: Allocator + Clone>(out: &mut Output<A>, text: &str) -> Result<(
     push_encoded(&mut out.html, text)
 }
 
-/// Prints a content that is text alone and is printed as it is, in a cell of a table or not.
+/// Prints a content that is verbatim text alone, which may have soft line breaks, in a cell of a
+/// table or not.
 fn push_verbatim<A: Allocator + Clone>(
     out: &mut Output<A>,
     verbatim: VerbatimText<'_>,
 ) -> Result<(), AllocError>
     ensures { (meaning : Meaning) (default : List ℕ) (cell : Bool) (is : inline.Inlines) →
-        data_rows verbatim.entry.text.now ≡ rows_of.inline_rows (leads_to meaning.definition) is →
+        lines_rows verbatim.entry.text.now ≡ rows_of.inline_rows (leads_to meaning.definition) is →
         OnOk result (output_view out.new
         ≡ fold (lay meaning.compile default) (output_view out.old) (in_bytes (inline_pieces meaning (parts_in_cell cell is)))) }
 {

@@ -1,6 +1,6 @@
 use Rattle.std.proofs.Common.{◌≡◌, sym, ap, ◌∙◌, subst}
-use Rattle.html_inline.proofs.Prelude.{append-nil, content_codes, count_at, first_match, fold, in_bytes, InlineRow, lay, normal_label, output_view, parts_of}
-use Rattle.html_inline.proofs.Prelude.{row_view, rows_counts}
+use Rattle.html_inline.proofs.Prelude.{append-nil, content_codes, count_at, first_match, fold, in_bytes, InlineRow, lay, line_leaf, map, normal_label}
+use Rattle.html_inline.proofs.Prelude.{output_view, parts_of, row_view, rows_counts}
 use Rattle.std.specs.Result.{OnOk}
 use Rattle.html_inline.proofs.Counts.{data_counts, leaves_counts}
 use Rattle.html_inline.proofs.count.count_row.Goals as goal
@@ -23,7 +23,8 @@ returns-in-Text g c = λ meaning at default held.
 pub returns-in-Verbatim : goal.returns-in-Verbatim
 returns-in-Verbatim g c = λ meaning at default held.
     sym (ap (λ (row : InlineRow). fold (lay meaning.compile default) (output_view c.args.out.now) (in_bytes (rows_counts meaning (row_view at row)))) c.in-Verbatim.is
-    ∙ ap (λ ps. fold (lay meaning.compile default) (output_view c.args.out.now) (in_bytes ps)) (data_counts meaning c.in-Verbatim.field-0.text.now))
+    ∙ ap (λ ps. fold (lay meaning.compile default) (output_view c.args.out.now) (in_bytes ps))
+    (leaves_counts meaning (map line_leaf c.in-Verbatim.field-0.text.now)))
 
 pub returns-in-Leaf : goal.returns-in-Leaf
 returns-in-Leaf g c = λ meaning at default held.

@@ -3,7 +3,7 @@ use Rattle.html_inline.proofs.Prelude.{call_row, content_codes, encode, fold, In
 use Rattle.html_inline.proofs.Prelude.{on_ok_weaker, OnOk, opened_view, output_view, parts_of, place_target, printed_at, reverse, row_printed_in, row_view}
 use Rattle.html_inline.proofs.Prelude.{spelled_view, with_text}
 use Rattle.html_inline.specs.Opens.{image_target}
-use Rattle.html_inline.proofs.OpenStack.{leaves_printed, text_printed}
+use Rattle.html_inline.proofs.OpenStack.{leaves_printed, lines_printed, text_printed}
 use Rattle.html_inline.proofs.rows.push_row.Goals as goal
 
 pub returns-in-Text : goal.returns-in-Text
@@ -36,7 +36,7 @@ returns-in-Verbatim g c = λ definition footnotes held.
     on_ok_weaker c.push_str.result
     (λ (e : string_bytes c.push_str.new.self ≡ out.text ++ verbatim.text.now).
     ap (λ x. printed_at (with_text out x) stack) (e ∙ ap (λ t. out.text ++ t) (sym verbatim.same))
-    ∙ sym (text_printed p.cell meaning stack out verbatim.text.now) ∙ ap row_is (sym c.in-Verbatim.is))
+    ∙ sym (lines_printed p.cell meaning stack out verbatim.text.now) ∙ ap row_is (sym c.in-Verbatim.is))
     printed
 
 pub returns-in-Leaf : goal.returns-in-Leaf
