@@ -18,6 +18,7 @@ pub mod Kids
 pub mod Fills
 pub mod LeavingAll
 pub mod Held
+pub mod Rules
 pub mod Runs
 pub mod Holes
 pub mod Plain
@@ -31,5 +32,6 @@ pub mod LiteralNames
 pub mod Places
 pub mod Behind
 pub mod InRows
+pub mod VerbatimLines
 pub mod Exits
 pub mod AllRows
