@@ -27,6 +27,7 @@ pub mod Labels
 pub mod LabelWritten
 pub mod Levels
 pub mod Calls
+pub mod Marks
 pub mod Sequences
 pub mod LiteralNames
 pub mod Places
