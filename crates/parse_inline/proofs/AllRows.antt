@@ -103,7 +103,8 @@ pub record IsOver {A : Type 0} (on : Constructs) (names : Names) (content : List
       → rows_view s.at rows ≡ inline_rows s.leads (inlines_from s.context from) → StandsInText s.text s.content s.bytes from s.stop first
       → AreDone s first held now
 
-pub goes_on : {A : Type 0} (on : Constructs) (names : Names) (content : List ℕ) (rows : List InlineRow) (i : ℕ) (row : InlineRow) (held after : List opened.Open)
+pub goes_on : {A : Type 0} (on : Constructs) (names : Names) (content : List ℕ) (rows : List InlineRow) (i : ℕ) (row : InlineRow)
+    (held after : List opened.Open)
     (first old new : Walk A) → drop i rows ≡ row ∷ drop (i + 1) rows → GoesOver on names content rows (drop i rows) held first old
     → PassesRow on names content row held after old new → GoesOver on names content rows (drop (i + 1) rows) after first new
 goes_on on names content rows i row held after first old new next g p = record {

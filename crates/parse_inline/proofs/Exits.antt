@@ -77,7 +77,8 @@ module _ {A : Type 0} (s : Setting) (first : Walk A) (others : List seen.InlineR
   abbrev LeavesIt : Span → ℕ → Type 0
   LeavesIt span size =
       (text front after : List ℕ) (stop : Stop) → size ≡ length front → list_any ends_line front ≡ false
-      → is_token (sequence_name span) front ≡ true → StandsInContent text (front ++ after) stop old → IsWhole old → LeavesSpan text span front after stop old new
+      → is_token (sequence_name span) front ≡ true → StandsInContent text (front ++ after) stop old → IsWhole old
+      → LeavesSpan text span front after stop old new
 
   span_over : (span : Span) (size : ℕ) (frame : Frame) (before : Inlines) (ls : List Level) → opens.Span span size ≡ held_of frame → LeavesIt span size
       → IsBefore frame before ls → IsInRows s first others kept new

@@ -62,7 +62,8 @@ module _ {A : Type 0} (s : Setting) (first : Walk A) where
     codes = codes;
   }
 
-  module _ (row : InlineRow) (others : List seen.InlineRow) (held : List opened.Open) (old new : Walk A) (st : IsInRows s first (row_view s.at row ++ others) held old) where
+  module _ (row : InlineRow) (others : List seen.InlineRow) (held : List opened.Open) (old new : Walk A)
+      (st : IsInRows s first (row_view s.at row ++ others) held old) where
     abbrev Found : Type 0
     Found = IsFirstLaid s.context s.leads row others (laid_levels st.levels) st.steps st.place []
 
@@ -74,7 +75,8 @@ module _ {A : Type 0} (s : Setting) (first : Walk A) where
     pub more_row : (js : Inlines) (ns : Nodes) (front after : List ℕ) → found.after ≡ laid_levels st.levels
         → filled (map hole_of st.levels) (append st.kids js) found.left ≡ s.is → AreLinkable (links st.levels) found.left → st.left ≡ front ++ after
         → WritesInContent s.text front ns after s.stop old new → IsWhole new → AreBytesAt after found.next
-        → AreAlike s.context s.text (in_link (links st.levels)) js ns → ArePlain ns → FillsText front ns → AreSound s.context.options.constructs s.context.names s.text ns
+        → AreAlike s.context s.text (in_link (links st.levels)) js ns → ArePlain ns → FillsText front ns
+        → AreSound s.context.options.constructs s.context.names s.text ns
         → IsInRows s first others held new
     more_row js ns front after open_same tree linkable both writes whole codes alike plain fill sound = record {
       levels = st.levels;
@@ -95,7 +97,8 @@ module _ {A : Type 0} (s : Setting) (first : Walk A) where
     -- leaves
     pub leaves_row : (ls : List InlineLeaf) (ns : Nodes) (front after : List ℕ) → found.after ≡ laid_levels st.levels → AreHeld ls st.steps found.left
         → st.left ≡ front ++ after → WritesInContent s.text front ns after s.stop old new → IsWhole new → AreBytesAt after found.next
-        → AreAlike s.context s.text (in_link (links st.levels)) (leaves ls) ns → ArePlain ns → FillsText front ns → AreSound s.context.options.constructs s.context.names s.text ns
+        → AreAlike s.context s.text (in_link (links st.levels)) (leaves ls) ns → ArePlain ns → FillsText front ns
+        → AreSound s.context.options.constructs s.context.names s.text ns
         → IsInRows s first others held new
     leaves_row ls ns front after open_same own both writes whole codes alike plain fill sound =
         more_row (leaves ls) ns front after open_same
@@ -126,7 +129,8 @@ module _ {A : Type 0} (s : Setting) (first : Walk A) where
 
     -- what a construct writes
     pub written_row : (ls : List InlineLeaf) (MayBe : Bool → Type 0) → found.after ≡ laid_levels st.levels → AreHeld ls st.steps found.left
-        → WritesLeaves s.context.options.constructs s.context.names s.text st.left MayBe ls found.next s.stop old new → MayBe (in_link (links st.levels)) → IsInRows s first others held new
+        → WritesLeaves s.context.options.constructs s.context.names s.text st.left MayBe ls found.next s.stop old new → MayBe (in_link (links st.levels))
+        → IsInRows s first others held new
     written_row ls MayBe open_same own w may =
         leaves_row ls w.nodes w.front w.after open_same own w.parts w.writes w.whole w.left (λ m m' meant. w.spells (in_link (links st.levels)) may m m')
         w.plain w.fill w.sound
@@ -142,8 +146,9 @@ module _ {A : Type 0} (s : Setting) (first : Walk A) where
   -- ---- constructs
 
   pub leaf_passes : (p : LeafPart) (others : List seen.InlineRow) (held : List opened.Open) (old new : Walk A) (content : List ℕ) → s.content ≡ content
-      → ((context : InlineContext) (text bytes : List ℕ) (from to : List InlineCode) (stop : Stop) → bytes ≡ drop old.place content → IsPartLaid context p from to
-      → AreBytesAt bytes from → StandsInContent text bytes stop old → IsWhole old → WritesPart context.options.constructs context.names text bytes p to stop old new)
+      → ((context : InlineContext) (text bytes : List ℕ) (from to : List InlineCode) (stop : Stop) → bytes ≡ drop old.place content
+      → IsPartLaid context p from to → AreBytesAt bytes from → StandsInContent text bytes stop old → IsWhole old
+      → WritesPart context.options.constructs context.names text bytes p to stop old new)
       → IsInRows s first (row_view s.at (rows.Leaf p) ++ others) held old → IsInRows s first others held new
   leaf_passes p others held old new content over does st =
       let f = found (rows.Leaf p) others held old new st in
@@ -164,8 +169,8 @@ module _ {A : Type 0} (s : Setting) (first : Walk A) where
       st.stands.whole) tt
 
   pub call_passes : (label : Bor (List ℕ)) (others : List seen.InlineRow) (held : List opened.Open) (old new : Walk A) (content : List ℕ) → s.content ≡ content
-      → ((from to : List InlineCode) (left : List ℕ) → AreCodes (call_codes (content_codes label.now)) from to → StandsInText s.text content left from s.stop old
-      → WritesCall s.context s.text (content_codes label.now) left to s.stop old new)
+      → ((from to : List InlineCode) (left : List ℕ) → AreCodes (call_codes (content_codes label.now)) from to
+      → StandsInText s.text content left from s.stop old → WritesCall s.context s.text (content_codes label.now) left to s.stop old new)
       → IsInRows s first (row_view s.at (rows.Call label) ++ others) held old → IsInRows s first others held new
   call_passes label others held old new content over does st =
       let f = found (rows.Call label) others held old new st in
@@ -177,7 +182,8 @@ module _ {A : Type 0} (s : Setting) (first : Walk A) where
 
   -- ---- starts
 
-  pub span_passes : (span : Span) (others : List seen.InlineRow) (held held_after : List opened.Open) (old new : Walk A) (content : List ℕ) → s.content ≡ content
+  pub span_passes : (span : Span) (others : List seen.InlineRow) (held held_after : List opened.Open) (old new : Walk A) (content : List ℕ)
+      → s.content ≡ content
       → ((text front after : List ℕ) (stop : Stop) → front ++ after ≡ drop old.place content → length front ≡ sequence_size span (front ++ after)
       → list_any ends_line front ≡ false → is_token (sequence_name span) front ≡ true → StandsInContent text (front ++ after) stop old → IsWhole old
       → EntersSpan text span front after stop old new × (held_after ≡ held ++ opens.Span span (length front) ∷ []))
@@ -266,7 +272,8 @@ module _ {A : Type 0} (s : Setting) (first : Walk A) where
   pub link_passes : (target : LinkTarget) (others : List seen.InlineRow) (held held_after : List opened.Open) (old new : Walk A)
       → ((after : List ℕ) → StandsInContent s.text (91 ∷ after) s.stop old → IsWhole old
       → EntersLabel s.text n.Link n.LabelLink (91 ∷ []) after s.stop old new)
-      → held_after ≡ held ++ opens.Link ∷ [] → IsInRows s first (row_view s.at (rows.EnterLink target) ++ others) held old → IsInRows s first others held_after new
+      → held_after ≡ held ++ opens.Link ∷ [] → IsInRows s first (row_view s.at (rows.EnterLink target) ++ others) held old
+      → IsInRows s first others held_after new
   link_passes target others held held_after old new does held_is st =
       let f = found (rows.EnterLink target) others held old new st in
       linked_passes Link (rows.EnterLink target) others held held_after old new st f f.here f.own does held_is
@@ -274,7 +281,8 @@ module _ {A : Type 0} (s : Setting) (first : Walk A) where
   pub image_passes : (target : LinkTarget) (others : List seen.InlineRow) (held held_after : List opened.Open) (old new : Walk A)
       → ((after : List ℕ) → StandsInContent s.text (33 ∷ 91 ∷ after) s.stop old → IsWhole old
       → EntersLabel s.text n.Image n.LabelImage (33 ∷ 91 ∷ []) after s.stop old new)
-      → held_after ≡ held ++ opens.Image ∷ [] → IsInRows s first (row_view s.at (rows.EnterImage target) ++ others) held old → IsInRows s first others held_after new
+      → held_after ≡ held ++ opens.Image ∷ [] → IsInRows s first (row_view s.at (rows.EnterImage target) ++ others) held old
+      → IsInRows s first others held_after new
   image_passes target others held held_after old new does held_is st =
       let f = found (rows.EnterImage target) others held old new st in
       linked_passes Image (rows.EnterImage target) others held held_after old new st f f.here f.own does held_is

@@ -27,7 +27,8 @@ pub(crate) fn push_verbatim<T: Tables, A: Allocator>(
 ) -> Result<(), AllocError>
     requires text { holds_text (still_open walk.old) ≡ true }
     ensures open { OnOk result (still_open walk.new ≡ still_open walk.old) }
-    ensures written { OnOk result (PassesLines reading.now.on.now (T.reference_of reading.now.tables.now) reading.now.content.now text.now [] walk.old walk.new) }
+    ensures written { OnOk result (PassesLines reading.now.on.now (T.reference_of reading.now.tables.now) reading.now.content.now text.now []
+        walk.old walk.new) }
 {
     let mut rest = text.as_bytes();
     'by_line: loop {
