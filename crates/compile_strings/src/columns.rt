@@ -1,12 +1,11 @@
 //! The columns of tabs that places cut (CommonMark 2.2).
 ghost use Rattle.std.specs.Prelude.{◌≡◌, ◌<◌, ◌≤◌, ℕ, List};
-ghost use Rattle.std.specs.List.{fold};
-ghost use Rattle.engine_events.specs.Columns.{mark_size};
-ghost use Rattle.event_grammar.specs.Phases.{phase_at, phase_on};
+ghost use Rattle.event_grammar.specs.Phases.{phase_at};
 ghost use Rattle.event_meaning.specs.Children.{columns_after};
 ghost use Rattle.compile_strings.specs.Columns.{AreCounted};
 
 use event_grammar::Spot;
+use event_grammar::phase::phase_after;
 
 /// An index whose column is known. Columns are counted on from it.
 #[derive(Clone, Copy)]
@@ -49,10 +48,9 @@ impl Columns {
     {
         let end = index.min(bytes.len());
         let known = self.up_to(end);
-        let start = known.index.max(mark_size(bytes)).min(end);
         *self = Columns {
             index: end,
-            phase: phase_past(&bytes[start..end], known.phase),
+            phase: phase_after(bytes, known.index, known.phase, end),
         };
         self.phase
     }
@@ -67,40 +65,5 @@ impl Columns {
         } else {
             Columns::new()
         }
-    }
-}
-
-/// The size of a byte order mark at the start of a text: 3, or 0 where there is none.
-fn mark_size(bytes: &[u8]) -> usize
-    ensures { result ≡ mark_size bytes.now }
-{
-    match bytes {
-        [0xEF, 0xBB, 0xBF, ..] => 3,
-        _ => 0,
-    }
-}
-
-/// The phase after some bytes.
-fn phase_past(bytes: &[u8], phase: u8) -> u8
-    requires { phase < 4 }
-    ensures phase { result ≡ fold phase_on phase bytes.now }
-    ensures small { result < 4 }
-{
-    let mut past = phase;
-    for byte in bytes {
-        past = phase_on(past, *byte);
-    }
-    past
-}
-
-/// The phase after a byte.
-fn phase_on(phase: u8, byte: u8) -> u8
-    requires { phase < 4 }
-    ensures phase { result ≡ phase_on phase byte }
-    ensures small { result < 4 }
-{
-    match byte {
-        b'\t' | b'\n' | b'\r' => 0,
-        _ => (phase + 1) % 4,
     }
 }

@@ -1,12 +1,11 @@
 //! Whether events lie in the text, between characters, and never go back.
 ghost use Rattle.std.specs.Prelude.{◌≡◌, ◌≤◌, ◌<◌, ◌&&◌, ℕ, List, length, true, take, nat_le, IfSome, is_some};
-ghost use Rattle.std.specs.List.{fold};
 ghost use Rattle.std.specs.Str.{is_utf8, IsUtf8};
-ghost use Rattle.engine_events.specs.Columns.{mark_size};
 ghost use Rattle.event_grammar.specs.Points.{IsFront, reaches, is_spot, is_column};
-ghost use Rattle.event_grammar.specs.Phases.{phase_at, phase_on, is_column_by};
+ghost use Rattle.event_grammar.specs.Phases.{phase_at, is_column_by};
 
 use event_grammar::Spot;
+use event_grammar::phase::phase_after;
 
 /// An index whose column is known: how many columns are between it and the tab stop before it.
 ///
@@ -108,8 +107,7 @@ fn known_at(bytes: &[u8], known: Known, to: Spot) -> Option<Known>
     ensures known { IfSome result (λ next. next.index ≤ to.index) }
     ensures phase { IfSome result (λ next. next.phase ≡ phase_at bytes.now next.index) }
 {
-    let start = known.index.max(mark_size(bytes)).min(to.index);
-    let next = phase_past(&bytes[start..to.index], known.phase);
+    let next = phase_after(bytes, known.index, known.phase, to.index);
     if is_column(bytes, to, next) {
         Some(Known {
             index: to.index,
@@ -133,39 +131,4 @@ fn is_column(bytes: &[u8], at: Spot, phase: u8) -> bool
     ensures { result ≡ is_column_by bytes.now at phase }
 {
     at.vs == 0 || at.index < bytes.len() && bytes[at.index] == b'\t' && at.vs < 4 - phase
-}
-
-/// The size of a byte order mark at the start of a text: 3, or 0 where there is none.
-fn mark_size(bytes: &[u8]) -> usize
-    ensures { result ≡ mark_size bytes.now }
-{
-    match bytes {
-        [0xEF, 0xBB, 0xBF, ..] => 3,
-        _ => 0,
-    }
-}
-
-/// The phase after some bytes.
-fn phase_past(bytes: &[u8], phase: u8) -> u8
-    requires { phase < 4 }
-    ensures phase { result ≡ fold phase_on phase bytes.now }
-    ensures small { result < 4 }
-{
-    let mut past = phase;
-    for byte in bytes {
-        past = phase_on(past, *byte);
-    }
-    past
-}
-
-/// The phase after a byte.
-fn phase_on(phase: u8, byte: u8) -> u8
-    requires { phase < 4 }
-    ensures phase { result ≡ phase_on phase byte }
-    ensures small { result < 4 }
-{
-    match byte {
-        b'\t' | b'\n' | b'\r' => 0,
-        _ => (phase + 1) % 4,
-    }
 }

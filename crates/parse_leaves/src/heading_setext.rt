@@ -30,7 +30,7 @@ use text_bytes::run;
 use text_pieces::Piece;
 
 /// A heading of these lines, with the underline on the line after them.
-#[tactic(auto, using(parse_output::proofs::Classes::blocks_may, parse_output::proofs::Classes::enters_in, parse_output::proofs::Classes::lines_in, parse_output::proofs::Classes::text_in), unfolding(parse_output::specs::Children::may_hold, parse_output::specs::Children::has_lines, parse_output::specs::Children::has_text))]
+#[tactic(auto, using(parse_output::proofs::Classes::headings), unfolding(parse_output::specs::Children::may_hold, parse_output::specs::Children::has_lines, parse_output::specs::Children::has_text))]
 pub fn push_setext_heading<'a, T: Tables, A: Allocator + Clone>(
     walk: &mut Walk<'_, A>,
     texts: &Texts<'a, '_, T, A>,

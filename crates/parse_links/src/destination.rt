@@ -60,7 +60,7 @@ fn push_inner<T: Tables, A: Allocator>(
 }
 
 /// A destination without brackets.
-#[tactic(auto, using(parse_output::proofs::Marks::same_self, parse_output::proofs::Classes::enters_in, parse_output::proofs::Classes::string_in, parse_output::proofs::Rows::held_row, parse_output::proofs::Rows::string_row))]
+#[tactic(auto, using(parse_output::proofs::Rows::string_parts))]
 fn push_raw<T: Tables, A: Allocator>(
     walk: &mut Walk<'_, A>,
     on: &Constructs,

@@ -79,3 +79,17 @@ text_lines marks holds = some_of marks (between_names ++ text_names) between_nam
 pub blocks_lines : (marks : List Mark) → holds_blocks marks ≡ true → holds_lines marks ≡ true
 unfolding holds_lines holds_blocks
 blocks_lines marks holds = some_of marks (between_names ++ block_names) between_names holds refl
+
+-- ---- what several functions look for
+
+-- a block with lines of its own
+pub ruleset line_blocks = (blocks_may, enters_in, lines_in)
+
+-- a heading, with lines and a text
+pub ruleset headings = (blocks_may, enters_in, lines_in, text_in)
+
+-- a part that holds lines, and stands among lines
+pub ruleset line_parts = (enters_in, lines_in, lines_may)
+
+-- a block with lines, and parts in it that hold lines
+pub ruleset part_blocks = (blocks_may, enters_in, lines_in, lines_may)

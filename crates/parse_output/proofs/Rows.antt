@@ -12,6 +12,8 @@ use Rattle.event_grammar.specs.Slots.{between_of, stands_between}
 use Rattle.event_grammar.specs.Grammar.{row, string_names, text_names}
 use Rattle.event_grammar.specs.Void.{is_empty, is_void}
 use Rattle.event_grammar.proofs.EveryName.{of_each, of_listed}
+use Rattle.parse_output.proofs.Classes.{enters_in, string_in}
+use Rattle.parse_output.proofs.Marks.{same_self}
 use Rattle.parse_output.specs.Children.{between_names, forms, has_lines, has_place, has_string, has_text, may_hold}
 
 -- a name without a row has none in any form
@@ -66,3 +68,8 @@ string_row own has = held_row own n.SpaceOrTab (of_listed (may_hold own) (betwee
 pub text_row : (own : Name) → has_text own ≡ true → is_void own ≡ false
 unfolding has_text
 text_row own has = held_row own n.SpaceOrTab (of_listed (may_hold own) (between_names ++ text_names) n.SpaceOrTab has refl)
+
+-- ---- what several functions look for
+
+-- a part that holds a string
+pub ruleset string_parts = (same_self, enters_in, string_in, held_row, string_row)

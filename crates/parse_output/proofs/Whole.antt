@@ -10,6 +10,8 @@ use Rattle.event_grammar.specs.Trees.{is_enter}
 use Rattle.event_grammar.specs.Void.{is_void}
 use Rattle.event_tokens.specs.Shape.{is_cut, no_neighbours, none_after}
 use Rattle.parse_output.specs.declared.draft.Draft.TheVariants as draft
+use Rattle.parse_output.proofs.Drafted.{set_child, unmatched_set}
+use Rattle.parse_output.proofs.Forests.{end_set}
 use Rattle.parse_output.specs.Drafts.{unmatched_in}
 use Rattle.parse_output.specs.Forest.{drafts_events}
 use Rattle.parse_output.specs.Whole.{both_data, DataIsWhole, DraftsAreWhole, ends_in_data, is_data, may_be_next}
@@ -217,3 +219,6 @@ pub events_whole : (text : List ℕ) (ds : List Draft) (es : List Event) → es 
     → unmatched_in ds ≡ [] → DataIsWhole es
 events_whole text ds es is order whole none =
     ap (no_neighbours is_cut) is ∙ drafts_whole text first_end ds order whole (exits_fit text first_end ds [] order refl none)
+
+-- data in place of the last draft
+pub ruleset longer_data = (unmatched_set, set_child, end_set, set_whole, first_next, after_other)

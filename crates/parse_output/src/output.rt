@@ -110,7 +110,7 @@ impl<A: Allocator> Output<A> {
     }
 
     /// Data up to a place, as one with data that ends here.
-    #[tactic(auto, using(crate::proofs::Drafted::unmatched_set, crate::proofs::Drafted::set_child, crate::proofs::Forests::end_set, crate::proofs::Whole::set_whole, crate::proofs::Whole::first_next, crate::proofs::Whole::after_other))]
+    #[tactic(auto, using(crate::proofs::Whole::longer_data))]
     pub fn data(&mut self, end: End) -> Result<(), AllocError>
         requires child { may_enter (open_in self.old) Data ≡ true }
         ensures open { OnOk result (open_in self.new ≡ open_in self.old) }

@@ -104,7 +104,7 @@ pub fn push_unclosed_code<T: Tables, A: Allocator + Clone>(
 }
 
 /// The start of fenced code or math: its fence, and so many lines. Returns the names.
-#[tactic(auto, using(crate::proofs::Fences::block_child, parse_output::proofs::Classes::blocks_may, parse_output::proofs::Classes::enters_in, parse_output::proofs::Classes::lines_in, parse_output::proofs::Classes::lines_may, parse_output::proofs::Rows::held_row))]
+#[tactic(auto, using(crate::proofs::Fences::block_child, parse_output::proofs::Classes::part_blocks, parse_output::proofs::Rows::held_row))]
 fn push_open<T: Tables, A: Allocator + Clone>(
     walk: &mut Walk<'_, A>,
     texts: &Texts<'_, '_, T, A>,

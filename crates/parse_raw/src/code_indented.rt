@@ -15,7 +15,7 @@ use parse_lines::Walk;
 use std::alloc::{AllocError, Allocator};
 
 /// Indented code of so many lines.
-#[tactic(auto, using(parse_output::proofs::Classes::blocks_may, parse_output::proofs::Classes::enters_in, parse_output::proofs::Classes::lines_in), unfolding(parse_output::specs::Children::may_hold, parse_output::specs::Children::has_lines))]
+#[tactic(auto, using(parse_output::proofs::Classes::line_blocks), unfolding(parse_output::specs::Children::may_hold, parse_output::specs::Children::has_lines))]
 pub fn push_indented_code<A: Allocator>(
     walk: &mut Walk<'_, A>,
     count: usize,

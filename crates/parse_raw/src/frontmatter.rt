@@ -18,7 +18,7 @@ use parse_lines::Walk;
 use std::alloc::{AllocError, Allocator};
 
 /// Frontmatter, whose lines come next: the lines of this text. The ending of the last one follows it.
-#[tactic(auto, using(parse_output::proofs::Classes::enters_in, parse_output::proofs::Classes::lines_in, parse_output::proofs::Classes::lines_may), unfolding(parse_output::specs::Children::may_hold, parse_output::specs::Children::has_lines))]
+#[tactic(auto, using(parse_output::proofs::Classes::line_parts), unfolding(parse_output::specs::Children::may_hold, parse_output::specs::Children::has_lines))]
 pub fn push_frontmatter<A: Allocator>(walk: &mut Walk<'_, A>, text: &str) -> Result<(), AllocError>
     requires child { may_enter (still_open walk.old) Frontmatter ≡ true }
     requires lines { holds_lines (still_open walk.old) ≡ true }

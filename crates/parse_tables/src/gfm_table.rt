@@ -26,7 +26,7 @@ use text_pieces::Piece;
 
 /// A table of these lines, the first of which is begun: its head, its row of delimiters, and the rows of
 /// its body. Fewer than two lines are none.
-#[tactic(auto, using(parse_output::proofs::Classes::blocks_may, parse_output::proofs::Classes::enters_in, parse_output::proofs::Classes::lines_in), unfolding(parse_output::specs::Children::may_hold, parse_output::specs::Children::has_lines))]
+#[tactic(auto, using(parse_output::proofs::Classes::line_blocks), unfolding(parse_output::specs::Children::may_hold, parse_output::specs::Children::has_lines))]
 pub fn push_table<'a, T: Tables, A: Allocator + Clone>(
     walk: &mut Walk<'_, A>,
     texts: &Texts<'a, '_, T, A>,

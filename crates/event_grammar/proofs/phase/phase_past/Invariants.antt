@@ -1,6 +1,6 @@
 use Rattle.std.proofs.Common.{◌≡◌, ◌<◌, drop}
-use Rattle.event_faults.proofs.Prelude.{fold, phase_on}
-use Rattle.event_faults.proofs.place.phase_past.Given as goal
+use Rattle.event_grammar.proofs.Prelude.{fold, phase_on}
+use Rattle.event_grammar.proofs.phase.phase_past.Given as goal
 
 abbrev pub invariant-loop-byte : goal.invariant-loop-byte
 invariant-loop-byte l = record {
