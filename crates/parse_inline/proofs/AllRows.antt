@@ -9,13 +9,13 @@ use Rattle.parse_inline.proofs.Prelude.{append-nil, AreBytesAt, AreLaid, ArePart
 use Rattle.parse_inline.proofs.Prelude.{cond_both, Constructs, content_codes, End, end_after, end_in, ends_line, enter_at, eqb-true, exit_at, filled}
 use Rattle.parse_inline.proofs.Prelude.{held_levels, hole_of, indent, InlineCode, InlineContext, InlineRow, Inlines, inlines_from, inlines_of, is_eol}
 use Rattle.parse_inline.proofs.Prelude.{is_white, IsInRows, IsReadBy, laid_levels, Level, line_bytes, list_any, Names, Nil, no_ends, one, or_from, Outside}
-use Rattle.parse_inline.proofs.Prelude.{PassesRow, plain_void, rows_view, same_end, Setting, StandsInContent, StandsInText, Step, steps_of, void_nodes}
+use Rattle.parse_inline.proofs.Prelude.{PassesRow, plain_void, same_end, Setting, StandsInContent, StandsInText, Step, steps_of, void_nodes}
 use Rattle.parse_inline.proofs.Prelude.{Walk, WritesInContent, WritesParts, WritesText, ◌==◌}
 use Rattle.std.proofs.lemmas.Bool.{or_cases}
 use Rattle.engine_events.specs.declared.event.Name.TheVariants as n
 use Rattle.definition_inline.specs.Inline as inline
-use Rattle.definition_inline.specs.Inline.{LinkTexts}
 use Rattle.inline_rows.specs.InlineRows.{inline_rows}
+use Rattle.inline_rows.specs.View.{rows_view}
 use Rattle.laws_inline.proofs.NestedLinks.{links_hold_no_links_from}
 use Rattle.parse_written.specs.Rows.{step_row}
 use Rattle.parse_written.proofs.Parts.{spaces_after}
@@ -41,13 +41,13 @@ pub record GoesOver {A : Type 0} (on : Constructs) (names : Names) (content : Li
     (first now : Walk A) : Type 0 where
   pub goes : (s : Setting) (from : List InlineCode) → IsReadBy on names content s → s.is ≡ inlines_from s.context from
       → rows_view s.at rows ≡ inline_rows s.leads (inlines_from s.context from) → StandsInText s.text s.content s.bytes from s.stop first
-      → IsInRows s first left held now
+      → IsInRows s first (rows_view s.at left) held now
 
 -- ---- before all rows
 
 pub all_before : {A : Type 0} (s : Setting) (from : List InlineCode) (rows : List InlineRow) (held : List opened.Open) (w : Walk A) → held ≡ []
     → s.is ≡ inlines_from s.context from → rows_view s.at rows ≡ inline_rows s.leads (inlines_from s.context from)
-    → StandsInText s.text s.content s.bytes from s.stop w → IsInRows s w rows held w
+    → StandsInText s.text s.content s.bytes from s.stop w → IsInRows s w (rows_view s.at rows) held w
 all_before s from rows held w none is same st =
     let kids = inlines_from s.context from in
     record {
@@ -103,12 +103,14 @@ pub record IsOver {A : Type 0} (on : Constructs) (names : Names) (content : List
       → rows_view s.at rows ≡ inline_rows s.leads (inlines_from s.context from) → StandsInText s.text s.content s.bytes from s.stop first
       → AreDone s first held now
 
-pub goes_on : {A : Type 0} (on : Constructs) (names : Names) (content : List ℕ) (rows : List InlineRow) (i : ℕ) (row : InlineRow) (held after : List opened.Open)
+pub goes_on : {A : Type 0} (on : Constructs) (names : Names) (content : List ℕ) (rows : List InlineRow) (i : ℕ) (row : InlineRow)
+    (held after : List opened.Open)
     (first old new : Walk A) → drop i rows ≡ row ∷ drop (i + 1) rows → GoesOver on names content rows (drop i rows) held first old
     → PassesRow on names content row held after old new → GoesOver on names content rows (drop (i + 1) rows) after first new
 goes_on on names content rows i row held after first old new next g p = record {
   goes = λ s from by is same st.
-      p.passes s first (drop (i + 1) rows) by (subst (λ left. IsInRows s first left held old) next (g.goes s from by is same st));
+      p.passes s first (rows_view s.at (drop (i + 1) rows)) by
+      (subst (λ left. IsInRows s first (rows_view s.at left) held old) next (g.goes s from by is same st));
 }
 
 pub goes_first : {A : Type 0} (on : Constructs) (names : Names) (content : List ℕ) (rows : List InlineRow) (held : List opened.Open) (w : Walk A) → held ≡ []
@@ -119,7 +121,7 @@ pub goes_over : {A : Type 0} (on : Constructs) (names : Names) (content : List �
     → left ≡ []
     → GoesOver on names content rows left held first now → IsOver on names content rows held first now
 goes_over on names content rows left held first now none g = record {
-  over = λ s from by is same st. all_done s first held now (subst (λ xs. IsInRows s first xs held now) none (g.goes s from by is same st));
+  over = λ s from by is same st. all_done s first held now (subst (λ xs. IsInRows s first (rows_view s.at xs) held now) none (g.goes s from by is same st));
 }
 
 -- nothing that is open is left

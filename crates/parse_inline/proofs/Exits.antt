@@ -1,9 +1,9 @@
 -- The row that ends the innermost that is open.
 use Rattle.std.proofs.Common.{◌≡◌, ◌<◌, ◌+◌, ℕ, false, List, [], ◌∷◌, ◌++◌, drop, length, map, replicate, reverse, refl, sym, ap, subst, ◌∙◌, arith}
 use Rattle.parse_inline.proofs.Prelude.{AreBytesAt, AreLaid, AreLinkable, AreWritten, codes_of, ends_line, EndsLinked, filled, Frame, HaveTextsOfBytes}
-use Rattle.parse_inline.proofs.Prelude.{held_levels, held_of, hole_of, Image, inline_bytes_law, InlineCode, InlineRow, Inlines, InLinked, InSpan, IsFirstLaid}
+use Rattle.parse_inline.proofs.Prelude.{held_levels, held_of, hole_of, Image, inline_bytes_law, InlineCode, Inlines, InLinked, InSpan, IsFirstLaid}
 use Rattle.parse_inline.proofs.Prelude.{IsInRows, IsWhole, laid_levels, LeavesLinked, LeavesSpan, length-replicate, level, Level, Link, linked_name}
-use Rattle.parse_inline.proofs.Prelude.{LinkedKind, links, list_any, part, rows_view, Setting, Span, StandsInContent, StandsInText, Step, Stop}
+use Rattle.parse_inline.proofs.Prelude.{LinkedKind, links, list_any, part, Setting, Span, StandsInContent, StandsInText, Step, Stop}
 use Rattle.parse_inline.proofs.Prelude.{take-append-drop, Target, text_before, Walk}
 use Rattle.std.proofs.Common.{true}
 use Rattle.event_tokens.specs.Tokens.{is_token}
@@ -11,6 +11,7 @@ use Rattle.parse_inline.proofs.Prelude.{sequence_name}
 use Rattle.std.proofs.lemmas.List.{reverse-append, reverse-reverse}
 use mathlib.Core.List.{reverse-cons}
 use Rattle.definition_inline.specs.Inline as inline
+use Rattle.inline_rows.specs.InlineRows as seen
 use Rattle.inline_rows.specs.declared.row.InlineRow.TheVariants as rows
 use Rattle.event_meaning.specs.Texts.{append}
 use Rattle.parse_inline.specs.declared.opened.Open as opened
@@ -33,9 +34,9 @@ none_last : {B : Type 0} (others : List B) (last : B) → others ++ last ∷ [] 
 none_last [] last same = absurd cc
 none_last (x ∷ xs) last same = absurd cc
 
-module _ {A : Type 0} (s : Setting) (first : Walk A) (others : List InlineRow) (kept : List opened.Open) (old new : Walk A) where
+module _ {A : Type 0} (s : Setting) (first : Walk A) (others : List seen.InlineRow) (kept : List opened.Open) (old new : Walk A) where
   abbrev Laid : List Level → List Step → List InlineCode → Type 0
-  Laid ls steps place = IsFirstLaid s.context s.leads rows.Exit (rows_view s.at others) (laid_levels ls) steps place []
+  Laid ls steps place = IsFirstLaid s.context s.leads rows.Exit others (laid_levels ls) steps place []
 
   -- what is known before the row, where what is open is given
   record IsBefore (frame : Frame) (before : Inlines) (ls : List Level) : Type 0 where
@@ -76,7 +77,8 @@ module _ {A : Type 0} (s : Setting) (first : Walk A) (others : List InlineRow) (
   abbrev LeavesIt : Span → ℕ → Type 0
   LeavesIt span size =
       (text front after : List ℕ) (stop : Stop) → size ≡ length front → list_any ends_line front ≡ false
-      → is_token (sequence_name span) front ≡ true → StandsInContent text (front ++ after) stop old → IsWhole old → LeavesSpan text span front after stop old new
+      → is_token (sequence_name span) front ≡ true → StandsInContent text (front ++ after) stop old → IsWhole old
+      → LeavesSpan text span front after stop old new
 
   span_over : (span : Span) (size : ℕ) (frame : Frame) (before : Inlines) (ls : List Level) → opens.Span span size ≡ held_of frame → LeavesIt span size
       → IsBefore frame before ls → IsInRows s first others kept new
@@ -165,36 +167,36 @@ module _ {A : Type 0} (s : Setting) (first : Walk A) (others : List InlineRow) (
         },
       )
 
-  before_exit : (o : opened.Open) → IsInRows s first (rows.Exit ∷ others) (kept ++ o ∷ []) old
+  before_exit : (o : opened.Open) → IsInRows s first (seen.Leave ∷ others) (kept ++ o ∷ []) old
       → (frame : Frame) × (before : Inlines) × (ls : List Level) × (o ≡ held_of frame) × IsBefore frame before ls
   before_exit o st =
       innermost_first o st.levels st.kids st.left st.place st.steps st.held st.written st.stands st.tree st.linkable
       (found s first rows.Exit others (kept ++ o ∷ []) old old st)
 
-  pub span_exits : (span : Span) (size : ℕ) → LeavesIt span size → IsInRows s first (rows.Exit ∷ others) (kept ++ opens.Span span size ∷ []) old
+  pub span_exits : (span : Span) (size : ℕ) → LeavesIt span size → IsInRows s first (seen.Leave ∷ others) (kept ++ opens.Span span size ∷ []) old
       → IsInRows s first others kept new
   span_exits span size does st =
       let (frame, before, ls, same, b) = before_exit (opens.Span span size) st in
       span_over span size frame before ls same does b
 
-  pub link_exits : HaveTextsOfBytes s.context.names → LeavesLabel Link → IsInRows s first (rows.Exit ∷ others) (kept ++ opens.Link ∷ []) old
+  pub link_exits : HaveTextsOfBytes s.context.names → LeavesLabel Link → IsInRows s first (seen.Leave ∷ others) (kept ++ opens.Link ∷ []) old
       → IsInRows s first others kept new
   link_exits texts does st =
       let (frame, before, ls, same, b) = before_exit opens.Link st in
       linked_over Link opens.Link frame before ls refl same texts does b
 
-  pub image_exits : HaveTextsOfBytes s.context.names → LeavesLabel Image → IsInRows s first (rows.Exit ∷ others) (kept ++ opens.Image ∷ []) old
+  pub image_exits : HaveTextsOfBytes s.context.names → LeavesLabel Image → IsInRows s first (seen.Leave ∷ others) (kept ++ opens.Image ∷ []) old
       → IsInRows s first others kept new
   image_exits texts does st =
       let (frame, before, ls, same, b) = before_exit opens.Image st in
       linked_over Image opens.Image frame before ls refl same texts does b
 
 -- nothing ends where nothing is open
-pub none_exits : {A : Type 0} (s : Setting) (first : Walk A) (others : List InlineRow) (old : Walk A) → IsInRows s first (rows.Exit ∷ others) [] old → ⊥
+pub none_exits : {A : Type 0} (s : Setting) (first : Walk A) (others : List seen.InlineRow) (old : Walk A) → IsInRows s first (seen.Leave ∷ others) [] old → ⊥
 none_exits s first others old st = nothing st.levels st.steps st.place st.held (found s first rows.Exit others [] old old st)
   where
     nothing : (levels : List Level) (steps : List Step) (place : List InlineCode) → [] ≡ held_levels levels
-        → IsFirstLaid s.context s.leads rows.Exit (rows_view s.at others) (laid_levels levels) steps place [] → ⊥
+        → IsFirstLaid s.context s.leads rows.Exit others (laid_levels levels) steps place [] → ⊥
     nothing [] steps place none laid = laid.here
     nothing (l ∷ ls) steps place none laid =
         none_last (reverse (map (λ (x : Level). held_of x.frame) ls)) (held_of l.frame)

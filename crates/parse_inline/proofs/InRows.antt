@@ -5,7 +5,7 @@ use Rattle.parse_inline.proofs.Prelude.{AreBytesAt, AreCodes, AreLaid, AreLinkab
 use Rattle.parse_inline.proofs.Prelude.{end_in, EndNoLine, ends_line, EntersLabel, EntersSpan, filled, held_levels, held_of, Holds, hole_of, Image, in_link}
 use Rattle.parse_inline.proofs.Prelude.{inline_bytes_law, InlineCode, InlineContext, InlineLeaf, InlineRow, Inlines, InLinked, InSpan, is_link, IsData}
 use Rattle.parse_inline.proofs.Prelude.{IsFirstLaid, IsInRows, IsLeafLaid, IsPartLaid, IsUtf8, IsWhole, laid_levels, LeafPart, leaves, length-replicate, level}
-use Rattle.parse_inline.proofs.Prelude.{Level, Link, linked_name, LinkedKind, links, list_any, mark_name, Nodes, part, rows_view, sequence_size, Setting, Span}
+use Rattle.parse_inline.proofs.Prelude.{Level, Link, linked_name, LinkedKind, links, list_any, mark_name, Nodes, part, sequence_size, Setting, Span}
 use Rattle.parse_inline.proofs.Prelude.{spelled_view, SpelledLeaf, StandsInContent, StandsInText, Step, Stop, take-append-drop, Target, Walk, WritesCall}
 use Rattle.parse_inline.proofs.Prelude.{WritesInContent, WritesLeaves, WritesPart, WritesSpelled}
 use Rattle.std.proofs.lemmas.Bool.{false_from_ne_true}
@@ -15,9 +15,10 @@ use Rattle.engine_events.specs.declared.event.Name.TheVariants as n
 use Rattle.definition_inline.specs.Inline as inline
 use Rattle.inline_leaves.specs.Leaves.{parts_of}
 use Rattle.inline_leaves.specs.declared.leaf.LeafPart.TheVariants.{Literal}
+use Rattle.inline_rows.specs.InlineRows as seen
+use Rattle.inline_rows.specs.View.{row_view}
 use Rattle.inline_rows.specs.declared.row.InlineRow.TheVariants as rows
 use Rattle.inline_rows.specs.declared.row.LinkTarget.{LinkTarget}
-use Rattle.inline_rows.specs.declared.row.VerbatimText.{VerbatimText}
 use Rattle.event_meaning.specs.Texts.{append}
 use Rattle.parse_written.specs.Rows.{AreEntered, AreHeld, IsLinkedStart}
 use Rattle.parse_written.proofs.Marks.{sequence_law}
@@ -61,19 +62,21 @@ module _ {A : Type 0} (s : Setting) (first : Walk A) where
     codes = codes;
   }
 
-  module _ (row : InlineRow) (others : List InlineRow) (held : List opened.Open) (old new : Walk A) (st : IsInRows s first (row ∷ others) held old) where
+  module _ (row : InlineRow) (others : List seen.InlineRow) (held : List opened.Open) (old new : Walk A)
+      (st : IsInRows s first (row_view s.at row ++ others) held old) where
     abbrev Found : Type 0
-    Found = IsFirstLaid s.context s.leads row (rows_view s.at others) (laid_levels st.levels) st.steps st.place []
+    Found = IsFirstLaid s.context s.leads row others (laid_levels st.levels) st.steps st.place []
 
     -- the row, as it is laid
     pub found : Found
-    found = first_row_law s.context s.leads s.at row (rows_view s.at others) (laid_levels st.levels) st.steps st.place [] st.same st.laid
+    found = first_row_law s.context s.leads s.at row others (laid_levels st.levels) st.steps st.place [] st.same st.laid
 
     -- more in the innermost that is open
     pub more_row : (js : Inlines) (ns : Nodes) (front after : List ℕ) → found.after ≡ laid_levels st.levels
         → filled (map hole_of st.levels) (append st.kids js) found.left ≡ s.is → AreLinkable (links st.levels) found.left → st.left ≡ front ++ after
         → WritesInContent s.text front ns after s.stop old new → IsWhole new → AreBytesAt after found.next
-        → AreAlike s.context s.text (in_link (links st.levels)) js ns → ArePlain ns → FillsText front ns → AreSound s.context.options.constructs s.context.names s.text ns
+        → AreAlike s.context s.text (in_link (links st.levels)) js ns → ArePlain ns → FillsText front ns
+        → AreSound s.context.options.constructs s.context.names s.text ns
         → IsInRows s first others held new
     more_row js ns front after open_same tree linkable both writes whole codes alike plain fill sound = record {
       levels = st.levels;
@@ -94,7 +97,8 @@ module _ {A : Type 0} (s : Setting) (first : Walk A) where
     -- leaves
     pub leaves_row : (ls : List InlineLeaf) (ns : Nodes) (front after : List ℕ) → found.after ≡ laid_levels st.levels → AreHeld ls st.steps found.left
         → st.left ≡ front ++ after → WritesInContent s.text front ns after s.stop old new → IsWhole new → AreBytesAt after found.next
-        → AreAlike s.context s.text (in_link (links st.levels)) (leaves ls) ns → ArePlain ns → FillsText front ns → AreSound s.context.options.constructs s.context.names s.text ns
+        → AreAlike s.context s.text (in_link (links st.levels)) (leaves ls) ns → ArePlain ns → FillsText front ns
+        → AreSound s.context.options.constructs s.context.names s.text ns
         → IsInRows s first others held new
     leaves_row ls ns front after open_same own both writes whole codes alike plain fill sound =
         more_row (leaves ls) ns front after open_same
@@ -125,32 +129,27 @@ module _ {A : Type 0} (s : Setting) (first : Walk A) where
 
     -- what a construct writes
     pub written_row : (ls : List InlineLeaf) (MayBe : Bool → Type 0) → found.after ≡ laid_levels st.levels → AreHeld ls st.steps found.left
-        → WritesLeaves s.context.options.constructs s.context.names s.text st.left MayBe ls found.next s.stop old new → MayBe (in_link (links st.levels)) → IsInRows s first others held new
+        → WritesLeaves s.context.options.constructs s.context.names s.text st.left MayBe ls found.next s.stop old new → MayBe (in_link (links st.levels))
+        → IsInRows s first others held new
     written_row ls MayBe open_same own w may =
         leaves_row ls w.nodes w.front w.after open_same own w.parts w.writes w.whole w.left (λ m m' meant. w.spells (in_link (links st.levels)) may m m')
         w.plain w.fill w.sound
 
   -- ---- rows of text
 
-  pub text_passes : (text : Bor (List ℕ)) (size : ℕ) (others : List InlineRow) (held : List opened.Open) (old new : Walk A) → size ≡ length text.now
-      → IsUtf8 text.now → DoesData size old new → IsInRows s first (rows.Text text ∷ others) held old → IsInRows s first others held new
+  pub text_passes : (text : Bor (List ℕ)) (size : ℕ) (others : List seen.InlineRow) (held : List opened.Open) (old new : Walk A) → size ≡ length text.now
+      → IsUtf8 text.now → DoesData size old new → IsInRows s first (row_view s.at (rows.Text text) ++ others) held old → IsInRows s first others held new
   text_passes text size others held old new sized utf8 does st =
       let f = found (rows.Text text) others held old new st in
       data_row (rows.Text text) others held old new st text.now size sized utf8 f.here.0 f.here.1 f.own does
 
-  pub verbatim_passes : (verbatim : VerbatimText) (size : ℕ) (others : List InlineRow) (held : List opened.Open) (old new : Walk A)
-      → size ≡ length verbatim.text.now → IsUtf8 verbatim.text.now → DoesData size old new
-      → IsInRows s first (rows.Verbatim verbatim ∷ others) held old → IsInRows s first others held new
-  verbatim_passes verbatim size others held old new sized utf8 does st =
-      let f = found (rows.Verbatim verbatim) others held old new st in
-      data_row (rows.Verbatim verbatim) others held old new st verbatim.text.now size sized utf8 f.here.0 f.here.1 f.own does
-
   -- ---- constructs
 
-  pub leaf_passes : (p : LeafPart) (others : List InlineRow) (held : List opened.Open) (old new : Walk A) (content : List ℕ) → s.content ≡ content
-      → ((context : InlineContext) (text bytes : List ℕ) (from to : List InlineCode) (stop : Stop) → bytes ≡ drop old.place content → IsPartLaid context p from to
-      → AreBytesAt bytes from → StandsInContent text bytes stop old → IsWhole old → WritesPart context.options.constructs context.names text bytes p to stop old new)
-      → IsInRows s first (rows.Leaf p ∷ others) held old → IsInRows s first others held new
+  pub leaf_passes : (p : LeafPart) (others : List seen.InlineRow) (held : List opened.Open) (old new : Walk A) (content : List ℕ) → s.content ≡ content
+      → ((context : InlineContext) (text bytes : List ℕ) (from to : List InlineCode) (stop : Stop) → bytes ≡ drop old.place content
+      → IsPartLaid context p from to → AreBytesAt bytes from → StandsInContent text bytes stop old → IsWhole old
+      → WritesPart context.options.constructs context.names text bytes p to stop old new)
+      → IsInRows s first (row_view s.at (rows.Leaf p) ++ others) held old → IsInRows s first others held new
   leaf_passes p others held old new content over does st =
       let f = found (rows.Leaf p) others held old new st in
       written_row (rows.Leaf p) others held old new st (parts_of p) (λ linked. MayBeIn linked p) f.here.0 f.own
@@ -158,21 +157,21 @@ module _ {A : Type 0} (s : Setting) (first : Walk A) where
       st.stands.whole)
       (may_be_in (links st.levels) p f.left (subst (AreLinkable (links st.levels)) f.own st.linkable))
 
-  pub spelled_passes : (leaf : SpelledLeaf) (others : List InlineRow) (held : List opened.Open) (old new : Walk A) (content : List ℕ) → s.content ≡ content
+  pub spelled_passes : (leaf : SpelledLeaf) (others : List seen.InlineRow) (held : List opened.Open) (old new : Walk A) (content : List ℕ) → s.content ≡ content
       → ((context : InlineContext) (text bytes : List ℕ) (from to : List InlineCode) (stop : Stop) → bytes ≡ drop old.place content
       → IsLeafLaid context (spelled_view leaf) from to → AreBytesAt bytes from → StandsInContent text bytes stop old → IsWhole old
       → WritesSpelled context.options.constructs context.names text bytes leaf to stop old new)
-      → IsInRows s first (rows.Spelled leaf ∷ others) held old → IsInRows s first others held new
+      → IsInRows s first (row_view s.at (rows.Spelled leaf) ++ others) held old → IsInRows s first others held new
   spelled_passes leaf others held old new content over does st =
       let f = found (rows.Spelled leaf) others held old new st in
       written_row (rows.Spelled leaf) others held old new st (spelled_view leaf ∷ []) (λ linked. Unit {0}) f.here.0 f.own
       (does s.context s.text st.left st.place f.next s.stop (st.stands.ahead ∙ ap (drop old.place) over) f.here.1 st.stands.codes st.stands.stands
       st.stands.whole) tt
 
-  pub call_passes : (label : Bor (List ℕ)) (others : List InlineRow) (held : List opened.Open) (old new : Walk A) (content : List ℕ) → s.content ≡ content
-      → ((from to : List InlineCode) (left : List ℕ) → AreCodes (call_codes (content_codes label.now)) from to → StandsInText s.text content left from s.stop old
-      → WritesCall s.context s.text (content_codes label.now) left to s.stop old new)
-      → IsInRows s first (rows.Call label ∷ others) held old → IsInRows s first others held new
+  pub call_passes : (label : Bor (List ℕ)) (others : List seen.InlineRow) (held : List opened.Open) (old new : Walk A) (content : List ℕ) → s.content ≡ content
+      → ((from to : List InlineCode) (left : List ℕ) → AreCodes (call_codes (content_codes label.now)) from to
+      → StandsInText s.text content left from s.stop old → WritesCall s.context s.text (content_codes label.now) left to s.stop old new)
+      → IsInRows s first (row_view s.at (rows.Call label) ++ others) held old → IsInRows s first others held new
   call_passes label others held old new content over does st =
       let f = found (rows.Call label) others held old new st in
       let w = does st.place f.next st.left f.here.1 (subst (λ c. StandsInText s.text c st.left st.place s.stop old) over st.stands) in
@@ -183,11 +182,12 @@ module _ {A : Type 0} (s : Setting) (first : Walk A) where
 
   -- ---- starts
 
-  pub span_passes : (span : Span) (others : List InlineRow) (held held_after : List opened.Open) (old new : Walk A) (content : List ℕ) → s.content ≡ content
+  pub span_passes : (span : Span) (others : List seen.InlineRow) (held held_after : List opened.Open) (old new : Walk A) (content : List ℕ)
+      → s.content ≡ content
       → ((text front after : List ℕ) (stop : Stop) → front ++ after ≡ drop old.place content → length front ≡ sequence_size span (front ++ after)
       → list_any ends_line front ≡ false → is_token (sequence_name span) front ≡ true → StandsInContent text (front ++ after) stop old → IsWhole old
       → EntersSpan text span front after stop old new × (held_after ≡ held ++ opens.Span span (length front) ∷ []))
-      → IsInRows s first (rows.EnterSpan span ∷ others) held old → IsInRows s first others held_after new
+      → IsInRows s first (row_view s.at (rows.EnterSpan span) ++ others) held old → IsInRows s first others held_after new
   span_passes span others held held_after old new content over does st =
       let f = found (rows.EnterSpan span) others held old new st in
       let here = f.here in
@@ -233,9 +233,9 @@ module _ {A : Type 0} (s : Setting) (first : Walk A) where
   linked_linkable Link target inside ls left p = p
   linked_linkable Image target inside ls left p = p
 
-  linked_passes : (kind : LinkedKind) (row : InlineRow) (others : List InlineRow) (held held_after : List opened.Open) (old new : Walk A)
-      → (st : IsInRows s first (row ∷ others) held old)
-      → (f : IsFirstLaid s.context s.leads row (rows_view s.at others) (laid_levels st.levels) st.steps st.place [])
+  linked_passes : (kind : LinkedKind) (row : InlineRow) (others : List seen.InlineRow) (held held_after : List opened.Open) (old new : Walk A)
+      → (st : IsInRows s first (row_view s.at row ++ others) held old)
+      → (f : IsFirstLaid s.context s.leads row others (laid_levels st.levels) st.steps st.place [])
       → (here : IsLinkedStart kind (laid_levels st.levels) st.place f.after f.next) → AreEntered kind f.after st.steps f.left
       → ((after : List ℕ) → StandsInContent s.text (linked_start kind ++ after) s.stop old → IsWhole old
       → EntersLabel s.text (linked_name kind) (mark_name kind) (linked_start kind) after s.stop old new)
@@ -269,18 +269,20 @@ module _ {A : Type 0} (s : Setting) (first : Walk A) where
         laid = subst (λ os. AreLaid s.context os f.left f.next []) here.opened f.laid;
       }
 
-  pub link_passes : (target : LinkTarget) (others : List InlineRow) (held held_after : List opened.Open) (old new : Walk A)
+  pub link_passes : (target : LinkTarget) (others : List seen.InlineRow) (held held_after : List opened.Open) (old new : Walk A)
       → ((after : List ℕ) → StandsInContent s.text (91 ∷ after) s.stop old → IsWhole old
       → EntersLabel s.text n.Link n.LabelLink (91 ∷ []) after s.stop old new)
-      → held_after ≡ held ++ opens.Link ∷ [] → IsInRows s first (rows.EnterLink target ∷ others) held old → IsInRows s first others held_after new
+      → held_after ≡ held ++ opens.Link ∷ [] → IsInRows s first (row_view s.at (rows.EnterLink target) ++ others) held old
+      → IsInRows s first others held_after new
   link_passes target others held held_after old new does held_is st =
       let f = found (rows.EnterLink target) others held old new st in
       linked_passes Link (rows.EnterLink target) others held held_after old new st f f.here f.own does held_is
 
-  pub image_passes : (target : LinkTarget) (others : List InlineRow) (held held_after : List opened.Open) (old new : Walk A)
+  pub image_passes : (target : LinkTarget) (others : List seen.InlineRow) (held held_after : List opened.Open) (old new : Walk A)
       → ((after : List ℕ) → StandsInContent s.text (33 ∷ 91 ∷ after) s.stop old → IsWhole old
       → EntersLabel s.text n.Image n.LabelImage (33 ∷ 91 ∷ []) after s.stop old new)
-      → held_after ≡ held ++ opens.Image ∷ [] → IsInRows s first (rows.EnterImage target ∷ others) held old → IsInRows s first others held_after new
+      → held_after ≡ held ++ opens.Image ∷ [] → IsInRows s first (row_view s.at (rows.EnterImage target) ++ others) held old
+      → IsInRows s first others held_after new
   image_passes target others held held_after old new does held_is st =
       let f = found (rows.EnterImage target) others held old new st in
       linked_passes Image (rows.EnterImage target) others held held_after old new st f f.here f.own does held_is

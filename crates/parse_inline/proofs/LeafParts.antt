@@ -4,7 +4,6 @@ use Rattle.std.proofs.Common.{drop, length, map, arith}
 use Rattle.std.proofs.Common.{◌≤◌, zero, suc, ◌&&◌, replicate}
 use Rattle.std.specs.Char.{is_ascii_punctuation}
 use Rattle.std.specs.List.{list_all}
-use Rattle.std.specs.Prelude.{leb}
 use Rattle.std.proofs.lemmas.Bool.{le-leb}
 use Rattle.std.proofs.lemmas.List.{length-replicate}
 use Rattle.event_tokens.specs.Tokens.{is_among, is_token}

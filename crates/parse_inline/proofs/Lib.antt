@@ -18,6 +18,7 @@ pub mod Kids
 pub mod Fills
 pub mod LeavingAll
 pub mod Held
+pub mod Rules
 pub mod Runs
 pub mod Holes
 pub mod Plain
@@ -26,10 +27,12 @@ pub mod Labels
 pub mod LabelWritten
 pub mod Levels
 pub mod Calls
+pub mod Marks
 pub mod Sequences
 pub mod LiteralNames
 pub mod Places
 pub mod Behind
 pub mod InRows
+pub mod VerbatimLines
 pub mod Exits
 pub mod AllRows

@@ -42,7 +42,7 @@ pub use Rattle.inline_leaves.specs.Leaves.{ReadsEnding}
 pub use Rattle.inline_leaves.specs.declared.leaf.LeafPart.{LeafPart}
 pub use Rattle.inline_leaves.specs.declared.line_ending.Ending.{Ending}
 pub use Rattle.inline_links.proofs.Texts.{AreBytes}
-pub use Rattle.inline_rows.specs.View.{rows_view, spelled_view}
+pub use Rattle.inline_rows.specs.View.{spelled_view}
 pub use Rattle.inline_rows.specs.declared.row.InlineRow.{InlineRow}
 pub use Rattle.inline_rows.specs.declared.row.SpelledLeaf.{SpelledLeaf}
 pub use Rattle.inline_runs.specs.View.{span_view}

@@ -8,28 +8,28 @@ module _ (m : ℕ) where
   abbrev pub is_mark : ℕ → Bool
   is_mark c = (c == m) || (c == m)
 
-  here : (c : ℕ) (cs : List ℕ) → (c == m) ≡ true → position_or_len is_mark (c ∷ cs) ≡ 0
-  here c cs same = cond-false (not (is_mark c)) (1 + position_or_len is_mark cs) 0 (ap (λ b. not (b || b)) same)
+  pub first_mark : (c : ℕ) (cs : List ℕ) → (c == m) ≡ true → position_or_len is_mark (c ∷ cs) ≡ 0
+  first_mark c cs same = cond-false (not (is_mark c)) (1 + position_or_len is_mark cs) 0 (ap (λ b. not (b || b)) same)
 
-  later : (c : ℕ) (cs : List ℕ) → (c == m) ≡ false → position_or_len is_mark (c ∷ cs) ≡ suc (position_or_len is_mark cs)
-  later c cs other =
+  pub other_mark : (c : ℕ) (cs : List ℕ) → (c == m) ≡ false → position_or_len is_mark (c ∷ cs) ≡ suc (position_or_len is_mark cs)
+  other_mark c cs other =
       let n = position_or_len is_mark cs in
       cond-true (not (is_mark c)) (1 + n) 0 (ap (λ b. not (b || b)) other) ∙ (let one : 1 + n ≡ suc n = omega arith in one)
 
   pub mark_within : (xs : List ℕ) → position_or_len is_mark xs ≤ length xs
   mark_within [] = omega arith
   mark_within (c ∷ cs) = elim (cases_Bool (c == m)) [
-    | inl same ↦ let first = here c cs same in omega arith
-    | inr other ↦ let after = later c cs other in let less = mark_within cs in omega arith
+    | inl same ↦ let first = first_mark c cs same in omega arith
+    | inr other ↦ let after = other_mark c cs other in let less = mark_within cs in omega arith
   ]
 
   -- other bytes hold no run of it
   pub others_passed : (n : ℕ) (xs : List ℕ) → 0 < n → run_of m n false (drop (position_or_len is_mark xs) xs) ≡ run_of m n false xs
   others_passed n [] some = refl
   others_passed n (c ∷ cs) some = elim (cases_Bool (c == m)) [
-    | inl same ↦ ap (λ k. run_of m n false (drop k (c ∷ cs))) (here c cs same)
+    | inl same ↦ ap (λ k. run_of m n false (drop k (c ∷ cs))) (first_mark c cs same)
     | inr other ↦
-        ap (λ k. run_of m n false (drop k (c ∷ cs))) (later c cs other) ∙ others_passed n cs some ∙ sym (other_step m n false c cs some other)
+        ap (λ k. run_of m n false (drop k (c ∷ cs))) (other_mark c cs other) ∙ others_passed n cs some ∙ sym (other_step m n false c cs some other)
   ]
 
   pub mark_first : (xs : List ℕ) → run m (drop (position_or_len is_mark xs) xs) ≡ 0 → drop (position_or_len is_mark xs) xs ≡ []
@@ -37,10 +37,10 @@ module _ (m : ℕ) where
   mark_first (c ∷ cs) none = elim (cases_Bool (c == m)) [
     | inl same ↦
         let first : run m (c ∷ cs) ≡ 1 + run m cs = cond-true (c == m) (1 + run m cs) 0 same in
-        let same_run : run m (c ∷ cs) ≡ 0 = ap (λ k. run m (drop k (c ∷ cs))) (sym (here c cs same)) ∙ none in
+        let same_run : run m (c ∷ cs) ≡ 0 = ap (λ k. run m (drop k (c ∷ cs))) (sym (first_mark c cs same)) ∙ none in
         absurd (omega (arith, first, same_run))
     | inr other ↦
-        ap (λ k. drop k (c ∷ cs)) (later c cs other) ∙ mark_first cs (ap (λ k. run m (drop k (c ∷ cs))) (sym (later c cs other)) ∙ none)
+        ap (λ k. drop k (c ∷ cs)) (other_mark c cs other) ∙ mark_first cs (ap (λ k. run m (drop k (c ∷ cs))) (sym (other_mark c cs other)) ∙ none)
   ]
 
   -- past a run of another size

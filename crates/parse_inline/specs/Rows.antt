@@ -12,7 +12,8 @@ use Rattle.definition_inline.specs.Inline.{Target, Resource, Reference, LinkText
 use Rattle.definition_inline.specs.Resource.{LinkResource}
 use Rattle.definition_inline.specs.Scan.{InlineContext}
 use Rattle.definition_page.specs.InlinePieces.{Meaning}
-use Rattle.inline_rows.specs.View.{rows_view}
+use Rattle.inline_rows.specs.InlineRows as seen
+use Rattle.inline_rows.specs.View.{lines_rows, row_view}
 use Rattle.inline_rows.specs.declared.row.InlineRow.{InlineRow}
 use Rattle.inline_rows.specs.declared.row.InlineRow.TheVariants.{Exit}
 use Rattle.inline_runs.specs.View.{span_view}
@@ -262,8 +263,8 @@ laid_levels ls = map (λ (l : Level). laid_of l.frame) ls
 abbrev pub held_levels : List Level → List opened.Open
 held_levels ls = reverse (map (λ (l : Level). held_of l.frame) ls)
 
--- a walk is before these rows of a text, where these are open
-pub record IsInRows {A : Type 0} (s : Setting) (first : Walk A) (rows : List InlineRow) (open_now : List opened.Open) (w : Walk A) : Type 0 where
+-- a walk is before these rows of a text, as the definition has them, where these are open
+pub record IsInRows {A : Type 0} (s : Setting) (first : Walk A) (rows : List seen.InlineRow) (open_now : List opened.Open) (w : Walk A) : Type 0 where
   pub levels : List Level
   pub kids : Inlines
   pub left : List ℕ
@@ -274,14 +275,19 @@ pub record IsInRows {A : Type 0} (s : Setting) (first : Walk A) (rows : List Inl
   pub stands : StandsInText s.text s.content left place s.stop w
   pub tree : filled (map hole_of levels) kids steps ≡ s.is
   pub linkable : AreLinkable (links levels) steps
-  pub same : rows_view s.at rows ≡ map (step_row s.leads) steps
+  pub same : rows ≡ map (step_row s.leads) steps
   pub laid : AreLaid s.context (laid_levels levels) steps place []
 
 -- a row is written: where a walk was before it, it is before the others
 pub record PassesRow {A : Type 0} (on : Constructs) (names : Names) (content : List ℕ) (row : InlineRow) (before after : List opened.Open) (old new : Walk A)
     : Type 0 where
-  pub passes : (s : Setting) (first : Walk A) (rows : List InlineRow) → IsReadBy on names content s → IsInRows s first (row ∷ rows) before old
-      → IsInRows s first rows after new
+  pub passes : (s : Setting) (first : Walk A) (rows : List seen.InlineRow) → IsReadBy on names content s
+      → IsInRows s first (row_view s.at row ++ rows) before old → IsInRows s first rows after new
+
+-- lines of a text are written up to these bytes of it, in which an LF is a soft line break (CommonMark 6.8)
+pub record PassesLines {A : Type 0} (on : Constructs) (names : Names) (content text left : List ℕ) (old new : Walk A) : Type 0 where
+  pub passes : (s : Setting) (first : Walk A) (rows : List seen.InlineRow) (held_now : List opened.Open) → IsReadBy on names content s
+      → IsInRows s first (lines_rows text ++ rows) held_now old → IsInRows s first (lines_rows left ++ rows) held_now new
 
 -- the end of what is open is written, whatever is open around it
 pub record PassesExit {A : Type 0} (on : Constructs) (names : Names) (content : List ℕ) (o : opened.Open) (old new : Walk A) : Type 0 where

@@ -54,7 +54,7 @@ pub(crate) const MATH: Raw = Raw {
 
 /// Raw text that bytes begin with. It ends at the next run of as many: a row has what is printed of it,
 /// which may be shorter.
-#[tactic(auto, using(parse_output::proofs::Marks::same_self, parse_output::proofs::Classes::enters_in, parse_output::proofs::Classes::lines_in, parse_output::proofs::Rows::held_row))]
+#[tactic(auto, using(crate::proofs::Rules::in_raw))]
 pub(crate) fn push_raw<A: Allocator>(
     walk: &mut Walk<'_, A>,
     raw: &Raw,

@@ -22,7 +22,7 @@ use parse_strings::push_string;
 use std::alloc::{AllocError, Allocator};
 
 /// A call with a label.
-#[tactic(auto, using(parse_output::proofs::Classes::enters_in, parse_output::proofs::Classes::string_in), unfolding(parse_output::specs::Children::may_hold, parse_output::specs::Children::has_string))]
+#[tactic(auto, using(crate::proofs::Rules::in_string), unfolding(parse_output::specs::Children::may_hold, parse_output::specs::Children::has_string))]
 pub(crate) fn push_call<T: Tables, A: Allocator>(
     walk: &mut Walk<'_, A>,
     reading: &Reading<'_, T>,

@@ -22,7 +22,7 @@ use parse_lines::cut::bytes_from;
 use std::alloc::{AllocError, Allocator};
 
 /// A check that bytes begin with.
-#[tactic(auto, using(parse_output::proofs::Classes::enters_in, parse_output::proofs::Classes::lines_in, crate::proofs::Checks::check_holds), unfolding(parse_output::specs::Children::may_hold, parse_output::specs::Children::has_lines))]
+#[tactic(auto, using(crate::proofs::Rules::in_check), unfolding(parse_output::specs::Children::may_hold, parse_output::specs::Children::has_lines))]
 pub fn push_check<A: Allocator>(
     walk: &mut Walk<'_, A>,
     bytes: &[u8],

@@ -44,7 +44,7 @@ use std::alloc::{AllocError, Allocator};
 use text_bytes::white_size;
 
 /// A construct that comes next in a content.
-#[tactic(auto, using(parse_output::proofs::Classes::text_may, parse_output::proofs::Classes::text_lines, crate::proofs::Held::text_child), unfolding(parse_output::specs::Children::may_hold, parse_output::specs::Children::has_lines))]
+#[tactic(auto, using(crate::proofs::Rules::in_text), unfolding(parse_output::specs::Children::may_hold, parse_output::specs::Children::has_lines))]
 pub(crate) fn push_leaf<T, A: Allocator>(
     walk: &mut Walk<'_, A>,
     reading: &Reading<'_, T>,
@@ -79,7 +79,7 @@ pub(crate) fn push_leaf<T, A: Allocator>(
 }
 
 /// A construct as a list of events spells it, which is read again like any other.
-#[tactic(auto, using(parse_output::proofs::Classes::text_may, crate::proofs::Held::text_child), unfolding(parse_output::specs::Children::may_hold, parse_output::specs::Children::has_lines))]
+#[tactic(auto, using(crate::proofs::Rules::in_text), unfolding(parse_output::specs::Children::may_hold, parse_output::specs::Children::has_lines))]
 pub(crate) fn push_spelled<T, A: Allocator>(
     walk: &mut Walk<'_, A>,
     reading: &Reading<'_, T>,
@@ -162,7 +162,7 @@ fn address_name(email: bool) -> Name
 }
 
 /// Raw HTML (CommonMark 6.6).
-#[tactic(auto, using(parse_output::proofs::Classes::enters_in, parse_output::proofs::Classes::lines_in), unfolding(parse_output::specs::Children::may_hold, parse_output::specs::Children::has_lines))]
+#[tactic(auto, using(crate::proofs::Rules::in_lines), unfolding(parse_output::specs::Children::may_hold, parse_output::specs::Children::has_lines))]
 fn push_html<A: Allocator>(walk: &mut Walk<'_, A>, bytes: &[u8]) -> Result<(), AllocError>
     requires child { may_enter (still_open walk.old) HtmlText ≡ true }
     ensures open { OnOk result (still_open walk.new ≡ still_open walk.old) }

@@ -12,6 +12,7 @@ pub mod opened;
 pub mod reading;
 pub mod rows;
 pub mod span;
+pub mod verbatim;
 
 pub use opened::Open;
 pub use reading::Reading;

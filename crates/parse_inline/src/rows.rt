@@ -20,6 +20,7 @@ use crate::leaf::{push_leaf, push_spelled};
 use crate::opened::Open;
 use crate::reading::Reading;
 use crate::span::{enter_span, leave_span};
+use crate::verbatim::push_verbatim;
 use engine_events::event::Name;
 use inline_rows::InlineRow;
 use markdown_options::Tables;
@@ -28,7 +29,7 @@ use std::alloc::{AllocError, Allocator};
 
 /// The events of the rows of a content, and of what is left of it: spaces and tabs at its end. What is
 /// open is kept in a list, whose memory is used again. What the rows don't end ends after them.
-#[tactic(auto, using(crate::proofs::LeavingAll::leave_last, crate::proofs::Held::none_held, crate::proofs::Held::held_last, crate::proofs::Held::held_less, parse_output::proofs::Classes::text_may))]
+#[tactic(auto, using(crate::proofs::Rules::at_ends))]
 pub fn push_rows<T: Tables, A: Allocator>(
     walk: &mut Walk<'_, A>,
     reading: &Reading<'_, T>,
@@ -69,7 +70,7 @@ fn push_row<T: Tables, A: Allocator>(
 {
     match row {
         InlineRow::Text(text) => walk.data(text.as_bytes().len()),
-        InlineRow::Verbatim(verbatim) => walk.data(verbatim.text.as_bytes().len()),
+        InlineRow::Verbatim(verbatim) => push_verbatim(walk, reading, verbatim.text),
         InlineRow::Leaf(part) => push_leaf(walk, reading, part),
         InlineRow::Spelled(leaf) => push_spelled(walk, reading, leaf),
         InlineRow::EnterSpan(span) => enter_span(walk, reading, open, span),
@@ -100,7 +101,7 @@ fn leave_innermost<T: Tables, A: Allocator>(
 }
 
 /// The end of what is open.
-#[tactic(auto, using(parse_output::proofs::Classes::enters_in, crate::proofs::Held::span_holds_sequence, parse_output::proofs::Marks::closed_same), unfolding(parse_output::specs::Children::may_hold))]
+#[tactic(auto, using(crate::proofs::Rules::at_end), unfolding(parse_output::specs::Children::may_hold))]
 fn leave<T: Tables, A: Allocator>(
     walk: &mut Walk<'_, A>,
     reading: &Reading<'_, T>,

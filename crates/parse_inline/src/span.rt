@@ -22,7 +22,7 @@ use std::alloc::{AllocError, Allocator};
 use text_bytes::run;
 
 /// The start of a span.
-#[tactic(auto, using(crate::proofs::Held::span_holds_sequence, crate::proofs::Held::span_holds_text, crate::proofs::Held::span_row, crate::proofs::Held::span_text_row, parse_output::proofs::Classes::enters_in))]
+#[tactic(auto, using(crate::proofs::Rules::in_span))]
 pub(crate) fn enter_span<T, A: Allocator>(
     walk: &mut Walk<'_, A>,
     reading: &Reading<'_, T>,

@@ -1,5 +1,5 @@
 -- A URI and an address, alone as in what they are read from (CommonMark 6.5).
-use Rattle.std.proofs.Common.{◌≡◌, ℕ, ◌+◌, ◌≤◌, Bool, true, ◌&&◌, List, ◌∷◌, ◌++◌, None, Some, refl, ap, ap₂, ◌∙◌, arith, length, drop}
+use Rattle.std.proofs.Common.{◌≡◌, ℕ, ◌≤◌, Bool, true, ◌&&◌, List, ◌∷◌, ◌++◌, None, Some, refl, ap, ap₂, ◌∙◌, arith, length, drop}
 use Rattle.parse_written.proofs.Prelude.{after_all, begins_with, codes, cond-true, nat_le, prefix_len}
 use Rattle.std.specs.List.{list_all, take_while}
 use Rattle.std.proofs.lemmas.Bool.{le-leb}

@@ -11,7 +11,7 @@ use Rattle.inline_leaves.specs.declared.leaf.LeafPart.{LeafPart}
 use Rattle.inline_leaves.specs.declared.leaf.LeafPart.TheVariants.{Unclosed}
 use Rattle.inline_rows.specs.InlineRows.{inline_rows}
 use Rattle.inline_rows.specs.InlineRows as seen
-use Rattle.inline_rows.specs.View.{data_rows, row_view, rows_view, spelled_view, target_texts}
+use Rattle.inline_rows.specs.View.{data_rows, line_leaf, row_view, rows_view, spelled_view, target_texts}
 use Rattle.inline_rows.specs.declared.row.InlineRow.{InlineRow}
 use Rattle.inline_rows.specs.declared.row.InlineRow.TheVariants.{Text, Verbatim, Leaf, Spelled, EnterSpan, EnterLink, EnterImage, Call, Exit}
 use Rattle.inline_runs.specs.View.{span_view}
@@ -153,8 +153,8 @@ module _ (context : InlineContext) (leads : Target → LinkTexts) (at : ℕ → 
       let (next, left, text_laid, held, same, laid) = data_row text.now os others ss from to is p in
       record { after = os; next = next; left = left; here = (refl, text_laid); own = held; same = same; laid = laid }
   row_laid (Verbatim verbatim) os others ss from to is p =
-      let (next, left, text_laid, held, same, laid) = data_row verbatim.text.now os others ss from to is p in
-      record { after = os; next = next; left = left; here = (refl, text_laid); own = held; same = same; laid = laid }
+      let found = after_leaves (map line_leaf verbatim.text.now) os others ss from to is p in
+      record { after = os; next = found.next; left = found.left; here = (refl, found.leaves); own = found.held; same = found.same; laid = found.laid }
   row_laid (Leaf part) os others ss from to is p =
       let found = after_leaves (parts_of part) os others ss from to is p in
       record {

@@ -11,7 +11,7 @@ use Rattle.inline_leaves.specs.declared.leaf.LeafPart.{LeafPart}
 use Rattle.inline_leaves.specs.declared.leaf.LeafPart.TheVariants.{Unclosed}
 use Rattle.inline_rows.specs.InlineRows.{Part, Leave, CallRow}
 use Rattle.inline_rows.specs.InlineRows as seen
-use Rattle.inline_rows.specs.View.{spelled_view}
+use Rattle.inline_rows.specs.View.{line_leaf, spelled_view}
 use Rattle.inline_rows.specs.declared.row.InlineRow.{InlineRow}
 use Rattle.inline_rows.specs.declared.row.InlineRow.TheVariants.{Text, Verbatim, Leaf, Spelled, EnterSpan, EnterLink, EnterImage, Call, Exit}
 use Rattle.inline_runs.specs.View.{span_view}
@@ -58,7 +58,7 @@ IsInnermostEnd context (OpenLinked target inside ∷ others) from after to = (af
 -- a row: what is open before it, and from which place, to what is open after it, and which place
 abbrev pub IsRowLaid : InlineContext → InlineRow → List Open → List InlineCode → List Open → List InlineCode → Type 0
 IsRowLaid context (Text text) before from after to = (after ≡ before) × IsData text.now from to
-IsRowLaid context (Verbatim verbatim) before from after to = (after ≡ before) × IsData verbatim.text.now from to
+IsRowLaid context (Verbatim verbatim) before from after to = (after ≡ before) × AreLeavesLaid context (map line_leaf verbatim.text.now) from to
 IsRowLaid context (Leaf part) before from after to = (after ≡ before) × IsPartLaid context part from to
 IsRowLaid context (Spelled leaf) before from after to = (after ≡ before) × IsLeafLaid context (spelled_view leaf) from to
 IsRowLaid context (EnterSpan span) before from after to = IsSpanStart context span before from after to
@@ -100,7 +100,7 @@ AreEntered kind after steps left = ⊥
 -- the steps of a row come first, and these are left
 abbrev pub AreStepsOf : InlineRow → List Open → List Step → List Step → Type 0
 AreStepsOf (Text text) after steps left = AreHeld (map inline.Data text.now) steps left
-AreStepsOf (Verbatim verbatim) after steps left = AreHeld (map inline.Data verbatim.text.now) steps left
+AreStepsOf (Verbatim verbatim) after steps left = AreHeld (map line_leaf verbatim.text.now) steps left
 AreStepsOf (Leaf part) after steps left = AreHeld (parts_of part) steps left
 AreStepsOf (Spelled leaf) after steps left = steps ≡ Holds (spelled_view leaf) ∷ left
 AreStepsOf (EnterSpan span) after steps left = steps ≡ EntersSpan (span_view span) ∷ left

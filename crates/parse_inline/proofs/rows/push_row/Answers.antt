@@ -1,7 +1,7 @@
 use Rattle.std.proofs.Common.{length, OnOk, sym, ap, subst}
 use Rattle.parse_inline.proofs.Prelude.{IsUtf8, on_ok_weaker, PassesRow}
 use Rattle.parse_inline.proofs.Calls.{on_ok_both}
-use Rattle.parse_inline.proofs.InRows.{call_passes, image_passes, leaf_passes, link_passes, span_passes, spelled_passes, text_passes, verbatim_passes}
+use Rattle.parse_inline.proofs.InRows.{call_passes, image_passes, leaf_passes, link_passes, span_passes, spelled_passes, text_passes}
 use Rattle.parse_inline.proofs.rows.push_row.Goals as goal
 
 pub returns-in-Text-clause-written : goal.returns-in-Text-clause-written
@@ -26,15 +26,10 @@ returns-in-Verbatim-clause-written g c =
     let names = g.T.Tables.reference_of reading.tables.now in
     let held = c.args.open.now.items in
     let old = c.args.walk.now in
-    let new = c.data-in-Verbatim.new.self in
-    subst (λ row. OnOk c.data-in-Verbatim.result (PassesRow reading.on.now names reading.content.now row held held old new)) (sym c.in-Verbatim.is)
-    (on_ok_both c.data-in-Verbatim.result
-    (λ stays written. record {
-      passes = λ s first rows by st.
-          verbatim_passes s first c.in-Verbatim.verbatim _ rows held old new (ap length c.as_bytes-in-Verbatim.ensures.value)
-          (subst IsUtf8 c.as_bytes-in-Verbatim.ensures.value c.as_bytes-in-Verbatim.ensures.utf8) (stays, written) st;
-    })
-    c.data-in-Verbatim.ensures.stays c.data-in-Verbatim.ensures.written)
+    let new = c.push_verbatim.new.walk in
+    subst (λ row. OnOk c.push_verbatim.result (PassesRow reading.on.now names reading.content.now row held held old new)) (sym c.in-Verbatim.is)
+    (on_ok_weaker c.push_verbatim.result (λ does. record { passes = λ s first rows by st. does.passes s first rows held by st })
+    c.push_verbatim.ensures.written)
 
 pub returns-in-Leaf-clause-written : goal.returns-in-Leaf-clause-written
 returns-in-Leaf-clause-written g c =
