@@ -1,5 +1,5 @@
 use Rattle.std.proofs.Common.{map, refl, reverse}
-use Rattle.definition_inline.specs.Inline.{Data}
+use Rattle.inline_rows.specs.View.{line_leaf}
 use Rattle.inline_reading.proofs.Changes as changes
 use Rattle.inline_reading.proofs.reading.Reading.verbatim.Goals as goal
 
@@ -15,6 +15,6 @@ returns-clause-read g c leads at r h =
     let s = c.args.self.now in
     record {
       by = changes.leaves_pushed leads at s.rows.items c.push.new.self.items _ s.runs.items s.slots.items (reverse s.labels.items) r.open_labels r.now.tokens
-          (map (λ b. Data b) c.args.verbatim.text.now) c.in_ok-push.ensures.items h.by refl;
+          (map line_leaf c.args.verbatim.text.now) c.in_ok-push.ensures.items h.by refl;
       holds_link = h.holds_link;
     }
