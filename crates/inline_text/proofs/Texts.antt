@@ -1,6 +1,6 @@
 -- Text in a content: what the scan makes of it, and what stands after it.
 use Rattle.std.proofs.Common.{◌≡◌, ℕ, zero, suc, ◌+◌, ◌-◌, ◌<◌, ◌≤◌, List, [], ◌∷◌, ◌++◌, Bool, true, false, not, eqb, leb, ◌||◌, ◌&&◌, Option, None, Some}
-use Rattle.std.proofs.Common.{refl, sym, ap, ◌∙◌, get_or, length, drop, take, arith, subst, ◌⊎◌, inl, inr}
+use Rattle.std.proofs.Common.{refl, sym, ap, ◌∙◌, get_or, length, map, drop, take, arith, subst, ◌⊎◌, inl, inr}
 use Rattle.std.proofs.lemmas.Bool.{cases_Bool, cond-false, cond-true, eqb-true, eq-eqb, ne_eqb, le-leb, false≢true, true≢false, not-true, not-false, or_parts}
 use Rattle.std.proofs.lemmas.Bool.{or_cases, or_from, and_left, and_right, and_from, and_parts}
 use Rattle.std.proofs.lemmas.List.{append-nil, append_assoc, get_or-drop, length-drop, drop-drop}
@@ -24,7 +24,7 @@ use Rattle.definition_inline.specs.GfmAutolinkLiteral.{literal_at}
 use Rattle.inline_literals.specs.Literals.{may_begin}
 use Rattle.inline_literals.proofs.Found.{may_letter}
 use Rattle.definition_text.specs.InlineCode.{InlineCode, codes_of}
-use Rattle.definition_inline.specs.Inline.{Found, leaf, LineEnd, or_else}
+use Rattle.definition_inline.specs.Inline.{Data, Found, leaf, LineEnd, or_else}
 use Rattle.definition_inline.specs.Mark.{is_equals}
 use Rattle.definition_inline.specs.Attention.{run_at}
 use Rattle.definition_inline.specs.Spans.{Token}
@@ -33,7 +33,7 @@ use Rattle.definition_inline.proofs.Scanning.{scan_step, step_last, step_leaf}
 use Rattle.inline_leaves.specs.Leaves.{leaf_items, text_items, IsAfter, IsWhite}
 use Rattle.inline_leaves.specs.Scanned.{leaf_in, without_labels}
 use Rattle.inline_leaves.proofs.Codes.{plain_code, plain_drop, at_return, is_after, cut_plain, cut_after_byte}
-use Rattle.inline_text.specs.Plain.{is_special, starts, begins_more, goes_on, is_soft_at, is_text_at}
+use Rattle.inline_text.specs.Plain.{is_special, starts, begins_more, front_leaf, goes_on, is_front_at, is_soft_at, is_text_at}
 
 -- ---- a code at which nothing starts
 
@@ -229,19 +229,38 @@ read_none r = ap (λ tokens. reading (text tokens r.now.holds_link) r.open_label
 pub read_more : (first more : List Token) (r : Reading) → read_tokens more (read_tokens first r) ≡ read_tokens (first ++ more) r
 read_more first more r = ap (λ tokens. reading (text tokens r.now.holds_link) r.open_labels) (append_assoc r.now.tokens first more)
 
--- codes of text
-pub text_steps : (context : InlineContext) (n : ℕ) (r : Reading) (content : List InlineCode)
-    → ((k : ℕ) → k < n → is_text_at (drop k (codes_of content)) ≡ true)
+-- one code of text, or a soft line break
+front_step : (soft : Bool) (context : InlineContext) (r : Reading) (c : InlineCode) (cs : List InlineCode) → is_front_at soft (codes_of (c ∷ cs)) ≡ true
+    → literal_at context.options.constructs (c ∷ cs) ≡ None → (context.options.constructs.mark && is_equals c.code) ≡ false
+    → step context r c cs ≡ Next 0 (read_tokens (leaf_items (front_leaf soft c.code ∷ [])) r)
+front_step soft context r c cs h no_literal unmarked = elim (or_cases (is_text_at (codes_of (c ∷ cs))) (soft && is_soft_at (codes_of (c ∷ cs))) h) [
+  | inl text ↦
+      let ending = (is_other c.code (text_is c.code (codes_of cs) text).0).ending in
+      let no_feed = (or_parts (eqb c.code 10) (eqb c.code 13) (or_parts (eqb c.code 10 || eqb c.code 13) (eqb c.code 257) ending).0).0 in
+      text_step context r c cs text no_literal unmarked
+      ∙ ap (λ part. Next 0 (read_tokens (leaf_items (part ∷ [])) r)) (sym (cond-false _ (LineEnd 10) (Data c.code) (and_right soft (eqb c.code 10) no_feed)))
+  | inr end ↦
+      let parts = and_parts soft (is_soft_at (codes_of (c ∷ cs))) end in
+      let feed = (and_parts (eqb c.code 10) (eqb (indent (codes_of cs)) 0) parts.1).0 in
+      soft_step context r c cs parts.1
+      ∙ ap (λ part. Next 0 (read_tokens (leaf_items (part ∷ [])) r))
+      (sym (cond-true _ (LineEnd 10) (Data c.code) (and_from soft (eqb c.code 10) parts.0 feed)))
+]
+
+-- codes of text and soft line breaks
+pub front_steps : (soft : Bool) (context : InlineContext) (n : ℕ) (r : Reading) (content : List InlineCode)
+    → ((k : ℕ) → k < n → is_front_at soft (drop k (codes_of content)) ≡ true)
     → ((k : ℕ) → k < n → literal_at context.options.constructs (drop k content) ≡ None)
     → ((k : ℕ) → k < n → (context.options.constructs.mark && is_equals (get_or (codes_of content) k 0)) ≡ false)
-    → scan context 0 r content ≡ scan context 0 (read_tokens (text_items (take n (codes_of content))) r) (drop n content)
-text_steps context zero r content h no_literal unmarked = ap (λ x. scan context 0 x content) (sym (read_none r))
-text_steps context (suc n) r [] h no_literal unmarked = ap (λ x. scan context 0 x []) (sym (read_none r))
-text_steps context (suc n) r (c ∷ cs) h no_literal unmarked =
-    let next = read_tokens (text_items (c.code ∷ [])) r in
-    scan_step context r next c cs 0 (text_step context r c cs (h 0 (omega arith)) (no_literal 0 (omega arith)) (unmarked 0 (omega arith)))
-    ∙ text_steps context n next cs (λ k lt. h (suc k) (omega arith)) (λ k lt. no_literal (suc k) (omega arith)) (λ k lt. unmarked (suc k) (omega arith))
-    ∙ ap (λ x. scan context 0 x (drop n cs)) (read_more (text_items (c.code ∷ [])) (text_items (take n (codes_of cs))) r)
+    → scan context 0 r content ≡ scan context 0 (read_tokens (leaf_items (map (front_leaf soft) (take n (codes_of content)))) r) (drop n content)
+front_steps soft context zero r content h no_literal unmarked = ap (λ x. scan context 0 x content) (sym (read_none r))
+front_steps soft context (suc n) r [] h no_literal unmarked = ap (λ x. scan context 0 x []) (sym (read_none r))
+front_steps soft context (suc n) r (c ∷ cs) h no_literal unmarked =
+    let first = leaf_items (front_leaf soft c.code ∷ []) in
+    let next = read_tokens first r in
+    scan_step context r next c cs 0 (front_step soft context r c cs (h 0 (omega arith)) (no_literal 0 (omega arith)) (unmarked 0 (omega arith)))
+    ∙ front_steps soft context n next cs (λ k lt. h (suc k) (omega arith)) (λ k lt. no_literal (suc k) (omega arith)) (λ k lt. unmarked (suc k) (omega arith))
+    ∙ ap (λ x. scan context 0 x (drop n cs)) (read_more first (leaf_items (map (front_leaf soft) (take n (codes_of cs)))) r)
 
 -- a code at which a construct may start, but none does
 pub other_step : (context : InlineContext) (r : Reading) (c : InlineCode) (cs : List InlineCode) → leaf_here context (c ∷ cs) ≡ None

@@ -5,6 +5,7 @@ use Rattle.definition_text.specs.Ascii.{at_sign, tilde, double_quote, greater_th
 use Rattle.definition_text.specs.Columns.{is_white, bare, indent}
 use Rattle.definition_text.specs.Content.{is_eol}
 use Rattle.definition_inline.specs.HardBreak.{ends_here}
+use Rattle.definition_inline.specs.Inline.{InlineLeaf, Data, LineEnd}
 use Rattle.definition_inline.specs.Mark.{is_equals}
 use Rattle.inline_literals.specs.Literals.{may_begin}
 
@@ -59,6 +60,10 @@ is_soft_at (c ∷ cs) = (c == line_feed) && (indent cs == 0)
 -- the first code is text or, in verbatim text, such a soft line break
 abbrev pub is_front_at : Bool → List ℕ → Bool
 is_front_at is_verbatim codes = is_text_at codes || (is_verbatim && is_soft_at codes)
+
+-- what such a code is
+abbrev pub front_leaf : Bool → ℕ → InlineLeaf
+front_leaf is_verbatim code = if is_verbatim && (code == line_feed) then LineEnd line_feed else Data code
 
 -- an LF stands at a place with something dark after it, and before it, unless it comes first
 pub record IsSoft (bytes : List ℕ) (at : ℕ) : Type 0 where
