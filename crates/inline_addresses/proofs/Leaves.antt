@@ -1,7 +1,8 @@
 -- A leaf is a byte of text, which makes a run longer, or it ends a run.
-use Rattle.std.proofs.Common.{◌≡◌, ℕ, suc, true, false, Bool, List, [], ◌∷◌, ◌++◌, Option, None, Some, refl, ap, ap₂, ◌∙◌, map}
-use Rattle.inline_addresses.proofs.Prelude.{append-nil, Cons, Data, data_rows, Each, flat_map, InlineLeaf, Inlines, Leaf, leaf_or_byte, leaf_without, Literal}
-use Rattle.inline_addresses.proofs.Prelude.{literal_text, Part, part_text, parts_of, row_linked, run_linked, with_literals}
+use Rattle.std.proofs.Common.{◌≡◌, ℕ, suc, true, false, Bool, List, [], ◌∷◌, ◌++◌, Option, None, Some, refl, ap, ap₂, ◌∙◌, map, cond, eqb, inl, inr}
+use Rattle.inline_addresses.proofs.Prelude.{append-nil, cases_Bool, Cons, Data, data_rows, Each, flat_map, InlineLeaf, Inlines, Leaf, leaf_or_byte}
+use Rattle.inline_addresses.proofs.Prelude.{leaf_without, line_leaf, lines_rows, Literal, literal_text, Part, part_text, parts_of, row_linked}
+use Rattle.inline_addresses.proofs.Prelude.{run_linked, with_literals}
 use Rattle.std.proofs.lemmas.Bool.{true≢false}
 use Rattle.definition_text.proofs.Each.{each_map}
 use Rattle.definition_inline.specs.GfmAutolinkLiteral.{addresses_before}
@@ -96,6 +97,16 @@ module _ (n : ℕ) where
   pub all_kept : (make : ℕ → InlineLeaf) → ((b : ℕ) → is_literal (make b) ≡ false) → (bytes : List ℕ) → in_link (map make bytes) ≡ map Part (map make bytes)
   all_kept make h [] = refl
   all_kept make h (b ∷ bs) = ap₂ (λ first rest. map Part first ++ rest) (kept (make b) (h b)) (all_kept make h bs)
+
+  -- verbatim text stays as it is
+  line_kept : (b : ℕ) → is_literal (line_leaf b) ≡ false
+  line_kept b = elim (cases_Bool (eqb b 10)) [
+    | inl feed ↦ ap (λ is. is_literal (cond is (LineEnd 10) (Data b))) feed
+    | inr other ↦ ap (λ is. is_literal (cond is (LineEnd 10) (Data b))) other
+  ]
+
+  pub lines_kept : (bytes : List ℕ) → in_link (map line_leaf bytes) ≡ lines_rows bytes
+  lines_kept bytes = all_kept line_leaf line_kept bytes
 
   -- in a link, a literal is text, and any other leaf stays as it is
   pub part_in_link : (p : LeafPart) → in_link (parts_of p) ≡ text_or (map Part (parts_of p)) (literal_text (row.Leaf p))

@@ -4,3 +4,4 @@ mod Rows
 mod Unlinked
 mod Walks
 mod AtSigns
+mod LineEnding

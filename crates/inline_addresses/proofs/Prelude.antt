@@ -10,7 +10,7 @@ pub use Rattle.definition_text.proofs.Each.{Each}
 pub use Rattle.inline_leaves.specs.Leaves.{kind_view, parts_of}
 pub use Rattle.inline_literals.specs.Addresses.{found_parts, IsFound}
 pub use Rattle.inline_rows.specs.InlineRows.{inline_rows, Part}
-pub use Rattle.inline_rows.specs.View.{data_rows, row_view, rows_view}
+pub use Rattle.inline_rows.specs.View.{data_rows, line_leaf, lines_rows, row_view, rows_view}
 pub use Rattle.inline_rows.specs.declared.row.InlineRow.{InlineRow}
 pub use Rattle.inline_addresses.specs.Addresses.{has_at_sign, IsNext, leaf_or_byte, linked_rows, literal_text, part_text, row_depth, row_linked, row_text}
-pub use Rattle.inline_addresses.specs.Addresses.{rows_may_link, rows_text, run_linked, text_or_end, walk_rows}
+pub use Rattle.inline_addresses.specs.Addresses.{rows_may_link, rows_text, run_linked, text_or_end, verbatim_text, walk_rows}

@@ -2,8 +2,9 @@
 use Rattle.std.proofs.Common.{◌≡◌, ◌+◌, ◌<◌, ◌≤◌, ℕ, zero, suc, List, [], ◌∷◌, ◌++◌, Option, None, Some, ◌-◌, refl, sym, ap, ap₂, ◌∙◌, map, take, drop}
 use Rattle.std.proofs.Common.{length, append_assoc, get_or, add-one, drop-cons, arith, subst}
 use Rattle.inline_addresses.proofs.Prelude.{append-nil, data_rows, Each, flat_map, found_parts, InlineLeaf, InlineRow, IsCharBoundary-after_ascii, IsFound}
-use Rattle.inline_addresses.proofs.Prelude.{IsNext, IsUtf8, kind_view, length-drop, linked_rows, LinkTexts, literal_text, map-append, Part, part_text}
-use Rattle.inline_addresses.proofs.Prelude.{parts_of, row_depth, row_linked, row_text, row_view, rows_text, rows_view, run_linked, text_or_end, with_addresses}
+use Rattle.inline_addresses.proofs.Prelude.{IsNext, IsUtf8, kind_view, length-drop, lines_rows, linked_rows, LinkTexts, literal_text, map-append, Part}
+use Rattle.inline_addresses.proofs.Prelude.{part_text, parts_of, row_depth, row_linked, row_text, row_view, rows_text, rows_view, run_linked, text_or_end}
+use Rattle.inline_addresses.proofs.Prelude.{verbatim_text, with_addresses}
 use Rattle.std.specs.Str.{IsCharBoundary}
 use Rattle.std.proofs.lemmas.List.{drop-take, length-append, take-append-drop, take-take}
 use Rattle.std.proofs.Math.Seq.{drop-append_seam, take-append_seam}
@@ -11,10 +12,47 @@ use Rattle.std.proofs.lemmas.Grind.{flat_map-append}
 use Rattle.definition_inline.specs.Inline as inline
 use Rattle.inline_rows.specs.InlineRows as rows
 use Rattle.inline_rows.specs.declared.row.InlineRow.TheVariants as row
+use Rattle.inline_rows.specs.declared.row.VerbatimText.{VerbatimText}
 use Rattle.inline_rows.specs.declared.row.SpelledLeaf.TheVariants as spelled
 use Rattle.inline_literals.specs.declared.address.FoundAddress.{FoundAddress}
-use Rattle.inline_addresses.proofs.Leaves.{all_kept, part_in_link, part_is, text_or, AreText, Bytes, EndsRun, Others}
+use Rattle.inline_addresses.proofs.Leaves.{all_kept, lines_kept, part_in_link, part_is, text_or, AreText, Bytes, EndsRun, Others}
 use Rattle.inline_addresses.proofs.Rows.{no_run}
+
+-- ---- rows of verbatim text
+
+-- a text is there
+pub some_text : {text : List ℕ} → Some text ≡ None → ⊥
+some_text {text} e = let wrong : Some text ≡ None = e in cc
+
+-- a row of verbatim text, or one that is something else
+module _ (P : InlineRow → Type 0) (verbatim : (v : VerbatimText) → P (row.Verbatim v)) (other : (r : InlineRow) → verbatim_text r ≡ None → P r) where
+  pub each_row : (r : InlineRow) → P r
+  each_row (row.Text text) = other (row.Text text) refl
+  each_row (row.Verbatim v) = verbatim v
+  each_row (row.Leaf p) = other (row.Leaf p) refl
+  each_row (row.Spelled leaf) = other (row.Spelled leaf) refl
+  each_row (row.EnterSpan span) = other (row.EnterSpan span) refl
+  each_row (row.EnterLink to) = other (row.EnterLink to) refl
+  each_row (row.EnterImage to) = other (row.EnterImage to) refl
+  each_row (row.Call label) = other (row.Call label) refl
+  each_row row.Exit = other row.Exit refl
+
+-- a row that is no text is no verbatim text
+no_verbatim : (r : InlineRow) → row_text r ≡ None → verbatim_text r ≡ None
+no_verbatim = each_row (λ r. row_text r ≡ None → verbatim_text r ≡ None) (λ v none. absurd (some_text none)) (λ r other none. other)
+
+-- a row of this verbatim text
+pub record IsVerbatim (r : InlineRow) (text : List ℕ) : Type 0 where
+  pub row : row_text r ≡ Some text
+  pub view : (at : ℕ → LinkTexts) → row_view at r ≡ lines_rows text
+
+pub verbatim_is : (r : InlineRow) (text : List ℕ) → verbatim_text r ≡ Some text → IsVerbatim r text
+verbatim_is r text =
+    each_row (λ seen. verbatim_text seen ≡ Some text → IsVerbatim seen text)
+    (λ v is. record { row = is; view = λ at. ap (λ o. lines_rows (text_or_end o)) is })
+    (λ seen other is. absurd (some_text (sym is ∙ other))) r
+
+-- ---- a row after a run
 
 -- text makes the run longer
 pub run_longer : (n : ℕ) (run bytes : List ℕ) (rest : List rows.InlineRow) → linked_rows n run (data_rows bytes ++ rest) ≡ linked_rows n (run ++ bytes) rest
@@ -57,29 +95,29 @@ outside_rows [] = refl
 outside_rows (r ∷ rs) = ap (λ l. r ∷ l) (outside_rows rs)
 
 module _ (at : ℕ → LinkTexts) where
-  -- a row after a run
-  pub row_after : (n : ℕ) (run : List ℕ) (r : InlineRow) (rest : List rows.InlineRow)
+  -- a row that holds no soft line breaks, after a run
+  pub row_after : (n : ℕ) (run : List ℕ) (r : InlineRow) (rest : List rows.InlineRow) → verbatim_text r ≡ None
       → linked_rows n run (row_view at r ++ rest) ≡ after n run (row_view at r) (row_depth n r) rest (row_text r)
-  row_after n run (row.Text text) rest = run_longer n run text.now rest
-  row_after n run (row.Verbatim verbatim) rest = run_longer n run verbatim.text.now rest
-  row_after zero run (row.Leaf p) rest = leaves_after zero run (parts_of p) (part_text p) rest (part_is p)
-  row_after zero run (row.Spelled (spelled.Code text)) rest = refl
-  row_after zero run (row.Spelled (spelled.Math text)) rest = refl
-  row_after zero run (row.Spelled (spelled.Check done)) rest = refl
-  row_after zero run (row.EnterSpan span) rest = refl
-  row_after zero run (row.EnterLink to) rest = refl
-  row_after zero run (row.EnterImage to) rest = refl
-  row_after zero run (row.Call label) rest = refl
-  row_after zero run row.Exit rest = refl
-  row_after (suc n) run (row.Leaf p) rest = leaves_after (suc n) run (parts_of p) (part_text p) rest (part_is p)
-  row_after (suc n) run (row.Spelled (spelled.Code text)) rest = refl
-  row_after (suc n) run (row.Spelled (spelled.Math text)) rest = refl
-  row_after (suc n) run (row.Spelled (spelled.Check done)) rest = refl
-  row_after (suc n) run (row.EnterSpan span) rest = refl
-  row_after (suc n) run (row.EnterLink to) rest = refl
-  row_after (suc n) run (row.EnterImage to) rest = refl
-  row_after (suc n) run (row.Call label) rest = refl
-  row_after (suc n) run row.Exit rest = refl
+  row_after n run (row.Text text) rest none = run_longer n run text.now rest
+  row_after n run (row.Verbatim verbatim) rest none = absurd (some_text none)
+  row_after zero run (row.Leaf p) rest none = leaves_after zero run (parts_of p) (part_text p) rest (part_is p)
+  row_after zero run (row.Spelled (spelled.Code text)) rest none = refl
+  row_after zero run (row.Spelled (spelled.Math text)) rest none = refl
+  row_after zero run (row.Spelled (spelled.Check done)) rest none = refl
+  row_after zero run (row.EnterSpan span) rest none = refl
+  row_after zero run (row.EnterLink to) rest none = refl
+  row_after zero run (row.EnterImage to) rest none = refl
+  row_after zero run (row.Call label) rest none = refl
+  row_after zero run row.Exit rest none = refl
+  row_after (suc n) run (row.Leaf p) rest none = leaves_after (suc n) run (parts_of p) (part_text p) rest (part_is p)
+  row_after (suc n) run (row.Spelled (spelled.Code text)) rest none = refl
+  row_after (suc n) run (row.Spelled (spelled.Math text)) rest none = refl
+  row_after (suc n) run (row.Spelled (spelled.Check done)) rest none = refl
+  row_after (suc n) run (row.EnterSpan span) rest none = refl
+  row_after (suc n) run (row.EnterLink to) rest none = refl
+  row_after (suc n) run (row.EnterImage to) rest none = refl
+  row_after (suc n) run (row.Call label) rest none = refl
+  row_after (suc n) run row.Exit rest none = refl
 
   -- ---- rows that are written
 
@@ -107,13 +145,13 @@ module _ (at : ℕ → LinkTexts) where
       ap (λ l. l ++ end) (rows_more middle written ∙ ap (λ l. l ++ row_view at written) ended ∙ ap (λ l. (b ++ p) ++ l) linked)
       ∙ append_assoc (b ++ p) v end
       ∙ append_assoc b p (v ++ end)
-      ∙ ap (λ l. b ++ l) (sym (row_after n run r rest ∙ ap (after n run (row_view at r) (row_depth n r) rest) none))
+      ∙ ap (λ l. b ++ l) (sym (row_after n run r rest (no_verbatim r none) ∙ ap (after n run (row_view at r) (row_depth n r) rest) none))
 
   -- text after a run
   pub text_row : (n : ℕ) (run text longer : List ℕ) (r : InlineRow) (rest : List rows.InlineRow)
-      → row_text r ≡ Some text → longer ≡ run ++ text → linked_rows n longer rest ≡ linked_rows n run (row_view at r ++ rest)
-  text_row n run text longer r rest some same =
-      ap (λ l. linked_rows n l rest) same ∙ sym (row_after n run r rest ∙ ap (after n run (row_view at r) (row_depth n r) rest) some)
+      → verbatim_text r ≡ None → row_text r ≡ Some text → longer ≡ run ++ text → linked_rows n longer rest ≡ linked_rows n run (row_view at r ++ rest)
+  text_row n run text longer r rest none some same =
+      ap (λ l. linked_rows n l rest) same ∙ sym (row_after n run r rest none ∙ ap (after n run (row_view at r) (row_depth n r) rest) some)
 
   -- ---- runs that are written
 
@@ -154,7 +192,7 @@ module _ (at : ℕ → LinkTexts) where
   -- in a link, a literal is text, and any other row stays as it is
   pub row_in_link : (n : ℕ) (r : InlineRow) → flat_map (row_linked (suc n)) (row_view at r) ≡ text_or (row_view at r) (literal_text r)
   row_in_link n (row.Text text) = all_kept n (λ b. inline.Data b) (λ b. refl) text.now
-  row_in_link n (row.Verbatim verbatim) = all_kept n (λ b. inline.Data b) (λ b. refl) verbatim.text.now
+  row_in_link n (row.Verbatim verbatim) = lines_kept n verbatim.text.now
   row_in_link n (row.Leaf p) = part_in_link n p
   row_in_link n (row.Spelled (spelled.Code text)) = refl
   row_in_link n (row.Spelled (spelled.Math text)) = refl

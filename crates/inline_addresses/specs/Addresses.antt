@@ -1,15 +1,15 @@
 -- Literals among the rows of a content.
-use Rattle.std.specs.Prelude.{◌≡◌, ◌==◌, ◌||◌, ◌+◌, ◌≤◌, if◌then◌else◌, Bool, false, true, ℕ, zero, suc, List, [], ◌∷◌, ◌++◌, Option, None, Some}
-use Rattle.std.specs.Prelude.{length, drop, map, take}
+use Rattle.std.specs.Prelude.{◌≡◌, ◌==◌, ◌||◌, ◌+◌, ◌<◌, ◌≤◌, if◌then◌else◌, Bool, false, true, ℕ, zero, suc, List, [], ◌∷◌, ◌++◌, Option, None, Some}
+use Rattle.std.specs.Prelude.{length, drop, map, slice_index, take}
 use Rattle.std.specs.List.{flat_map, list_any}
 use Rattle.definition_text.specs.Ascii.{line_feed, at_sign}
 use Rattle.definition_inline.specs.GfmAutolinkLiteral.{leaf_without, with_addresses}
-use Rattle.definition_inline.specs.Inline.{LinkTexts, InlineLeaf, Data, Link}
+use Rattle.definition_inline.specs.Inline.{LinkTexts, InlineLeaf, Data, LineEnd, Link}
 use Rattle.inline_rows.specs.InlineRows as rows
 use Rattle.inline_rows.specs.InlineRows.{Part, EnterSpan, EnterLinked, Leave}
 use Rattle.inline_leaves.specs.declared.leaf.LeafPart.{LeafPart}
 use Rattle.inline_leaves.specs.declared.leaf.LeafPart.TheVariants.{Escape, Literal, Unclosed, Spaces}
-use Rattle.inline_rows.specs.View.{rows_view}
+use Rattle.inline_rows.specs.View.{data_rows, lines_rows, rows_view}
 use Rattle.inline_rows.specs.declared.row.InlineRow.{InlineRow}
 use Rattle.inline_rows.specs.declared.row.InlineRow.TheVariants as row
 use Rattle.inline_addresses.specs.declared.walk.Walk.{Walk}
@@ -64,12 +64,17 @@ part_text Spaces = Some []
 part_text (Escape text) = no_bytes text.now
 part_text part = None
 
--- the text that a row stands for, if that is all
+-- the text that a row stands for, if that is all but soft line breaks, each of which is an LF of verbatim text
 abbrev pub row_text : InlineRow → Option (List ℕ)
 row_text (row.Text text) = Some text.now
 row_text (row.Verbatim verbatim) = Some verbatim.text.now
 row_text (row.Leaf part) = part_text part
 row_text r = None
+
+-- the text of a row that may hold soft line breaks, if a row is one
+abbrev pub verbatim_text : InlineRow → Option (List ℕ)
+verbatim_text (row.Verbatim verbatim) = Some verbatim.text.now
+verbatim_text r = None
 
 -- the text of a literal, if a row is one
 abbrev pub literal_text : InlineRow → Option (List ℕ)
@@ -128,3 +133,9 @@ walk_rows at walk rest = rows_view at walk.rows.items ++ linked_rows walk.depth 
 pub record IsNext (text : List ℕ) (size : ℕ) (next : List ℕ) : Type 0 where
   pub within : size + length next ≤ length text
   pub same : take (length next) (drop size text) ≡ next
+
+-- the first LF of verbatim text, which comes after a line of text
+pub record EndsLine (text : List ℕ) (at : ℕ) : Type 0 where
+  pub within : at < length text
+  pub feed : slice_index text at ≡ line_feed
+  pub rows : lines_rows text ≡ data_rows (take at text) ++ Part (LineEnd line_feed) ∷ lines_rows (drop (at + 1) text)

@@ -1,6 +1,7 @@
 //! Rows from left to right: the text of rows that stand side by side is one run, in which email
 //! addresses are looked for where it stands in no link (GFM 6.9).
-ghost use Rattle.std.specs.Prelude.{◌≡◌, ◌^◌, ◌+◌, ◌-◌, ◌<◌, ◌≤◌, ◌++◌, ◌∷◌, [], ℕ, List, IfOk, OnOk, drop, length, slice_index, string_bytes, take};
+ghost use Rattle.std.specs.Prelude.{◌≡◌, ◌^◌, ◌+◌, ◌-◌, ◌<◌, ◌≤◌, ◌++◌, ◌∷◌, [], ℕ, List, IfOk, MatchOption, OnOk, drop, length, slice_index, string_bytes};
+ghost use Rattle.std.specs.Prelude.{take};
 ghost use Rattle.std.specs.List.{flat_map};
 ghost use Rattle.std.specs.Option.{option_map};
 ghost use Rattle.std.specs.Str.{IsCharBoundary};
@@ -8,15 +9,23 @@ ghost use Rattle.definition_text.specs.Ascii.{line_feed};
 ghost use Rattle.definition_inline.specs.GfmAutolinkLiteral.{with_literals};
 ghost use Rattle.definition_inline.specs.Inline.{Target, LinkTexts, Inlines};
 ghost use Rattle.inline_rows.specs.InlineRows as seen;
-ghost use Rattle.inline_rows.specs.View.{row_view, rows_view};
+ghost use Rattle.inline_rows.specs.View.{data_rows, lines_rows, row_view, rows_view};
 ghost use Rattle.inline_addresses.specs.Addresses.{literal_text, part_text, row_depth, row_linked};
-ghost use Rattle.inline_addresses.specs.Addresses.{row_text, rows_text, run_linked, text_or_end, walk_rows, IsNext};
+ghost use Rattle.inline_addresses.specs.Addresses.{row_text, rows_text, run_linked, text_or_end, verbatim_text, walk_rows, EndsLine, IsNext};
 
 use inline_leaves::LeafPart;
 use inline_leaves::cut::{rest_from, text_before, text_between};
 use inline_literals::first_address;
 use inline_rows::InlineRow;
+use markdown_options::LineEnding;
 use std::alloc::{AllocError, Allocator};
+use text_search::{BytePair, next_of};
+
+/// LF, which is told without tables.
+const LINE_FEED: BytePair = BytePair {
+    first: b'\n',
+    second: b'\n',
+};
 
 /// Where a walk over the rows of a content stands.
 #[derive(Drop)]
@@ -53,7 +62,8 @@ fn push_text<A: Allocator>(text: &mut String<A>, row: InlineRow<'_>) -> Result<(
     Ok(())
 }
 
-/// The text that a row stands for, if that is all.
+/// The text that a row stands for, if that is all but soft line breaks, each of which is an LF of
+/// verbatim text.
 pub(crate) fn text_of<'a>(row: InlineRow<'a>) -> Option<&'a str>
     ensures { option_map (λ text. text.now) result ≡ row_text row.entry }
 {
@@ -118,6 +128,9 @@ impl<'a, A: Allocator> Walk<'a, A> {
         ensures rows { (at : ℕ → LinkTexts) (rest : List seen.InlineRow) →
             OnOk result (walk_rows at self.new rest ≡ walk_rows at self.old (row_view at row.entry ++ rest)) }
     {
+        if let Some(text) = verbatim_of(row) {
+            return self.lines(text);
+        }
         match text_of(row) {
             Some(text) => {
                 self.size += text.len();
@@ -127,12 +140,34 @@ impl<'a, A: Allocator> Walk<'a, A> {
         }
     }
 
+    /// Verbatim text. Each LF in it is a row that is no text, so that it ends the run.
+    fn lines(&mut self, text: &'a str) -> Result<(), AllocError>
+        requires next { IsNext self.old.text.now self.old.size text.now }
+        requires depth { self.old.depth < 2 ^ 64 - 1 }
+        ensures depth { OnOk result (self.new.depth ≤ self.old.depth + 1) }
+        ensures within { OnOk result (self.new.size ≤ length self.new.text.now) }
+        ensures text { OnOk result (drop self.new.size self.new.text.now ≡ drop (length text.now) (drop self.old.size self.old.text.now)) }
+        ensures rows { (at : ℕ → LinkTexts) (rest : List seen.InlineRow) →
+            OnOk result (walk_rows at self.new rest ≡ walk_rows at self.old (lines_rows text.now ++ rest)) }
+    {
+        let mut rest = text;
+        while let Some(end) = first_line_feed(rest.as_bytes()) {
+            self.size += end;
+            self.other(InlineRow::Leaf(LeafPart::LineEnd(LineEnding::LineFeed)))?;
+            rest = rest_from(rest, end + 1);
+        }
+        self.size += rest.len();
+        Ok(())
+    }
+
     /// A row that is no text.
     fn other(&mut self, row: InlineRow<'a>) -> Result<(), AllocError>
         requires next { IsNext self.old.text.now self.old.size (line_feed ∷ []) }
         requires none { row_text row ≡ None }
         requires depth { self.old.depth < 2 ^ 64 - 1 }
         ensures depth { OnOk result (self.new.depth ≤ self.old.depth + 1) }
+        ensures open { OnOk result (self.new.depth ≡ row_depth self.old.depth row.entry) }
+        ensures size { OnOk result (self.new.size ≡ 0) }
         ensures within { OnOk result (self.new.size ≤ length self.new.text.now) }
         ensures text { OnOk result (drop self.new.size self.new.text.now ≡ drop 1 (drop self.old.size self.old.text.now)) }
         ensures rows { (at : ℕ → LinkTexts) (rest : List seen.InlineRow) →
@@ -164,6 +199,14 @@ impl<'a, A: Allocator> Walk<'a, A> {
             Ok(())
         }
     }
+}
+
+/// The place of the first LF, if there is one.
+fn first_line_feed(bytes: &[u8]) -> Option<usize>
+    ensures { MatchOption result (lines_rows bytes.now ≡ data_rows bytes.now) (EndsLine bytes.now) }
+{
+    let end = next_of(bytes, LINE_FEED);
+    if end < bytes.len() { Some(end) } else { None }
 }
 
 /// Writes a run of text with the email addresses in it (GFM 6.9).
@@ -205,6 +248,16 @@ fn linked_row<'a>(depth: usize, row: InlineRow<'a>) -> InlineRow<'a>
     match literal_of(row) {
         Some(text) => InlineRow::Text(text),
         None => row,
+    }
+}
+
+/// The text of a row that may hold soft line breaks, if a row is one (CommonMark 6.8).
+fn verbatim_of<'a>(row: InlineRow<'a>) -> Option<&'a str>
+    ensures { option_map (λ text. text.now) result ≡ verbatim_text row.entry }
+{
+    match row {
+        InlineRow::Verbatim(verbatim) => Some(verbatim.text),
+        _ => None,
     }
 }
 
