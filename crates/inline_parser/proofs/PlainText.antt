@@ -3,8 +3,8 @@ use Rattle.std.proofs.Common.{◌≡◌, ℕ, ◌+◌, ◌-◌, ◌<◌, ◌≤�
 use Rattle.std.proofs.Common.{◌∙◌, get_or, length, drop, take, map, eqb, leb, subst, arith}
 use Rattle.std.specs.List.{list_all, take_while}
 use Rattle.inline_parser.proofs.Prelude.{and_parts, append-nil, cond-false, cond-true, Constructs, Content, content_codes, context_by, eqb-true, inline_rows}
-use Rattle.inline_parser.proofs.Prelude.{InlineContext, InlineLeaf, is_white, IsAfter, IsPlace, Item, leaf, Leaf, leaf_in, leaf_items, ParseOptions, plain_code, read_tokens, row_view}
-use Rattle.inline_parser.proofs.Prelude.{size_before, spans_from, Targets, true≢false, view_at, whole_text, with_spans}
+use Rattle.inline_parser.proofs.Prelude.{InlineContext, InlineLeaf, is_white, IsAfter, IsPlace, Item, leaf, Leaf, leaf_in, leaf_items, ParseOptions}
+use Rattle.inline_parser.proofs.Prelude.{plain_code, read_tokens, row_view, size_before, spans_from, Targets, true≢false, view_at, whole_text, with_spans}
 use Rattle.std.proofs.lemmas.Bool.{and_from, and_right, cases_lt, le-leb, or_cases}
 use Rattle.std.proofs.lemmas.List.{drop_all, get_or-drop}
 use Rattle.definition_text.specs.Columns.{bare, indent, is_blank}

@@ -20,7 +20,8 @@ use Rattle.inline_text.proofs.Texts.{IsFilled, IsText, more_text, text_end, text
 
 dark_white : (b : ℕ) → 32 < b → b < 256 → is_white b ≡ false
 dark_white b low high =
-    or_from (eqb b 32 || eqb b 9) (eqb b 256) (or_from (eqb b 32) (eqb b 9) (ne_eqb b 32 (λ e. omega (arith, e, low))) (ne_eqb b 9 (λ e. omega (arith, e, low))))
+    or_from (eqb b 32 || eqb b 9) (eqb b 256)
+    (or_from (eqb b 32) (eqb b 9) (ne_eqb b 32 (λ e. omega (arith, e, low))) (ne_eqb b 9 (λ e. omega (arith, e, low))))
     (ne_eqb b 256 (λ e. omega (arith, e, high)))
 
 -- text goes on at no line ending

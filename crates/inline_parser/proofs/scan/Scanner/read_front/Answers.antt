@@ -36,5 +36,6 @@ returns-clause-read g c ds final has f =
       same =
           ap (λ r. scan.scan (context_by options names ds) 0 (read_tokens (leaf_items (map (front_leaf soft) (take n rest))) f.now)
           (view_at p source.content r)) left
-          ∙ follow.front_follows options names p ds source.content soft rest n f.now final place told.within told.text told.plain told.bare (told.ending some) f.same;
+          ∙ follow.front_follows options names p ds source.content soft rest n f.now final place told.within told.text told.plain told.bare
+          (told.ending some) f.same;
     })
