@@ -1,5 +1,5 @@
 -- A content that is text alone, but for spaces and tabs at its end.
-use Rattle.std.proofs.Common.{◌≡◌, ℕ, ◌+◌, ◌-◌, ◌<◌, ◌≤◌, Bool, true, false, List, [], ◌∷◌, ◌++◌, ◌||◌, ◌⊎◌, inl, inr, Option, None, Some, refl, sym, ap, ap₂}
+use Rattle.std.proofs.Common.{◌≡◌, ℕ, ◌+◌, ◌-◌, ◌<◌, ◌≤◌, Bool, true, false, List, [], ◌∷◌, ◌++◌, ◌||◌, ◌⊎◌, inl, inr, Option, Some, refl, sym, ap, ap₂}
 use Rattle.std.proofs.Common.{◌∙◌, get_or, length, drop, take, map, eqb, leb, subst, arith}
 use Rattle.std.specs.List.{list_all, take_while}
 use Rattle.inline_parser.proofs.Prelude.{and_parts, append-nil, cond-false, cond-true, Constructs, Content, content_codes, context_by, eqb-true, inline_rows}
