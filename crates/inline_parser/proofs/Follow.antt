@@ -33,7 +33,7 @@ use Rattle.inline_label_ends.specs.declared.gfm_label_start_footnote.LabelForm.T
 use Rattle.inline_label_ends.specs.Ends.{IsAfterFormed, IsEnd}
 use Rattle.inline_label_ends.proofs.Rests.{after_same}
 use Rattle.inline_reading.specs.declared.label.LabelStart.TheVariants as start
-use Rattle.inline_text.specs.Plain.{begins_more, is_text_at}
+use Rattle.inline_text.specs.Plain.{begins_more, front_leaf, is_front_at}
 use Rattle.inline_parser.specs.Scanned.{IsRunFront, IsSingle}
 use Rattle.inline_reading.specs.LabelStarts.{StartsLabel}
 use Rattle.inline_parser.proofs.Views.{IsNext, after_next, next_place, codes_left, view_next}
@@ -213,13 +213,13 @@ module _ (options : ParseOptions) (names : List ℕ → Option (List ℕ)) (p : 
       ap (scan.scan (context_by options names ds) 0 next) (sym (ap (λ k. drop k (view_at p content rest)) size ∙ view_next p content rest after place is))
       ∙ sym goes ∙ same
 
-  -- bytes of text
-  pub text_follows : (rest : List ℕ) (n : ℕ) (now final : scan.Reading) → IsPlace content.text.now rest → n ≤ length rest
-      → ((k : ℕ) → k < n → is_text_at (drop k (content_codes rest)) ≡ true) → ((k : ℕ) → k < n → get_or rest k 0 ≡ 13 → ⊥)
+  -- bytes of text and soft line breaks
+  pub front_follows : (soft : Bool) (rest : List ℕ) (n : ℕ) (now final : scan.Reading) → IsPlace content.text.now rest → n ≤ length rest
+      → ((k : ℕ) → k < n → is_front_at soft (drop k (content_codes rest)) ≡ true) → ((k : ℕ) → k < n → get_or rest k 0 ≡ 13 → ⊥)
       → ((k : ℕ) → k < n → begins_more options.constructs.gfm_autolink_literal options.constructs.mark (drop k rest) ≡ false) → IsAfter rest (drop n rest)
       → scan.scan (context_by options names ds) 0 now (view_at p content rest) ≡ final
-      → scan.scan (context_by options names ds) 0 (read_tokens (text_items (take n rest)) now) (view_at p content (drop n rest)) ≡ final
-  text_follows rest n now final place le text plain bare after same =
+      → scan.scan (context_by options names ds) 0 (read_tokens (leaf_items (map (front_leaf soft) (take n rest))) now) (view_at p content (drop n rest)) ≡ final
+  front_follows soft rest n now final place le text plain bare after same =
       let codes = codes_left p content rest place in
       let on = options.constructs in
       let bytes : take n (codes_of (view_at p content rest)) ≡ take n rest = ap (take n) codes ∙ plain_take n rest le plain in
@@ -229,13 +229,13 @@ module _ (options : ParseOptions) (names : List ℕ → Option (List ℕ)) (p : 
       (ap (λ b. (on.mark && is_equals b) || (on.gfm_autolink_literal && may_begin (drop k rest))) (sym (first_of rest k)) ∙ bare k lt) in
       let byte : (k : ℕ) → k < n → get_or (codes_of (view_at p content rest)) k 0 ≡ get_or rest k 0 = λ k lt.
       sym (get_or-take n (codes_of (view_at p content rest)) k 0 lt) ∙ ap (λ bs. get_or bs k 0) bytes ∙ get_or-take n rest k 0 lt in
-      moved rest (drop n rest) now (read_tokens (text_items (take n rest)) now) final n place (after_next rest (drop n rest) after)
+      moved rest (drop n rest) now (read_tokens (leaf_items (map (front_leaf soft) (take n rest))) now) final n place (after_next rest (drop n rest) after)
       (sym (size_plain n rest (drop n rest) refl le plain)) same
-      (texts.text_steps (context_by options names ds) n now (view_at p content rest) (λ k lt. ap (λ cs. is_text_at (drop k cs)) codes ∙ text k lt)
+      (texts.front_steps soft (context_by options names ds) n now (view_at p content rest) (λ k lt. ap (λ cs. is_front_at soft (drop k cs)) codes ∙ text k lt)
       (λ k lt. no_literal on rest (view_at p content rest) n k le lt plain codes
       (λ is j before. ap (λ b. b && may_begin (drop j rest)) (sym is) ∙ (none j before).1))
       (λ k lt. ap (λ b. on.mark && is_equals b) (byte k lt) ∙ (none k lt).0)
-      ∙ ap (λ bs. scan.scan (context_by options names ds) 0 (read_tokens (text_items bs) now) (drop n (view_at p content rest))) bytes)
+      ∙ ap (λ bs. scan.scan (context_by options names ds) 0 (read_tokens (leaf_items (map (front_leaf soft) bs)) now) (drop n (view_at p content rest))) bytes)
 
   -- a construct that holds no other
   pub leaf_follows : (rest after : List ℕ) (parts : List InlineLeaf) (now final : scan.Reading) → IsPlace content.text.now rest

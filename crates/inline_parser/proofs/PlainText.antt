@@ -1,25 +1,25 @@
 -- A content that is text alone, but for spaces and tabs at its end.
-use Rattle.std.proofs.Common.{◌≡◌, ℕ, ◌+◌, ◌-◌, ◌<◌, ◌≤◌, Bool, true, false, List, [], ◌∷◌, ◌++◌, ◌||◌, ◌⊎◌, inl, inr, Option, None, Some, refl, sym, ap, ap₂}
+use Rattle.std.proofs.Common.{◌≡◌, ℕ, ◌+◌, ◌-◌, ◌<◌, ◌≤◌, Bool, true, false, List, [], ◌∷◌, ◌++◌, ◌||◌, ◌⊎◌, inl, inr, Option, Some, refl, sym, ap, ap₂}
 use Rattle.std.proofs.Common.{◌∙◌, get_or, length, drop, take, map, eqb, leb, subst, arith}
-use Rattle.std.specs.Borrow.{Bor}
 use Rattle.std.specs.List.{list_all, take_while}
 use Rattle.inline_parser.proofs.Prelude.{and_parts, append-nil, cond-false, cond-true, Constructs, Content, content_codes, context_by, eqb-true, inline_rows}
-use Rattle.inline_parser.proofs.Prelude.{InlineContext, is_white, IsAfter, IsPlace, Item, leaf, Leaf, leaf_in, ParseOptions, plain_code, read_tokens}
-use Rattle.inline_parser.proofs.Prelude.{size_before, spans_from, Targets, text_items, true≢false, view_at, whole_text, with_spans}
+use Rattle.inline_parser.proofs.Prelude.{InlineContext, InlineLeaf, is_white, IsAfter, IsPlace, Item, leaf, Leaf, leaf_in, leaf_items, ParseOptions}
+use Rattle.inline_parser.proofs.Prelude.{plain_code, read_tokens, row_view, size_before, spans_from, Targets, true≢false, view_at, whole_text, with_spans}
 use Rattle.std.proofs.lemmas.Bool.{and_from, and_right, cases_lt, le-leb, or_cases}
 use Rattle.std.proofs.lemmas.List.{drop_all, get_or-drop}
 use Rattle.definition_text.specs.Columns.{bare, indent, is_blank}
 use Rattle.definition_inline.specs.HardBreak.{ends_here, ends_inner_line, line_spaces_at}
-use Rattle.definition_inline.specs.Inline.{Target, LinkTexts, link_texts, Data}
+use Rattle.definition_inline.specs.Inline.{Target, LinkTexts}
 use Rattle.definition_inline.specs.Scan as scan
 use Rattle.inline_constructs.proofs.FirstBytes.{by_white}
-use Rattle.inline_rows.specs.View.{data_rows}
-use Rattle.inline_rows.specs.declared.row.InlineRow.TheVariants.{Text}
+use Rattle.inline_rows.specs.InlineRows.{Part}
+use Rattle.inline_rows.specs.declared.row.InlineRow.{InlineRow}
 use Rattle.inline_rows.specs.Container.{Parts}
 use Rattle.inline_rows.proofs.Container as container
 use Rattle.inline_rows.proofs.Runs.{all_told, none_told}
 use Rattle.inline_text.specs.declared.plain.Front.{Front}
 use Rattle.inline_text.specs.Fronts.{IsTextOf}
+use Rattle.inline_text.specs.Plain.{front_leaf}
 use Rattle.inline_parser.proofs.Follow as follow
 use Rattle.inline_parser.proofs.Placed.{place_after}
 use Rattle.inline_parser.proofs.Whole as whole
@@ -28,21 +28,17 @@ use Rattle.inline_parser.proofs.Whole as whole
 abbrev start : scan.Reading
 start = scan.reading (scan.text [] false) []
 
-nowhere : ℕ → LinkTexts
-nowhere place = link_texts [] None
-
--- the rows of text
-told : (leads : Target → LinkTexts) (text : Bor (List ℕ)) → data_rows text.now ≡ inline_rows leads (with_spans (text_items text.now))
-told leads text =
-    let at = nowhere in
-    let rows = Text text ∷ [] in
-    let bytes = map (λ b. Data b) text.now in
-    let items = map (λ part. Leaf part) bytes in
+-- a row of leaves alone
+told : (leads : Target → LinkTexts) (at : ℕ → LinkTexts) (row : InlineRow) (leaves : List InlineLeaf) → row_view at row ≡ map Part leaves
+    → row_view at row ≡ inline_rows leads (with_spans (leaf_items leaves))
+told leads at row leaves same =
+    let rows = row ∷ [] in
+    let items = map (λ part. Leaf part) leaves in
     let tokens = map (λ i. Item i) items ++ [] in
-    let is = Parts rows [] 0 [] [] items [] (container.leaf_row leads at (Text text) bytes refl) (container.none leads at (0 + length rows)) in
-    sym (append-nil (data_rows text.now))
+    let is = Parts rows [] 0 [] [] items [] (container.leaf_row leads at row leaves same) (container.none leads at (0 + length rows)) in
+    sym (append-nil (row_view at row))
     ∙ (all_told leads at [] rows tokens [] [] 0 rows (omega arith) is (none_told leads at [] rows tokens [] [] rows refl is)).told
-    ∙ ap (λ ts. inline_rows leads (with_spans ts)) (append-nil (text_items text.now))
+    ∙ ap (λ ts. inline_rows leads (with_spans ts)) (append-nil (leaf_items leaves))
 
 -- ---- spaces and tabs at the end
 
@@ -120,22 +116,26 @@ module _ (options : ParseOptions) (names : List ℕ → Option (List ℕ)) (p : 
 
   module _ (rest : List ℕ) (front : Front) (is : IsTextOf options.constructs rest front) (some : 0 < front.size)
       (blank : is_blank (drop front.size rest) ≡ true) (bytes : (k : ℕ) → get_or rest k 0 < 256) where
+    abbrev leaves : List ℕ → List InlineLeaf
+    leaves text = map (front_leaf front.is_verbatim) text
+
     -- all that is read of a text with spaces and tabs at its end
     read : IsPlace content.text.now rest
-        → scan.scan context 0 start (view_at p content rest) ≡ read_tokens (text_items (take front.size rest)) start
+        → scan.scan context 0 start (view_at p content rest) ≡ read_tokens (leaf_items (leaves (take front.size rest))) start
     read place =
         let n = front.size in
         let after = is.ending some in
-        let next = read_tokens (text_items (take n rest)) start in
+        let next = read_tokens (leaf_items (leaves (take n rest))) start in
         at_white (drop n rest) next (scan.scan context 0 start (view_at p content rest)) (place_after content.text.now rest (drop n rest) place after) blank
         (λ k. subst (λ b. b < 256) (sym (get_or-drop n rest k 0)) (bytes (n + k)))
-        (follow.text_follows options names p ds content rest n start (scan.scan context 0 start (view_at p content rest)) place is.within is.text is.plain
-        is.bare after refl)
+        (follow.front_follows options names p ds content front.is_verbatim rest n start (scan.scan context 0 start (view_at p content rest)) place is.within
+        is.text is.plain is.bare after refl)
 
-    -- its rows
-    pub front_rows : (leads : Target → LinkTexts) (text : Bor (List ℕ)) → text.now ≡ take front.size rest → IsPlace content.text.now rest
-        → data_rows text.now ≡ inline_rows leads (spans_from context (view_at p content rest))
-    front_rows leads text cut place =
-        told leads text
-        ∙ ap (λ bs. inline_rows leads (with_spans (text_items bs))) cut
+    -- its row
+    pub front_row : (leads : Target → LinkTexts) (at : ℕ → LinkTexts) (row : InlineRow) (text : List ℕ) → text ≡ take front.size rest
+        → row_view at row ≡ map Part (leaves text) → IsPlace content.text.now rest
+        → row_view at row ≡ inline_rows leads (spans_from context (view_at p content rest))
+    front_row leads at row text cut same place =
+        told leads at row (leaves text) same
+        ∙ ap (λ bs. inline_rows leads (with_spans (leaf_items (leaves bs)))) cut
         ∙ ap (λ r. inline_rows leads (with_spans (whole_text r).tokens)) (sym (read place))

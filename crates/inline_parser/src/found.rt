@@ -9,7 +9,7 @@ use std::slice::from_ref;
 /// The rows of a content.
 #[derive(Drop)]
 pub enum FoundRows<'a, A: Allocator> {
-    /// The content is text alone: nothing starts in it.
+    /// The content is text alone, but for soft line breaks: nothing else starts in it.
     Alone(InlineRow<'a>),
     /// The rows are in the room for rows.
     InRoom(&'a [InlineRow<'a>]),

@@ -2,7 +2,7 @@
 //!
 //!     content ::= white* (text | leaf | literal | run | start | ']')*
 ghost use Rattle.std.specs.Prelude.{◌≡◌, ◌<◌, ◌≤◌, ◌==◌, ◌&&◌, ℕ, Bool, List, [], ◌∷◌, Option, None, Some, false, true};
-ghost use Rattle.std.specs.Prelude.{length, not, IfOk, IfSome, OnOk, take, drop, slice_index};
+ghost use Rattle.std.specs.Prelude.{length, map, not, IfOk, IfSome, OnOk, take, drop, slice_index};
 ghost use Rattle.std.specs.List.{list_any, prefix_len};
 ghost use Rattle.std.specs.Option.{is_some};
 ghost use Rattle.std.specs.Str.{IsCharBoundary};
@@ -12,7 +12,7 @@ ghost use Rattle.definition_text.specs.Encode.{encode};
 ghost use Rattle.definition_text.specs.Content.{content_codes};
 ghost use Rattle.definition_inline.specs.Inline.{Target, LinkTexts};
 ghost use Rattle.definition_inline.specs.Targets.{leads_to};
-ghost use Rattle.inline_rows.specs.InlineRows.{inline_rows};
+ghost use Rattle.inline_rows.specs.InlineRows.{inline_rows, Part};
 ghost use Rattle.definition_inline.specs.Scan as scan;
 ghost use Rattle.definition_inline.specs.Scan.{inlines_from, spans_from, without_indent, formed_at, label_start_at, read_tokens};
 ghost use Rattle.definition_inline.specs.Scan.{start_bytes};
@@ -22,7 +22,7 @@ ghost use Rattle.inline_runs.specs.View.{run_view};
 ghost use Rattle.inline_content.specs.View.{content_view, view_at};
 ghost use Rattle.inline_leaves.specs.Leaves.{leaf_items, parts_of, size_before, text_items, IsAfter};
 ghost use Rattle.inline_content.specs.declared.content.Content.{Content as SeenContent};
-ghost use Rattle.inline_rows.specs.View.{data_rows, row_view, rows_view};
+ghost use Rattle.inline_rows.specs.View.{line_leaf, row_view, rows_view};
 ghost use Rattle.inline_label_ends.specs.Ends.{IsAfterFormed, IsFormed};
 ghost use Rattle.inline_parser.specs.Scanned.{context_by, HasTargets, IsPlace, IsPlacedBy, IsRunFront, IsSingle};
 ghost use Rattle.inline_reading.specs.Shows.{ended_here};
@@ -33,6 +33,7 @@ ghost use Rattle.inline_parser.specs.Found.{found_rows};
 ghost use Rattle.inline_parser.specs.Found.{is_alone};
 ghost use Rattle.inline_text.specs.Verbatim.{AreVerbatim, TellsVerbatim};
 ghost use Rattle.inline_text.specs.Fronts.{IsTextOf};
+ghost use Rattle.inline_text.specs.Plain.{front_leaf};
 ghost use Rattle.inline_reading.specs.Shows.{with_open_label, start_view, IsSound, Shows, ShowsThen, StartsBefore};
 
 use crate::found::FoundRows;
@@ -164,8 +165,9 @@ pub fn content_start<'a>(content: Content<'a>) -> &'a str
     after_white(content.text())
 }
 
-/// The row of what is left of a content with this text at its front, if it is text alone but for the
-/// spaces and tabs at its end: nothing starts in it, and no address may be in it (GFM 6.9).
+/// The row of what is left of a content with this text at its front, if it is text alone but for soft
+/// line breaks and the spaces and tabs at its end: nothing else starts in it, and no address may be in
+/// it (GFM 6.9).
 fn text_alone<'a>(options: &ParseOptions, start: &'a str, front: Front) -> Option<InlineRow<'a>>
     requires { IsTextOf options.now.constructs start.now front }
     ensures alone { is_some result
@@ -215,7 +217,7 @@ fn text_row<'a>(has_literals: bool, front: Front, text: &'a str) -> InlineRow<'a
     requires same { front.is_verbatim ≡ true → encode text.now ≡ text.now }
     requires bare { front.is_verbatim ≡ true → has_literals ≡ true → list_any (λ b. b == at_sign) text.now ≡ false }
     ensures text { row_text result ≡ Some text.now }
-    ensures rows { (at : ℕ → LinkTexts) → row_view at result ≡ data_rows text.now }
+    ensures rows { (at : ℕ → LinkTexts) → row_view at result ≡ map Part (map (front_leaf front.is_verbatim) text.now) }
 {
     if front.is_verbatim {
         InlineRow::Verbatim(VerbatimText {
@@ -315,7 +317,8 @@ impl<'a, A: Allocator + Clone> Scanner<'a, A> {
         requires verbatim { TellsVerbatim has_literals self.old.rest.now front }
         ensures placed { StaysPlaced self.old result self.new }
         ensures rest { OnOk result (self.new.rest.now ≡ drop front.size self.old.rest.now) }
-        ensures read { ShowsThen self.old.reading result self.new.reading (read_tokens (text_items (take front.size self.old.rest.now))) }
+        ensures read { ShowsThen self.old.reading result self.new.reading
+            (read_tokens (leaf_items (map (front_leaf front.is_verbatim) (take front.size self.old.rest.now)))) }
     {
         if front.is_verbatim {
             self.verbatim(has_literals, front.size)
@@ -324,7 +327,8 @@ impl<'a, A: Allocator + Clone> Scanner<'a, A> {
         }
     }
 
-    /// Bytes of text that are printed as they are, so many. None is `@` where literals are on.
+    /// Bytes of text and soft line breaks that are printed as they are, so many. None is `@` where
+    /// literals are on.
     fn verbatim(&mut self, has_literals: bool, size: usize) -> Result<(), AllocError>
         requires sound { IsSound self.old.reading }
         requires boundary { IsCharBoundary self.old.rest.now size }
@@ -332,7 +336,7 @@ impl<'a, A: Allocator + Clone> Scanner<'a, A> {
         requires verbatim { AreVerbatim has_literals self.old.rest.now size }
         ensures placed { StaysPlaced self.old result self.new }
         ensures rest { OnOk result (self.new.rest.now ≡ drop size self.old.rest.now) }
-        ensures read { ShowsThen self.old.reading result self.new.reading (read_tokens (text_items (take size self.old.rest.now))) }
+        ensures read { ShowsThen self.old.reading result self.new.reading (read_tokens (leaf_items (map line_leaf (take size self.old.rest.now)))) }
     {
         let text = text_before(self.rest, size);
         self.reading.verbatim(VerbatimText {

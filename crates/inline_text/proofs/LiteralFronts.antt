@@ -117,8 +117,11 @@ module _ (on m : Bool) (bytes : List ℕ) (fits : (k : ℕ) → Fits w8 (get_or 
       let none = none_at on m 64 bytes k parts.1 in
       record { plain = sym (stop_byte (get_or bytes k 0) (fits k)) ∙ parts.0; more = none.0; bare = none.1 }
 
-  free_byte : (k : ℕ) → k < stop → starts (get_or bytes k 0) ≡ false
+  pub free_byte : (k : ℕ) → k < stop → starts (get_or bytes k 0) ≡ false
   free_byte k lt = (or_parts (starts (get_or bytes k 0)) (is_replaced (get_or bytes k 0)) (passed k lt).plain).0
+
+  pub bare_byte : (k : ℕ) → k < stop → begins_more on m (drop k bytes) ≡ false
+  bare_byte k lt = (passed k lt).more
 
   pub next_verbatim : AreVerbatim on bytes stop
   next_verbatim = record { same = λ k lt. verbatim_byte (get_or bytes k 0) (passed k lt).plain; bare = λ k lt. (passed k lt).bare }

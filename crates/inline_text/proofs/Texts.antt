@@ -1,6 +1,6 @@
 -- Text in a content: what the scan makes of it, and what stands after it.
 use Rattle.std.proofs.Common.{◌≡◌, ℕ, zero, suc, ◌+◌, ◌-◌, ◌<◌, ◌≤◌, List, [], ◌∷◌, ◌++◌, Bool, true, false, not, eqb, leb, ◌||◌, ◌&&◌, Option, None, Some}
-use Rattle.std.proofs.Common.{refl, sym, ap, ◌∙◌, get_or, length, drop, take, arith, subst, ◌⊎◌, inl, inr}
+use Rattle.std.proofs.Common.{refl, sym, ap, ◌∙◌, get_or, length, map, drop, take, arith, subst, ◌⊎◌, inl, inr}
 use Rattle.std.proofs.lemmas.Bool.{cases_Bool, cond-false, cond-true, eqb-true, eq-eqb, ne_eqb, le-leb, false≢true, true≢false, not-true, not-false, or_parts}
 use Rattle.std.proofs.lemmas.Bool.{or_cases, or_from, and_left, and_right, and_from, and_parts}
 use Rattle.std.proofs.lemmas.List.{append-nil, append_assoc, get_or-drop, length-drop, drop-drop}
@@ -24,16 +24,16 @@ use Rattle.definition_inline.specs.GfmAutolinkLiteral.{literal_at}
 use Rattle.inline_literals.specs.Literals.{may_begin}
 use Rattle.inline_literals.proofs.Found.{may_letter}
 use Rattle.definition_text.specs.InlineCode.{InlineCode, codes_of}
-use Rattle.definition_inline.specs.Inline.{Found, or_else}
+use Rattle.definition_inline.specs.Inline.{Data, Found, leaf, LineEnd, or_else}
 use Rattle.definition_inline.specs.Mark.{is_equals}
 use Rattle.definition_inline.specs.Attention.{run_at}
 use Rattle.definition_inline.specs.Spans.{Token}
 use Rattle.definition_inline.specs.Scan.{InlineContext, leaf_at, leaf_here, label_start_at, text, Reading, reading, read_tokens, Next, step, scan}
-use Rattle.definition_inline.proofs.Scanning.{scan_step, step_last}
-use Rattle.inline_leaves.specs.Leaves.{text_items, IsAfter, IsWhite}
+use Rattle.definition_inline.proofs.Scanning.{scan_step, step_last, step_leaf}
+use Rattle.inline_leaves.specs.Leaves.{leaf_items, text_items, IsAfter, IsWhite}
 use Rattle.inline_leaves.specs.Scanned.{leaf_in, without_labels}
 use Rattle.inline_leaves.proofs.Codes.{plain_code, plain_drop, at_return, is_after, cut_plain, cut_after_byte}
-use Rattle.inline_text.specs.Plain.{is_special, starts, begins_more, is_text_at}
+use Rattle.inline_text.specs.Plain.{is_special, starts, begins_more, front_leaf, goes_on, is_front_at, is_soft_at, is_text_at}
 
 -- ---- a code at which nothing starts
 
@@ -200,6 +200,28 @@ text_step context r c cs h no_literal unmarked =
     (text_start context.options.constructs c.code (codes_of cs) free)
     ∙ cond-false _ _ _ (and_right context.options.constructs.label_end _ (is_other c.code free).closing)
 
+-- an LF that no white space follows is a soft line break
+soft_leaf : (context : InlineContext) (cs : List ℕ) → indent cs ≡ 0 → leaf_at context (10 ∷ cs) ≡ Some (leaf (LineEnd 10 ∷ []) 1)
+soft_leaf context cs none =
+    let on = context.options.constructs in
+    or_none (escape_at on (10 ∷ cs)) _ (no_escape on 10 cs refl)
+    ∙ or_none (escaped_break_at on (10 ∷ cs)) _ (no_escaped_break on 10 cs refl)
+    ∙ or_none (reference_at on context.names (10 ∷ cs)) _ (no_reference on context.names 10 cs refl)
+    ∙ or_none (code_text_at on (10 ∷ cs)) _ (no_code on 10 cs refl)
+    ∙ or_none (math_text_at context.options (10 ∷ cs)) _ (no_math context.options 10 cs refl)
+    ∙ or_none (autolink_at on (10 ∷ cs)) _ (no_autolink on 10 cs refl)
+    ∙ or_none (html_text_at on (10 ∷ cs)) _ (no_html on 10 cs refl)
+    ∙ ap (λ n. Some (leaf (LineEnd 10 ∷ []) (1 + n))) none
+
+pub soft_step : (context : InlineContext) (r : Reading) (c : InlineCode) (cs : List InlineCode) → is_soft_at (codes_of (c ∷ cs)) ≡ true
+    → step context r c cs ≡ Next 0 (read_tokens (leaf_items (LineEnd 10 ∷ [])) r)
+soft_step context r c cs soft =
+    let parts = and_parts (eqb c.code 10) (eqb (indent (codes_of cs)) 0) soft in
+    step_leaf context r c cs (leaf (LineEnd 10 ∷ []) 1)
+    (ap (λ o. or_else o (literal_at context.options.constructs (c ∷ cs)))
+    (ap (λ b. leaf_at context (b ∷ codes_of cs)) (eqb-true c.code 10 parts.0)
+    ∙ soft_leaf context (codes_of cs) (eqb-true (indent (codes_of cs)) 0 parts.1)))
+
 -- tokens that are read one after another
 pub read_none : (r : Reading) → read_tokens [] r ≡ r
 read_none r = ap (λ tokens. reading (text tokens r.now.holds_link) r.open_labels) (append-nil r.now.tokens)
@@ -207,19 +229,38 @@ read_none r = ap (λ tokens. reading (text tokens r.now.holds_link) r.open_label
 pub read_more : (first more : List Token) (r : Reading) → read_tokens more (read_tokens first r) ≡ read_tokens (first ++ more) r
 read_more first more r = ap (λ tokens. reading (text tokens r.now.holds_link) r.open_labels) (append_assoc r.now.tokens first more)
 
--- codes of text
-pub text_steps : (context : InlineContext) (n : ℕ) (r : Reading) (content : List InlineCode)
-    → ((k : ℕ) → k < n → is_text_at (drop k (codes_of content)) ≡ true)
+-- one code of text, or a soft line break
+front_step : (soft : Bool) (context : InlineContext) (r : Reading) (c : InlineCode) (cs : List InlineCode) → is_front_at soft (codes_of (c ∷ cs)) ≡ true
+    → literal_at context.options.constructs (c ∷ cs) ≡ None → (context.options.constructs.mark && is_equals c.code) ≡ false
+    → step context r c cs ≡ Next 0 (read_tokens (leaf_items (front_leaf soft c.code ∷ [])) r)
+front_step soft context r c cs h no_literal unmarked = elim (or_cases (is_text_at (codes_of (c ∷ cs))) (soft && is_soft_at (codes_of (c ∷ cs))) h) [
+  | inl text ↦
+      let ending = (is_other c.code (text_is c.code (codes_of cs) text).0).ending in
+      let no_feed = (or_parts (eqb c.code 10) (eqb c.code 13) (or_parts (eqb c.code 10 || eqb c.code 13) (eqb c.code 257) ending).0).0 in
+      text_step context r c cs text no_literal unmarked
+      ∙ ap (λ part. Next 0 (read_tokens (leaf_items (part ∷ [])) r)) (sym (cond-false _ (LineEnd 10) (Data c.code) (and_right soft (eqb c.code 10) no_feed)))
+  | inr end ↦
+      let parts = and_parts soft (is_soft_at (codes_of (c ∷ cs))) end in
+      let feed = (and_parts (eqb c.code 10) (eqb (indent (codes_of cs)) 0) parts.1).0 in
+      soft_step context r c cs parts.1
+      ∙ ap (λ part. Next 0 (read_tokens (leaf_items (part ∷ [])) r))
+      (sym (cond-true _ (LineEnd 10) (Data c.code) (and_from soft (eqb c.code 10) parts.0 feed)))
+]
+
+-- codes of text and soft line breaks
+pub front_steps : (soft : Bool) (context : InlineContext) (n : ℕ) (r : Reading) (content : List InlineCode)
+    → ((k : ℕ) → k < n → is_front_at soft (drop k (codes_of content)) ≡ true)
     → ((k : ℕ) → k < n → literal_at context.options.constructs (drop k content) ≡ None)
     → ((k : ℕ) → k < n → (context.options.constructs.mark && is_equals (get_or (codes_of content) k 0)) ≡ false)
-    → scan context 0 r content ≡ scan context 0 (read_tokens (text_items (take n (codes_of content))) r) (drop n content)
-text_steps context zero r content h no_literal unmarked = ap (λ x. scan context 0 x content) (sym (read_none r))
-text_steps context (suc n) r [] h no_literal unmarked = ap (λ x. scan context 0 x []) (sym (read_none r))
-text_steps context (suc n) r (c ∷ cs) h no_literal unmarked =
-    let next = read_tokens (text_items (c.code ∷ [])) r in
-    scan_step context r next c cs 0 (text_step context r c cs (h 0 (omega arith)) (no_literal 0 (omega arith)) (unmarked 0 (omega arith)))
-    ∙ text_steps context n next cs (λ k lt. h (suc k) (omega arith)) (λ k lt. no_literal (suc k) (omega arith)) (λ k lt. unmarked (suc k) (omega arith))
-    ∙ ap (λ x. scan context 0 x (drop n cs)) (read_more (text_items (c.code ∷ [])) (text_items (take n (codes_of cs))) r)
+    → scan context 0 r content ≡ scan context 0 (read_tokens (leaf_items (map (front_leaf soft) (take n (codes_of content)))) r) (drop n content)
+front_steps soft context zero r content h no_literal unmarked = ap (λ x. scan context 0 x content) (sym (read_none r))
+front_steps soft context (suc n) r [] h no_literal unmarked = ap (λ x. scan context 0 x []) (sym (read_none r))
+front_steps soft context (suc n) r (c ∷ cs) h no_literal unmarked =
+    let first = leaf_items (front_leaf soft c.code ∷ []) in
+    let next = read_tokens first r in
+    scan_step context r next c cs 0 (front_step soft context r c cs (h 0 (omega arith)) (no_literal 0 (omega arith)) (unmarked 0 (omega arith)))
+    ∙ front_steps soft context n next cs (λ k lt. h (suc k) (omega arith)) (λ k lt. no_literal (suc k) (omega arith)) (λ k lt. unmarked (suc k) (omega arith))
+    ∙ ap (λ x. scan context 0 x (drop n cs)) (read_more first (leaf_items (map (front_leaf soft) (take n (codes_of cs)))) r)
 
 -- a code at which a construct may start, but none does
 pub other_step : (context : InlineContext) (r : Reading) (c : InlineCode) (cs : List InlineCode) → leaf_here context (c ∷ cs) ≡ None
@@ -295,24 +336,29 @@ special_ascii c h = elim (cases_Bool (leb 128 c)) [
         (or_from (eqb c 33) _ (ne_eqb c 33 (λ e. omega arith))
         (or_from (eqb c 91) (eqb c 93) (ne_eqb c 91 (λ e. omega arith)) (ne_eqb c 93 (λ e. omega arith)))))))))))
 
--- so many bytes at the front are text
-pub record IsText (bytes : List ℕ) (size : ℕ) : Type 0 where
+-- each of so many bytes at the front is a code that passes a test
+pub record IsFilled (test : List ℕ → Bool) (bytes : List ℕ) (size : ℕ) : Type 0 where
   pub within : size ≤ length bytes
-  pub text : (k : ℕ) → k < size → is_text_at (drop k (content_codes bytes)) ≡ true
+  pub text : (k : ℕ) → k < size → test (drop k (content_codes bytes)) ≡ true
   pub plain : (k : ℕ) → k < size → get_or bytes k 0 ≡ 13 → ⊥
+
+-- so many are text
+abbrev pub IsText : List ℕ → ℕ → Type 0
+IsText bytes size = IsFilled is_text_at bytes size
 
 pub no_text : (bytes : List ℕ) → IsText bytes 0
 no_text bytes = record { within = omega arith; text = λ k lt. absurd (omega arith); plain = λ k lt. absurd (omega arith) }
 
--- text, and more of it
-pub more_text : (bytes : List ℕ) (at size next : ℕ) → next ≡ at + size → IsText bytes at → IsText (drop at bytes) size → IsText bytes next
-more_text bytes at size next e first more = record {
+-- some bytes, and more of them
+pub more_text : {test : List ℕ → Bool} → (bytes : List ℕ) (at size next : ℕ) → next ≡ at + size → IsFilled test bytes at
+    → IsFilled test (drop at bytes) size → IsFilled test bytes next
+more_text {test} bytes at size next e first more = record {
   within = omega (arith, e, first.within, more.within, length-drop at bytes);
   text = λ k lt. elim (cases_Bool (leb at k)) [
     | inl after ↦
         let le : at ≤ k = grind arith in
         let there : at + (k - at) ≡ k = omega arith in
-        ap is_text_at (ap (λ n. drop n (content_codes bytes)) (sym there) ∙ sym (drop-drop (k - at) at (content_codes bytes))
+        ap test (ap (λ n. drop n (content_codes bytes)) (sym there) ∙ sym (drop-drop (k - at) at (content_codes bytes))
         ∙ ap (drop (k - at)) (plain_drop at bytes first.within first.plain))
         ∙ more.text (k - at) (omega (arith, lt, e))
     | inr before ↦ first.text k (grind arith)
@@ -385,7 +431,7 @@ special_stop b bs dark special = elim (cases_Bool (eqb b 13)) [
 ]
 
 -- the end of text that isn't empty
-pub text_end : (bytes : List ℕ) (size : ℕ) → IsText bytes size → 0 < size → IsAfter bytes (drop size bytes)
+pub text_end : {test : List ℕ → Bool} → (bytes : List ℕ) (size : ℕ) → IsFilled test bytes size → 0 < size → IsAfter bytes (drop size bytes)
 text_end bytes size is some = is_after bytes (drop size bytes) size refl some is.within (cut_plain bytes size is.within is.plain)
 
 -- the first byte where text ends and no leaf begins: ASCII, no line ending, and one code
@@ -452,17 +498,21 @@ started_byte on m bytes some more =
     }
 
 -- a place at which text ends
-pub text_stops : (bytes : List ℕ) (size : ℕ) → IsText bytes size → is_text_at (content_codes (drop size bytes)) ≡ false
+pub text_stops : {test : List ℕ → Bool} → (bytes : List ℕ) (size : ℕ) → IsFilled test bytes size → is_text_at (content_codes (drop size bytes)) ≡ false
     → is_text_at (drop size (content_codes bytes)) ≡ false
 text_stops bytes size is stop = ap is_text_at (plain_drop size bytes is.within is.plain) ∙ stop
 
 -- no text at the front: a construct may start there
 pub nothing_is_text : (on m : Bool) (bytes : List ℕ) (size : ℕ) → size ≡ 0 → 0 < length bytes
-    → (size < length bytes → (is_text_at (drop size (content_codes bytes)) ≡ false) ⊎ (begins_more on m (drop size bytes) ≡ true))
+    → (size < length bytes → (is_text_at (drop size (content_codes bytes)) ≡ false)
+    ⊎ ((begins_more on m (drop size bytes) ≡ true) ⊎ ((0 < size) × (goes_on on (get_or bytes size 0) ≡ true))))
     → (is_text_at (content_codes bytes) ≡ false) ⊎ (begins_more on m bytes ≡ true)
 nothing_is_text on m bytes size e some stops = elim (stops (omega (arith, e, some))) [
   | inl stop ↦ inl (subst (λ n. is_text_at (drop n (content_codes bytes)) ≡ false) e stop)
-  | inr more ↦ inr (subst (λ n. begins_more on m (drop n bytes) ≡ true) e more)
+  | inr other ↦ elim other [
+    | inl more ↦ inr (subst (λ n. begins_more on m (drop n bytes) ≡ true) e more)
+    | inr later ↦ absurd (omega (arith, e, later.0))
+  ]
 ]
 
 -- a place at which nothing is text and no leaf begins

@@ -1,10 +1,11 @@
 -- Text in a content (CommonMark 6.9).
-use Rattle.std.specs.Prelude.{◌≡◌, ◌<◌, ◌≤◌, ℕ, Bool, true, false, not, if◌then◌else◌, ◌==◌, ◌&&◌, ◌||◌, List, [], ◌∷◌, drop, length, slice_index}
+use Rattle.std.specs.Prelude.{◌≡◌, ◌<◌, ◌≤◌, ◌+◌, ◌-◌, ℕ, Bool, true, false, not, if◌then◌else◌, ◌==◌, ◌&&◌, ◌||◌, List, [], ◌∷◌, drop, length, slice_index}
 use Rattle.definition_text.specs.Ascii.{exclamation_mark, dollar, ampersand, asterisk, less_than, left_bracket, backslash, right_bracket, underscore, backtick}
-use Rattle.definition_text.specs.Ascii.{at_sign, tilde, double_quote, greater_than}
-use Rattle.definition_text.specs.Columns.{is_white, bare}
+use Rattle.definition_text.specs.Ascii.{at_sign, tilde, double_quote, greater_than, line_feed, space}
+use Rattle.definition_text.specs.Columns.{is_white, bare, indent}
 use Rattle.definition_text.specs.Content.{is_eol}
 use Rattle.definition_inline.specs.HardBreak.{ends_here}
+use Rattle.definition_inline.specs.Inline.{InlineLeaf, Data, LineEnd}
 use Rattle.definition_inline.specs.Mark.{is_equals}
 use Rattle.inline_literals.specs.Literals.{may_begin}
 
@@ -50,3 +51,30 @@ stops code = starts code || is_replaced code
 abbrev pub is_text_at : List ℕ → Bool
 is_text_at [] = false
 is_text_at (c ∷ cs) = if is_white c then not (ends_here (bare (c ∷ cs))) else not (starts c)
+
+-- an LF comes first that is a soft line break of one code: no white space follows it (CommonMark 6.8)
+abbrev pub is_soft_at : List ℕ → Bool
+is_soft_at [] = false
+is_soft_at (c ∷ cs) = (c == line_feed) && (indent cs == 0)
+
+-- the first code is text or, in verbatim text, such a soft line break
+abbrev pub is_front_at : Bool → List ℕ → Bool
+is_front_at is_verbatim codes = is_text_at codes || (is_verbatim && is_soft_at codes)
+
+-- what such a code is
+abbrev pub front_leaf : Bool → ℕ → InlineLeaf
+front_leaf is_verbatim code = if is_verbatim && (code == line_feed) then LineEnd line_feed else Data code
+
+-- an LF stands at a place with something dark after it, and before it, unless it comes first
+pub record IsSoft (bytes : List ℕ) (at : ℕ) : Type 0 where
+  pub inside : at + 1 < length bytes
+  pub feed : slice_index bytes at ≡ line_feed
+  pub before : 0 < at → space < slice_index bytes (at - 1)
+  pub after : space < slice_index bytes (at + 1)
+
+-- a line ends before a place, without the white space at its end
+pub record IsLineSize (line : List ℕ) (stop size : ℕ) : Type 0 where
+  pub within : size ≤ stop
+  pub white : (k : ℕ) → size ≤ k → k < stop → is_white (slice_index line k) ≡ true
+  pub inner : stop < length line → is_eol (slice_index line stop) ≡ false → size ≡ stop
+  pub dark : (stop < length line → is_eol (slice_index line stop) ≡ true) → 0 < size → is_white (slice_index line (size - 1)) ≡ false

@@ -3,13 +3,14 @@
 //!     text ::= (byte at which nothing starts | (space | tab)+ before something else on its line)*
 //!
 //! Where literals are on (GFM 6.9), text ends also before `ww` and `ht`, in either case; where marked
-//! text is on, before `=`.
+//! text is on, before `=`. Text that is printed as it is goes on over an LF with no white space and no
+//! line ending beside it, which is a soft line break (CommonMark 6.8).
 ghost use Rattle.std.specs.Prelude.{◌≡◌, ◌<◌, ◌≤◌, ◌-◌, ℕ, true, false, length, slice_index};
 ghost use Rattle.definition_text.specs.Columns.{is_white};
 ghost use Rattle.definition_text.specs.Content.{is_eol};
 ghost use Rattle.inline_text.specs.Mark.{IsStopWith};
-ghost use Rattle.inline_text.specs.Plain.{goes_on, is_replaced, IsStart};
-ghost use Rattle.inline_text.specs.Fronts.{IsTextFront, IsTextOf};
+ghost use Rattle.inline_text.specs.Plain.{goes_on, is_replaced, IsLineSize, IsSoft, IsStart};
+ghost use Rattle.inline_text.specs.Fronts.{AreLines, IsTextFront, IsTextOf};
 ghost use Rattle.inline_text.specs.Verbatim.{TellsVerbatim};
 ghost use Rattle.std.specs.Str.{IsUtf8};
 
@@ -87,7 +88,8 @@ fn front_with_marks(has_literals: bool, bytes: &[u8]) -> Front
 }
 
 /// The text at the front: a construct starts at none of its bytes, and the byte after them is one at
-/// which a construct may start (CommonMark 6 and 6.9).
+/// which a construct may start (CommonMark 6 and 6.9). Text that is printed as it is goes on over soft
+/// line breaks.
 #[inline(always)]
 fn text_front(has_literals: bool, has_marks: bool, bytes: &[u8]) -> Front
     ensures { IsTextFront has_literals has_marks bytes.now result }
@@ -96,10 +98,64 @@ fn text_front(has_literals: bool, has_marks: bool, bytes: &[u8]) -> Front
     if stop.size < bytes.len() && !is_ending(bytes[stop.size]) {
         return stop;
     }
+    if stop.is_verbatim && is_soft(bytes, stop.size) {
+        return lines_front(has_literals, has_marks, bytes, stop.size + 1);
+    }
     Front {
         size: without_white(bytes, stop.size),
         is_verbatim: stop.is_verbatim,
     }
+}
+
+/// The text at the front, all of it printed as it is, of which so many bytes are known to be lines with
+/// their endings. It may end before a byte that is printed as something else.
+#[inline(never)]
+fn lines_front(has_literals: bool, has_marks: bool, bytes: &[u8], start: usize) -> Front
+    requires some { 0 < start }
+    requires lines { AreLines has_literals has_marks bytes.now start }
+    ensures { IsTextFront has_literals has_marks bytes.now result }
+{
+    let mut at = start;
+    while at < bytes.len() {
+        let line = from(bytes, at);
+        let stop = first_stop(has_literals, has_marks, line, STOPS);
+        if !is_soft(line, stop) {
+            return Front {
+                size: at + line_size(line, stop),
+                is_verbatim: true,
+            };
+        }
+        at += stop + 1;
+    }
+    Front {
+        size: at,
+        is_verbatim: true,
+    }
+}
+
+/// Where a line ends before this place, without the spaces and tabs at its end.
+fn line_size(line: &[u8], stop: usize) -> usize
+    requires { stop ≤ length line.now }
+    ensures { IsLineSize line.now stop result }
+{
+    if stop < line.len() && !is_ending(line[stop]) {
+        stop
+    } else {
+        without_white(line, stop)
+    }
+}
+
+/// Whether an LF stands at a place with no white space and no end beside it, nor a line ending after
+/// it (CommonMark 6.8).
+#[inline(always)]
+fn is_soft(bytes: &[u8], at: usize) -> bool
+    requires { at ≤ length bytes.now }
+    ensures { result ≡ true → IsSoft bytes.now at }
+{
+    bytes.len() - at > 1
+        && bytes[at] == b'\n'
+        && (at == 0 || bytes[at - 1] > b' ')
+        && bytes[at + 1] > b' '
 }
 
 /// What comes before the first byte at which a construct may start, a literal and marked text among

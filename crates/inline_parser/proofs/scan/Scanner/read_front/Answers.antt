@@ -1,7 +1,8 @@
-use Rattle.std.proofs.Common.{◌<◌, ap, ◌∙◌, arith, take}
+use Rattle.std.proofs.Common.{◌<◌, ap, ◌∙◌, arith, map, take}
 use Rattle.definition_inline.specs.Scan as scan
-use Rattle.inline_parser.proofs.Prelude.{context_by, leads_to, linked_at, linked_by, read_tokens, text_items, view_at}
+use Rattle.inline_parser.proofs.Prelude.{context_by, leads_to, linked_at, linked_by, leaf_items, read_tokens, view_at}
 use Rattle.text_bytes.proofs.Ascii.{boundary_before}
+use Rattle.inline_text.specs.Plain.{front_leaf}
 use Rattle.inline_parser.proofs.Follow as follow
 use Rattle.inline_parser.proofs.Follow.{on_ok}
 use Rattle.inline_parser.proofs.scan.Scanner.read_front.Goals as goal
@@ -24,15 +25,17 @@ returns-clause-read g c ds final has f =
     let leads = leads_to (linked_by ds.definitions) in
     let at = linked_at ds.definitions in
     let n = c.args.front.size in
+    let soft = c.args.front.is_verbatim in
     let told = c.requires.front in
     let some : 0 < n = omega (arith, c.if-front-eq0.false) in
     on_ok c.front.result c.front.ensures.rest (c.front.ensures.read leads at f.now f.shows)
     (λ left shows.
     record {
-      now = read_tokens (text_items (take n rest)) f.now;
+      now = read_tokens (leaf_items (map (front_leaf soft) (take n rest))) f.now;
       shows = shows;
       same =
-          ap (λ r. scan.scan (context_by options names ds) 0 (read_tokens (text_items (take n rest)) f.now)
+          ap (λ r. scan.scan (context_by options names ds) 0 (read_tokens (leaf_items (map (front_leaf soft) (take n rest))) f.now)
           (view_at p source.content r)) left
-          ∙ follow.text_follows options names p ds source.content rest n f.now final place told.within told.text told.plain told.bare (told.ending some) f.same;
+          ∙ follow.front_follows options names p ds source.content soft rest n f.now final place told.within told.text told.plain told.bare
+          (told.ending some) f.same;
     })

@@ -1,6 +1,7 @@
-use Rattle.std.proofs.Common.{◌≡◌, ◌==◌, ℕ, List, false, subst, sym}
+use Rattle.std.proofs.Common.{◌≡◌, ◌==◌, ℕ, List, false, map, subst, sym}
 use Rattle.std.specs.List.{list_any}
-use Rattle.inline_parser.proofs.Prelude.{encode, front_bare, front_same, IsAfter, read_tokens, Shows, text_items}
+use Rattle.inline_parser.proofs.Prelude.{encode, front_bare, front_same, IsAfter, leaf_items, read_tokens, Shows}
+use Rattle.inline_rows.specs.View.{line_leaf}
 use Rattle.inline_parser.proofs.Placed.{place_after, labels_after}
 use Rattle.inline_parser.proofs.scan.Scanner.verbatim.Goals as goal
 
@@ -29,5 +30,5 @@ returns-clause-placed g c is_punctuation content p =
 
 pub returns-clause-read : goal.returns-clause-read
 returns-clause-read g c leads at r h =
-    subst (λ text. Shows leads at c.verbatim.new.self (read_tokens (text_items text) r)) c.text_before-text.ensures
+    subst (λ text. Shows leads at c.verbatim.new.self (read_tokens (leaf_items (map line_leaf text)) r)) c.text_before-text.ensures
     (c.in_ok-verbatim.ensures.read leads at r h)
