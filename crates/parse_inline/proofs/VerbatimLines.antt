@@ -61,7 +61,7 @@ after_utf8 bs utf8 some =
 -- ---- what is written
 
 -- a text as a row has it
-borrowed : List ℕ → Bor (List ℕ)
+abbrev borrowed : List ℕ → Bor (List ℕ)
 borrowed bytes = record { ref_ptr = (0, 0); now = bytes }
 
 module _ {A : Type 0} (on : Constructs) (names : Names) (content text : List ℕ) where

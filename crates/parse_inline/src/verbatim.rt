@@ -9,6 +9,7 @@ use crate::reading::Reading;
 use inline_leaves::LeafPart;
 use markdown_options::{LineEnding, Tables};
 use parse_lines::Walk;
+use parse_lines::cut::bytes_from;
 use std::alloc::{AllocError, Allocator};
 use text_search::{BytePair, next_far};
 
@@ -38,6 +39,6 @@ pub(crate) fn push_verbatim<T: Tables, A: Allocator>(
             return Ok(());
         }
         push_leaf(walk, reading, LeafPart::LineEnd(LineEnding::LineFeed))?;
-        rest = &rest[size + 1..];
+        rest = bytes_from(bytes_from(rest, size), 1);
     }
 }
