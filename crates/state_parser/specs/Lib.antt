@@ -1,6 +1,8 @@
 pub mod Definitions
 pub mod Events
 pub mod Labels
+pub mod LastLines
+pub mod LastLinesLaws
 pub mod Refusal
 pub mod Starts
 pub mod TextLaws

@@ -1,5 +1,6 @@
 //! The events of a document, of the flow in it, and of its containers, in one list.
-use crate::containers::{content_lines, last_lines};
+use crate::containers::{filled_lines, is_last_blank, last_lines};
+use crate::events::is_ending;
 use crate::merged::{Merged, nothing_merged};
 use markdown_engine::event::{Content, Event, Kind, Name};
 use markdown_engine::place::Point;
@@ -23,11 +24,8 @@ fn is_white(event: Option<&Event>) -> bool {
 }
 
 /// Whether an event is of a line ending.
-fn is_ending(event: Option<&Event>) -> bool {
-    match event {
-        Some(event) => matches!(event.name, Name::LineEnding | Name::BlankLineEnding),
-        None => false,
-    }
+fn is_of_ending(event: Option<&Event>) -> bool {
+    event.is_some_and(is_ending)
 }
 
 /// Whether the event of flow at an index is of a line that ends at a place. What ends after the line's
@@ -37,7 +35,7 @@ fn is_of_line(flow: &[Event], index: usize, end: Point) -> bool {
         return false;
     };
     if point.index == end.index && point.vs == end.vs {
-        return is_ending(flow.get(index)) || !is_ending(flow.get(index.wrapping_sub(1)));
+        return is_of_ending(flow.get(index)) || !is_of_ending(flow.get(index.wrapping_sub(1)));
     }
     point.index < end.index || (point.index == end.index && point.vs < end.vs)
 }
@@ -198,32 +196,13 @@ fn push_all<A: Allocator>(
     push_rest(merged, sources.flow, next.flow)
 }
 
-/// Whether a block is open on the last line, which containers take whole: a line of code or HTML.
-fn takes_last_line(flow: &[Event], end: Point) -> bool {
-    let Some(point) = flow.last().map(Event::point) else {
-        return false;
-    };
-    !is_ending(flow.last()) && point.line == end.line && point.index < end.index
-}
-
-/// Whether the last line, which ends at a place, is blank.
-fn is_last_blank(lines: &[usize], end: Point) -> bool {
-    match lines.last() {
-        Some(line) => *line != end.line,
-        None => true,
-    }
-}
-
 /// The events of a document, of its flow and of its containers, of a text that ends at a place.
 pub(crate) fn merge<A: Allocator + Clone>(
     alloc: &A,
     sources: &Sources<'_>,
     end: Point,
 ) -> Result<Vec<Event, A>, AllocError> {
-    let mut lines = content_lines(alloc.clone()?, sources.flow)?;
-    if takes_last_line(sources.flow, end) {
-        lines.push(end.line)?;
-    }
+    let lines = filled_lines(alloc.clone()?, sources.flow, end)?;
     let last = last_lines(alloc.clone()?, &lines, sources.spans)?;
     let mut merged = nothing_merged(alloc)?;
     push_all(&mut merged, sources, &last)?;
