@@ -1,6 +1,12 @@
 pub mod Definitions
 pub mod Events
 pub mod Labels
+pub mod LastLines
+pub mod LastLinesLaws
+pub mod Merge
+pub mod MergeLaws
+pub mod Merged
+pub mod MergedLaws
 pub mod Refusal
 pub mod Starts
 pub mod TextLaws

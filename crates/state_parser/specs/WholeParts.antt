@@ -1,20 +1,12 @@
 -- What is promised of the events of a text: those of which the tests hold are balanced, in order, and end with the text.
-use Rattle.std.proofs.Common.{◌≡◌, ℕ, ◌-◌, true, List, length, slice_get, Option, None, Some}
+use Rattle.std.proofs.Common.{◌≡◌, ℕ, true, List, length}
 use Rattle.engine_events.specs.declared.event.Event.{Event}
 use Rattle.engine_events.specs.declared.place.Point.{Point}
-use Rattle.engine_events.specs.Events.{point_of}
 use Rattle.markdown_engine.specs.Chains.{ArePlaces}
-use Rattle.markdown_engine.specs.Order.{AreInOrder, IsBalanced, text_start}
+use Rattle.markdown_engine.specs.Order.{AreInOrder, IsBalanced}
 use Rattle.state_resolvers.specs.Whole.{is_whole}
 use Rattle.state_resolvers.specs.WholeLaws.{whole}
-
-abbrev pub place_of : Option Event → Point
-place_of None = text_start
-place_of (Some e) = point_of e
-
--- where the last event is, or where a text starts
-abbrev pub end_of : List Event → Point
-end_of events = place_of (slice_get events (length events - 1))
+use Rattle.state_parser.specs.Events.{end_of}
 
 -- each event is at a place of the text, and the last at its end
 pub record ArePlaced (bytes : List ℕ) (events : List Event) : Type 0 where

@@ -6,14 +6,14 @@ ghost use Rattle.markdown_engine.specs.Machine.{AreCuts};
 ghost use Rattle.markdown_engine.specs.Order.{AreInOrder, IsBalanced};
 ghost use Rattle.state_parser.specs.Definitions.{with_labels};
 ghost use Rattle.state_parser.specs.Refusal.{IsRefusal, IsUnreadable};
-ghost use Rattle.state_parser.specs.WholeParts.{ArePlaced, end_of};
+ghost use Rattle.state_parser.specs.WholeParts.{ArePlaced};
 
 use crate::blocks::read_blocks;
+use crate::events::end_of;
 use crate::labels::defined_labels;
 use crate::starts::starts;
 use crate::texts::read_texts;
 use markdown_engine::event::{Event, Name};
-use markdown_engine::place::{Point, START};
 use markdown_engine::{Message, ParseState, are_places};
 use markdown_options::{ParseOptions, Tables};
 use state_resolvers::whole::is_whole;
@@ -57,16 +57,6 @@ fn read_rest<T: Tables, A: Allocator + Clone>(
     define(parse_state, alloc, events)?;
     let starts = starts(alloc.clone()?, events)?;
     read_texts(events, parse_state, &starts)
-}
-
-/// Where the last event is, or where a text starts.
-fn end_of(events: &[Event]) -> Point
-    ensures { result ≡ end_of events.now }
-{
-    match events.last() {
-        Some(event) => event.point(),
-        None => START,
-    }
 }
 
 /// Whether each event is at a place of the text, and the last at its end.
